@@ -1,16 +1,5 @@
 -- Slaves that differ in nothing that a start-up knows of.
-use Rattle.std.proofs.Common.{ℕ, ◌+◌, ◌*◌, ◌<◌, ◌≡◌, Bool, false, Option, Some, None, refl, sym, ◌∙◌, ap, subst, inl, inr, arith, List, length, slice_index}
-use Rattle.ec_device.specs.Types.{SlaveKind}
-use Rattle.ec_regs.specs.declared.manager.SyncManagerSettings.{SyncManagerSettings}
-use Rattle.ec_sync.specs.Buffer.{emptied_buffer}
-use Rattle.ec_sync.specs.SyncManager.{SyncManager, buffer_length}
-use Rattle.ec_al.specs.declared.state.State.{State}
-use Rattle.ec_al.specs.declared.state.State.TheVariants.{Init, PreOp, SafeOp, Op}
-use Rattle.ec_al.specs.Al.{Al}
-use Rattle.ec_slave.specs.State.{SlaveState, manager_at, station_of}
-use Rattle.ec_coe.specs.Objects.{Assignment, all_assigned}
-use Rattle.ec_bringup.specs.Stages.{Rise, Stays, Climbs, Claim, Talk, Config, Stage, Before, Called, Down, Up, answered}
-use Rattle.ec_bringup.specs.Standing.{IsOfKind, unviewed, HoldsZeros, IsConfigured, IsAssigned, Claims, IsSilent, Talks, IsInInit, IsIn, StaysIn, Rises, IsUpAt, AreClear, IsDownAt, Reached, IsGone, HadFault, Stands}
+use Rattle.ec_bringup.proofs.Words.{ℕ, ◌+◌, ◌*◌, ◌<◌, ◌≡◌, Bool, false, Option, Some, None, refl, sym, ◌∙◌, ap, subst, inl, inr, arith, List, length, slice_index, SlaveKind, SyncManagerSettings, emptied_buffer, SyncManager, buffer_length, State, Init, PreOp, SafeOp, Op, Al, SlaveState, manager_at, station_of, Assignment, all_assigned, Rise, Stays, Climbs, Claim, Talk, Config, Stage, Before, Called, Down, Up, answered, IsOfKind, unviewed, HoldsZeros, IsConfigured, IsAssigned, Claims, IsSilent, Talks, IsInInit, IsIn, StaysIn, Rises, IsUpAt, AreClear, IsDownAt, Reached, IsGone, HadFault, Stands}
 
 -- the control word in a memory
 abbrev pub word_of : List ℕ → ℕ
@@ -50,19 +39,24 @@ station-alike s t a = ap (λ (x : ℕ). x + 256 * slice_index t.memory 0x0011) (
 pub word-alike : (s t : SlaveState) → Alike s t → word_of t.memory ≡ word_of s.memory
 word-alike s t a = ap (λ (x : ℕ). x + 256 * slice_index t.memory 0x0121) (a.memory 0x0120 (omega arith)) ∙ ap (λ (x : ℕ). slice_index s.memory 0x0120 + 256 * x) (a.memory 0x0121 (omega arith))
 
-pub slave-alike : (kind : SlaveKind) (s t : SlaveState) → Alike s t → (t.al.state ≡ Init → s.al.state ≡ Init) → IsOfKind kind s → IsOfKind kind t
-slave-alike kind s t a init h = record {
-  kind_is = a.kind ∙ h.kind_is;
-  room = a.room ∙ h.room;
-  four = a.managers.four ∙ h.four;
-  outs = ap (λ (x : Assignment). length x.slots) a.outs ∙ h.outs;
-  ins = ap (λ (x : Assignment). length x.slots) a.ins ∙ h.ins;
+-- a slave of a type stays one where its type, its sizes and its assignments stay, and where INIT unlocks its managers
+pub kind-kept : (kind : SlaveKind) (s t : SlaveState) → t.kind ≡ s.kind → length t.memory ≡ length s.memory → length t.managers ≡ length s.managers → t.outs ≡ s.outs → t.ins ≡ s.ins
+    → (t.al.state ≡ Init → (n : ℕ) → n < 4 → (manager_at t.managers n).locked ≡ false) → IsOfKind kind s → IsOfKind kind t
+kind-kept kind s t same room count outs ins unlocked h = record {
+  kind_is = same ∙ h.kind_is;
+  room = room ∙ h.room;
+  four = count ∙ h.four;
+  outs = ap (λ (x : Assignment). length x.slots) outs ∙ h.outs;
+  ins = ap (λ (x : Assignment). length x.slots) ins ∙ h.ins;
   fixed = λ e. let f = h.fixed e in record {
-    outs = a.outs ∙ (f.outs ∙ ap (λ (k : SlaveKind). all_assigned k.outputs) (sym a.kind));
-    ins = a.ins ∙ (f.ins ∙ ap (λ (k : SlaveKind). all_assigned k.inputs) (sym a.kind));
+    outs = outs ∙ (f.outs ∙ ap (λ (k : SlaveKind). all_assigned k.outputs) (sym same));
+    ins = ins ∙ (f.ins ∙ ap (λ (k : SlaveKind). all_assigned k.inputs) (sym same));
   };
-  unlocked_in_init = λ e n l. (a.managers.each n).locked ∙ h.unlocked_in_init (init e) n l;
+  unlocked_in_init = unlocked;
 }
+
+pub slave-alike : (kind : SlaveKind) (s t : SlaveState) → Alike s t → (t.al.state ≡ Init → s.al.state ≡ Init) → IsOfKind kind s → IsOfKind kind t
+slave-alike kind s t a init h = kind-kept kind s t a.kind a.room a.managers.four a.outs a.ins (λ e n l. (a.managers.each n).locked ∙ h.unlocked_in_init (init e) n l) h
 
 zeros-alike : (s t : SlaveState) → Alike s t → HoldsZeros (manager_at s.managers 2) → HoldsZeros (manager_at t.managers 2)
 zeros-alike s t a h = a.managers.outputs ∙ (h ∙ ap (λ (m : SyncManagerSettings). emptied_buffer (buffer_length m)) (sym (a.managers.each 2).settings))

@@ -1,17 +1,5 @@
 -- Applications that step between the frames of a start-up change nothing of what its next frame relies on.
-use Rattle.std.proofs.Common.{ℕ, zero, suc, ◌+◌, ◌<◌, ◌≡◌, ◌≢◌, true, false, refl, sym, ◌∙◌, ap, arith, List, [], ◌∷◌, length, get_or-set_other}
-use Rattle.ec_device.specs.Types.{SlaveKind}
-use Rattle.ec_sync.specs.Buffer.{Buffer}
-use Rattle.ec_sync.specs.SyncManager.{SyncManager, no_manager}
-use Rattle.ec_slave.specs.State.{SlaveState, manager_at}
-use Rattle.ec_slave.specs.Application.{is_running, with_manager}
-use Rattle.ec_start.specs.declared.action.Action.{Action}
-use Rattle.ec_start.specs.declared.action.Action.TheVariants.{AwaitInit, AskWord, AwaitWord, AwaitState, AwaitReply}
-use Rattle.ec_bringup.specs.Stages.{Stage}
-use Rattle.ec_bringup.specs.Standing.{unviewed, Stands}
-use Rattle.ec_bringup.specs.Undisturbed.{IsSpelled, Rising, turned, turns}
-use Rattle.ec_bringup.specs.BringUp.{rising}
-use Rattle.ec_bringup.specs.Applied.{Applied, Rests, Reads, Writes, AreApplied, TurnsTo, Stays, Turns}
+use Rattle.ec_bringup.proofs.Words.{ℕ, zero, suc, ◌+◌, ◌<◌, ◌≡◌, ◌≢◌, true, false, refl, sym, ◌∙◌, ap, arith, List, [], ◌∷◌, length, get_or-set_other, SlaveKind, Buffer, SyncManager, no_manager, SlaveState, manager_at, is_running, with_manager, Action, AwaitInit, AskWord, AwaitWord, AwaitState, AwaitReply, Stage, unviewed, Stands, IsSpelled, Rising, turned, turns, rising, Applied, Rests, Reads, Writes, AreApplied, TurnsTo, AppliedStays as Stays, Turns}
 use Rattle.ec_bringup.proofs.Events.{Changed, buffered-stands}
 use Rattle.ec_bringup.proofs.Next.{Sure}
 use Rattle.ec_bringup.proofs.Passed.{Each}
@@ -60,15 +48,13 @@ stood-applied kind i st a s t (Writes _ _ inputs run on) h =
 
 pub each-applied : (P : ℕ → SlaveState → Type 0) (j : ℕ) (ss ts : List SlaveState) → ((i : ℕ) (s t : SlaveState) → Applied s t → P i s → P i t) → AreApplied ss ts → Each P j ss → Each P j ts
 each-applied P j [] [] keep app h = tt
-each-applied P j [] (t ∷ ts) keep app h = absurd app
-each-applied P j (s ∷ ss) [] keep app h = absurd app
 each-applied P j (s ∷ ss) (t ∷ ts) keep app h = (keep j s t app.0 h.0, each-applied P (j + 1) ss ts keep app.1 h.1)
+each-applied P j _ _ keep app h = absurd app
 
 pub applied-length : (ss ts : List SlaveState) → AreApplied ss ts → length ts ≡ length ss
 applied-length [] [] app = refl
-applied-length [] (t ∷ ts) app = absurd app
-applied-length (s ∷ ss) [] app = absurd app
 applied-length (s ∷ ss) (t ∷ ts) app = ap (λ (n : ℕ). suc n) (applied-length ss ts app.1)
+applied-length _ _ app = absurd app
 
 -- ---- turns
 

@@ -1,26 +1,5 @@
 -- What the requests of a start-up leave known of the assignment objects.
-use Rattle.std.proofs.Common.{ℕ, zero, suc, ◌+◌, ◌≡◌, ◌==◌, Bool, true, false, not, Option, Some, None, refl, sym, ◌∙◌, ap, subst, arith, List, [], ◌∷◌, ◌++◌, length, take, append_assoc, length-append}
-use Rattle.std.specs.List.{flat_map}
-use Rattle.std.proofs.lemmas.Bool.{eq-eqb, ne_eqb, both_ways}
-use Rattle.std.proofs.lemmas.List.{length-map}
-use Rattle.ec_bits.proofs.AnyLaws.{if_true, if_false}
-use Rattle.ec_device.specs.declared.slave_type.Entry.{Entry}
-use Rattle.ec_device.specs.declared.slave_type.Pdo.{Pdo}
-use Rattle.ec_device.specs.declared.slave_type.Mailbox.{Mailbox}
-use Rattle.ec_device.specs.Types.{SlaveKind}
-use Rattle.ec_slave.specs.State.{SlaveState}
-use Rattle.ec_coe.specs.declared.value.SdoValue.{SdoValue}
-use Rattle.ec_coe.specs.Objects.{Assignment, assigned, all_assigned, indices, byte_value, word_value, output_assignment, input_assignment, has_some}
-use Rattle.ec_device.specs.Objects.{pdo_at}
-use Rattle.ec_link.specs.declared.settings.SlavePlan.{SlavePlan}
-use Rattle.ec_start.specs.declared.action.SdoRequest.{SdoRequest}
-use Rattle.ec_start.specs.declared.action.Transfer.{Transfer}
-use Rattle.ec_start.specs.declared.action.Transfer.TheVariants.{Upload}
-use Rattle.ec_start.specs.Scripts.{requests, downloads, entries_read, pdo_read, slots_written, assignment_written}
-use Rattle.ec_bringup.specs.Stages.{Claim, Config, no_claim, claimed, answered, answered_by, talked_over, asked_all, prepared}
-use Rattle.ec_bringup.specs.Instants.{claim_of}
-use Rattle.ec_bringup.specs.Standing.{Claims, IsAssigned, IsOfKind}
-use Rattle.ec_start.specs.Planned.{IsStartable}
+use Rattle.ec_bringup.proofs.Words.{ℕ, zero, suc, ◌+◌, ◌≡◌, ◌==◌, Bool, true, false, not, Option, Some, None, refl, sym, ◌∙◌, ap, subst, arith, List, [], ◌∷◌, ◌++◌, length, take, append_assoc, length-append, flat_map, eq-eqb, ne_eqb, both_ways, length-map, if_true, if_false, Entry, Pdo, Mailbox, SlaveKind, SlaveState, SdoValue, Assignment, assigned, all_assigned, indices, byte_value, word_value, output_assignment, input_assignment, has_some, pdo_at, SlavePlan, SdoRequest, Transfer, Upload, requests, downloads, entries_read, pdo_read, slots_written, assignment_written, Claim, Config, no_claim, claimed, answered, answered_by, talked_over, asked_all, prepared, claim_of, Claims, IsAssigned, IsOfKind, IsStartable}
 
 pub talked-append : (c : Config) (rs qs : List SdoRequest) → talked_over c (rs ++ qs) ≡ talked_over (talked_over c rs) qs
 talked-append c [] qs = refl

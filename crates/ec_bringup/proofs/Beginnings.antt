@@ -1,31 +1,13 @@
 -- A start-up is at its beginning until its first frame is sent, and never again.
-use Rattle.std.proofs.Common.{ℕ, ◌+◌, ◌≡◌, ◌==◌, ◌&&◌, ◌≢◌, Bool, true, false, refl, ◌∙◌, ap, inl, inr, arith, if◌then◌else◌, List, [], ◌∷◌, length, get_or, nat_lt}
-use Rattle.std.proofs.lemmas.Bool.{cases_eq, ne_eqb}
-use Rattle.ec_frame.specs.Datagram.{Datagram}
-use Rattle.ec_link.specs.declared.settings.SlavePlan.{SlavePlan}
-use Rattle.ec_start.specs.declared.error.StartError.TheVariants.{TooSlow, Count}
-use Rattle.ec_start.specs.declared.action.Action.{Action}
-use Rattle.ec_start.specs.declared.action.Action.TheVariants.{CountSlaves}
-use Rattle.ec_start.specs.declared.phase.Phase.{Phase}
-use Rattle.ec_start.specs.declared.phase.Phase.TheVariants.{Idle, Sent, Ready, Failed}
-use Rattle.ec_start.specs.declared.verdict.Verdict.{Verdict}
-use Rattle.ec_start.specs.declared.verdict.Verdict.TheVariants.{Next, Shows, Again, Fails}
-use Rattle.ec_start.specs.Scripts.{script}
-use Rattle.ec_start.specs.Verdicts.{verdict}
-use Rattle.ec_start.specs.Running.{StartState, action_of, type_of, begun, judged, taken, given_up_by, max_polls}
-use Rattle.ec_bringup.specs.Runs.{is_idle, is_beginning, BeginningLaw}
+use Rattle.ec_bringup.proofs.Words.{ℕ, ◌+◌, ◌≡◌, ◌==◌, ◌&&◌, ◌≢◌, Bool, true, false, refl, ◌∙◌, ap, inl, inr, arith, if◌then◌else◌, List, [], ◌∷◌, length, get_or, nat_lt, cases_eq, ne_eqb, Datagram, SlavePlan, TooSlow, Count, Action, CountSlaves, Phase, Idle, Sent, Ready, Failed, Verdict, Next, Again, Fails, script, verdict, StartState, action_of, type_of, begun, judged, taken, given_up_by, max_polls, is_idle, is_beginning, BeginningLaw}
 
 begins : (s : StartState) (number : ℕ) → is_beginning (begun s.plan number) ≡ true
 unfolding begun
 begins s number = refl
 
-no-and : (b : Bool) → (b && false) ≡ false
-no-and true = refl
-no-and false = refl
-
 -- behind the first action
 further : (s : StartState) (p : Phase) (n : ℕ) → (is_idle p && (n + 1 == 0)) ≡ false
-further s p n = let z : (n + 1 == 0) ≡ false = ne_eqb (n + 1) 0 (λ e. omega (arith, e)) in ap (λ b. is_idle p && b) z ∙ no-and (is_idle p)
+further s p n = let z : (n + 1 == 0) ≡ false = ne_eqb (n + 1) 0 (λ e. omega (arith, e)) in ap (λ b. is_idle p && b) z ∙ (elim (is_idle p) as (λ b. (b && false) ≡ false) [ true ↦ refl | false ↦ refl ])
 
 -- what was tried again is no first action
 tried : (s : StartState) (b : Bool) → s.place ≢ 0 → is_beginning (if b then record s { phase = Failed (TooSlow s.place) } else record s { polls = s.polls + 1; phase = Idle }) ≡ false
@@ -33,10 +15,9 @@ tried s true ne = refl
 tried s false ne = ne_eqb s.place 0 ne
 
 later : (s : StartState) → s.place ≢ 0 → (x : Verdict) → is_beginning (judged s x) ≡ false
-later s ne Next = further s (if nat_lt (s.place + 1) (length (script s.plan)) then Idle else Ready) s.place
-later s ne (Shows value) = further s (if nat_lt (s.place + 1) (length (script s.plan)) then Idle else Ready) s.place
 later s ne Again = tried s (s.polls + 1 == max_polls) ne
 later s ne (Fails failure) = refl
+later s ne _ = further s (if nat_lt (s.place + 1) (length (script s.plan)) then Idle else Ready) s.place
 
 -- the first action counts the slaves
 first-action : (ps : List SlavePlan) → get_or (script ps) 0 CountSlaves ≡ CountSlaves

@@ -1,22 +1,5 @@
 -- The script as a walk: each step up passes its checks, and each request is answered as it should be.
-use Rattle.std.proofs.Common.{ℕ, suc, ◌+◌, ◌-◌, ◌<◌, ◌≤◌, ◌≡◌, ◌≢◌, ◌==◌, Bool, true, false, Option, Some, None, refl, sym, ◌∙◌, ap, subst, inl, inr, arith, if◌then◌else◌, List, [], ◌∷◌, ◌++◌, length, get_or}
-use Rattle.std.proofs.lemmas.Bool.{cases_eq, eq-eqb}
-use Rattle.ec_bits.proofs.AnyLaws.{if_true}
-use Rattle.ec_regs.specs.declared.manager.SyncManagerSettings.{SyncManagerSettings}
-use Rattle.ec_device.specs.declared.slave_type.Mailbox.{Mailbox}
-use Rattle.ec_regs.specs.Managers.{no_settings}
-use Rattle.ec_device.specs.Types.{SlaveKind}
-use Rattle.ec_al.specs.declared.state.State.{State}
-use Rattle.ec_al.specs.declared.state.State.TheVariants.{Init, PreOp, SafeOp, Op}
-use Rattle.ec_link.specs.declared.settings.SlavePlan.{SlavePlan}
-use Rattle.ec_start.specs.Plans.{settings_at, fmmu_at}
-use Rattle.ec_start.specs.declared.action.Action.{Action}
-use Rattle.ec_start.specs.declared.action.Action.TheVariants.{CountSlaves, AskInit, AwaitInit, ClearFmmus, ClearManagers, ClearStations, NameSlave, AskWord, AwaitWord, SetManager, SetFmmu, AskState, AwaitState, SendRequest, AwaitReply}
-use Rattle.ec_start.specs.declared.action.SdoRequest.{SdoRequest}
-use Rattle.ec_start.specs.Scripts.{named, identified, mailbox_set, raised, exchanged, talked, manager_set, fmmu_set, mapped, each_slave, cleared, phases, requests}
-use Rattle.ec_bringup.specs.Stages.{Rise, Stays, Config, Stage, Before, Down, Up, fresh, told, answered, after, IsLow, asked_all, prepared}
-use Rattle.ec_bringup.specs.Instants.{Leads}
-use Rattle.ec_start.specs.Planned.{AreMailboxes, IsStartable}
+use Rattle.ec_bringup.proofs.Words.{ℕ, suc, ◌+◌, ◌-◌, ◌<◌, ◌≤◌, ◌≡◌, ◌≢◌, ◌==◌, Bool, true, false, Option, Some, None, refl, sym, ◌∙◌, ap, subst, inl, inr, arith, if◌then◌else◌, List, [], ◌∷◌, ◌++◌, length, get_or, cases_eq, eq-eqb, if_true, SyncManagerSettings, Mailbox, no_settings, SlaveKind, State, Init, PreOp, SafeOp, Op, SlavePlan, settings_at, fmmu_at, Action, CountSlaves, AskInit, AwaitInit, ClearFmmus, ClearManagers, ClearStations, NameSlave, AskWord, AwaitWord, SetManager, SetFmmu, AskState, AwaitState, SendRequest, AwaitReply, SdoRequest, named, identified, mailbox_set, raised, exchanged, talked, manager_set, fmmu_set, mapped, each_slave, cleared, phases, requests, Rise, Stays, Config, Stage, Before, Down, Up, fresh, told, answered, after, IsLow, asked_all, prepared, Leads, AreMailboxes, IsStartable}
 use Rattle.ec_bringup.proofs.Leading.{IsFor, AreFor, SameFrame, answered-frame, asked-frame, phase-leads, named-leads, identified-tells, identity_known, boxed, mailbox-tells, mailbox-for, raised-for, raised-tells, talked-for, talked-tells, mapped-for, mapped-tells, mapped_to, others-of}
 use Rattle.ec_bringup.proofs.Messages.{Answers}
 use Rattle.ec_bringup.proofs.Next.{Grants, Bears, Bless}
@@ -61,13 +44,7 @@ own-bless kind i (AskState s to) c h k = (λ e. k, if_true _ _ _ (eq-eqb s i h))
 own-bless kind i (AwaitState s to) c h k = (λ e. k, if_true _ _ _ (eq-eqb s i h))
 own-bless kind i (SendRequest s counter b r) c h k = (λ e. k, if_true _ _ _ (eq-eqb s i h))
 own-bless kind i (AwaitReply s b r) c h k = (λ e. k, if_true _ _ _ (eq-eqb s i h))
-own-bless kind i CountSlaves c h k = absurd h
-own-bless kind i AskInit c h k = absurd h
-own-bless kind i AwaitInit c h k = absurd h
-own-bless kind i ClearFmmus c h k = absurd h
-own-bless kind i ClearManagers c h k = absurd h
-own-bless kind i ClearStations c h k = absurd h
-own-bless kind i (NameSlave s) c h k = absurd h
+own-bless kind i _ c h k = absurd h
 
 own-blessed : (kind : SlaveKind) (i : ℕ) (xs : List Action) (c : Config) → AreFor i xs → BearsAll kind c xs → Blessed kind i (Up c) xs
 own-blessed kind i [] c h k = tt

@@ -1,43 +1,5 @@
 -- Bringing up a start-up: its turns, its end, and that it comes up where nothing disturbs it.
-use Rattle.std.proofs.Common.{ℕ, zero, suc, ◌+◌, ◌%◌, ◌<◌, ◌≤◌, ◌≡◌, ◌≢◌, ◌==◌, ◌&&◌, not, Bool, true, false, refl, sym, ◌∙◌, ap, subst, inl, inr, arith, if◌then◌else◌, List, length, map, nat_lt, slice_index}
-use Rattle.std.proofs.lemmas.Bool.{both_ways, cases_eq, eq-eqb, ne_eqb}
-use Rattle.ec_bits.proofs.AnyLaws.{if_true, if_false}
-use Rattle.ec_device.specs.declared.slave_type.Device.{Device}
-use Rattle.ec_frame.specs.Datagram.{Datagram, IsDatagram}
-use Rattle.ec_frame.specs.Frame.{Payload, IsFrame, with_datagrams}
-use Rattle.ec_frame.specs.Building.{bare_payload}
-use Rattle.ec_slave.specs.State.{SlaveState}
-use Rattle.ec_slave.specs.Serving.{served}
-use Rattle.ec_ring.specs.Rings.{passes_ring, HasPassedRing}
-use Rattle.ec_link.specs.declared.settings.SlavePlan.{SlavePlan}
-use Rattle.ec_start.specs.declared.action.Action.{Action}
-use Rattle.ec_start.specs.declared.phase.Phase.{Phase}
-use Rattle.ec_start.specs.declared.phase.Phase.TheVariants.{Idle, Sent, Ready, Failed}
-use Rattle.ec_start.specs.declared.error.StartError.{StartError}
-use Rattle.ec_start.specs.declared.error.StartError.TheVariants.{BadMailbox, Count, Identity, Counter, AlError, Abort, TooSlow, Lost, NumbersSpent, Mapping}
-use Rattle.ec_start.specs.Actions.{datagram_of, frame_of}
-use Rattle.ec_al.specs.declared.state.State.{State}
-use Rattle.ec_al.specs.States.{state_number}
-use Rattle.ec_regs.specs.Words.{al_flag, sii_error, sii_busy}
-use Rattle.ec_coe.specs.Messages.{size_number, message_read}
-use Rattle.ec_coe.specs.Replies.{reply_of}
-use Rattle.ec_coe.specs.declared.reply.Reply.{Reply}
-use Rattle.ec_coe.specs.declared.reply.Reply.TheVariants.{Downloaded, Uploaded, Aborted, Unexpected}
-use Rattle.ec_start.specs.declared.action.Transfer.{Transfer}
-use Rattle.ec_start.specs.declared.action.Transfer.TheVariants.{Download, Upload}
-use Rattle.ec_start.specs.declared.action.SdoRequest.{SdoRequest}
-use Rattle.ec_start.specs.declared.action.Action.TheVariants.{CountSlaves, AskInit, AwaitInit, ClearFmmus, ClearManagers, ClearStations, AwaitWord, AwaitState, AwaitReply}
-use Rattle.ec_start.specs.Verdicts.{verdict, counted, word_verdict, state_verdict, reply_verdict, word_at, long_at, is_device, with_word}
-use Rattle.ec_start.specs.Scripts.{script}
-use Rattle.ec_start.specs.Running.{StartState, action_of, asked, asked_by, next_frame, next_frame_by, begun, sending, taken, judged, max_polls, second, is_ended, is_sent, last_number, type_of, IsStartTaken}
-use Rattle.ec_start.specs.declared.phase.NextFrame.{NextFrame}
-use Rattle.ec_start.specs.declared.phase.NextFrame.TheVariants.{Send, Waiting, Ended}
-use Rattle.ec_start.specs.declared.verdict.Verdict.{Verdict}
-use Rattle.ec_start.specs.declared.verdict.Verdict.TheVariants.{Next, Shows, Again, Fails}
-use Rattle.ec_start.proofs.LawLemmas.{taken_plan}
-use Rattle.ec_bringup.specs.Undisturbed.{Rising, frame_at, all_passed, all_met, turned, turns, ArePlans, AreDevices}
-use Rattle.ec_bringup.specs.ComesUp.{IsUpAndWorks, IsOnItsWay}
-use Rattle.ec_bringup.specs.BringUp.{rising, IsBroughtTo, Rests, RunsOut, Turns}
+use Rattle.ec_bringup.proofs.Words.{ℕ, zero, suc, ◌+◌, ◌%◌, ◌<◌, ◌≤◌, ◌≡◌, ◌≢◌, ◌==◌, ◌&&◌, not, Bool, true, false, refl, sym, ◌∙◌, ap, subst, inl, inr, arith, if◌then◌else◌, List, length, map, nat_lt, slice_index, both_ways, cases_eq, eq-eqb, ne_eqb, if_true, if_false, Device, Datagram, Payload, IsFrame, with_datagrams, bare_payload, SlaveState, served, passes_ring, HasPassedRing, SlavePlan, Action, Phase, Idle, Sent, Ready, Failed, StartError, TooSlow, Lost, datagram_of, frame_of, State, state_number, al_flag, sii_error, sii_busy, size_number, message_read, reply_of, Reply, Uploaded, Transfer, Upload, SdoRequest, CountSlaves, AskInit, AwaitInit, ClearFmmus, ClearManagers, ClearStations, AwaitWord, AwaitState, AwaitReply, verdict, counted, word_verdict, state_verdict, reply_verdict, word_at, long_at, is_device, with_word, script, StartState, action_of, asked, asked_by, next_frame, next_frame_by, begun, sending, taken, judged, max_polls, second, is_ended, is_sent, last_number, type_of, IsStartTaken, NextFrame, Send, Waiting, Ended, Verdict, Next, Again, Fails, taken_plan, Rising, frame_at, all_passed, all_met, turned, turns, ArePlans, AreDevices, IsUpAndWorks, IsOnItsWay, rising, IsBroughtTo, BringUpRests as Rests, RunsOut, BringUpTurns as Turns, Download, Downloaded}
 use Rattle.ec_bringup.proofs.Rounds.{round}
 use Rattle.ec_bringup.proofs.ComesUp.{comes-up}
 
@@ -57,8 +19,7 @@ pub turn-made : (s t : StartState) (ss passed : List SlaveState) (before after :
     → rising t (map served passed) ≡ turned (rising s ss)
 turn-made s t ss passed before after kept written ring took =
     let p : Payload = bare_payload (frame_of (action_of s) s.next) in
-    let good : IsDatagram (datagram_of (action_of s) s.next) = written.each.1.0 in
-    let r = round s s.next ss good in
+    let r = round s s.next ss written.each.1.0 in
     let back : IsFrame after (with_datagrams p (passes_ring ss (frame_of (action_of s) s.next)).datagrams) = ring.frame p written in
     let is : kept ≡ true = turn-kept s t ss passed before after kept written ring took in
     let state : t ≡ taken (sending s) (all_passed ss (datagram_of (action_of s) s.next))
@@ -97,10 +58,9 @@ pub turn-whole : (s asks t : StartState) (answer : NextFrame) (ss passed served_
     → HasPassedRing ss before passed after → served_on ≡ map served passed → IsStartTaken asks after kept t
     → rising t served_on ≡ turned (rising s ss)
 turn-whole s asks t answer ss passed served_on written before after kept sends told state frame same ring serves took =
-    let k = is-sending s (sym told ∙ sends) in
     ap (rising t) serves
     ∙ turn-made s t ss passed before after kept (subst (λ (xs : List ℕ). IsFrame xs (bare_payload (frame_of (action_of s) s.next))) (sym same) (frame sends)) ring
-    (subst (λ (x : StartState). IsStartTaken x after kept t) (state ∙ k.state) took)
+    (subst (λ (x : StartState). IsStartTaken x after kept t) (state ∙ (is-sending s (sym told ∙ sends)).state) took)
 
 -- ---- its end
 
@@ -110,9 +70,8 @@ has-ended _ _ (RunsOut r h n) = refl
 has-ended _ _ (Turns r e h n rest) = has-ended (turned r) e rest
 
 pub keeps-plan : (r e : Rising) → IsBroughtTo r e → e.start.plan ≡ r.start.plan
-keeps-plan _ _ (Rests r h) = refl
-keeps-plan _ _ (RunsOut r h n) = refl
 keeps-plan _ _ (Turns r e h n rest) = keeps-plan (turned r) e rest ∙ taken_plan (sending r.start) (all_passed r.slaves (frame_at r))
+keeps-plan _ _ _ = refl
 
 -- a start-up that sends nothing, though no frame is outstanding, ends there
 stopped-by : (s : StartState) (ss : List SlaveState) (p : Phase) → s.phase ≡ p → is_sent p ≡ false → next_frame_by s p ≢ Send → IsBroughtTo (rising s ss) (rising (asked_by s p) ss)
@@ -121,8 +80,7 @@ stopped-by s ss Idle e free none = elim (cases_eq s.next last_number) [
   | inr n ↦ absurd (none (if_false _ _ _ (ne_eqb s.next last_number n)))
 ]
 stopped-by s ss (Sent number) e free none = absurd (both_ways true free refl)
-stopped-by s ss Ready e free none = Rests (rising s ss) (ap is_ended e)
-stopped-by s ss (Failed error) e free none = Rests (rising s ss) (ap is_ended e)
+stopped-by s ss _ e free none = Rests (rising s ss) (ap is_ended e)
 
 pub stopped : (s t : StartState) (ss xs : List SlaveState) → is_sent s.phase ≡ false → next_frame s ≢ Send → (next_frame s ≢ Send → t ≡ asked s) → (next_frame s ≢ Send → xs ≡ ss)
     → IsBroughtTo (rising s ss) (rising t xs)
@@ -144,19 +102,14 @@ judged-next s _ = refl
 pub turned-next : (r : Rising) → (turned r).start.next ≡ r.start.next + 1
 turned-next r = judged-next (sending r.start) _
 
-sent-none : (b : Bool) → is_sent (if b then Idle else Ready) ≡ false
-sent-none true = refl
-sent-none false = refl
-
 judged-free : (s : StartState) (v : Verdict) → is_sent (judged s v).phase ≡ false
-judged-free s Next = sent-none (nat_lt (s.place + 1) (length (script s.plan)))
-judged-free s (Shows value) = sent-none (nat_lt (s.place + 1) (length (script s.plan)))
 judged-free s Again = by (s.polls + 1 == max_polls)
   where
     by : (b : Bool) → (let x : StartState = if b then record s { phase = Failed (TooSlow s.place) } else record s { polls = s.polls + 1; phase = Idle } in is_sent x.phase) ≡ false
     by true = refl
     by false = refl
 judged-free s (Fails error) = refl
+judged-free s _ = elim (nat_lt (s.place + 1) (length (script s.plan))) as (λ b. is_sent (if b then Idle else Ready) ≡ false) [ true ↦ refl | false ↦ refl ]
 
 -- and leaves no frame outstanding
 pub turned-free : (r : Rising) → is_sent (turned r).start.phase ≡ false
@@ -198,27 +151,15 @@ turns-end r s t ss xs number h none state kept = h.on (rising t xs) (stopped s t
 
 abbrev lost_error : StartError → Bool
 lost_error Lost = true
-lost_error (BadMailbox slave) = false
-lost_error (Count seen) = false
-lost_error (Identity slave seen) = false
-lost_error (Counter step) = false
-lost_error (AlError slave code) = false
-lost_error (Abort slave code) = false
-lost_error (TooSlow step) = false
-lost_error NumbersSpent = false
-lost_error (Mapping slave index subindex seen) = false
+lost_error _ = false
 
 abbrev lost : Verdict → Bool
-lost Next = false
-lost (Shows value) = false
-lost Again = false
 lost (Fails error) = lost_error error
+lost _ = false
 
 abbrev lost_phase : Phase → Bool
-lost_phase Idle = false
-lost_phase (Sent number) = false
-lost_phase Ready = false
 lost_phase (Failed error) = lost_error error
+lost_phase _ = false
 
 either : (b : Bool) (x y : Verdict) → lost x ≡ false → lost y ≡ false → lost (if b then x else y) ≡ false
 either true x y h k = h
@@ -235,13 +176,8 @@ state-fine i state bytes = either (al_flag (slice_index bytes 0)) _ _ refl (eith
 
 reply-fine : (i : ℕ) (r : SdoRequest) (x : Transfer) (p : Reply) → lost (reply_verdict i r x p) ≡ false
 reply-fine i r (Download v) Downloaded = refl
-reply-fine i r (Download v) (Uploaded w) = refl
-reply-fine i r (Download v) (Aborted code) = refl
-reply-fine i r (Download v) Unexpected = refl
-reply-fine i r (Upload v) Downloaded = refl
 reply-fine i r (Upload v) (Uploaded w) = either (not (size_number w.size == size_number v.size)) _ _ refl (either (w.number == v.number) _ _ refl refl)
-reply-fine i r (Upload v) (Aborted code) = refl
-reply-fine i r (Upload v) Unexpected = refl
+reply-fine i r _ _ = refl
 
 verdict-fine : (n step : ℕ) (s : Device) (types : ℕ → Device) (a : Action) (d : Datagram) → lost (verdict n step s types a d) ≡ false
 verdict-fine n step s types CountSlaves d = either (d.counter == n) _ _ refl refl
@@ -256,19 +192,14 @@ verdict-fine n step s types (AwaitReply i b r) d =
     either (d.counter == 0) _ _ refl (counted-fine d.counter 1 step _ (reply-fine i r r.transfer (reply_of r.index r.subindex (message_read d.data_bytes))))
 verdict-fine n step s types _ d = counted-fine d.counter 1 step Next refl
 
-lost-none : (b : Bool) → lost_phase (if b then Idle else Ready) ≡ false
-lost-none true = refl
-lost-none false = refl
-
 judged-fine : (s : StartState) (v : Verdict) → lost v ≡ false → lost_phase (judged s v).phase ≡ false
-judged-fine s Next h = lost-none (nat_lt (s.place + 1) (length (script s.plan)))
-judged-fine s (Shows value) h = lost-none (nat_lt (s.place + 1) (length (script s.plan)))
 judged-fine s Again h = by (s.polls + 1 == max_polls)
   where
     by : (b : Bool) → (let x : StartState = if b then record s { phase = Failed (TooSlow s.place) } else record s { polls = s.polls + 1; phase = Idle } in lost_phase x.phase) ≡ false
     by true = refl
     by false = refl
 judged-fine s (Fails error) h = h
+judged-fine s _ h = elim (nat_lt (s.place + 1) (length (script s.plan))) as (λ b. lost_phase (if b then Idle else Ready) ≡ false) [ true ↦ refl | false ↦ refl ]
 
 never-lost : (r e : Rising) → IsBroughtTo r e → lost_phase r.start.phase ≡ false → lost_phase e.start.phase ≡ false
 never-lost _ _ (Rests r h) f = f

@@ -1,63 +1,39 @@
 -- The broadcasts of a start-up at any slave.
-use Rattle.std.proofs.Common.{ℕ, zero, suc, ◌+◌, ◌-◌, ◌*◌, ◌/◌, ◌%◌, ◌<◌, ◌≡◌, Bool, true, false, refl, sym, ◌∙◌, ap, subst, inl, inr, arith, List, [], ◌∷◌, length, slice_index}
-use Rattle.std.proofs.lemmas.Bool.{or_left, or_right}
-use Rattle.ec_bits.specs.Bits.{zeros, any_below}
-use Rattle.ec_bits.proofs.AnyLaws.{if_true, if_false, within_true, within_below, within_above}
-use Rattle.ec_device.specs.Types.{SlaveKind}
-use Rattle.ec_regs.specs.Memory.{is_stored}
-use Rattle.ec_regs.specs.Managers.{no_settings}
-use Rattle.ec_sync.specs.SyncManager.{SyncManager, empty_manager}
-use Rattle.ec_frame.specs.declared.command.Command.{Command}
-use Rattle.ec_frame.specs.declared.command.Command.TheVariants.{Bwr}
-use Rattle.ec_frame.specs.Datagram.{Datagram, adp_of, ado_of}
-use Rattle.ec_al.specs.Al.{Al, requesting}
-use Rattle.ec_slave.specs.Roles.{role_of, adp_after, is_reading, is_writing}
-use Rattle.ec_slave.specs.State.{SlaveState, manager_at, station_of}
-use Rattle.ec_slave.specs.Physical.{Window, touches, physical_after, is_configured}
-use Rattle.ec_slave.specs.Meeting.{window_of, slave_met, datagram_met}
-use Rattle.ec_slave.specs.Checking.{control_word}
-use Rattle.ec_start.specs.declared.action.Action.{Action}
-use Rattle.ec_start.specs.declared.action.Action.TheVariants.{AskInit, ClearFmmus, ClearManagers, ClearStations}
-use Rattle.ec_start.specs.Actions.{datagram_of}
-use Rattle.ec_bringup.specs.Stages.{Stage, Called, Down, after}
-use Rattle.ec_bringup.specs.Standing.{HoldsZeros, IsInInit, AreClear, IsDownAt, Stands}
-use Rattle.ec_bringup.specs.Frames.{IsWriting, Arrives, IsOther, MayRepeat, Met}
+use Rattle.ec_bringup.proofs.Words.{ℕ, suc, ◌+◌, ◌-◌, ◌*◌, ◌/◌, ◌%◌, ◌<◌, ◌≡◌, Bool, true, false, refl, sym, ◌∙◌, ap, subst, inl, inr, arith, List, [], ◌∷◌, length, slice_index, or_left, or_right, zeros, any_below, if_true, if_false, within_true, within_below, within_above, SlaveKind, is_stored, no_settings, SyncManager, empty_manager, Command, Bwr, Datagram, adp_of, ado_of, Al, requesting, role_of, adp_after, is_reading, is_writing, SlaveState, manager_at, station_of, Window, touches, physical_after, is_configured, window_of, slave_met, datagram_met, control_word, Action, AskInit, ClearFmmus, ClearManagers, ClearStations, datagram_of, Stage, Called, Down, after, HoldsZeros, IsInInit, AreClear, IsDownAt, Stands, IsWriting, Arrives, IsOther, MayRepeat, Met, Wrote, set_by, wrote, unconfigured, OnlyWrites, writes_meet, goes_on}
 use Rattle.ec_bringup.proofs.Resets.{get_or-zeros}
-use Rattle.ec_slave.specs.Interface.{Wrote, set_by}
-use Rattle.ec_slave.proofs.RegisterAccess.{registers_written as wrote, managers_aside as unconfigured}
 use Rattle.ec_bringup.proofs.Owns.{slave-wrote, window-sent}
-use Rattle.ec_slave.specs.Interface.{OnlyWrites}
-use Rattle.ec_slave.proofs.Meetings.{writes_meet, goes_on}
 
 -- ---- a broadcast write
 
-reads-none : (s : SlaveState) (d : Datagram) → d.command ≡ Bwr → is_reading (role_of d.command (adp_of d) (station_of s)) ≡ false
-reads-none s d c = ap (λ (x : Command). is_reading (role_of x (adp_of d) (station_of s))) c
-
-writes-all : (s : SlaveState) (d : Datagram) → d.command ≡ Bwr → is_writing (role_of d.command (adp_of d) (station_of s)) ≡ true
-writes-all s d c = ap (λ (x : Command). is_writing (role_of x (adp_of d) (station_of s))) c
-
 pub broadcast-writes : (s : SlaveState) (d : Datagram) → d.command ≡ Bwr → OnlyWrites s d
-broadcast-writes s d c = record { writes = writes-all s d c; reads = reads-none s d c }
+broadcast-writes s d c = record {
+  writes = ap (λ (x : Command). is_writing (role_of x (adp_of d) (station_of s))) c;
+  reads = ap (λ (x : Command). is_reading (role_of x (adp_of d) (station_of s))) c;
+}
 
 pub broadcast-write : (s : SlaveState) (d : Datagram) → d.command ≡ Bwr → slave_met s d ≡ physical_after s false true (window_of d)
 broadcast-write s d c = (writes_meet s d (broadcast-writes s d c)).slave
 
--- the datagram goes on as it came, with its ADP grown
-writing-on : (s : SlaveState) (e d : Datagram) (j : ℕ) → d.command ≡ Bwr → IsWriting e d (j % 65536) → IsWriting e (datagram_met s d) ((j + 1) % 65536)
-writing-on s e d j c h =
+-- a datagram that is written goes on as it came, with its ADP grown
+pub written-on : (k : Command) (s : SlaveState) (e d : Datagram) (adp : ℕ) → d.command ≡ k → OnlyWrites s d → adp_after k (adp_of d) ≡ (adp_of d + 1) % 65536 → IsWriting e d adp
+    → IsWriting e (datagram_met s d) ((adp + 1) % 65536)
+written-on k s e d adp c only grows h =
     let o = goes_on s d in
-    let same : ado_of d ≡ d.address / 65536 = refl in
-    let low : ((adp_of d + 1) % 65536 + 65536 * ado_of d) % 65536 ≡ (j + 1) % 65536 = let a = h.adp_is in omega (arith, a) in
+    let low : ((adp_of d + 1) % 65536 + 65536 * ado_of d) % 65536 ≡ (adp + 1) % 65536 = let a = h.adp_is in omega (arith, a) in
     let high : ((adp_of d + 1) % 65536 + 65536 * ado_of d) / 65536 ≡ ado_of d = omega arith in
     let address : (datagram_met s d).address ≡ (adp_of d + 1) % 65536 + 65536 * ado_of d
-    = o.address ∙ ap (λ (x : Command). adp_after x (adp_of d) + 65536 * ado_of d) c in
+    = o.address ∙ (ap (λ (x : Command). adp_after x (adp_of d) + 65536 * ado_of d) c ∙ ap (λ (x : ℕ). x + 65536 * ado_of d) grows) in
     record {
       command = o.command ∙ h.command;
       ado = ap (λ (x : ℕ). x / 65536) address ∙ (high ∙ h.ado);
       adp_is = ap (λ (x : ℕ). x % 65536) address ∙ low;
-      bytes = (writes_meet s d (broadcast-writes s d c)).bytes ∙ h.bytes;
+      bytes = (writes_meet s d only).bytes ∙ h.bytes;
     }
+
+writing-on : (s : SlaveState) (e d : Datagram) (j : ℕ) → d.command ≡ Bwr → IsWriting e d (j % 65536) → IsWriting e (datagram_met s d) ((j + 1) % 65536)
+writing-on s e d j c h =
+    let step : (j % 65536 + 1) % 65536 ≡ (j + 1) % 65536 = omega arith in
+    subst (IsWriting e (datagram_met s d)) step (written-on Bwr s e d (j % 65536) c (broadcast-writes s d c) refl h)
 
 pub window-is : (e d : Datagram) (adp : ℕ) (w : Window) → IsWriting e d adp → window_of e ≡ w → window_of d ≡ w
 window-is e d adp w h q = ap (λ (x : ℕ). record { from = x; bytes = d.data_bytes }) h.ado ∙ (ap (λ (x : List ℕ). record { from = ado_of e; bytes = x }) h.bytes ∙ q)
@@ -164,11 +140,8 @@ managers-cleared = record { from = 0x0800; bytes = zeros 32 }
 
 cleared-by : (n : ℕ) (m : SyncManager) → n < 4 → set_by managers-cleared n m ≡ empty_manager no_settings m.locked
 unfolding any_below
-cleared-by zero m l = refl
-cleared-by (suc zero) m l = refl
-cleared-by (suc (suc zero)) m l = refl
-cleared-by (suc (suc (suc zero))) m l = refl
 cleared-by (suc (suc (suc (suc n)))) m l = absurd (omega arith)
+cleared-by _ m l = refl
 
 clear-managers : (kind : SlaveKind) (i : ℕ) (f m : Bool) (trouble : Bool) (s : SlaveState) → Stands kind i (Down f m) trouble s → Stands kind i (Down f true) trouble (physical_after s false true managers-cleared)
 clear-managers kind i f m trouble s h =

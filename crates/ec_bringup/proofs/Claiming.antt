@@ -1,37 +1,5 @@
 -- A reply that fits says that its request was done.
-use Rattle.std.proofs.Common.{ℕ, ◌+◌, ◌-◌, ◌*◌, ◌%◌, ◌^◌, ◌<◌, ◌≤◌, ◌≡◌, ◌≢◌, ◌==◌, ◌&&◌, Bool, true, false, Option, Some, None, Result, Ok, Err, refl, sym, ◌∙◌, ap, subst, inl, inr, arith, if◌then◌else◌, List, [], ◌∷◌, ◌++◌, length, take, set}
-use Rattle.std.proofs.lemmas.Bool.{cases_Bool, cases_eq, eq-eqb, ne_eqb}
-use Rattle.std.proofs.Math.Nat.{mod-eq_of_lt}
-use Rattle.ec_bits.proofs.AnyLaws.{if_true, if_false}
-use Rattle.ec_device.specs.declared.slave_type.Pdo.{Pdo}
-use Rattle.ec_coe.specs.declared.value.ValueSize.{ValueSize}
-use Rattle.ec_coe.specs.declared.value.SdoValue.{SdoValue}
-use Rattle.ec_coe.specs.declared.abort_code.AbortCode.{AbortCode}
-use Rattle.ec_coe.specs.declared.message.Message.{Message}
-use Rattle.ec_coe.specs.declared.message.Service.{Service}
-use Rattle.ec_coe.specs.declared.message.Service.TheVariants.{Request as RequestService, Response, Other as OtherService}
-use Rattle.ec_coe.specs.declared.message.SdoCommand.{SdoCommand as Sdo}
-use Rattle.ec_coe.specs.declared.message.SdoCommand.TheVariants.{DownloadRequest, DownloadResponse, UploadRequest, UploadResponse, Abort as AbortCommand}
-use Rattle.ec_coe.specs.declared.reply.Reply.{Reply}
-use Rattle.ec_coe.specs.declared.reply.Reply.TheVariants.{Downloaded as HasDownloaded, Uploaded, Aborted, Unexpected}
-use Rattle.ec_coe.specs.Messages.{message_bytes, message_read, message_in, command_of, command_number, size_number}
-use Rattle.ec_coe.specs.Replies.{reply_in, reply_by, response_in, abort_in}
-use Rattle.ec_coe.specs.Objects.{Assignment, Dictionary, output_assignment, input_assignment}
-use Rattle.ec_coe.specs.Transfers.{uploaded, written_over, downloaded}
-use Rattle.ec_coe.specs.Answers.{Answer, answered as answer_of, answer_by, download_answer, value_of}
-use Rattle.ec_coe.proofs.ReadBack.{reads-as-message, command-read}
-use Rattle.ec_coe.proofs.Written.{outs-stand, ins-stand}
-use Rattle.ec_coe.proofs.Effects.{Assigned, Counted, Slotted, Downloaded, Outputs, Inputs, download-effect, good}
-use Rattle.ec_start.specs.declared.action.SdoRequest.{SdoRequest}
-use Rattle.ec_start.specs.declared.action.Transfer.{Transfer}
-use Rattle.ec_start.specs.declared.action.Transfer.TheVariants.{Download, Upload}
-use Rattle.ec_start.specs.declared.verdict.Verdict.TheVariants.{Next, Fails}
-use Rattle.ec_start.specs.declared.error.StartError.{StartError}
-use Rattle.ec_start.specs.Actions.{request_command, request_value}
-use Rattle.ec_start.specs.Verdicts.{message_verdict, reply_verdict}
-use Rattle.ec_bringup.specs.Stages.{Claim, Config, claimed, slot_claimed, answered, answered_by}
-use Rattle.ec_start.specs.Planned.{IsRequest, IsTransfer}
-use Rattle.ec_bringup.specs.Standing.{Claims}
+use Rattle.ec_bringup.proofs.Words.{ℕ, ◌+◌, ◌-◌, ◌*◌, ◌%◌, ◌^◌, ◌<◌, ◌≤◌, ◌≡◌, ◌≢◌, ◌==◌, ◌&&◌, Bool, true, false, Option, Some, None, Result, Ok, Err, refl, sym, ◌∙◌, ap, subst, inl, inr, arith, if◌then◌else◌, List, [], ◌∷◌, ◌++◌, length, take, set, cases_Bool, cases_eq, eq-eqb, ne_eqb, mod-eq_of_lt, if_true, if_false, Pdo, ValueSize, SdoValue, AbortCode, Message, Service, RequestService, Response, OtherService, Sdo, DownloadRequest, DownloadResponse, UploadRequest, UploadResponse, AbortCommand, Reply, Downloaded as HasDownloaded, Uploaded, Aborted, Unexpected, message_bytes, message_read, message_in, command_of, command_number, size_number, reply_in, reply_by, response_in, abort_in, Assignment, Dictionary, output_assignment, input_assignment, uploaded, written_over, downloaded, Answer, answer_of, answer_by, download_answer, value_of, reads-as-message, command-read, outs-stand, ins-stand, Assigned, Counted, Slotted, EffectsDownloaded as Downloaded, Outputs, Inputs, download-effect, good, SdoRequest, Transfer, Download, Upload, Next, request_command, request_value, message_verdict, reply_verdict, Claim, Config, claimed, slot_claimed, answered, answered_by, IsRequest, IsTransfer, Claims}
 
 -- ---- claims
 
@@ -42,12 +10,11 @@ cons-tail : (x y : ℕ) (xs ys : List ℕ) → x ∷ xs ≡ y ∷ ys → xs ≡ 
 cons-tail x y xs ys e = cc
 
 take-set : (S xs : List ℕ) (v : ℕ) → take (length S) xs ≡ S → length S < length xs → take (length (S ++ v ∷ [])) (set xs (length S) v) ≡ S ++ v ∷ []
-take-set [] [] v e l = absurd (omega arith)
 take-set [] (x ∷ xs) v e l = refl
-take-set (y ∷ S) [] v e l = absurd (omega arith)
 take-set (y ∷ S) (x ∷ xs) v e l =
     ap (λ (n : ℕ). n ∷ take (length (S ++ v ∷ [])) (set xs (length S) v)) (cons-head x y (take (length S) xs) S e)
     ∙ ap (λ (ns : List ℕ). y ∷ ns) (take-set S xs v (cons-tail x y (take (length S) xs) S e) (omega arith))
+take-set _ [] v e l = absurd (omega arith)
 
 claim-moves : (c d : Claim) (a : Assignment) → d ≡ c → Claims c a → Claims d a
 claim-moves c d a e h = subst (λ (x : Claim). Claims x a) (sym e) h
@@ -86,12 +53,9 @@ claim-effect ps c a b subindex value (Slotted z o t e) l h =
 
 -- ---- what a verdict says of the reply
 
-next-not : (f : StartError) → Fails f ≡ Next → ⊥
-next-not f e = cc
-
 reply-done : (i : ℕ) (r : SdoRequest) (w : SdoValue) (x : Reply) → reply_verdict i r (Download w) x ≡ Next → x ≡ HasDownloaded
 reply-done i r w HasDownloaded e = refl
-reply-done i r w _ e = absurd (next-not _ e)
+reply-done i r w _ e = absurd (cc e)
 
 response-done : (m : Message) (c : Sdo) → response_in m c ≡ HasDownloaded → c ≡ DownloadResponse
 response-done m DownloadResponse e = refl
@@ -158,9 +122,8 @@ by-download : (c : Config) (r : SdoRequest) (w : SdoValue) (in_preop : Bool) (d 
 by-download c r w in_preop d m counter v a b n ho hi q =
     let old : Result Dictionary AbortCode = downloaded in_preop d m.index m.subindex v in
     let e : Dictionary = (download_answer d m counter old).dictionary in
-    let done : downloaded in_preop d m.index m.subindex v ≡ good e = by-done d m counter old q in
     let same : downloaded in_preop d r.index r.subindex v ≡ good e
-    = sym (ap (λ (x : ℕ). downloaded in_preop d x m.subindex v) a ∙ ap (λ (x : ℕ). downloaded in_preop d r.index x v) b) ∙ done in
+    = sym (ap (λ (x : ℕ). downloaded in_preop d x m.subindex v) a ∙ ap (λ (x : ℕ). downloaded in_preop d r.index x v) b) ∙ (by-done d m counter old q) in
     let there = old-there in_preop d r.index r.subindex v e same in
     by-effect c r w d e
     (λ i. (outs-stand d r.index r.subindex there.0 i there.1).there)
@@ -183,8 +146,7 @@ by-transfer : (c : Config) (r : SdoRequest) (i : ℕ) (in_preop : Bool) (d : Dic
     → reply_verdict i r x (reply_in r.index r.subindex (message_in (message_bytes (answer_of in_preop d m counter).reply ++ rest))) ≡ Next
     → Claimed (answered_by c r x) (answer_of in_preop d m counter).dictionary
 by-transfer c r i in_preop d m counter (Upload v) rest k cm ix sb vl ho hi e =
-    let q : (answer_of in_preop d m counter).dictionary ≡ d = answer-upload in_preop d m counter cm in
-    subst (λ (x : Dictionary). Claimed (record c { talk = None }) x) (sym q) (ho, hi)
+    subst (λ (x : Dictionary). Claimed (record c { talk = None }) x) (sym (answer-upload in_preop d m counter cm)) (ho, hi)
 by-transfer c r i in_preop d m counter (Download w) rest k cm ix sb vl ho hi e =
     let q = answer-download in_preop d m counter w.size cm in
     let v : (value_of w.size m.value).number ≡ w.number = ap (λ (n : ℕ). n % 2 ^ (8 * size_number w.size)) vl ∙ mod-eq_of_lt k in

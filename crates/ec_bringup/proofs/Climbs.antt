@@ -1,29 +1,5 @@
 -- From one frame to the next, and from the first to the last: an undisturbed start-up goes on as its script says.
-use Rattle.std.proofs.Common.{ℕ, zero, suc, ◌+◌, ◌^◌, ◌<◌, ◌≤◌, ◌≡◌, true, false, refl, sym, ◌∙◌, ap, subst, arith, List, [], ◌∷◌, length, map, drop, get_or, nat_lt, ◌==◌, Bool, Option, Some, None, if◌then◌else◌, ◌++◌}
-use Rattle.std.proofs.lemmas.Bool.{lt-ltb, le-ltb}
-use Rattle.std.proofs.lemmas.List.{length-map}
-use Rattle.ec_bits.proofs.AnyLaws.{if_true, if_false}
-use Rattle.ec_device.specs.declared.slave_type.Device.{Device}
-use Rattle.ec_device.specs.Types.{SlaveKind}
-use Rattle.ec_frame.specs.Datagram.{Datagram, IsDatagram}
-use Rattle.ec_slave.specs.State.{SlaveState}
-use Rattle.ec_slave.specs.Meeting.{datagram_met}
-use Rattle.ec_slave.specs.Serving.{served}
-use Rattle.ec_link.specs.declared.settings.SlavePlan.{SlavePlan}
-use Rattle.ec_start.specs.declared.action.Action.{Action}
-use Rattle.ec_start.specs.declared.action.Action.TheVariants.{CountSlaves, AskInit, AwaitInit, ClearFmmus, ClearManagers, ClearStations, NameSlave, AskWord, AwaitWord, SetManager, SetFmmu, AskState, AwaitState, SendRequest, AwaitReply}
-use Rattle.ec_start.specs.Actions.{datagram_of}
-use Rattle.ec_start.specs.Scripts.{script, named, identified, mailbox_set, raised, exchanged, talked, fmmu_set, mapped, each_slave, cleared, phases, requests}
-use Rattle.ec_start.specs.Verdicts.{with_word, verdict}
-use Rattle.ec_start.specs.Running.{StartState, action_of, type_of, sending, advanced, with_shown, judged}
-use Rattle.ec_start.specs.declared.phase.Phase.TheVariants.{Idle, Ready}
-use Rattle.ec_bringup.specs.Stages.{Stage, Up, Config, after}
-use Rattle.ec_bringup.specs.Instants.{Leads}
-use Rattle.ec_bringup.specs.Standing.{Stands}
-use Rattle.ec_bringup.specs.Frames.{MayEnd}
-use Rattle.ec_bringup.specs.Undisturbed.{all_passed, all_met, Rising, frame_at, turned, plan_at}
-use Rattle.ec_bringup.specs.BringUp.{rising}
-use Rattle.ec_bringup.specs.Applied.{TurnsTo, Stays, Turns}
+use Rattle.ec_bringup.proofs.Words.{ℕ, zero, suc, ◌+◌, ◌^◌, ◌<◌, ◌≤◌, ◌≡◌, true, false, refl, sym, ◌∙◌, ap, subst, arith, List, [], ◌∷◌, length, map, drop, get_or, nat_lt, ◌==◌, Bool, Option, Some, None, if◌then◌else◌, ◌++◌, lt-ltb, le-ltb, length-map, if_true, if_false, Device, SlaveKind, Datagram, IsDatagram, SlaveState, datagram_met, served, SlavePlan, Action, CountSlaves, AskWord, AwaitWord, SetManager, AwaitReply, datagram_of, script, named, identified, mailbox_set, raised, exchanged, talked, fmmu_set, mapped, each_slave, cleared, phases, requests, with_word, verdict, StartState, action_of, type_of, sending, advanced, with_shown, judged, Idle, Ready, Stage, Up, Config, after, Leads, Stands, MayEnd, all_passed, all_met, Rising, frame_at, turned, plan_at, rising, TurnsTo, AppliedStays as Stays, Turns, Mailbox, State, PreOp, SafeOp, Op, settings_at, fmmu_at, SdoRequest, IsReachable, CanReach}
 use Rattle.ec_bringup.proofs.PassLaws.{take-law}
 use Rattle.ec_bringup.proofs.Messages.{stands-served}
 use Rattle.ec_bringup.proofs.Sends.{IsSendable, datagram-good}
@@ -32,12 +8,6 @@ use Rattle.ec_bringup.proofs.Shown.{Tells}
 use Rattle.ec_bringup.proofs.Next.{Prior, Prompted, Bless}
 use Rattle.ec_bringup.proofs.Passed.{Each, Priors, After, pass-all, spelled-served, wanted, IsInside, Told, sets-out, comes-back}
 use Rattle.ec_bringup.proofs.Applying.{Stood, stood-applied, each-applied, applied-length}
-use Rattle.ec_device.specs.declared.slave_type.Mailbox.{Mailbox}
-use Rattle.ec_al.specs.declared.state.State.{State}
-use Rattle.ec_al.specs.declared.state.State.TheVariants.{PreOp, SafeOp, Op}
-use Rattle.ec_start.specs.Plans.{settings_at, fmmu_at}
-use Rattle.ec_start.specs.declared.action.SdoRequest.{SdoRequest}
-use Rattle.ec_bringup.specs.Complete.{IsReachable, CanReach}
 
 -- ---- what is asked of the actions ahead
 
@@ -66,25 +36,12 @@ tells-more t seen (suc zero) l h = (h, refl)
 tells-more t seen (suc (suc which)) l h = absurd (omega (arith, l))
 
 told-next : (types : ℕ → Device) (seen : Device) (n : ℕ) (a b : Action) → IsInside n b → Prompted a b → Told types seen a → Told types (seen_by types seen a) b
-told-next types seen n a CountSlaves i p h = tt
-told-next types seen n a AskInit i p h = tt
-told-next types seen n a AwaitInit i p h = tt
-told-next types seen n a ClearFmmus i p h = tt
-told-next types seen n a ClearManagers i p h = tt
-told-next types seen n a ClearStations i p h = tt
-told-next types seen n a (NameSlave t) i p h = tt
-told-next types seen n a (AskWord t zero) i p h = tt
 told-next types seen n a (AskWord t (suc which)) i p h =
     subst (λ (x : Action). Told types (seen_by types seen x) (AskWord t (suc which))) (sym p)
     (tells-more (types t) seen which (let l = i.1 in omega (arith, l)) (subst (λ (x : Action). Told types seen x) p h))
 told-next types seen n a (AwaitWord t which) i p h =
     subst (λ (x : Action). Told types (seen_by types seen x) (AwaitWord t which)) (sym p) (subst (λ (x : Action). Told types seen x) p h)
-told-next types seen n a (SetManager t k m) i p h = tt
-told-next types seen n a (SetFmmu t k f) i p h = tt
-told-next types seen n a (AskState t to) i p h = tt
-told-next types seen n a (AwaitState t to) i p h = tt
-told-next types seen n a (SendRequest t counter b r) i p h = tt
-told-next types seen n a (AwaitReply t b r) i p h = tt
+told-next types seen n a _ i p h = tt
 
 -- ---- the start-up goes on
 
@@ -110,12 +67,9 @@ pub record SplitAt (xs : List Action) (k : ℕ) (a : Action) (rest : List Action
   pub on : drop (k + 1) xs ≡ rest
   pub size : k + 1 + length rest ≡ length xs
 
-no-cons : (a : Action) (rest : List Action) → (let e : List Action = [] in e ≡ a ∷ rest) → ⊥
-no-cons a rest e = cc
-
 pub split-at : (xs : List Action) (k : ℕ) (a : Action) (rest : List Action) → drop k xs ≡ a ∷ rest → SplitAt xs k a rest
-split-at [] zero a rest e = absurd (no-cons a rest e)
-split-at [] (suc k) a rest e = absurd (no-cons a rest e)
+split-at [] zero a rest e = absurd (cc e)
+split-at [] (suc k) a rest e = absurd (cc e)
 split-at (x ∷ xs) zero a rest e = record {
   here = ap (λ (l : List Action). get_action l 0) e;
   on = ap (drop 1) e;
@@ -249,8 +203,7 @@ rises ps kinds ends stages a [] r path h (suc k) e (Turns _ _ _ ss app more) = (
   λ l. absurd (omega (arith, l)),
   λ q.
       let t = has-turned ps kinds ends stages a [] r path h in
-      let sp = split-at (script ps) r.start.place a [] h.ahead in
-      let size = sp.size in
+      let size = (split-at (script ps) r.start.place a [] h.ahead).size in
       let over : nat_lt (r.start.place + 1) (length (script r.start.plan)) ≡ false
       = ap (λ (x : List SlavePlan). nat_lt (r.start.place + 1) (length (script x))) h.plan_is ∙ le-ltb _ _ (omega (arith, size)) in
       let count : length ss ≡ length ps = applied-length (turned r).slaves ss app ∙ t.count in
@@ -268,9 +221,8 @@ rises ps kinds ends stages a [] r path h (suc k) e (Turns _ _ _ ss app more) = (
 rises ps kinds ends stages a (b ∷ rest) r path h (suc k) e (Turns _ _ _ ss app more) =
     let t = has-turned ps kinds ends stages a (b ∷ rest) r path h in
     let sp = split-at (script ps) r.start.place a (b ∷ rest) h.ahead in
-    let size = sp.size in
     let on : nat_lt (r.start.place + 1) (length (script r.start.plan)) ≡ true
-    = ap (λ (q : List SlavePlan). nat_lt (r.start.place + 1) (length (script q))) h.plan_is ∙ lt-ltb _ _ (omega (arith, size)) in
+    = ap (λ (q : List SlavePlan). nat_lt (r.start.place + 1) (length (script q))) h.plan_is ∙ lt-ltb _ _ (omega (arith, sp.size)) in
     let both : (k < suc (length rest) → IsWaiting ((turned r).start.next + k) e) × (k ≡ suc (length rest) → HasRisen (length ps) kinds ends ((turned r).start.next + k) e)
     = rises ps kinds ends (λ i. after i (stages i) a) b rest (rising (turned r).start ss) path (record {
       plan_is = ap (λ (s : StartState). s.plan) t.start ∙ h.plan_is;

@@ -1,19 +1,5 @@
 -- An undisturbed start-up ends Ready.
-use Rattle.std.proofs.Common.{ℕ, zero, suc, ◌+◌, ◌^◌, ◌<◌, ◌≤◌, ◌≡◌, false, refl, sym, subst, inl, arith, List, [], ◌∷◌, length}
-use Rattle.ec_device.specs.declared.slave_type.Device.{Device}
-use Rattle.ec_slave.specs.State.{SlaveState}
-use Rattle.ec_link.specs.declared.settings.SlavePlan.{SlavePlan}
-use Rattle.ec_start.specs.declared.action.Action.TheVariants.{CountSlaves}
-use Rattle.ec_start.specs.Scripts.{phases, script}
-use Rattle.ec_start.specs.Running.{begun, type_of}
-use Rattle.ec_bringup.specs.Stages.{Before, Up, end_of}
-use Rattle.ec_bringup.specs.Standing.{Stands}
-use Rattle.ec_bringup.specs.Complete.{IsIdentity}
-use Rattle.ec_bringup.specs.Undisturbed.{AreDevices, ArePlans, Rising, unplanned, plan_at, slave_of}
-use Rattle.ec_bringup.specs.BringUp.{rising}
-use Rattle.ec_bringup.specs.Applied.{TurnsTo, Stays, Turns, AppliedUpLaw}
-use Rattle.ec_bringup.specs.ComesUp.{IsOnItsWay, ComesUpLaw, CompiledUpLaw, IsUpAndWorks}
-use Rattle.ec_bringup.specs.Turned.{IsBroughtUp, StandsUpLaw}
+use Rattle.ec_bringup.proofs.Words.{ℕ, zero, suc, ◌+◌, ◌^◌, ◌<◌, ◌≤◌, ◌≡◌, false, refl, sym, subst, inl, arith, List, [], ◌∷◌, length, Device, SlaveState, SlavePlan, CountSlaves, phases, script, begun, type_of, Before, Up, end_of, Stands, IsIdentity, AreDevices, ArePlans, Rising, unplanned, plan_at, slave_of, rising, TurnsTo, AppliedStays as Stays, Turns, AppliedUpLaw, IsOnItsWay, ComesUpLaw, CompiledUpLaw, IsUpAndWorks, IsBroughtUp, StandsUpLaw, both_ways, Works, Shown, Working, Faulted, WasReset, plan_of}
 use Rattle.ec_bringup.proofs.Leading.{script-leads}
 use Rattle.ec_bringup.proofs.Sends.{datagram-good}
 use Rattle.ec_bringup.proofs.Commands.{word_of}
@@ -22,9 +8,6 @@ use Rattle.ec_bringup.proofs.Applying.{Stood, turns-to}
 use Rattle.ec_bringup.proofs.Climbs.{IsPath, IsNow, IsWaiting, HasRisen, rises, phases-free}
 use Rattle.ec_bringup.proofs.Blessings.{phases-blessed}
 use Rattle.ec_bringup.proofs.Granting.{is-lively}
-use Rattle.std.proofs.lemmas.Bool.{both_ways}
-use Rattle.ec_bringup.specs.Runs.{Works, Shown, Working, Faulted, WasReset}
-use Rattle.ec_link.specs.Plan.{plan_of}
 use Rattle.ec_bringup.proofs.CompleteLaws.{are-plans}
 use Rattle.ec_bringup.proofs.Theorem.{stands-shown}
 
@@ -79,8 +62,7 @@ is-now p ps from ss h d = record {
   blessed = λ i l. (tt, phases-blessed unplanned i (p ∷ ps) l d.few (h.planned i l) (is-lively (plan_at (p ∷ ps) i) (h.planned i l) (h.complete i l)));
   each = each-from (λ i s. Stood (plan_at (p ∷ ps) i).kind i Before CountSlaves s) 0 ss
       (λ k l.
-      let c = d.count in
-      let b : k < length (p ∷ ps) = omega (arith, l, c) in
+      let b : k < length (p ∷ ps) = omega (arith, l, d.count) in
       let z : k ≡ 0 + k = omega arith in
       subst (λ (x : ℕ). Stood (plan_at (p ∷ ps) x).kind x Before CountSlaves (slave_of ss k)) z
       (record { stands = record { slave = (d.each k b).slave; at = inl tt }; spelled = (d.each k b).spelled; sure = tt }));

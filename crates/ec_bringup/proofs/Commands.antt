@@ -1,36 +1,8 @@
 -- The commands of a start-up at their slave: each counts 1, and what the firmware step after it makes of it.
-use Rattle.std.proofs.Common.{ℕ, zero, suc, ◌+◌, ◌-◌, ◌*◌, ◌/◌, ◌%◌, ◌<◌, ◌≤◌, ◌≡◌, ◌&&◌, not, Bool, true, false, List, Option, Some, None, Ok, refl, sym, ◌∙◌, ap, subst, arith, [], ◌∷◌, length}
-use Rattle.std.proofs.lemmas.Bool.{or_left, or_right, and_left, le-leb}
-use Rattle.ec_bits.proofs.AnyLaws.{if_true, if_false, within_true}
-use Rattle.ec_regs.specs.declared.manager.SyncManagerSettings.{SyncManagerSettings}
-use Rattle.ec_regs.specs.declared.fmmu.FmmuSettings.{FmmuSettings}
-use Rattle.ec_device.specs.declared.slave_type.Device.{Device}
-use Rattle.ec_device.specs.Types.{device_of}
-use Rattle.ec_regs.specs.Memory.{is_stored, takes_writes}
-use Rattle.ec_regs.specs.Managers.{manager_bytes}
-use Rattle.ec_regs.specs.Fmmus.{fmmu_bytes}
-use Rattle.ec_al.specs.declared.state.State.{State}
-use Rattle.ec_al.specs.declared.state.State.TheVariants.{Init, PreOp, SafeOp, Op}
-use Rattle.ec_al.specs.declared.transition.Checks.{Checks}
-use Rattle.ec_al.specs.States.{state_number}
-use Rattle.ec_al.specs.Transitions.{answer, requested_by, acknowledges}
-use Rattle.ec_al.specs.Al.{Al}
+use Rattle.ec_bringup.proofs.Words.{ℕ, zero, suc, ◌+◌, ◌-◌, ◌*◌, ◌/◌, ◌%◌, ◌<◌, ◌≤◌, ◌≡◌, ◌&&◌, not, Bool, true, false, List, Option, Some, None, Ok, refl, sym, ◌∙◌, ap, subst, arith, [], ◌∷◌, length, or_left, or_right, and_left, le-leb, if_true, if_false, within_true, SyncManagerSettings, FmmuSettings, Device, device_of, is_stored, takes_writes, manager_bytes, fmmu_bytes, State, Init, PreOp, SafeOp, Op, Checks, state_number, answer, requested_by, acknowledges, Al, sii_image_word_at as word_at, size_of, Sii, written, read_command, SlaveState, station_of, datagram_met, control_word, checks_of, served, AskWord, SetManager, SetFmmu, AskState, station, datagram_of, word_place, IsStepUp, IsAsked, IsSpelled, settles}
 use Rattle.ec_al.specs.Al as al
-use Rattle.ec_sii.specs.SiiImage.{word_at, size_of}
-use Rattle.ec_sii.specs.Port.{Sii, written}
 use Rattle.ec_sii.specs.Port as port
-use Rattle.ec_sii.specs.Laws.{read_command}
-use Rattle.ec_slave.specs.State.{SlaveState, station_of}
-use Rattle.ec_slave.specs.Meeting.{datagram_met}
-use Rattle.ec_slave.specs.Checking.{control_word, checks_of}
-use Rattle.ec_slave.specs.Serving.{served}
-use Rattle.ec_start.specs.declared.action.Action.TheVariants.{AskWord, SetManager, SetFmmu, AskState}
-use Rattle.ec_start.specs.Actions.{station, datagram_of, word_place}
-use Rattle.ec_bringup.specs.Stages.{IsStepUp}
-use Rattle.ec_bringup.specs.Standing.{IsAsked}
-use Rattle.ec_bringup.specs.Undisturbed.{IsSpelled}
 use Rattle.ec_bringup.proofs.Polls.{register-goes}
-use Rattle.ec_slave.proofs.FirmwareSteps.{settles}
 
 -- ---- they count
 
@@ -49,11 +21,8 @@ set-fmmu-goes s i n f number e l b =
     register-goes s i (0x0600 + 16 * n) (fmmu_bytes f) number 0 e l (let k : length (fmmu_bytes f) ≡ 16 = refl in omega (arith, k)) (omega (arith, b)) (or_left _ _ (fmmu-stored n b))
 
 manager-stored : (n : ℕ) → n < 4 → is_stored (0x0800 + 8 * n + 0) ≡ true
-manager-stored zero l = refl
-manager-stored (suc zero) l = refl
-manager-stored (suc (suc zero)) l = refl
-manager-stored (suc (suc (suc zero))) l = refl
 manager-stored (suc (suc (suc (suc n)))) l = absurd (omega (arith, l))
+manager-stored _ l = refl
 
 pub set-manager-goes : (s : SlaveState) (i n : ℕ) (m : SyncManagerSettings) (number : ℕ) → station_of s ≡ station i → i < 64 → n < 4 → (datagram_met s (datagram_of (SetManager i n m) number)).counter ≡ 1
 set-manager-goes s i n m number e l b =
@@ -62,10 +31,9 @@ set-manager-goes s i n m number e l b =
 -- ---- a state that was asked for is granted, where the checks of the step pass
 
 abbrev pub Passes : Checks → State → Type 0
-Passes checks Init = Unit {0}
 Passes checks PreOp = checks.mailbox ≡ true
 Passes checks SafeOp = (checks.outputs ≡ true) × (checks.inputs ≡ true)
-Passes checks Op = Unit {0}
+Passes checks _ = Unit {0}
 
 pub answer-granted : (from to : State) (checks : Checks) → IsStepUp from to → Passes checks to → answer from (requested_by (state_number to)) checks ≡ Ok to
 answer-granted Init PreOp checks h p = if_true _ _ _ p

@@ -1,36 +1,6 @@
 -- The plan of a table without faults is complete: an undisturbed start-up of it ends Ready.
-use Rattle.std.proofs.Common.{◌≡◌, ◌≢◌, ℕ, zero, suc, Bool, ◌%◌, ◌<◌, ◌≤◌, ◌==◌, ◌&&◌, ◌⊎◌, true, false, List, [], ◌∷◌, length, get_or, refl, sym, ap, ◌∙◌, subst, arith, inl, inr, Some, None, Option, eqb, All}
-use Rattle.std.specs.List.{Contains}
-use Rattle.std.proofs.lemmas.Bool.{cases_Bool, eq-eqb, ne_eqb, false≢true}
-use Rattle.ec_bits.specs.Bits.{bytes_of_bits}
-use Rattle.ec_regs.specs.declared.manager.SyncManagerSettings.{SyncManagerSettings}
-use Rattle.ec_device.specs.declared.slave_type.Mailbox.{Mailbox}
-use Rattle.ec_device.specs.declared.slave_type.Entry.{Entry}
-use Rattle.ec_device.specs.declared.slave_type.Pdo.{Pdo}
-use Rattle.ec_regs.specs.declared.fmmu.FmmuSettings.{FmmuSettings}
-use Rattle.ec_regs.specs.Fmmus.{no_fmmu}
-use Rattle.ec_fmmu.specs.Runs.{run_settings}
-use Rattle.ec_regs.specs.Managers.{no_settings, area_settings, is_set, outputs_control, inputs_control}
-use Rattle.ec_device.specs.Types.{SlaveKind, IsEntry, IsMailbox, ArePdos, first_output_index, first_input_index}
-use Rattle.ec_table.specs.Pdos.{indices_of}
+use Rattle.ec_bringup.proofs.Words.{◌≡◌, ◌≢◌, ℕ, zero, suc, Bool, ◌%◌, ◌<◌, ◌≤◌, ◌==◌, ◌&&◌, ◌⊎◌, true, false, List, [], ◌∷◌, length, get_or, refl, sym, ap, ◌∙◌, subst, arith, inl, inr, Some, None, Option, eqb, All, Contains, cases_Bool, eq-eqb, ne_eqb, false≢true, bytes_of_bits, SyncManagerSettings, Mailbox, Entry, Pdo, FmmuSettings, no_fmmu, run_settings, no_settings, area_settings, is_set, outputs_control, inputs_control, SlaveKind, IsEntry, IsMailbox, ArePdos, first_output_index, first_input_index, indices_of, SlavePlan, process_manager, fmmus_of, manager_of, AreManagers, IsOfItsType, plan_of, IsUsable, listed, slaves_are_of_their_types, plan_usable, fmmu_at, IsFmmu, IsStartable, startable, link_slave_at as slave_at, pdo_at, bits_assigned, contains, distinct, CompiledPlansLaw, IsNumbered, CanReach, IsOffered, AreOffered, IsAssignable, IsComplete, carries}
 use Rattle.ec_table.specs.Sound as table
-use Rattle.ec_link.specs.declared.settings.SlavePlan.{SlavePlan}
-use Rattle.ec_link.specs.SlavePlan.{process_manager, fmmus_of}
-use Rattle.ec_link.specs.Sound.{manager_of, AreManagers}
-use Rattle.ec_link.specs.Interface.{IsOfItsType}
-use Rattle.ec_link.specs.Plan.{plan_of}
-use Rattle.ec_link.specs.Usable.{IsUsable}
-use Rattle.ec_link.proofs.Listed.{listed}
-use Rattle.ec_link.proofs.OfTypes.{slaves_are_of_their_types}
-use Rattle.ec_link.proofs.UsableLaws.{plan_usable}
-use Rattle.ec_start.specs.Plans.{fmmu_at}
-use Rattle.ec_start.specs.Planned.{IsFmmu, IsStartable}
-use Rattle.ec_start.proofs.Startable.{startable}
-use Rattle.ec_link.specs.Meaning.{slave_at}
-use Rattle.ec_device.specs.Objects.{pdo_at, bits_assigned}
-use Rattle.ec_coe.specs.Transfers.{contains, distinct}
-use Rattle.ec_bringup.specs.ComesUp.{CompiledPlansLaw}
-use Rattle.ec_bringup.specs.Complete.{IsNumbered, CanReach, IsOffered, AreOffered, IsAssignable, IsComplete, carries}
 use Rattle.ec_bringup.proofs.Sound.{offers-output, offers-input}
 
 -- ---- an assignment

@@ -1,29 +1,5 @@
 -- A world that starts up goes on starting up: by the laws of one slave.
-use Rattle.std.proofs.Common.{ℕ, ◌+◌, ◌<◌, ◌≤◌, ◌≡◌, ◌≢◌, ◌==◌, Bool, false, refl, sym, ◌∙◌, subst, inl, inr, arith, List, length, drop, set, length-set, get_or-set_same, get_or-set_other}
-use Rattle.std.proofs.lemmas.Bool.{cases_Bool, cases_lt, cases_eq, lt-ltb, le-ltb}
-use Rattle.std.proofs.lemmas.List.{drop_more, drop_all}
-use Rattle.ec_bits.proofs.AnyLaws.{if_true, if_false}
-use Rattle.ec_device.specs.Types.{SlaveKind}
-use Rattle.ec_frame.specs.Datagram.{Datagram, IsDatagram}
-use Rattle.ec_slave.specs.State.{SlaveState}
-use Rattle.ec_slave.specs.Meeting.{slave_met, datagram_met}
-use Rattle.ec_slave.proofs.Meetings.{datagrams_stay as meets-keeps}
-use Rattle.ec_start.specs.declared.action.Action.{Action}
-use Rattle.ec_start.specs.declared.action.Action.TheVariants.{CountSlaves}
-use Rattle.ec_start.specs.Scripts.{script}
-use Rattle.ec_start.specs.declared.error.StartError.TheVariants.{TooSlow}
-use Rattle.ec_start.specs.declared.verdict.Verdict.{Verdict}
-use Rattle.ec_start.specs.declared.verdict.Verdict.TheVariants.{Next, Shows, Again, Fails}
-use Rattle.ec_device.specs.declared.slave_type.Device.{Device}
-use Rattle.ec_start.specs.Verdicts.{verdict}
-use Rattle.ec_start.specs.Running.{StartState, action_of, type_of, advanced, judged, taken, with_shown}
-use Rattle.ec_bringup.specs.Stages.{Config, Stage, Up, Fits, after}
-use Rattle.ec_bringup.specs.Keeping.{FrameLaw}
-use Rattle.ec_bringup.specs.Instants.{Leads, AreAhead, AllMet, IsUnderWay, Instant, Between, UnderWay, Adrift, Over, IsReady, Starts, LaterLaw, TakeLaw, SlaveLaw}
-use Rattle.ec_bringup.specs.Standing.{IsOfKind, Stands}
-use Rattle.ec_bringup.specs.Frames.{Arrives, MayRepeat, MayEnd, Met}
-use Rattle.ec_bringup.specs.Runs.{with_passed, with_start, with_slave}
-use Rattle.ec_bringup.specs.Starting.{Carried, Starting, no_slave, slave_at, trouble_at, kind_at, AreSlaves}
+use Rattle.ec_bringup.proofs.Words.{ℕ, ◌+◌, ◌<◌, ◌≤◌, ◌≡◌, ◌≢◌, ◌==◌, Bool, false, refl, sym, ◌∙◌, subst, inl, inr, arith, List, length, drop, set, length-set, get_or-set_same, get_or-set_other, cases_Bool, cases_lt, cases_eq, lt-ltb, le-ltb, drop_more, drop_all, if_true, if_false, SlaveKind, Datagram, IsDatagram, SlaveState, slave_met, datagram_met, meets-keeps, Action, CountSlaves, script, TooSlow, Verdict, Next, Shows, Again, Fails, Device, verdict, StartState, action_of, type_of, advanced, judged, taken, with_shown, Config, Stage, Up, Fits, after, FrameLaw, Leads, AreAhead, AllMet, IsUnderWay, Instant, Between, UnderWay, Adrift, Over, IsReady, Starts, LaterLaw, TakeLaw, SlaveLaw, IsOfKind, Stands, Arrives, MayRepeat, MayEnd, Met, with_passed, with_start, with_slave, Carried, Starting, no_slave, slave_at, trouble_at, kind_at, AreSlaves}
 
 -- ---- a frame passes a slave
 

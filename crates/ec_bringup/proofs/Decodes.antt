@@ -1,13 +1,5 @@
 -- The FMMUs of a slave that holds a plan's registers are the plan's.
-use Rattle.std.proofs.Common.{ℕ, ◌+◌, ◌*◌, ◌/◌, ◌%◌, ◌<◌, ◌≡◌, ◌==◌, Bool, true, false, refl, ◌∙◌, ap, arith, [], ◌∷◌, slice_index}
-use Rattle.std.specs.Int.{bit_at, from_bool}
-use Rattle.ec_regs.specs.declared.fmmu.FmmuSettings.{FmmuSettings}
-use Rattle.ec_regs.specs.Fmmus.{fmmu_of, fmmu_bytes}
-use Rattle.ec_slave.specs.State.{SlaveState, fmmus}
-use Rattle.ec_start.specs.Plans.{fmmu_at}
-use Rattle.ec_bringup.specs.Stages.{Config}
-use Rattle.ec_bringup.specs.Standing.{IsConfigured}
-use Rattle.ec_start.specs.Planned.{IsFmmu}
+use Rattle.ec_bringup.proofs.Words.{ℕ, ◌+◌, ◌*◌, ◌/◌, ◌%◌, ◌<◌, ◌≡◌, ◌==◌, Bool, true, false, refl, ◌∙◌, ap, arith, [], ◌∷◌, slice_index, bit_at, from_bool, FmmuSettings, fmmu_of, fmmu_bytes, SlaveState, fmmus, fmmu_at, Config, IsConfigured, IsFmmu}
 
 -- the thirteen bytes that count
 same-fmmu : (b c : ℕ → ℕ) → ((k : ℕ) → k < 16 → b k ≡ c k) → fmmu_of b ≡ fmmu_of c

@@ -1,31 +1,6 @@
 -- Whatever happens to a slave, it stays a device of its type.
-use Rattle.std.proofs.lemmas.Bool.{cases_Bool}
-use Rattle.std.proofs.Common.{inl, inr, ℕ, ◌<◌, ◌≤◌, ◌≡◌, Bool, true, false, Option, Some, None, refl, sym, ◌∙◌, ap, subst, arith, if◌then◌else◌, List, length, set, unwrap_or}
-use Rattle.ec_device.specs.Types.{SlaveKind}
-use Rattle.ec_device.specs.declared.slave_type.Identity.{Identity}
-use Rattle.ec_frame.specs.Datagram.{Datagram}
-use Rattle.ec_sii.specs.Port.{Sii}
-use Rattle.ec_sii.specs.declared.image.SiiImage.{SiiImage}
+use Rattle.ec_bringup.proofs.Words.{cases_Bool, inl, inr, ℕ, ◌<◌, ◌≤◌, ◌≡◌, Bool, true, false, Option, Some, None, refl, sym, ◌∙◌, ap, subst, arith, if◌then◌else◌, List, length, set, unwrap_or, SlaveKind, Identity, Datagram, Sii, SiiImage, SyncManager, app_put, Got, SlaveState, power_on, manager_at, slave_met, option_map, IsOfKind, is_running, with_manager, input_put, output_got, output_taken, served, faulted, SlavePlan, IsDevice, plan_at, slave_of, settles, inside_kept, faults, settings_kept, switched_on, Starting, slave_at, with_begun, AreStartable, Happens, Sends, Passes, Loses, Returns, Strays, Closes, Serves, Puts, Gets, Faults, Resets, Runs, Stops, Steps, Begins, IsTrue, AreTrue, AgainLaw}
 use Rattle.ec_al.specs.Al as al
-use Rattle.ec_sync.specs.SyncManager.{SyncManager, app_put}
-use Rattle.ec_sync.specs.Buffer.{Got}
-use Rattle.ec_slave.specs.State.{SlaveState, power_on, manager_at}
-use Rattle.ec_slave.specs.Meeting.{slave_met}
-use Rattle.std.specs.Prelude.{option_map}
-use Rattle.ec_bringup.specs.Standing.{IsOfKind}
-use Rattle.ec_slave.specs.Application.{is_running, with_manager, input_put, output_got, output_taken}
-use Rattle.ec_slave.specs.Serving.{served}
-use Rattle.ec_slave.specs.Faulting.{faulted}
-use Rattle.ec_link.specs.declared.settings.SlavePlan.{SlavePlan}
-use Rattle.ec_bringup.specs.Undisturbed.{IsDevice, plan_at, slave_of}
-use Rattle.ec_slave.proofs.FirmwareSteps.{settles}
-use Rattle.ec_slave.proofs.Inside.{inside_kept}
-use Rattle.ec_slave.proofs.Meetings.{faults}
-use Rattle.ec_slave.proofs.Serves.{settings_kept}
-use Rattle.ec_slave.proofs.SwitchedOn.{switched_on}
-use Rattle.ec_bringup.specs.Starting.{Starting, slave_at}
-use Rattle.ec_bringup.specs.Runs.{with_begun, AreStartable, Happens, Sends, Passes, Loses, Returns, Strays, Closes, Serves, Puts, Gets, Faults, Resets, Runs, Stops, Steps, Begins}
-use Rattle.ec_bringup.specs.ComesUp.{IsTrue, AreTrue, AgainLaw}
 use Rattle.ec_bringup.proofs.Composes.{set_one}
 use Rattle.ec_bringup.proofs.Theorem.{IsGood, runs-good, happens-plan, begun-plan, new-good}
 
@@ -145,11 +120,10 @@ again ps plans w v new first r =
     let planned : AreStartable ps = record { each = plans.planned } in
     let g0 : IsGood ps w = new-good ps planned w new in
     let g : IsGood ps v = runs-good ps planned w v r g0 in
-    let t : AreTrue v = runs-true ps planned w v r g0 first in
     let sl = g.starts.slaves in
     record {
       count = sl.slaves ∙ ap length g.plan_is;
       few = subst (λ (qs : List SlavePlan). length qs ≤ 64) g.plan_is sl.few;
       each = subst (λ (qs : List SlavePlan). (i : ℕ) → i < length qs → IsDevice (plan_at qs i).kind (slave_of v.slaves i)) g.plan_is
-          (λ i l. device-of (plan_at v.start.plan i).kind (slave_of v.slaves i) (sl.each i l) (t.each i l));
+          (λ i l. device-of (plan_at v.start.plan i).kind (slave_of v.slaves i) (sl.each i l) ((runs-true ps planned w v r g0 first).each i l));
     }

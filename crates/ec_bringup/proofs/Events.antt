@@ -1,21 +1,6 @@
 -- A fault of a slave that stands at a stage, and what its application reads and writes.
-use Rattle.std.proofs.Common.{ℕ, ◌<◌, ◌≡◌, ◌≢◌, ◌⊎◌, Bool, true, false, Option, Some, None, refl, sym, ◌∙◌, ap, subst, inl, inr, arith, if◌then◌else◌, List, length, set, unwrap_or, option_map, nat_lt, ◌==◌, length-set, get_or-set_same, get_or-set_other}
-use Rattle.std.proofs.lemmas.Bool.{cases_Bool, cases_eq, both_ways}
-use Rattle.ec_bits.proofs.AnyLaws.{if_true, if_false}
-use Rattle.ec_device.specs.Types.{SlaveKind}
-use Rattle.ec_sync.specs.Buffer.{Buffer, Got, view_next, app_written, app_read}
-use Rattle.ec_sync.specs.SyncManager.{SyncManager, no_manager, may_app_put, may_app_get, app_put, app_got}
-use Rattle.ec_al.specs.declared.state.State.{State}
-use Rattle.ec_al.specs.declared.state.State.TheVariants.{Init, PreOp, SafeOp, Op}
-use Rattle.ec_al.specs.Al.{Al}
+use Rattle.ec_bringup.proofs.Words.{ℕ, ◌<◌, ◌≡◌, ◌≢◌, ◌⊎◌, Bool, true, false, Option, Some, None, refl, sym, ◌∙◌, ap, subst, inl, inr, arith, if◌then◌else◌, List, length, set, unwrap_or, option_map, nat_lt, ◌==◌, length-set, get_or-set_same, get_or-set_other, cases_Bool, cases_eq, both_ways, if_true, if_false, SlaveKind, Buffer, Got, view_next, app_written, app_read, SyncManager, no_manager, may_app_put, may_app_get, app_put, app_got, State, Init, PreOp, SafeOp, Op, Al, SlaveState, manager_at, is_running, with_manager, input_put, output_got, output_taken, faults, switched_on, faulted, locked_empty, Rise, Stays, Climbs, Config, Stage, Before, Called, Down, Up, Talk, unviewed, HoldsZeros, IsOfKind, Rises, IsSilent, Talks, IsUpAt, Reached, IsGone, IsFaulted, IsTop, HadFault, Stands}
 use Rattle.ec_al.specs.Al as al
-use Rattle.ec_slave.specs.State.{SlaveState, manager_at}
-use Rattle.ec_slave.specs.Application.{is_running, with_manager, input_put, output_got, output_taken}
-use Rattle.ec_slave.proofs.Meetings.{faults}
-use Rattle.ec_slave.proofs.SwitchedOn.{switched_on}
-use Rattle.ec_slave.specs.Faulting.{faulted, locked_empty}
-use Rattle.ec_bringup.specs.Stages.{Rise, Stays, Climbs, Config, Stage, Before, Called, Down, Up, Talk}
-use Rattle.ec_bringup.specs.Standing.{unviewed, HoldsZeros, IsOfKind, Rises, IsSilent, Talks, IsUpAt, Reached, IsGone, IsFaulted, IsTop, HadFault, Stands}
 use Rattle.ec_bringup.proofs.Alike.{SameFront, front-refl, SameFronts, Alike, stands-alike}
 
 -- ---- a fault
@@ -119,16 +104,7 @@ fault-up i c (Climbs PreOp SafeOp) s q e l (up, inr (inr h)) u = absurd (other-s
 fault-up i c (Climbs Init PreOp) s q e l (up, inl h) u = absurd (other-state Init Op (sym h.state ∙ e) tt)
 fault-up i c (Climbs Init PreOp) s q e l (up, inr (inl h)) u = absurd (other-state PreOp Op (sym h.state_is ∙ e) tt)
 fault-up i c (Climbs Init PreOp) s q e l (up, inr (inr h)) u = absurd (other-state Init Op (sym h.state ∙ e) tt)
-fault-up i c (Climbs Init Init) s q e l (up, h) u = absurd up
-fault-up i c (Climbs Init SafeOp) s q e l (up, h) u = absurd up
-fault-up i c (Climbs Init Op) s q e l (up, h) u = absurd up
-fault-up i c (Climbs PreOp Init) s q e l (up, h) u = absurd up
-fault-up i c (Climbs PreOp PreOp) s q e l (up, h) u = absurd up
-fault-up i c (Climbs PreOp Op) s q e l (up, h) u = absurd up
-fault-up i c (Climbs SafeOp Init) s q e l (up, h) u = absurd up
-fault-up i c (Climbs SafeOp PreOp) s q e l (up, h) u = absurd up
-fault-up i c (Climbs SafeOp SafeOp) s q e l (up, h) u = absurd up
-fault-up i c (Climbs Op to) s q e l (up, h) u = absurd up
+fault-up i c _ s q e l (up, h) u = absurd up
 
 fault-reached : (i : ℕ) (st : Stage) (s : SlaveState) → s.al.state ≡ Op → 3 < length s.managers → Reached i st s
     → Reached i st (with_fault s) ⊎ ((true ≡ true) × (IsGone st (with_fault s) ⊎ HadFault i st (with_fault s)))
@@ -202,9 +178,6 @@ put-buffered s i x = elim (cases_Bool (is_running s.al.state)) [
     by_right y true None = Left refl
     by_right y false o = Left refl
 
-no-got : (g : Got) → (let o : Option Got = None in o ≡ Some g) → ⊥
-no-got g e = cc
-
 got-same : (g h : Got) → Some g ≡ Some h → g ≡ h
 got-same g h e = cc
 
@@ -215,8 +188,8 @@ read-leaves b i g e = by (nat_lt i (length b.published)) (if i == 0 then Some b.
   where
     by : (inside : Bool) (v : Option (List ℕ)) → (if inside then view_next b i v else None) ≡ Some g → unviewed g.buffer ≡ unviewed b
     by true (Some v) q = sym (ap (λ (x : Got). unviewed x.buffer) (got-same _ g q))
-    by true None q = absurd (no-got g q)
-    by false v q = absurd (no-got g q)
+    by true None q = absurd (cc q)
+    by false v q = absurd (cc q)
 
 got-buffered : (s : SlaveState) (i : ℕ) → Buffered s 2 (output_taken s (output_got s i))
 got-buffered s i = elim (cases_Bool (is_running s.al.state)) [

@@ -1,24 +1,6 @@
 -- Devices stay devices, one and a ring of them.
-use Rattle.std.proofs.Common.{ℕ, zero, suc, ◌<◌, ◌≡◌, false, refl, sym, ◌∙◌, ap, subst, inl, inr, arith, List, [], ◌∷◌, length, slice_index, unwrap_or, length-set}
-use Rattle.std.proofs.lemmas.Bool.{cases_lt}
-use Rattle.std.proofs.lemmas.List.{set_past}
-use Rattle.ec_device.specs.Types.{SlaveKind}
-use Rattle.ec_frame.specs.Datagram.{Datagram}
+use Rattle.ec_bringup.proofs.Words.{ℕ, zero, suc, ◌<◌, ◌≡◌, false, refl, sym, ◌∙◌, ap, subst, inl, inr, arith, List, [], ◌∷◌, length, slice_index, unwrap_or, length-set, cases_lt, set_past, SlaveKind, Datagram, State, Op, faults, by_bytes, SlaveState, power_on, slave_met, passes, input_put, inputs_put, output_got, output_taken, outputs_taken, served, faulted, passes_ring, SlavePlan, Before, IsOfKind, Stands, plan_at, slave_of, IsGenuine, SwitchedOnLaw, DevicesLaw, RingLaw}
 use Rattle.ec_al.specs.Al as al
-use Rattle.ec_al.specs.declared.state.State.{State}
-use Rattle.ec_al.specs.declared.state.State.TheVariants.{Op}
-use Rattle.ec_slave.proofs.Meetings.{faults, by_bytes}
-use Rattle.ec_slave.specs.State.{SlaveState, power_on}
-use Rattle.ec_slave.specs.Meeting.{slave_met, passes}
-use Rattle.ec_slave.specs.Application.{input_put, inputs_put, output_got, output_taken, outputs_taken}
-use Rattle.ec_slave.specs.Serving.{served}
-use Rattle.ec_slave.specs.Faulting.{faulted}
-use Rattle.ec_ring.specs.Rings.{passes_ring}
-use Rattle.ec_link.specs.declared.settings.SlavePlan.{SlavePlan}
-use Rattle.ec_bringup.specs.Stages.{Before}
-use Rattle.ec_bringup.specs.Standing.{IsOfKind, Stands}
-use Rattle.ec_bringup.specs.Undisturbed.{plan_at, slave_of}
-use Rattle.ec_bringup.specs.Devices.{IsGenuine, SwitchedOnLaw, DevicesLaw, RingLaw}
 use Rattle.ec_bringup.proofs.Composes.{set_one}
 use Rattle.ec_bringup.proofs.Devices.{Same, true-on, met-same, served-same, put-same, got-by, fault-same, on-true, reset-true, device-of}
 use Rattle.ec_bringup.proofs.Events.{fault-stands, put-stands, got-stands}

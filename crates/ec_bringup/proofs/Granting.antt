@@ -1,24 +1,5 @@
 -- The checks of the AL state machine pass at a slave that was set as the plan says.
-use Rattle.std.proofs.Common.{ℕ, ◌/◌, ◌%◌, ◌<◌, ◌≡◌, ◌==◌, ◌&&◌, not, true, false, Option, Some, None, refl, sym, ◌∙◌, ap, subst, inl, inr, arith, List, [], ◌∷◌, take}
-use Rattle.std.proofs.lemmas.Bool.{cases_Bool, eq-eqb, eqb-true, and_from, and_parts}
-use Rattle.ec_bits.specs.Bits.{bytes_of_bits}
-use Rattle.ec_bits.proofs.AnyLaws.{if_true, if_false}
-use Rattle.ec_regs.specs.declared.manager.SyncManagerSettings.{SyncManagerSettings}
-use Rattle.ec_device.specs.declared.slave_type.Mailbox.{Mailbox}
-use Rattle.ec_regs.specs.Managers.{no_settings, is_set, is_mailbox, is_master_written, is_master_read}
-use Rattle.ec_device.specs.Types.{SlaveKind}
-use Rattle.ec_al.specs.declared.state.State.TheVariants.{PreOp, SafeOp}
-use Rattle.ec_sync.specs.SyncManager.{SyncManager}
-use Rattle.ec_slave.specs.State.{SlaveState, manager_at}
-use Rattle.ec_device.specs.Objects.{bits_assigned}
-use Rattle.ec_slave.proofs.FirmwareSteps.{checks}
-use Rattle.ec_slave.specs.Checking.{is_manager, mailbox_check, process_check}
-use Rattle.ec_link.specs.declared.settings.SlavePlan.{SlavePlan}
-use Rattle.ec_start.specs.Plans.{settings_at}
-use Rattle.ec_bringup.specs.Stages.{prepared, asked_all}
-use Rattle.ec_start.specs.Planned.{AreMailboxes, IsStartable}
-use Rattle.ec_bringup.specs.Standing.{IsAssigned}
-use Rattle.ec_bringup.specs.Complete.{IsComplete, carries}
+use Rattle.ec_bringup.proofs.Words.{ℕ, ◌/◌, ◌%◌, ◌<◌, ◌≡◌, ◌==◌, ◌&&◌, not, true, false, Option, Some, None, refl, sym, ◌∙◌, ap, subst, inl, inr, arith, List, [], ◌∷◌, take, cases_Bool, eq-eqb, eqb-true, and_from, and_parts, bytes_of_bits, if_true, if_false, SyncManagerSettings, Mailbox, no_settings, is_set, is_mailbox, is_master_written, is_master_read, SlaveKind, PreOp, SafeOp, SyncManager, SlaveState, manager_at, bits_assigned, checks, is_manager, mailbox_check, process_check, SlavePlan, settings_at, prepared, asked_all, AreMailboxes, IsStartable, IsAssigned, IsComplete, carries}
 use Rattle.ec_bringup.proofs.Assigns.{assignment-held}
 use Rattle.ec_bringup.proofs.Leading.{boxed, mapped_to}
 use Rattle.ec_bringup.proofs.Next.{Grants}

@@ -1,20 +1,10 @@
 -- What befalls a slave keeps what is known of it.
-use Rattle.std.proofs.Common.{ℕ, ◌≡◌, ◌<◌, ◌≢◌, ◌⊎◌, Bool, true, refl, sym, subst, ◌∙◌, ap, length}
-use Rattle.ec_device.specs.Types.{SlaveKind}
-use Rattle.ec_frame.specs.declared.command.Command.TheVariants.{Fprd, Fpwr}
-use Rattle.ec_frame.specs.Datagram.{Datagram, IsDatagram}
-use Rattle.ec_slave.specs.State.{SlaveState, power_on, station_of}
-use Rattle.ec_slave.specs.Meeting.{meets, slave_met}
-use Rattle.ec_start.specs.Actions.{station, at}
-use Rattle.ec_bringup.specs.Stages.{Stage, Up, IsUp}
-use Rattle.ec_bringup.specs.Standing.{Stands, IsGone, IsOfKind}
-use Rattle.ec_bringup.specs.Keeping.{StaysStanding}
+use Rattle.ec_bringup.proofs.Words.{ℕ, ◌≡◌, ◌<◌, ◌≢◌, ◌⊎◌, Bool, true, refl, sym, subst, ◌∙◌, SlaveKind, Fprd, Fpwr, Datagram, IsDatagram, SlaveState, power_on, station_of, meets, slave_met, station, at, Stage, Up, IsUp, Stands, IsGone, IsOfKind, StaysStanding, inside_kept}
 use Rattle.ec_bringup.proofs.Events.{fault-stands, put-stands, got-stands}
 use Rattle.ec_bringup.proofs.Messages.{stands-served}
 use Rattle.ec_bringup.proofs.Passing.{station-zero, one-passes}
 use Rattle.ec_bringup.proofs.Resets.{reset_stands}
-use Rattle.ec_coe.specs.Objects.{Assignment, all_assigned}
-use Rattle.ec_slave.proofs.Inside.{inside_kept}
+use Rattle.ec_bringup.proofs.Alike.{kind-kept}
 
 pub stays-standing : (kind : SlaveKind) (i : ℕ) (st : Stage) (trouble : Bool) (s : SlaveState) → Stands kind i st trouble s → StaysStanding kind i st trouble s
 stays-standing kind i st trouble s h = record {
@@ -38,15 +28,5 @@ for-others kind i t ado st trouble s d li lt ne up h good c a = one-passes kind 
 
 pub slave-law : (kind : SlaveKind) (s : SlaveState) (d : Datagram) → IsOfKind kind s → IsOfKind kind (slave_met s d)
 slave-law kind s d h =
-    let k = inside_kept s d in record {
-      kind_is = k.kind ∙ h.kind_is;
-      room = k.room ∙ h.room;
-      four = k.count ∙ h.four;
-      outs = ap (λ (a : Assignment). length a.slots) k.outs ∙ h.outs;
-      ins = ap (λ (a : Assignment). length a.slots) k.ins ∙ h.ins;
-      fixed = λ e. let f = h.fixed e in record {
-        outs = k.outs ∙ (f.outs ∙ ap (λ (t : SlaveKind). all_assigned t.outputs) (sym k.kind));
-        ins = k.ins ∙ (f.ins ∙ ap (λ (t : SlaveKind). all_assigned t.inputs) (sym k.kind));
-      };
-      unlocked_in_init = λ e n l. k.locked n ∙ h.unlocked_in_init (sym k.state ∙ e) n l;
-    }
+    let k = inside_kept s d in
+    kind-kept kind s (slave_met s d) k.kind k.room k.count k.outs k.ins (λ e n l. k.locked n ∙ h.unlocked_in_init (sym k.state ∙ e) n l) h

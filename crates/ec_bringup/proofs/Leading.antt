@@ -1,27 +1,6 @@
 -- The script brings every slave to the top: the actions fit one after another.
-use Rattle.std.proofs.Common.{ℕ, suc, ◌+◌, ◌-◌, ◌<◌, ◌≤◌, ◌≡◌, ◌≢◌, refl, sym, ◌∙◌, ap, subst, inl, inr, arith, List, [], ◌∷◌, ◌++◌, length, get_or, ◌==◌, Bool, true, false, Option, Some, None, if◌then◌else◌, set}
-use Rattle.std.proofs.lemmas.Bool.{cases_eq, eq-eqb}
-use Rattle.ec_bits.proofs.AnyLaws.{if_true}
-use Rattle.ec_link.specs.declared.settings.SlavePlan.{SlavePlan}
-use Rattle.ec_start.specs.declared.action.Action.{Action}
-use Rattle.ec_start.specs.declared.action.Action.TheVariants.{CountSlaves, AskInit, AwaitInit, ClearFmmus, ClearManagers, ClearStations, NameSlave, AskWord, AwaitWord, SetManager, SetFmmu, AskState, AwaitState, SendRequest, AwaitReply}
-use Rattle.ec_start.specs.Scripts.{each_slave, named, identified, mailbox_set, raised, exchanged, talked, manager_set, fmmu_set, mapped, cleared, phases, script, requests}
-use Rattle.ec_bringup.specs.Stages.{Config, Stage, Up, told, after, Fits, CanTell, talked_over, asked_all, prepared, end_of, Rise, Stays, Before, Down, fresh, answered, answered_by, claimed, CanClimb, IsClimbing, climbing, IsLow, IsStepUp}
-use Rattle.ec_bringup.specs.Instants.{Leads}
+use Rattle.ec_bringup.proofs.Words.{ℕ, suc, ◌+◌, ◌-◌, ◌<◌, ◌≤◌, ◌≡◌, ◌≢◌, refl, sym, ◌∙◌, ap, subst, inl, inr, arith, List, [], ◌∷◌, ◌++◌, length, get_or, ◌==◌, Bool, true, false, Option, Some, None, if◌then◌else◌, set, cases_eq, eq-eqb, if_true, SlavePlan, Action, AskWord, AwaitWord, SetManager, SetFmmu, AskState, AwaitState, SendRequest, AwaitReply, each_slave, named, identified, mailbox_set, raised, exchanged, talked, manager_set, fmmu_set, mapped, cleared, phases, script, requests, Config, Stage, Up, told, after, Fits, CanTell, talked_over, asked_all, prepared, end_of, Rise, Stays, Before, Down, fresh, answered, answered_by, claimed, CanClimb, IsClimbing, climbing, IsLow, IsStepUp, Leads, SyncManagerSettings, FmmuSettings, Mailbox, no_settings, no_fmmu, State, Init, PreOp, SafeOp, Op, output_assignment, input_assignment, settings_at, fmmu_at, SdoRequest, Transfer, Download, Upload, AreRequests, IsStartable, AreMailboxes}
 use Rattle.ec_bringup.proofs.Passing.{others-stay}
-use Rattle.ec_regs.specs.declared.manager.SyncManagerSettings.{SyncManagerSettings}
-use Rattle.ec_regs.specs.declared.fmmu.FmmuSettings.{FmmuSettings}
-use Rattle.ec_device.specs.declared.slave_type.Mailbox.{Mailbox}
-use Rattle.ec_regs.specs.Managers.{no_settings}
-use Rattle.ec_regs.specs.Fmmus.{no_fmmu}
-use Rattle.ec_al.specs.declared.state.State.{State}
-use Rattle.ec_al.specs.declared.state.State.TheVariants.{Init, PreOp, SafeOp, Op}
-use Rattle.ec_coe.specs.Objects.{output_assignment, input_assignment}
-use Rattle.ec_start.specs.Plans.{settings_at, fmmu_at}
-use Rattle.ec_start.specs.declared.action.SdoRequest.{SdoRequest}
-use Rattle.ec_start.specs.declared.action.Transfer.{Transfer}
-use Rattle.ec_start.specs.declared.action.Transfer.TheVariants.{Download, Upload}
-use Rattle.ec_start.specs.Planned.{AreRequests, IsStartable, AreMailboxes}
 
 -- ---- runs of actions
 
@@ -59,13 +38,7 @@ other-step i t c (AskState s state) ne l h = let q : s ≢ i = λ e. ne (sym h �
 other-step i t c (AwaitState s state) ne l h = let q : s ≢ i = λ e. ne (sym h ∙ e) in (((subst (λ (x : ℕ). x < 64) (sym h) l), tt, λ e. absurd (q e)), others-stay s i _ _ q)
 other-step i t c (SendRequest s counter b r) ne l h = let q : s ≢ i = λ e. ne (sym h ∙ e) in (((subst (λ (x : ℕ). x < 64) (sym h) l), tt, λ e. absurd (q e)), others-stay s i _ _ q)
 other-step i t c (AwaitReply s b r) ne l h = let q : s ≢ i = λ e. ne (sym h ∙ e) in (((subst (λ (x : ℕ). x < 64) (sym h) l), tt, λ e. absurd (q e)), others-stay s i _ _ q)
-other-step i t c CountSlaves ne l h = absurd h
-other-step i t c AskInit ne l h = absurd h
-other-step i t c AwaitInit ne l h = absurd h
-other-step i t c ClearFmmus ne l h = absurd h
-other-step i t c ClearManagers ne l h = absurd h
-other-step i t c ClearStations ne l h = absurd h
-other-step i t c (NameSlave s) ne l h = absurd h
+other-step i t c _ ne l h = absurd h
 
 pub others-lead : (i t : ℕ) (c : Config) (xs : List Action) → t ≢ i → t < 64 → AreFor t xs → Leads i (Up c) xs (Up c)
 others-lead i t c [] ne l h = refl
@@ -83,13 +56,7 @@ own-step i c (AskState s state) l h k = (((subst (λ (x : ℕ). x < 64) (sym h) 
 own-step i c (AwaitState s state) l h k = (((subst (λ (x : ℕ). x < 64) (sym h) l), tt, λ e. k), if_true _ _ _ (eq-eqb s i h))
 own-step i c (SendRequest s counter b r) l h k = (((subst (λ (x : ℕ). x < 64) (sym h) l), tt, λ e. k), if_true _ _ _ (eq-eqb s i h))
 own-step i c (AwaitReply s b r) l h k = (((subst (λ (x : ℕ). x < 64) (sym h) l), tt, λ e. k), if_true _ _ _ (eq-eqb s i h))
-own-step i c CountSlaves l h k = absurd h
-own-step i c AskInit l h k = absurd h
-own-step i c AwaitInit l h k = absurd h
-own-step i c ClearFmmus l h k = absurd h
-own-step i c ClearManagers l h k = absurd h
-own-step i c ClearStations l h k = absurd h
-own-step i c (NameSlave s) l h k = absurd h
+own-step i c _ l h k = absurd h
 
 abbrev pub Tells : Config → List Action → Config → Type 0
 Tells c [] end = c ≡ end
@@ -257,7 +224,6 @@ mapped-tells i p c h em ef low none =
     let f0 : set c.fmmus 0 g0 ≡ g0 ∷ no_fmmu ∷ no_fmmu ∷ no_fmmu ∷ [] = ap (λ (fs : List FmmuSettings). set fs 0 g0) ef in
     let f1 : set (set c.fmmus 0 g0) 1 g1 ≡ g0 ∷ g1 ∷ no_fmmu ∷ no_fmmu ∷ [] = ap (λ (fs : List FmmuSettings). set fs 1 g1) f0 in
     let whole : s0 ∷ s1 ∷ s2 ∷ s3 ∷ [] ≡ p.managers = four_of p.managers h.m0 h.m1 h.m2 h.m3 h.managers in
-    let all : g0 ∷ g1 ∷ no_fmmu ∷ no_fmmu ∷ [] ≡ p.fmmus = two_of p.fmmus h.f0 h.f1 h.fmmus in
     let one : Tells c (manager_set i p 2) c2 = manager-tells i 2 p c s2 (s2.activate == 0) (omega arith) (ap length em) low none (ap (λ (ms : List SyncManagerSettings). set ms 2 no_settings) em ∙ sym em)
     (λ e. e2 ∙ h.no_outputs (subst (λ (m : SyncManagerSettings). (m.activate == 0) ≡ true) e2 e)) in
     let two : Tells c2 (manager_set i p 3) c3 = manager-tells i 3 p c2 s3 (s3.activate == 0) (omega arith) (ap length m2) low none (ap (λ (ms : List SyncManagerSettings). set ms 3 no_settings) m2 ∙ sym m2)
@@ -267,7 +233,7 @@ mapped-tells i p c h em ef low none =
     let four : Tells c4 (fmmu_set i p 1 g1.active) c5 = fmmu-tells i 1 p c4 g1.active (omega arith) (ap length f0) low none (ap (λ (fs : List FmmuSettings). set fs 1 no_fmmu) f0 ∙ sym f0)
     (λ e. d1 ∙ h.no_in_fmmu (subst (λ (f : FmmuSettings). f.active ≡ false) d1 e)) in
     let last : c5 ≡ mapped_to c p = ap (λ (ms : List SyncManagerSettings). record c { managers = ms; fmmus = set (set c.fmmus 0 g0) 1 g1 }) (m3 ∙ whole)
-    ∙ ap (λ (fs : List FmmuSettings). record c { managers = p.managers; fmmus = fs }) (f1 ∙ all) in
+    ∙ ap (λ (fs : List FmmuSettings). record c { managers = p.managers; fmmus = fs }) (f1 ∙ (two_of p.fmmus h.f0 h.f1 h.fmmus)) in
     subst (λ (x : Config). Tells c (mapped i p) x) last
     (tells-append c c2 c5 (manager_set i p 2) _ one (tells-append c2 c3 c5 (manager_set i p 3) _ two (tells-append c3 c4 c5 (fmmu_set i p 0 g0.active) _ three four)))
   where

@@ -1,60 +1,10 @@
 -- A firmware step of a slave that stands at a stage: its mailbox.
-use Rattle.std.proofs.Common.{ℕ, ◌+◌, ◌-◌, ◌*◌, ◌<◌, ◌≤◌, ◌≡◌, ◌&&◌, ◌++◌, not, Bool, true, Option, Some, None, refl, sym, ◌∙◌, ap, subst, inl, inr, arith, List, length, slice_index, is_some, length-append, option_and_then, ◌%◌, ◌^◌, false, is_none}
-use Rattle.std.proofs.lemmas.Bool.{cases_Bool, both_ways, and_parts, le-ltb, eq-eqb, and_from, lt-ltb}
-use Rattle.std.proofs.lemmas.List.{length-replicate}
-use Rattle.ec_bits.specs.Bits.{zeros}
-use Rattle.ec_bits.proofs.AnyLaws.{if_true, if_false, within_true}
-use Rattle.ec_device.specs.Types.{SlaveKind}
-use Rattle.ec_regs.specs.Managers.{is_mailbox, is_master_written, is_set, is_master_read, span}
-use Rattle.ec_sync.specs.SyncManager.{SyncManager, is_enabled, message_in as mailbox_message_in, padded, may_write}
-use Rattle.ec_al.specs.Al.{Al}
-use Rattle.ec_slave.specs.State.{SlaveState, manager_at, station_of}
-use Rattle.ec_coe.specs.declared.message.Message.{Message}
-use Rattle.ec_coe.specs.declared.value.ValueSize.{ValueSize}
-use Rattle.ec_coe.specs.declared.value.ValueSize.TheVariants.{One, Two, Three, Four}
-use Rattle.ec_coe.specs.declared.message.SdoCommand.TheVariants.{DownloadRequest, DownloadResponse, UploadResponse}
-use Rattle.ec_coe.specs.Messages.{message_read, message_length, command_of, command_number, message_bytes, message_in, size_number, service_of, service_number}
-use Rattle.ec_slave.specs.Interface.{KeepsBesideMessages, IsAnswered}
-use Rattle.ec_slave.proofs.FirmwareSteps.{three_parts, messages_keep, messages_rest, requests_answered, decided as requests_decided, finished}
-use Rattle.ec_slave.proofs.SwitchedOn.{switched_on}
-use Rattle.ec_coe.specs.Answers.{Answer, answered as answer_of}
-use Rattle.ec_coe.specs.declared.reply.Reply.TheVariants.{Unexpected}
-use Rattle.ec_coe.proofs.ReadBack.{reads_back, reads-as-message, command-read, service-read, index-read, subindex-read, value-read}
-use Rattle.ec_coe.proofs.Names.{replies_fit, replies_alone}
-use Rattle.ec_coe.proofs.Letters.{message_or_none}
-use Rattle.ec_slave.specs.Serving.{dictionary_of, is_preop, has_mailbox, takes_reply, is_served, request_for, request_in, reply_counter, answer_to, bytes_to, message_served, served, is_init, read_finished, request_decided}
-use Rattle.ec_start.specs.declared.action.Transfer.{Transfer}
-use Rattle.ec_start.specs.declared.action.Transfer.TheVariants.{Download, Upload}
-use Rattle.ec_start.specs.declared.action.SdoRequest.{SdoRequest}
-use Rattle.ec_start.specs.Verdicts.{message_verdict, reply_verdict}
-use Rattle.ec_start.specs.declared.verdict.Verdict.TheVariants.{Next}
-use Rattle.ec_start.specs.Actions.{filled, request_bytes, request_command, request_message, request_value, station, datagram_of}
-use Rattle.ec_bringup.specs.Stages.{Config, Stage, Before, Called, Down, Up, Talk, Claim}
-use Rattle.ec_bringup.specs.Standing.{HasAll, HoldsZeros, IsInInit, IsOfKind, IsConfigured, IsSent, Claims, Talks, IsUpAt, IsDownAt, Reached, IsGone, HadFault, Stands, IsIn}
+use Rattle.ec_bringup.proofs.Words.{ℕ, ◌+◌, ◌-◌, ◌*◌, ◌<◌, ◌≤◌, ◌≡◌, ◌&&◌, ◌++◌, not, Bool, true, Option, Some, None, refl, sym, ◌∙◌, ap, subst, inl, inr, arith, List, length, slice_index, is_some, length-append, option_and_then, ◌%◌, ◌^◌, false, is_none, cases_Bool, both_ways, and_parts, le-ltb, eq-eqb, and_from, lt-ltb, length-replicate, zeros, if_true, if_false, within_true, SlaveKind, is_mailbox, is_master_written, is_set, is_master_read, span, SyncManager, is_enabled, mailbox_message_in, padded, may_write, Al, SlaveState, manager_at, station_of, Message, ValueSize, One, Two, Three, Four, DownloadRequest, DownloadResponse, UploadResponse, message_read, message_length, command_of, command_number, message_bytes, message_in, size_number, service_of, service_number, KeepsBesideMessages, IsAnswered, three_parts, messages_keep, messages_rest, requests_answered, requests_decided, finished, switched_on, Answer, answer_of, Unexpected, reads_back, reads-as-message, command-read, service-read, index-read, subindex-read, value-read, replies_fit, replies_alone, message_or_none, dictionary_of, is_preop, has_mailbox, takes_reply, is_served, request_for, request_in, reply_counter, answer_to, bytes_to, message_served, served, is_init, read_finished, request_decided, Transfer, Download, Upload, SdoRequest, message_verdict, reply_verdict, Next, filled, request_bytes, request_command, request_message, request_value, station, datagram_of, Config, Stage, Before, Called, Down, Up, Talk, Claim, HasAll, HoldsZeros, IsInInit, IsOfKind, IsConfigured, IsSent, Claims, Talks, IsUpAt, IsDownAt, Reached, IsGone, HadFault, Stands, IsIn, mod-eq_of_lt, SyncManagerSettings, Mailbox, Fpwr, State, PreOp, governor, covers, in_first_buffer, writes_under, touches, datagram_met, Service, Response, Sdo, reply_in, reply_by, response_in, Dictionary, reply_bytes, SendRequest, AreMailboxes, ram_governed}
 use Rattle.ec_bringup.proofs.Alike.{rises-alike, word_of}
 use Rattle.ec_bringup.proofs.Serves.{stands-decided, stands-finished}
 use Rattle.ec_bringup.proofs.Claiming.{reply-claims}
-use Rattle.std.proofs.Math.Nat.{mod-eq_of_lt}
-use Rattle.ec_regs.specs.declared.manager.SyncManagerSettings.{SyncManagerSettings}
-use Rattle.ec_device.specs.declared.slave_type.Mailbox.{Mailbox}
-use Rattle.ec_frame.specs.declared.command.Command.TheVariants.{Fpwr}
-use Rattle.ec_al.specs.declared.state.State.{State}
-use Rattle.ec_al.specs.declared.state.State.TheVariants.{PreOp}
-use Rattle.ec_sync.specs.Governing.{governor, covers, in_first_buffer}
-use Rattle.ec_slave.specs.Managers.{writes_under}
-use Rattle.ec_slave.specs.Physical.{touches}
-use Rattle.ec_slave.specs.Meeting.{datagram_met}
-use Rattle.ec_coe.specs.declared.message.Service.{Service}
-use Rattle.ec_coe.specs.declared.message.Service.TheVariants.{Response}
-use Rattle.ec_coe.specs.declared.message.SdoCommand.{SdoCommand as Sdo}
-use Rattle.ec_coe.specs.Replies.{reply_in, reply_by, response_in}
-use Rattle.ec_coe.specs.Objects.{Dictionary}
-use Rattle.ec_coe.specs.ReplyBytes.{reply_bytes}
-use Rattle.ec_start.specs.declared.action.Action.TheVariants.{SendRequest}
-use Rattle.ec_start.specs.Planned.{AreMailboxes}
 use Rattle.ec_bringup.proofs.Owns.{window-sent}
 use Rattle.ec_bringup.proofs.Sends.{sending, sending-length, set-lies, four-of}
-use Rattle.ec_slave.proofs.RegisterAccess.{ram_governed}
 use Rattle.ec_bringup.proofs.Polls.{own-write-counts}
 use Rattle.ec_bringup.proofs.Shown.{HasReply}
 
@@ -65,13 +15,7 @@ message_of t = request_message t.counter t.request
 
 -- a request's command has a name
 own-command : (x : Transfer) → command_of (command_number (request_command x)) ≡ request_command x
-own-command (Download v) = by v.size
-  where
-    by : (s : ValueSize) → command_of (command_number (DownloadRequest s)) ≡ DownloadRequest s
-    by One = refl
-    by Two = refl
-    by Three = refl
-    by Four = refl
+own-command (Download v) = elim v.size as (λ s. command_of (command_number (DownloadRequest s)) ≡ DownloadRequest s) [ One ↦ refl | Two ↦ refl | Three ↦ refl | Four ↦ refl ]
 own-command (Upload v) = refl
 
 pub mailbox_message-read : (t : Talk) → message_read (filled t.mailbox.receive_size (request_bytes t.counter t.request)) ≡ Some (message_of t)
@@ -103,11 +47,7 @@ reply-fits s r l = replies_fit.fits (answer_to s r).dictionary (manager_at s.man
 
 -- what is no message doesn't bring the start-up on
 none-stops : (i : ℕ) (r : SdoRequest) → message_verdict i r None ≡ Next → ⊥
-none-stops i r e = by r.transfer e
-  where
-    by : (x : Transfer) → reply_verdict i r x Unexpected ≡ Next → ⊥
-    by (Download v) h = cc
-    by (Upload v) h = cc
+none-stops i r e = (elim r.transfer as (λ x. reply_verdict i r x Unexpected ≡ Next → ⊥) [ Download v ↦ λ h. cc | Upload v ↦ λ h. cc ]) e
 
 pub replied-up : (i : ℕ) (c : Config) (k : Talk) (s t : SlaveState) → c.talk ≡ Some k → length s.managers ≡ 4 → IsUpAt i c s → IsSent k c s → Replies s (message_of k) t → IsUpAt i c t
 replied-up i c k s t talk four u h r = record {
@@ -176,14 +116,13 @@ answering i c k s four u h = elim (cases_Bool (is_served s)) [
 message-slave : (kind : SlaveKind) (s : SlaveState) → IsOfKind kind s → IsOfKind kind (message_served s)
 message-slave kind s h =
     let k = messages_keep s in
-    let rest = messages_rest s in
     record {
       kind_is = k.kind ∙ h.kind_is;
       room = ap length k.memory ∙ h.room;
       four = k.count ∙ h.four;
       outs = k.out_slots ∙ h.outs;
       ins = k.in_slots ∙ h.ins;
-      fixed = λ e. subst HasAll (sym (rest.no_mailbox (ap (λ (t : SlaveKind). t.mailbox) h.kind_is ∙ e))) (h.fixed e);
+      fixed = λ e. subst HasAll (sym ((messages_rest s).no_mailbox (ap (λ (t : SlaveKind). t.mailbox) h.kind_is ∙ e))) (h.fixed e);
       unlocked_in_init = λ e n l. k.locked n ∙ h.unlocked_in_init (ap (λ (a : Al). a.state) (sym k.al) ∙ e) n l;
     }
 
@@ -193,11 +132,10 @@ called-served i s (inr h) = inr (subst IsInInit (sym ((messages_rest s).in_init 
 
 pub up-served : (i : ℕ) (c : Config) (o : Option Talk) (s : SlaveState) → c.talk ≡ o → length s.managers ≡ 4 → Talks i c o s → IsUpAt i c s → IsUpAt i c (message_served s)
 up-served i c None s e four h u = subst (λ (x : SlaveState). IsUpAt i c x) (sym ((messages_rest s).empty h.no_message)) u
-up-served i c (Some k) s e four (inl h) u = by (answering i c k s four u.configured h)
-  where
-    by : Answering s (message_of k) → IsUpAt i c (message_served s)
-    by (Waits q) = subst (λ (x : SlaveState). IsUpAt i c x) (sym q) u
-    by (Replied q) = replied-up i c k s (message_served s) e four u h q
+up-served i c (Some k) s e four (inl h) u = elim (answering i c k s four u.configured h) [
+  | Waits q ↦ subst (λ (x : SlaveState). IsUpAt i c x) (sym q) u
+  | Replied q ↦ replied-up i c k s (message_served s) e four u h q
+]
 up-served i c (Some k) s e four (inr h) u = subst (λ (x : SlaveState). IsUpAt i c x) (sym ((messages_rest s).empty h.no_message)) u
 
 reached-served : (i : ℕ) (st : Stage) (s : SlaveState) → length s.managers ≡ 4 → Reached i st s → Reached i st (message_served s)
@@ -368,9 +306,8 @@ replied kind i c k box s slave boxed u unlocked preop idle h good =
     let quiet : read_finished (request_decided s) ≡ s = ap read_finished still ∙ (finished s).rests idle in
     let all : served s ≡ message_served s = three_parts s ∙ ap message_served quiet in
     let rep : Replies s (message_of k) (message_served s) = given-replies s (message_of k) (omega (arith, four)) (and_from _ _ has (and_from _ _ takes (ap is_some l))) fit long in
-    let flag : is_preop s.al.state ≡ true = ap is_preop preop.state_is in
     let wanted : IsWanted k.request (answer_to s (message_of k)).reply
-    = subst (λ (x : Bool). IsWanted k.request (answer_of x (dictionary_of s) (message_of k) (reply_counter s.replies)).reply) (sym flag)
+    = subst (λ (x : Bool). IsWanted k.request (answer_of x (dictionary_of s) (message_of k) (reply_counter s.replies)).reply) (sym (ap is_preop preop.state_is))
     (good (dictionary_of s) (message_of k) (reply_counter s.replies)
     (record { kind_is = slave.kind_is; out_room = slave.outs; in_room = slave.ins; outs = h.assigned.outs; ins = h.assigned.ins })
     (record { command = refl; index = refl; subindex = refl; value = refl })) in

@@ -1,63 +1,24 @@
 -- A slave gets its station address.
-use Rattle.std.proofs.Common.{ℕ, zero, suc, ◌+◌, ◌-◌, ◌*◌, ◌/◌, ◌%◌, ◌<◌, ◌≡◌, ◌≢◌, Bool, true, false, Option, Some, None, refl, sym, ◌∙◌, ap, subst, inl, inr, arith, List, [], ◌∷◌, length, slice_index}
-use Rattle.std.proofs.lemmas.Bool.{eq-eqb, both_ways, cases_eq}
-use Rattle.ec_bits.proofs.AnyLaws.{if_true, if_false, within_above}
-use Rattle.ec_device.specs.Types.{SlaveKind}
-use Rattle.ec_regs.specs.Managers.{no_settings}
-use Rattle.ec_regs.specs.Fmmus.{fmmu_bytes, no_fmmu}
-use Rattle.ec_sync.specs.SyncManager.{SyncManager}
-use Rattle.ec_frame.specs.declared.command.Command.{Command}
-use Rattle.ec_frame.specs.declared.command.Command.TheVariants.{Apwr}
-use Rattle.ec_frame.specs.Datagram.{Datagram, IsDatagram, adp_of, ado_of}
-use Rattle.ec_frame.specs.Fields.{with_adp}
-use Rattle.ec_slave.specs.Roles.{role_of, adp_after, is_reading, is_writing}
-use Rattle.ec_slave.specs.State.{SlaveState, Met as Meeting, manager_at, station_of}
-use Rattle.ec_slave.specs.Physical.{Window, physical_after}
-use Rattle.ec_slave.specs.Meeting.{window_of, meets, slave_met, datagram_met}
-use Rattle.ec_slave.proofs.Bystanders.{other_position_passes}
-use Rattle.ec_start.specs.Plans.{settings_at, fmmu_at}
-use Rattle.ec_start.specs.declared.action.Action.TheVariants.{NameSlave}
-use Rattle.ec_start.specs.Actions.{station, datagram_of}
-use Rattle.ec_bringup.specs.Stages.{Stage, Before, Called, Down, Up, fresh, after, Fits, IsClear}
-use Rattle.ec_bringup.specs.Standing.{HoldsZeros, AreClear, IsDownAt, IsUpAt, Stands}
-use Rattle.ec_bringup.specs.Frames.{IsWriting, Arrives, Met}
+use Rattle.ec_bringup.proofs.Words.{ℕ, zero, suc, ◌+◌, ◌-◌, ◌*◌, ◌/◌, ◌%◌, ◌<◌, ◌≡◌, ◌≢◌, Bool, true, false, refl, sym, ◌∙◌, ap, subst, inl, inr, arith, List, [], ◌∷◌, length, slice_index, eq-eqb, both_ways, cases_eq, if_true, if_false, within_above, SlaveKind, no_settings, fmmu_bytes, no_fmmu, SyncManager, Command, Apwr, Datagram, IsDatagram, adp_of, ado_of, with_adp, role_of, is_reading, is_writing, SlaveState, Meeting, manager_at, station_of, Window, physical_after, window_of, meets, slave_met, datagram_met, other_position_passes, settings_at, fmmu_at, NameSlave, station, datagram_of, Stage, Down, Up, fresh, after, Fits, IsClear, HoldsZeros, AreClear, IsDownAt, IsUpAt, Stands, IsWriting, Arrives, Met, Wrote, wrote, unconfigured, OnlyWrites, writes_meet}
 use Rattle.ec_bringup.proofs.Passing.{others-stay, other-met}
 use Rattle.ec_bringup.proofs.Resets.{get_or-zeros}
-use Rattle.ec_slave.specs.Interface.{Wrote}
-use Rattle.ec_slave.proofs.RegisterAccess.{registers_written as wrote, managers_aside as unconfigured}
 use Rattle.ec_bringup.proofs.Owns.{slave-wrote, window-sent}
-use Rattle.ec_bringup.proofs.Broadcasts.{down-of, init-wrote}
-use Rattle.ec_slave.specs.Interface.{OnlyWrites}
-use Rattle.ec_slave.proofs.Meetings.{writes_meet, goes_on}
+use Rattle.ec_bringup.proofs.Broadcasts.{down-of, init-wrote, written-on}
 
 -- ---- the meeting
 
-reads-none : (s : SlaveState) (d : Datagram) → d.command ≡ Apwr → adp_of d ≡ 0 → is_reading (role_of d.command (adp_of d) (station_of s)) ≡ false
-reads-none s d c e = ap (λ (x : Command). is_reading (role_of x (adp_of d) (station_of s))) c ∙ ap is_reading (if_true _ _ _ (eq-eqb _ _ e))
-
-writes-all : (s : SlaveState) (d : Datagram) → d.command ≡ Apwr → adp_of d ≡ 0 → is_writing (role_of d.command (adp_of d) (station_of s)) ≡ true
-writes-all s d c e = ap (λ (x : Command). is_writing (role_of x (adp_of d) (station_of s))) c ∙ ap is_writing (if_true _ _ _ (eq-eqb _ _ e))
-
 -- the slave at this position is told to write
 pub position-writes : (s : SlaveState) (d : Datagram) → d.command ≡ Apwr → adp_of d ≡ 0 → OnlyWrites s d
-position-writes s d c e = record { writes = writes-all s d c e; reads = reads-none s d c e }
+position-writes s d c e = record {
+  writes = ap (λ (x : Command). is_writing (role_of x (adp_of d) (station_of s))) c ∙ ap is_writing (if_true _ _ _ (eq-eqb _ _ e));
+  reads = ap (λ (x : Command). is_reading (role_of x (adp_of d) (station_of s))) c ∙ ap is_reading (if_true _ _ _ (eq-eqb _ _ e));
+}
 
 position-write : (s : SlaveState) (d : Datagram) → d.command ≡ Apwr → adp_of d ≡ 0 → slave_met s d ≡ physical_after s false true (window_of d)
 position-write s d c e = (writes_meet s d (position-writes s d c e)).slave
 
 position-on : (s : SlaveState) (e d : Datagram) (adp : ℕ) → d.command ≡ Apwr → adp_of d ≡ 0 → IsWriting e d adp → IsWriting e (datagram_met s d) ((adp + 1) % 65536)
-position-on s e d adp c z h =
-    let o = goes_on s d in
-    let low : ((adp_of d + 1) % 65536 + 65536 * ado_of d) % 65536 ≡ (adp + 1) % 65536 = let a = h.adp_is in omega (arith, a) in
-    let high : ((adp_of d + 1) % 65536 + 65536 * ado_of d) / 65536 ≡ ado_of d = omega arith in
-    let address : (datagram_met s d).address ≡ (adp_of d + 1) % 65536 + 65536 * ado_of d
-    = o.address ∙ ap (λ (x : Command). adp_after x (adp_of d) + 65536 * ado_of d) c in
-    record {
-      command = o.command ∙ h.command;
-      ado = ap (λ (x : ℕ). x / 65536) address ∙ (high ∙ h.ado);
-      adp_is = ap (λ (x : ℕ). x % 65536) address ∙ low;
-      bytes = (writes_meet s d (position-writes s d c z)).bytes ∙ h.bytes;
-    }
+position-on s e d adp c z h = written-on Apwr s e d adp c (position-writes s d c z) refl h
 
 -- ---- at its position
 
@@ -81,9 +42,6 @@ fmmu-none (suc (suc (suc (suc n)))) = refl
 no-bytes : (k : ℕ) → slice_index (fmmu_bytes no_fmmu) k ≡ 0
 no-bytes k = get_or-zeros 16 k
 
-none-some : (x : ℕ) → (let o : Option ℕ = None in o ≡ Some x) → ⊥
-none-some x e = cc
-
 named-up : (i : ℕ) (s t : SlaveState) → Wrote (naming i) s t → length s.memory ≡ 0x3000 → length s.managers ≡ 4 → ((n : ℕ) → n < 4 → (manager_at s.managers n).locked ≡ false) → IsDownAt true true s → IsUpAt i fresh t
 named-up i s t h room four unlocked k =
     let clear : AreClear s = k.managers refl in
@@ -105,7 +63,7 @@ named-up i s t h room four unlocked k =
       talks = record {
         no_message = ap (λ (m : SyncManager). m.mail) (same 0 (omega arith)) ∙ clear.no_messages 0 (omega arith);
         no_reply = ap (λ (m : SyncManager). m.mail) (same 1 (omega arith)) ∙ clear.no_messages 1 (omega arith);
-        assigned = record { outs = record { count_is = λ x e. absurd (none-some x e); slots_are = refl }; ins = record { count_is = λ x e. absurd (none-some x e); slots_are = refl } };
+        assigned = record { outs = record { count_is = λ x e. absurd (cc e); slots_are = refl }; ins = record { count_is = λ x e. absurd (cc e); slots_are = refl } };
       };
       quiet = λ _. refl;
     }
@@ -118,11 +76,7 @@ named-up i s t h room four unlocked k =
 
 clear-is : (P : Stage → Type 0) (st : Stage) → IsClear st → P (Down true true) → P st
 clear-is P (Down true true) c h = h
-clear-is P (Down true false) c h = absurd c
-clear-is P (Down false m) c h = absurd c
-clear-is P Before c h = absurd c
-clear-is P Called c h = absurd c
-clear-is P (Up x) c h = absurd c
+clear-is P _ c h = absurd c
 
 pub pass-name : (kind : SlaveKind) (i t : ℕ) (st : Stage) (trouble : Bool) (number : ℕ) (d : Datagram) (s : SlaveState)
     → i < 64 → Fits i st (NameSlave t) → IsDatagram d → Arrives (NameSlave t) number i d → Stands kind i st trouble s

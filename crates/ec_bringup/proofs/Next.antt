@@ -1,35 +1,8 @@
 -- What the firmware steps after a frame prepare for the next action.
-use Rattle.std.proofs.Common.{ℕ, zero, suc, ◌+◌, ◌*◌, ◌%◌, ◌<◌, ◌≡◌, ◌==◌, true, false, Option, Some, None, refl, sym, ◌∙◌, ap, subst, inl, inr, arith, if◌then◌else◌, List, [], ◌∷◌, length}
-use Rattle.std.proofs.lemmas.Bool.{both_ways, eq-eqb}
-use Rattle.ec_bits.proofs.AnyLaws.{if_true}
-use Rattle.ec_device.specs.declared.slave_type.Mailbox.{Mailbox}
-use Rattle.ec_device.specs.Types.{SlaveKind}
-use Rattle.ec_frame.specs.declared.command.Command.TheVariants.{Fpwr}
-use Rattle.ec_frame.specs.Datagram.{Datagram}
-use Rattle.ec_al.specs.declared.state.State.{State}
-use Rattle.ec_al.specs.declared.state.State.TheVariants.{Init, PreOp}
-use Rattle.ec_al.specs.States.{state_number}
-use Rattle.ec_al.specs.Al.{Al, requesting}
-use Rattle.ec_sii.specs.Laws.{read_command}
-use Rattle.ec_slave.specs.State.{SlaveState, station_of, manager_at}
-use Rattle.ec_slave.specs.Physical.{Window, touches, physical_after}
-use Rattle.ec_slave.specs.Meeting.{slave_met}
-use Rattle.ec_slave.specs.Checking.{checks_of}
-use Rattle.ec_slave.specs.Serving.{served}
-use Rattle.ec_start.specs.Plans.{settings_at}
-use Rattle.ec_start.specs.declared.action.Action.{Action}
-use Rattle.ec_start.specs.declared.action.Action.TheVariants.{CountSlaves, AskInit, AwaitInit, ClearFmmus, ClearManagers, ClearStations, NameSlave, AskWord, AwaitWord, SetManager, SetFmmu, AskState, AwaitState, SendRequest, AwaitReply}
-use Rattle.ec_start.specs.declared.action.SdoRequest.{SdoRequest}
-use Rattle.ec_start.specs.Actions.{station, sent, datagram_of, word_place, filled, request_bytes}
-use Rattle.ec_bringup.specs.Stages.{Rise, Stays, Climbs, Config, Stage, Called, Up, Talk, told, climbing, after, Fits, CanClimb}
-use Rattle.ec_bringup.specs.Standing.{IsOfKind, IsIn, Rises, Claims, IsSent, IsSilent, Talks, IsUpAt, Reached, Stands}
-use Rattle.ec_bringup.specs.Frames.{Arrives, Untouched}
-use Rattle.ec_bringup.specs.Undisturbed.{IsSpelled}
+use Rattle.ec_bringup.proofs.Words.{ℕ, zero, suc, ◌+◌, ◌*◌, ◌%◌, ◌<◌, ◌≡◌, ◌==◌, true, false, Option, Some, None, refl, sym, ◌∙◌, ap, subst, inl, inr, arith, if◌then◌else◌, List, [], ◌∷◌, length, both_ways, eq-eqb, if_true, Mailbox, SlaveKind, Fpwr, Datagram, State, Init, PreOp, state_number, Al, requesting, read_command, SlaveState, station_of, manager_at, Window, touches, physical_after, slave_met, checks_of, served, settings_at, Action, AskInit, AwaitInit, AskWord, AwaitWord, SetManager, SetFmmu, AskState, AwaitState, SendRequest, AwaitReply, SdoRequest, station, sent, datagram_of, word_place, filled, request_bytes, Rise, Stays, Climbs, Config, Stage, Called, Up, Talk, told, climbing, after, Fits, CanClimb, IsOfKind, IsIn, Rises, Claims, IsSent, IsSilent, Talks, IsUpAt, Reached, Stands, Arrives, Untouched, IsSpelled, wrote, settles}
 use Rattle.ec_bringup.proofs.Owns.{own-write, window-sent}
-use Rattle.ec_slave.proofs.RegisterAccess.{registers_written as wrote}
 use Rattle.ec_bringup.proofs.Sends.{sending, delivered}
 use Rattle.ec_bringup.proofs.Messages.{stands-served, Answers, replied}
-use Rattle.ec_slave.proofs.FirmwareSteps.{settles}
 use Rattle.ec_bringup.proofs.Commands.{Passes, IsThere, granted, word_of, HasFound, word-found}
 use Rattle.ec_bringup.proofs.Shown.{HasReply}
 
@@ -68,13 +41,6 @@ BearsAt kind (Up c) a = Bears kind c a
 BearsAt kind _ a = Unit {0}
 
 abbrev pub Bless : SlaveKind → ℕ → Stage → Action → Type 0
-Bless kind i st CountSlaves = Unit {0}
-Bless kind i st AskInit = Unit {0}
-Bless kind i st AwaitInit = Unit {0}
-Bless kind i st ClearFmmus = Unit {0}
-Bless kind i st ClearManagers = Unit {0}
-Bless kind i st ClearStations = Unit {0}
-Bless kind i st (NameSlave t) = Unit {0}
 Bless kind i st (AskWord t which) = t ≡ i → BearsAt kind st (AskWord t which)
 Bless kind i st (AwaitWord t which) = t ≡ i → BearsAt kind st (AwaitWord t which)
 Bless kind i st (SetManager t n m) = t ≡ i → BearsAt kind st (SetManager t n m)
@@ -83,44 +49,26 @@ Bless kind i st (AskState t to) = t ≡ i → BearsAt kind st (AskState t to)
 Bless kind i st (AwaitState t to) = t ≡ i → BearsAt kind st (AwaitState t to)
 Bless kind i st (SendRequest t counter b r) = t ≡ i → BearsAt kind st (SendRequest t counter b r)
 Bless kind i st (AwaitReply t b r) = t ≡ i → BearsAt kind st (AwaitReply t b r)
+Bless kind i st _ = Unit {0}
 
 -- ---- what a slave shows before an action
 
 abbrev pub Sure : SlaveKind → ℕ → Action → SlaveState → Type 0
-Sure kind i CountSlaves s = Unit {0}
-Sure kind i AskInit s = Unit {0}
 Sure kind i AwaitInit s = IsThere Init s
-Sure kind i ClearFmmus s = Unit {0}
-Sure kind i ClearManagers s = Unit {0}
-Sure kind i ClearStations s = Unit {0}
-Sure kind i (NameSlave t) s = Unit {0}
 Sure kind i (AskWord t which) s = s.sii.busy ≡ false
 Sure kind i (AwaitWord t which) s = t ≡ i → HasFound (word_of kind.device which) s.sii
-Sure kind i (SetManager t n m) s = Unit {0}
-Sure kind i (SetFmmu t n f) s = Unit {0}
-Sure kind i (AskState t to) s = Unit {0}
 Sure kind i (AwaitState t to) s = t ≡ i → IsThere to s
-Sure kind i (SendRequest t counter b r) s = Unit {0}
 Sure kind i (AwaitReply t b r) s = t ≡ i → HasReply t r b.send_size s
+Sure kind i _ s = Unit {0}
 
 -- each wait stands right behind what it waits for
 abbrev pub Prompted : Action → Action → Type 0
-Prompted a CountSlaves = Unit {0}
-Prompted a AskInit = Unit {0}
 Prompted a AwaitInit = a ≡ AskInit
-Prompted a ClearFmmus = Unit {0}
-Prompted a ClearManagers = Unit {0}
-Prompted a ClearStations = Unit {0}
-Prompted a (NameSlave t) = Unit {0}
-Prompted a (AskWord t zero) = Unit {0}
 Prompted a (AskWord t (suc which)) = a ≡ AwaitWord t which
 Prompted a (AwaitWord t which) = a ≡ AskWord t which
-Prompted a (SetManager t n m) = Unit {0}
-Prompted a (SetFmmu t n f) = Unit {0}
-Prompted a (AskState t to) = Unit {0}
 Prompted a (AwaitState t to) = a ≡ AskState t to
-Prompted a (SendRequest t counter b r) = Unit {0}
 Prompted a (AwaitReply t b r) = (counter : ℕ) × (a ≡ SendRequest t counter b r)
+Prompted a _ = Unit {0}
 
 pub record Prior (kind : SlaveKind) (i : ℕ) (st : Stage) (a : Action) (s : SlaveState) : Type 0 where
   pub stands : Stands kind i st false s
@@ -147,11 +95,10 @@ mine-after P i x y h = subst P (if_true _ _ _ (eq-eqb i i refl)) h
 -- ---- INIT
 
 pub next-init : (kind : SlaveKind) (i : ℕ) (t : SlaveState) → Stands kind i Called false t → IsThere Init (served t)
-next-init kind i t h = by (reached-of kind i Called (served t) (stands-served kind i Called false t h))
-  where
-    by : Reached i Called (served t) → IsThere Init (served t)
-    by (inl r) = absurd (both_ways (served t).al.requested (settles t).no_request r.0)
-    by (inr r) = record { state_is = r.state; no_error = r.no_error }
+next-init kind i t h = elim (reached-of kind i Called (served t) (stands-served kind i Called false t h)) [
+  | inl r ↦ absurd (both_ways (served t).al.requested (settles t).no_request r.0)
+  | inr r ↦ record { state_is = r.state; no_error = r.no_error }
+]
 
 -- ---- the datagram of its own action, as it comes to the slave
 

@@ -1,34 +1,5 @@
 -- A slave of the type answers each request of the script as it should: its mapping is the type's, and each download is done.
-use Rattle.std.proofs.Common.{ℕ, zero, suc, ◌+◌, ◌-◌, ◌*◌, ◌%◌, ◌^◌, ◌<◌, ◌≤◌, ◌≡◌, ◌≢◌, ◌==◌, not, Bool, true, false, Option, Some, None, Result, refl, sym, ◌∙◌, ap, subst, arith, if◌then◌else◌, List, [], ◌∷◌, ◌++◌, length, map, take, slice_get, slice_set, nat_le, is_some, option_map, All, append_assoc, length-append}
-use Rattle.std.specs.List.{flat_map}
-use Rattle.std.specs.Option.{option_or}
-use Rattle.std.proofs.lemmas.Bool.{eq-eqb, ne_eqb, and_from, or_right, le-leb}
-use Rattle.std.proofs.lemmas.Option.{slice_get-map}
-use Rattle.ec_bits.proofs.AnyLaws.{if_true, if_false}
-use Rattle.ec_device.specs.declared.slave_type.Entry.{Entry}
-use Rattle.ec_device.specs.declared.slave_type.Pdo.{Pdo}
-use Rattle.ec_device.specs.Types.{SlaveKind}
-use Rattle.ec_coe.specs.declared.message.Message.{Message}
-use Rattle.ec_coe.specs.declared.value.ValueSize.{ValueSize}
-use Rattle.ec_coe.specs.declared.value.ValueSize.TheVariants.{One, Two}
-use Rattle.ec_coe.specs.declared.value.SdoValue.{SdoValue}
-use Rattle.ec_coe.specs.declared.abort_code.AbortCode.{AbortCode}
-use Rattle.ec_coe.specs.declared.message.Service.TheVariants.{Response}
-use Rattle.ec_coe.specs.declared.message.SdoCommand.{SdoCommand as Sdo}
-use Rattle.ec_coe.specs.declared.message.SdoCommand.TheVariants.{DownloadRequest, DownloadResponse, UploadRequest, UploadResponse}
-use Rattle.ec_coe.specs.Messages.{size_number}
-use Rattle.ec_coe.specs.Answers.{answered as answer_of, answer_by, upload_answer, download_answer, reply_to, value_of}
-use Rattle.ec_coe.specs.Objects.{Dictionary, Assignment, identity_object, output_assignment, input_assignment, has_some, entry_number, byte_value, word_value, long_value, assignment_values, pdo_values, device_name_object, shown_values, send_room, object_values}
-use Rattle.ec_device.specs.Objects.{pdo_at, bits_assigned}
-use Rattle.ec_coe.specs.Transfers.{value_or_abort, value_at, uploaded, distinct, takes_value, is_open, assignment_written, with_value, with_outs, with_ins, written_over, downloaded}
-use Rattle.ec_coe.proofs.Effects.{good}
-use Rattle.ec_coe.proofs.Names.{uploads_expedited}
-use Rattle.ec_link.specs.declared.settings.SlavePlan.{SlavePlan}
-use Rattle.ec_start.specs.declared.action.SdoRequest.{SdoRequest}
-use Rattle.ec_start.specs.Scripts.{requests, uploads, downloads, entries_read, pdo_read, slots_written, assignment_written as assignment_requests}
-use Rattle.ec_bringup.specs.Stages.{Claim, Config, answered, claimed, talked_over, prepared}
-use Rattle.ec_bringup.specs.Standing.{Claims}
-use Rattle.ec_bringup.specs.Complete.{IsNumbered, IsOffered, AreOffered, IsAssignable, IsComplete}
+use Rattle.ec_bringup.proofs.Words.{ℕ, zero, suc, ◌+◌, ◌-◌, ◌*◌, ◌%◌, ◌^◌, ◌<◌, ◌≤◌, ◌≡◌, ◌≢◌, ◌==◌, not, Bool, true, false, Option, Some, None, Result, refl, sym, ◌∙◌, ap, subst, arith, if◌then◌else◌, List, [], ◌∷◌, ◌++◌, length, map, take, slice_get, slice_set, nat_le, is_some, option_map, All, append_assoc, length-append, flat_map, option_or, eq-eqb, ne_eqb, and_from, or_right, le-leb, slice_get-map, if_true, if_false, Entry, Pdo, SlaveKind, Message, ValueSize, One, Two, SdoValue, AbortCode, Response, Sdo, DownloadRequest, DownloadResponse, UploadRequest, UploadResponse, size_number, answer_of, answer_by, upload_answer, download_answer, reply_to, value_of, Dictionary, Assignment, identity_object, output_assignment, input_assignment, has_some, entry_number, byte_value, word_value, long_value, assignment_values, pdo_values, device_name_object, shown_values, send_room, object_values, pdo_at, bits_assigned, value_or_abort, value_at, uploaded, distinct, takes_value, is_open, transfers_assignment_written as assignment_written, with_value, with_outs, with_ins, written_over, downloaded, good, uploads_expedited, SlavePlan, SdoRequest, requests, uploads, downloads, entries_read, pdo_read, slots_written, assignment_written as assignment_requests, Claim, Config, answered, claimed, talked_over, prepared, Claims, IsNumbered, IsOffered, AreOffered, IsAssignable, IsComplete}
 use Rattle.ec_bringup.proofs.Assigns.{claim_at, object_at, own-claim}
 use Rattle.ec_bringup.proofs.Messages.{IsWanted, Knows, Answers}
 use Rattle.ec_bringup.proofs.Blessings.{AllAnswers}
@@ -87,8 +58,7 @@ entries-answer kind ps x h k (e ∷ es) small f =
 
 pdo-answer : (kind : SlaveKind) (ps : List Pdo) (x : ℕ) → IsOffered kind ps x → AnyAnswers kind (pdo_read (pdo_at ps x))
 pdo-answer kind ps x h =
-    let few = h.few in
-    let small : length h.pdo.entries < 2 ^ 8 = omega (arith, few) in
+    let small : length h.pdo.entries < 2 ^ 8 = omega (arith, h.few) in
     subst (λ (o : Option Pdo). AnyAnswers kind (pdo_read o)) (sym h.named) (
       λ o n. upload-answers kind o n h.pdo.index 0 (byte_value (length h.pdo.entries)) (λ d q. pdo-shown kind ps x h d 0 (byte_value (length h.pdo.entries)) q refl) small (λ w. h.no_name (sym h.index_is ∙ w)),
       entries-answer kind ps x h 1 h.pdo.entries h.entries
@@ -185,9 +155,8 @@ slot-answers : (o : Bool) (kind : SlaveKind) (c : Config) (S : List ℕ) (x : �
 slot-answers o kind c S x some e h l =
     download-answers kind c.outs c.ins (object_at o) (length S + 1) (word_value x)
     (λ d k.
-    let room = known-room o kind c d k in
     let cl : Claims (record { count = Some 0; slots = S }) (assigned_at o d) = subst (λ (q : Claim). Claims q (assigned_at o d)) e (known-claims o kind c d k) in
-    let g = get-there (assigned_at o d).slots (length S) (omega (arith, room, l)) in
+    let g = get-there (assigned_at o d).slots (length S) (omega (arith, known-room o kind c d k, l)) in
     let w : length S + 1 ≡ suc (length S) = omega arith in
     let v : slice_get (assignment_values (assigned_at o d)) (length S + 1) ≡ Some (word_value g.0) = ap (slice_get (assignment_values (assigned_at o d))) w ∙ g.1 in
     let small : x % 65536 ≡ x = let s = h.small in omega (arith, s) in
@@ -250,8 +219,7 @@ object-answers o kind c [] true some h = (zero-answers o kind c some, tt)
 object-answers o kind c (x ∷ xs) true some h =
     let c1 : Config = answered c (downloads (object_at o) 0 (byte_value 0)) in
     let e : claim_at o c1 ≡ record { count = Some 0; slots = [] } = own-claim o c 0 (byte_value 0) in
-    let few = h.few in
-    let k = slots-answer o kind c1 [] (x ∷ xs) some e h.offered (omega (arith, few)) in (
+    let k = slots-answer o kind c1 [] (x ∷ xs) some e h.offered (omega (arith, h.few)) in (
       zero-answers o kind c some,
       all-append kind c1 (slots_written (object_at o) 1 (x ∷ xs)) (downloads (object_at o) 0 (byte_value (length (x ∷ xs))) ∷ []) k.0
           (count-answers o kind (talked_over c1 (slots_written (object_at o) 1 (x ∷ xs))) (Some 0) (x ∷ xs) some k.1 h, tt),

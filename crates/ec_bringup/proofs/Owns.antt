@@ -1,35 +1,7 @@
 -- What a slave becomes by a datagram that writes registers.
-use Rattle.std.proofs.Common.{ℕ, ◌≡◌, Bool, true, false, refl, sym, ◌∙◌, ap, arith, if◌then◌else◌, length, ◌+◌, ◌*◌, ◌/◌, ◌%◌, ◌<◌, ◌≤◌, ◌⊎◌, Option, None, subst, inl, inr, List, [], ◌∷◌, slice_index}
-use Rattle.ec_device.specs.Types.{SlaveKind}
-use Rattle.ec_sync.specs.SyncManager.{SyncManager, empty_manager}
-use Rattle.ec_al.specs.declared.state.State.{State}
-use Rattle.ec_al.specs.Al.{Al, requesting}
-use Rattle.ec_slave.specs.State.{SlaveState, manager_at, Met as Meeting, station_of, power_on}
-use Rattle.ec_coe.specs.Objects.{Assignment, all_assigned}
-use Rattle.ec_slave.specs.Physical.{Window, touches, is_configured, settings_written, physical_after}
-use Rattle.ec_slave.specs.Interface.{Wrote, set_by, OnlyWrites}
-use Rattle.ec_bringup.specs.Standing.{IsOfKind, HoldsZeros, IsConfigured, Rises, IsSilent, Talks, IsUpAt, IsTop, Stands}
-use Rattle.std.proofs.lemmas.Bool.{eq-eqb}
-use Rattle.ec_bits.proofs.AnyLaws.{if_true, if_false, within_below, within_above}
-use Rattle.ec_frame.specs.declared.command.Command.{Command}
-use Rattle.ec_frame.specs.declared.command.Command.TheVariants.{Fpwr}
-use Rattle.ec_frame.specs.Datagram.{Datagram, IsDatagram, adp_of, ado_of}
-use Rattle.ec_al.specs.declared.state.State.TheVariants.{Init, PreOp, SafeOp, Op}
-use Rattle.ec_al.specs.States.{state_number}
-use Rattle.ec_sii.specs.Port.{Sii, written}
-use Rattle.ec_slave.specs.Roles.{role_of, adp_after, is_reading, is_writing}
-use Rattle.ec_slave.specs.Meeting.{window_of, meets, slave_met, datagram_met}
-use Rattle.ec_slave.proofs.Bystanders.{other_station_passes}
-use Rattle.ec_slave.specs.Checking.{control_word}
-use Rattle.ec_start.specs.declared.action.Action.{Action}
-use Rattle.ec_start.specs.declared.action.Action.TheVariants.{AskState}
-use Rattle.ec_start.specs.Actions.{station, at, sent}
-use Rattle.ec_bringup.specs.Stages.{Rise, Stays, Climbs, Config, Stage, Up, Talk, told, climbing, after, CanTell, CanClimb}
-use Rattle.ec_slave.proofs.Meetings.{writes_meet, goes_on}
-use Rattle.ec_bringup.specs.Frames.{Untouched, ReadsOn, Arrives, IsOther, MayRepeat, Met}
-use Rattle.ec_bringup.proofs.Alike.{claims-alike}
+use Rattle.ec_bringup.proofs.Words.{ℕ, ◌≡◌, Bool, true, false, refl, sym, ◌∙◌, ap, arith, if◌then◌else◌, length, ◌+◌, ◌*◌, ◌/◌, ◌%◌, ◌<◌, ◌≤◌, ◌⊎◌, Option, None, subst, inl, inr, List, [], ◌∷◌, slice_index, SlaveKind, SyncManager, empty_manager, State, Al, requesting, SlaveState, manager_at, Meeting, station_of, power_on, Window, touches, is_configured, settings_written, physical_after, Wrote, set_by, OnlyWrites, IsOfKind, HoldsZeros, IsConfigured, Rises, IsSilent, Talks, IsUpAt, IsTop, Stands, eq-eqb, if_true, if_false, within_below, within_above, Command, Fpwr, Datagram, IsDatagram, adp_of, ado_of, Init, Op, state_number, Sii, written, role_of, adp_after, is_reading, is_writing, window_of, meets, slave_met, datagram_met, other_station_passes, control_word, Action, AskState, station, at, sent, Rise, Stays, Climbs, Config, Stage, Up, Talk, told, climbing, after, CanTell, CanClimb, writes_meet, goes_on, Untouched, ReadsOn, Arrives, IsOther, MayRepeat, Met, wrote, unconfigured, Fprd, Fprw}
+use Rattle.ec_bringup.proofs.Alike.{claims-alike, kind-kept}
 use Rattle.ec_bringup.proofs.Passing.{IsOne, one-ask-state, station-zero}
-use Rattle.ec_slave.proofs.RegisterAccess.{registers_written as wrote, managers_aside as unconfigured}
 
 abbrev locked_of : SyncManager → Bool
 locked_of m = m.locked
@@ -38,27 +10,13 @@ abbrev state_of : Al → State
 state_of a = a.state
 
 pub set-locked : (w : Window) (n : ℕ) (m : SyncManager) → (set_by w n m).locked ≡ m.locked
-set-locked w n m = by (is_configured w n)
-  where
-    by : (b : Bool) → locked_of (if b then empty_manager (settings_written w n m) m.locked else m) ≡ m.locked
-    by true = refl
-    by false = refl
+set-locked w n m = elim (is_configured w n) as (λ b. locked_of (if b then empty_manager (settings_written w n m) m.locked else m) ≡ m.locked) [ true ↦ refl | false ↦ refl ]
 
 -- a slave that was written is one
 pub slave-wrote : (kind : SlaveKind) (w : Window) (s t : SlaveState) → Wrote w s t → IsOfKind kind s → IsOfKind kind t
-slave-wrote kind w s t a h = record {
-  kind_is = a.kind ∙ h.kind_is;
-  room = a.room ∙ h.room;
-  four = a.count ∙ h.four;
-  outs = ap (λ (x : Assignment). length x.slots) a.outs ∙ h.outs;
-  ins = ap (λ (x : Assignment). length x.slots) a.ins ∙ h.ins;
-  fixed = λ e. let f = h.fixed e in record {
-    outs = a.outs ∙ (f.outs ∙ ap (λ (k : SlaveKind). all_assigned k.outputs) (sym a.kind));
-    ins = a.ins ∙ (f.ins ∙ ap (λ (k : SlaveKind). all_assigned k.inputs) (sym a.kind));
-  };
-  unlocked_in_init = λ e n l. ap (λ (m : SyncManager). m.locked) (a.managers n (let f = h.four in omega arith))
-      ∙ (set-locked w n (manager_at s.managers n) ∙ h.unlocked_in_init (sym (state_by (touches w 0x0120)) ∙ (ap (λ (x : Al). x.state) (sym a.al) ∙ e)) n l);
-}
+slave-wrote kind w s t a h = kind-kept kind s t a.kind a.room a.count a.outs a.ins
+    (λ e n l. ap (λ (m : SyncManager). m.locked) (a.managers n (let f = h.four in omega arith))
+    ∙ (set-locked w n (manager_at s.managers n) ∙ h.unlocked_in_init (sym (state_by (touches w 0x0120)) ∙ (ap (λ (x : Al). x.state) (sym a.al) ∙ e)) n l)) h
   where
     state_by : (b : Bool) → state_of (if b then requesting s.al else s.al) ≡ s.al.state
     state_by true = refl
@@ -68,30 +26,30 @@ slave-wrote kind w s t a h = record {
 
 -- ---- the meeting
 
-reads-none : (s : SlaveState) (d : Datagram) → d.command ≡ Fpwr → adp_of d ≡ station_of s → is_reading (role_of d.command (adp_of d) (station_of s)) ≡ false
-reads-none s d c e = ap (λ (x : Command). is_reading (role_of x (adp_of d) (station_of s))) c ∙ ap is_reading (if_true _ _ _ (eq-eqb _ _ e))
-
-writes-all : (s : SlaveState) (d : Datagram) → d.command ≡ Fpwr → adp_of d ≡ station_of s → is_writing (role_of d.command (adp_of d) (station_of s)) ≡ true
-writes-all s d c e = ap (λ (x : Command). is_writing (role_of x (adp_of d) (station_of s))) c ∙ ap is_writing (if_true _ _ _ (eq-eqb _ _ e))
-
 -- the slave that is meant is told to write
 pub own-writes : (s : SlaveState) (d : Datagram) → d.command ≡ Fpwr → adp_of d ≡ station_of s → OnlyWrites s d
-own-writes s d c e = record { writes = writes-all s d c e; reads = reads-none s d c e }
+own-writes s d c e = record {
+  writes = ap (λ (x : Command). is_writing (role_of x (adp_of d) (station_of s))) c ∙ ap is_writing (if_true _ _ _ (eq-eqb _ _ e));
+  reads = ap (λ (x : Command). is_reading (role_of x (adp_of d) (station_of s))) c ∙ ap is_reading (if_true _ _ _ (eq-eqb _ _ e));
+}
 
 pub own-write : (s : SlaveState) (d : Datagram) → d.command ≡ Fpwr → adp_of d ≡ station_of s → slave_met s d ≡ physical_after s false true (window_of d)
 own-write s d c e = (writes_meet s d (own-writes s d c e)).slave
 
 -- a slave that is gone isn't met
-gone-passes : (i : ℕ) (s : SlaveState) (d : Datagram) → i < 64 → IsDatagram d → d.command ≡ Fpwr → adp_of d ≡ station i → s ≡ power_on s.kind s.identity
+pub gone-passes : (i : ℕ) (s : SlaveState) (d : Datagram) → i < 64 → IsDatagram d → (d.command ≡ Fprd) ⊎ ((d.command ≡ Fpwr) ⊎ (d.command ≡ Fprw)) → adp_of d ≡ station i → s ≡ power_on s.kind s.identity
     → meets s d ≡ record { slave = s; datagram = d }
-gone-passes i s d l good c e g = other_station_passes s d good (inr (inl c)) (λ q. let z = station-zero s g in let a : adp_of d ≡ station_of s = q in omega (arith, e, z, a))
+gone-passes i s d l good c e g = other_station_passes s d good c (λ q. let z = station-zero s g in let a : adp_of d ≡ station_of s = q in omega (arith, e, z, a))
 
 -- the heading stays
-reads-on : (s : SlaveState) (d e : Datagram) → ReadsOn e d → d.command ≡ Fpwr → ReadsOn e (datagram_met s d)
-reads-on s d e g c =
+pub reads-on : (k : Command) (s : SlaveState) (d e : Datagram) → adp_after k (adp_of d) ≡ adp_of d → ReadsOn e d → d.command ≡ k → ReadsOn e (datagram_met s d)
+reads-on k s d e stays g c =
     let same : adp_of d + 65536 * ado_of d ≡ d.address = omega arith in
     let o = goes_on s d in
-    record { command = o.command ∙ g.command; address = o.address ∙ (ap (λ (x : Command). adp_after x (adp_of d) + 65536 * ado_of d) c ∙ (same ∙ g.address)) }
+    record {
+      command = o.command ∙ g.command;
+      address = o.address ∙ (ap (λ (x : Command). adp_after x (adp_of d) + 65536 * ado_of d) c ∙ (ap (λ (x : ℕ). x + 65536 * ado_of d) stays ∙ (same ∙ g.address)));
+    }
 
 pub window-sent : (c : Command) (adp ado : ℕ) (bytes : List ℕ) (number : ℕ) → window_of (sent c adp ado bytes number) ≡ record { from = ado; bytes = bytes }
 window-sent c adp ado bytes number = let e : (adp % 65536 + 65536 * ado) / 65536 ≡ ado = omega arith in ap (λ (x : ℕ). record { from = x; bytes = bytes }) e
@@ -110,7 +68,7 @@ pass-own kind i c trouble a number d s w one l cm win ado aft never self low kee
     let e : d ≡ one.e = u.to_come (omega arith) in
     let cmd : d.command ≡ Fpwr = u.gone_by.command ∙ cm in
     let adp : adp_of d ≡ station i = let x = u.gone_by.address in let y = one.address in omega (arith, x, y, at, ado) in
-    let on : Arrives a number (i + 1) (datagram_met s d) = one.arrived (i + 1) (datagram_met s d) (record { to_come = λ k. absurd (omega arith); gone_by = reads-on s d one.e u.gone_by cmd }) in (
+    let on : Arrives a number (i + 1) (datagram_met s d) = one.arrived (i + 1) (datagram_met s d) (record { to_come = λ k. absurd (omega arith); gone_by = reads-on Fpwr s d one.e refl u.gone_by cmd }) in (
       record {
         other = λ o. absurd (self o);
         repeated = λ r. absurd (never r);
@@ -125,7 +83,7 @@ pass-own kind i c trouble a number d s w one l cm win ado aft never self low kee
           let q : slave_met s d ≡ physical_after s false true w = own-write s d cmd (adp ∙ sym r.configured.station_is) ∙ ap (λ (x : Window). physical_after s false true x) (ap window_of e ∙ win) in
           subst (λ (t : SlaveState). Stands kind i (Up (told c a)) trouble t) (sym q) (record { slave = keeps h.slave r; at = inl (up h.slave r) })
       | inr (f, inl g) ↦
-          subst (λ (x : Meeting). Stands kind i (Up (told c a)) trouble x.slave) (sym (gone-passes i s d l good cmd adp g)) (record { slave = h.slave; at = inr (f, inl g) })
+          subst (λ (x : Meeting). Stands kind i (Up (told c a)) trouble x.slave) (sym (gone-passes i s d l good (inr (inl cmd)) adp g)) (record { slave = h.slave; at = inr (f, inl g) })
       | inr (f, inr g) ↦ absurd (low g.top)
     ]
 
@@ -172,9 +130,7 @@ ask-control state s t h room =
 ask-rises : (r : Rise) (state : State) (s t : SlaveState) → CanClimb r state → control_word t ≡ state_number state → t.al ≡ requesting s.al → Rises r s → Rises (climbing r state) t
 ask-rises (Climbs from other) state s t can w a h = absurd can
 ask-rises (Stays Init) state s t can w a h = (can, inl (record { state = ap (λ (x : Al). x.state) a ∙ h.state; no_error = ap (λ (x : Al). x.error) a ∙ h.no_error; request = ap (λ (x : Al). x.requested) a; control_is = w }))
-ask-rises (Stays PreOp) state s t can w a h = (can, inl (record { state = ap (λ (x : Al). x.state) a ∙ h.state_is; no_error = ap (λ (x : Al). x.error) a ∙ h.no_error; request = ap (λ (x : Al). x.requested) a; control_is = w }))
-ask-rises (Stays SafeOp) state s t can w a h = (can, inl (record { state = ap (λ (x : Al). x.state) a ∙ h.state_is; no_error = ap (λ (x : Al). x.error) a ∙ h.no_error; request = ap (λ (x : Al). x.requested) a; control_is = w }))
-ask-rises (Stays Op) state s t can w a h = (can, inl (record { state = ap (λ (x : Al). x.state) a ∙ h.state_is; no_error = ap (λ (x : Al). x.error) a ∙ h.no_error; request = ap (λ (x : Al). x.requested) a; control_is = w }))
+ask-rises _ state s t can w a h = (can, inl (record { state = ap (λ (x : Al). x.state) a ∙ h.state_is; no_error = ap (λ (x : Al). x.error) a ∙ h.no_error; request = ap (λ (x : Al). x.requested) a; control_is = w }))
 
 ask-silent : (c : Config) (r : Rise) (state : State) (s t : SlaveState) → Wrote (asking state) s t → length s.managers ≡ 4 → IsSilent c s → IsSilent (record c { rise = r }) t
 ask-silent c r state s t h four k = record {
@@ -199,10 +155,8 @@ ask-up i c state s t h room four none can u = record {
 
 low-top : (r : Rise) (state : State) → CanClimb r state → IsTop r → ⊥
 low-top (Stays Op) state can top = can
-low-top (Stays Init) state can top = top
-low-top (Stays PreOp) state can top = top
-low-top (Stays SafeOp) state can top = top
 low-top (Climbs from other) state can top = can
+low-top _ state can top = top
 
 pub pass-ask-state : (kind : SlaveKind) (i : ℕ) (c : Config) (trouble : Bool) (state : State) (number : ℕ) (d : Datagram) (s : SlaveState)
     → i < 64 → CanTell c (AskState i state) → IsDatagram d → Arrives (AskState i state) number i d → Stands kind i (Up c) trouble s

@@ -1,40 +1,5 @@
 -- The broadcast reads of a start-up at any slave.
-use Rattle.std.proofs.Common.{ℕ, ◌+◌, ◌*◌, ◌/◌, ◌%◌, ◌<◌, ◌≤◌, ◌≡◌, Bool, true, false, Some, refl, sym, ◌∙◌, ap, subst, inl, inr, arith, slice_index, ◌≢◌, ◌==◌, Option, if◌then◌else◌, List}
-use Rattle.std.specs.Prelude.{bit_or}
-use Rattle.std.specs.Int.{from_bool, bit_at}
-use Rattle.std.proofs.lemmas.Nat.{le_or_l, le_or_r}
-use Rattle.std.proofs.lemmas.Bool.{both_ways, cases_Bool, cases_eq, eq-eqb, ne_eqb}
-use Rattle.ec_device.specs.Types.{SlaveKind}
-use Rattle.ec_frame.specs.Datagram.{Datagram, adp_of, ado_of, IsDatagram}
-use Rattle.ec_al.specs.declared.state.State.{State}
-use Rattle.ec_al.specs.declared.state.State.TheVariants.{Init}
-use Rattle.ec_al.specs.States.{state_number}
-use Rattle.ec_slave.specs.State.{SlaveState, Met as Meeting, with_answer}
-use Rattle.ec_slave.specs.Physical.{byte_at, retold}
-use Rattle.ec_slave.specs.Meeting.{meets, slave_met, datagram_met}
-use Rattle.ec_slave.proofs.Broadcast.{broadcast_read}
-use Rattle.ec_start.specs.declared.action.Action.TheVariants.{CountSlaves, AwaitInit, AskInit, ClearFmmus, ClearManagers, ClearStations, NameSlave, AskWord, AwaitWord, SetManager, SetFmmu, AskState, AwaitState, SendRequest, AwaitReply}
-use Rattle.ec_start.specs.Actions.{datagram_of}
-use Rattle.ec_bringup.specs.Stages.{Stage, Called, Down, Before, Up, Config, Fits, IsUp}
-use Rattle.ec_bringup.specs.Standing.{IsInInit, Reached, Stands}
-use Rattle.ec_bringup.specs.Frames.{IsBroadcast, ShowsInit, Arrives, MayEnd, Met, MayRepeat}
-use Rattle.ec_slave.proofs.RegisterAccess.{shows_itself, retold_by_place}
-use Rattle.ec_bits.proofs.AnyLaws.{if_true, if_false}
-use Rattle.ec_device.specs.declared.slave_type.Device.{Device}
-use Rattle.ec_coe.specs.declared.message.Message.{Message}
-use Rattle.ec_coe.specs.declared.value.SdoValue.{SdoValue}
-use Rattle.ec_coe.specs.declared.reply.Reply.{Reply}
-use Rattle.ec_coe.specs.declared.reply.Reply.TheVariants.{Downloaded, Uploaded}
-use Rattle.ec_coe.specs.Messages.{message_read}
-use Rattle.ec_coe.specs.Replies.{reply_of}
-use Rattle.ec_start.specs.declared.action.Action.{Action}
-use Rattle.ec_start.specs.declared.action.SdoRequest.{SdoRequest}
-use Rattle.ec_start.specs.declared.action.Transfer.{Transfer}
-use Rattle.ec_start.specs.declared.action.Transfer.TheVariants.{Download, Upload}
-use Rattle.ec_start.specs.declared.verdict.Verdict.{Verdict}
-use Rattle.ec_start.specs.declared.verdict.Verdict.TheVariants.{Next, Shows, Again, Fails}
-use Rattle.ec_start.specs.declared.error.StartError.{StartError}
-use Rattle.ec_start.specs.Verdicts.{verdict, counted, word_verdict, state_verdict, message_verdict, reply_verdict, upload_verdict, word_at}
+use Rattle.ec_bringup.proofs.Words.{ℕ, ◌+◌, ◌*◌, ◌/◌, ◌%◌, ◌<◌, ◌≤◌, ◌≡◌, Bool, true, false, Some, refl, sym, ◌∙◌, ap, subst, inl, inr, arith, slice_index, ◌≢◌, ◌==◌, Option, if◌then◌else◌, List, bit_or, from_bool, bit_at, le_or_l, le_or_r, both_ways, cases_Bool, cases_eq, eq-eqb, ne_eqb, SlaveKind, Datagram, adp_of, ado_of, IsDatagram, State, Init, state_number, SlaveState, Meeting, with_answer, byte_at, retold, meets, slave_met, datagram_met, broadcast_read, CountSlaves, AwaitInit, AskInit, ClearFmmus, ClearManagers, ClearStations, NameSlave, AskWord, AwaitWord, SetManager, SetFmmu, AskState, AwaitState, SendRequest, AwaitReply, datagram_of, Stage, Called, Down, Before, Up, Config, Fits, IsUp, IsInInit, Reached, Stands, IsBroadcast, ShowsInit, Arrives, MayEnd, Met, MayRepeat, shows_itself, retold_by_place, if_true, if_false, Device, Message, SdoValue, Reply, Downloaded, Uploaded, message_read, reply_of, Action, SdoRequest, Transfer, Download, Upload, Verdict, Next, Shows, Again, Fails, StartError, verdict, counted, word_verdict, state_verdict, message_verdict, reply_verdict, upload_verdict, word_at}
 use Rattle.ec_bringup.proofs.Passing.{IsOne, pass-other, later-one, one-ask-word, one-await-word, one-set-manager, one-set-fmmu, one-ask-state, one-await-state, one-send, one-await-reply}
 use Rattle.ec_bringup.proofs.Owns.{pass-ask-state}
 use Rattle.ec_bringup.proofs.Polls.{pass-await-state, pass-await-word}
@@ -63,9 +28,8 @@ look-on s d number h =
 -- a byte grows, and it gets each slave's bits
 pub look-byte : (s : SlaveState) (d : Datagram) (number k : ℕ) → IsBroadcast (datagram_of AwaitInit number) d → k < 2 → slice_index (datagram_met s d).data_bytes k ≡ bit_or (slice_index d.data_bytes k) (byte_at s (0x0130 + k))
 look-byte s d number k h l =
-    let n = h.data_length in
     ap (λ (m : Meeting). slice_index m.datagram.data_bytes k) (look s d number h)
-    ∙ ((retold_by_place d.data_bytes (λ k. Some (bit_or (slice_index d.data_bytes k) (byte_at s (ado_of d + k))))).each k (omega (arith, n, l))
+    ∙ ((retold_by_place d.data_bytes (λ k. Some (bit_or (slice_index d.data_bytes k) (byte_at s (ado_of d + k))))).each k (omega (arith, h.data_length, l))
     ∙ ap (λ (x : ℕ). bit_or (slice_index d.data_bytes k) (byte_at s (x + k))) (ado-sent d number h))
 
 -- ---- how many slaves there are
@@ -342,12 +306,7 @@ take-law n step s types AwaitInit d = await-init-told n step d
 take-law n step s types ClearFmmus d = (λ e. tt, λ v e. tt, λ e. not-again d.counter n step e)
 take-law n step s types ClearManagers d = (λ e. tt, λ v e. tt, λ e. not-again d.counter n step e)
 take-law n step s types ClearStations d = (λ e. tt, λ v e. tt, λ e. not-again d.counter n step e)
-take-law n step s types (NameSlave t) d = (λ e. tt, λ v e. tt, λ e. not-again d.counter 1 step e)
-take-law n step s types (AskWord t which) d = (λ e. tt, λ v e. tt, λ e. not-again d.counter 1 step e)
 take-law n step s types (AwaitWord t which) d = await-word-told n step t which s types d
-take-law n step s types (SetManager t k m) d = (λ e. tt, λ v e. tt, λ e. not-again d.counter 1 step e)
-take-law n step s types (SetFmmu t k f) d = (λ e. tt, λ v e. tt, λ e. not-again d.counter 1 step e)
-take-law n step s types (AskState t to) d = (λ e. tt, λ v e. tt, λ e. not-again d.counter 1 step e)
 take-law n step s types (AwaitState t to) d = await-state-told step t to d
-take-law n step s types (SendRequest t counter b r) d = (λ e. tt, λ v e. tt, λ e. not-again d.counter 1 step e)
 take-law n step s types (AwaitReply t b r) d = await-reply-told step t b r d
+take-law n step s types _ d = (λ e. tt, λ v e. tt, λ e. not-again d.counter 1 step e)

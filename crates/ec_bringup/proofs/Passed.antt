@@ -1,49 +1,13 @@
 -- A frame of a start-up past all slaves: where each stands, and what comes back.
-use Rattle.std.proofs.Common.{ℕ, zero, suc, ◌+◌, ◌-◌, ◌*◌, ◌/◌, ◌%◌, ◌<◌, ◌≤◌, ◌≡◌, ◌≢◌, Bool, true, false, refl, ◌∙◌, ap, subst, inl, inr, arith, List, [], ◌∷◌, length, slice_index, ◌^◌, ◌==◌, Option, None, sym, if◌then◌else◌}
-use Rattle.std.specs.Prelude.{bit_or}
-use Rattle.std.specs.Int.{from_bool}
-use Rattle.std.proofs.lemmas.Bool.{cases_eq, or_left, eq-eqb}
-use Rattle.ec_bits.specs.Bits.{zeros}
-use Rattle.ec_device.specs.declared.slave_type.Device.{Device}
-use Rattle.ec_device.specs.Types.{SlaveKind}
-use Rattle.ec_regs.specs.Memory.{ram_start, is_stored}
-use Rattle.ec_frame.specs.declared.command.Command.TheVariants.{Apwr, Bwr}
-use Rattle.ec_frame.specs.Datagram.{Datagram, IsDatagram, adp_of, ado_of}
-use Rattle.ec_frame.specs.Fields.{with_adp}
-use Rattle.ec_al.specs.declared.state.State.{State}
-use Rattle.ec_al.specs.declared.state.State.TheVariants.{Init}
-use Rattle.ec_al.specs.States.{state_number}
-use Rattle.ec_sii.specs.declared.image.SiiImage.{SiiImage}
-use Rattle.ec_slave.specs.State.{SlaveState, Met as Meeting}
-use Rattle.ec_slave.specs.Physical.{Window, byte_at}
-use Rattle.ec_slave.specs.Meeting.{window_of, meets, slave_met, datagram_met}
-use Rattle.ec_slave.proofs.Meetings.{datagrams_stay as meets-keeps}
-use Rattle.ec_slave.proofs.Bystanders.{other_position_passes}
-use Rattle.ec_start.specs.declared.action.Action.{Action}
-use Rattle.ec_start.specs.declared.action.Action.TheVariants.{CountSlaves, AskInit, AwaitInit, ClearFmmus, ClearManagers, ClearStations, NameSlave, AskWord, AwaitWord, SetManager, SetFmmu, AskState, AwaitState, SendRequest, AwaitReply}
-use Rattle.ec_start.specs.Actions.{station, datagram_of}
-use Rattle.ec_bringup.specs.Stages.{Stage, after, Up, Config, Talk}
-use Rattle.ec_bringup.specs.Standing.{Stands, IsUpAt, IsSilent, Talks}
-use Rattle.ec_bringup.specs.Frames.{Arrives, Met, IsBroadcast, IsWriting, Untouched}
-use Rattle.ec_bringup.specs.Undisturbed.{IsSpelled, all_passed, all_met}
-use Rattle.ec_slave.specs.Serving.{served}
+use Rattle.ec_bringup.proofs.Words.{ℕ, suc, ◌+◌, ◌-◌, ◌*◌, ◌/◌, ◌%◌, ◌<◌, ◌≤◌, ◌≡◌, ◌≢◌, Bool, true, false, refl, ◌∙◌, ap, subst, inl, inr, arith, List, [], ◌∷◌, length, slice_index, ◌^◌, ◌==◌, Option, None, sym, if◌then◌else◌, bit_or, from_bool, cases_eq, or_left, eq-eqb, zeros, Device, SlaveKind, ram_start, is_stored, Apwr, Bwr, Datagram, IsDatagram, adp_of, ado_of, with_adp, State, Init, state_number, SiiImage, SlaveState, Meeting, Window, byte_at, window_of, meets, slave_met, datagram_met, meets-keeps, other_position_passes, Action, CountSlaves, AskInit, AwaitInit, ClearFmmus, ClearManagers, ClearStations, NameSlave, AskWord, AwaitWord, SetManager, SetFmmu, AskState, AwaitState, SendRequest, AwaitReply, station, datagram_of, Stage, after, Up, Config, Talk, Stands, IsUpAt, IsSilent, Talks, Arrives, Met, IsBroadcast, IsWriting, Untouched, IsSpelled, all_passed, all_met, served, settles, inside_kept, shows_itself, if_true, Mailbox, SdoRequest, Verdict, Next, Shows, word_at, verdict}
 use Rattle.ec_bringup.proofs.Passing.{IsOne, one-passes, one-ask-word, one-await-word, one-set-manager, one-set-fmmu, one-ask-state, one-await-state, one-send, one-await-reply}
 use Rattle.ec_bringup.proofs.PassLaws.{pass-law, later-law, look, look-byte}
-use Rattle.ec_slave.proofs.FirmwareSteps.{settles}
-use Rattle.ec_slave.proofs.Inside.{inside_kept}
-use Rattle.ec_slave.proofs.RegisterAccess.{shows_itself}
 use Rattle.ec_bringup.proofs.Polls.{broadcast-counts, position-counts, register-writes}
 use Rattle.ec_bringup.proofs.Broadcasts.{window-is, fmmus-cleared, managers-cleared, stations-cleared, init-asked}
 use Rattle.ec_bringup.proofs.Names.{naming}
 use Rattle.ec_bringup.proofs.Owns.{window-sent}
 use Rattle.ec_bringup.proofs.Commands.{IsThere, word_of, HasFound, ask-state-goes, ask-word-goes, set-fmmu-goes, set-manager-goes}
 use Rattle.ec_bringup.proofs.Next.{Prior, Prompted, Sure, next-sure, up-of}
-use Rattle.ec_bits.proofs.AnyLaws.{if_true}
-use Rattle.ec_device.specs.declared.slave_type.Mailbox.{Mailbox}
-use Rattle.ec_start.specs.declared.action.SdoRequest.{SdoRequest}
-use Rattle.ec_start.specs.declared.verdict.Verdict.{Verdict}
-use Rattle.ec_start.specs.declared.verdict.Verdict.TheVariants.{Next, Shows}
-use Rattle.ec_start.specs.Verdicts.{word_at, verdict}
 use Rattle.ec_bringup.proofs.Receives.{boxes-of}
 use Rattle.ec_bringup.proofs.Shown.{Tells, await-state-ends, await-word-ends, await-reply-ends}
 use Rattle.ec_bringup.proofs.Messages.{request-goes}
@@ -170,9 +134,8 @@ status-init : (s : SlaveState) → IsThere Init s → byte_at s 0x0130 ≡ 1
 status-init s h = (shows_itself s).status ∙ (ap (λ (x : State). state_number x + 16 * from_bool s.al.error) h.state_is ∙ ap (λ (x : Bool). 1 + 16 * from_bool x) h.no_error)
 
 or-one : (x : ℕ) → x ≤ 1 → bit_or x 1 ≡ 1
-or-one zero l = refl
-or-one (suc zero) l = refl
 or-one (suc (suc x)) l = absurd (omega (arith, l))
+or-one _ l = refl
 
 -- the data after a slave in INIT
 init-data : (s : SlaveState) (d : Datagram) (number : ℕ) → IsBroadcast (datagram_of AwaitInit number) d → IsThere Init s → slice_index d.data_bytes 0 ≤ 1 → slice_index d.data_bytes 1 ≡ 0
@@ -274,12 +237,6 @@ wanted types _ = Next
 
 -- the slave that it is for is there
 abbrev pub IsInside : ℕ → Action → Type 0
-IsInside n CountSlaves = Unit {0}
-IsInside n AskInit = Unit {0}
-IsInside n AwaitInit = Unit {0}
-IsInside n ClearFmmus = Unit {0}
-IsInside n ClearManagers = Unit {0}
-IsInside n ClearStations = Unit {0}
 IsInside n (NameSlave t) = t < n
 IsInside n (AskWord t which) = (t < n) × (which < 3)
 IsInside n (AwaitWord t which) = (t < n) × (which < 3)
@@ -289,6 +246,7 @@ IsInside n (AskState t to) = t < n
 IsInside n (AwaitState t to) = t < n
 IsInside n (SendRequest t counter b r) = t < n
 IsInside n (AwaitReply t b r) = t < n
+IsInside n _ = Unit {0}
 
 -- the words that were shown before are the type's
 abbrev pub Told : (ℕ → Device) → Device → Action → Type 0

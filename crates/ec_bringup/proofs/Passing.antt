@@ -1,22 +1,5 @@
 -- A frame of a start-up at a slave that its second datagram is not for.
-use Rattle.std.proofs.Common.{ℕ, ◌+◌, ◌*◌, ◌%◌, ◌<◌, ◌≡◌, ◌≢◌, ◌⊎◌, Bool, refl, sym, ◌∙◌, ap, subst, inl, inr, arith, slice_index}
-use Rattle.std.proofs.lemmas.Bool.{cases_eq, ne_eqb}
-use Rattle.ec_bits.proofs.AnyLaws.{if_false}
-use Rattle.ec_device.specs.Types.{SlaveKind}
-use Rattle.ec_frame.specs.declared.command.Command.{Command}
-use Rattle.ec_frame.specs.declared.command.Command.TheVariants.{Fprd, Fpwr, Fprw}
-use Rattle.ec_frame.specs.Datagram.{Datagram, IsDatagram}
-use Rattle.ec_slave.specs.State.{SlaveState, Met as Meeting, station_of, power_on}
-use Rattle.ec_slave.specs.Meeting.{meets, slave_met, datagram_met}
-use Rattle.ec_slave.proofs.Bystanders.{other_station_passes}
-use Rattle.ec_start.specs.declared.action.Action.{Action}
-use Rattle.ec_start.specs.declared.action.Action.TheVariants.{AskWord, AwaitWord, SetManager, SetFmmu, AskState, AwaitState, SendRequest, AwaitReply}
-use Rattle.ec_start.specs.declared.action.SdoRequest.{SdoRequest}
-use Rattle.ec_start.specs.Actions.{station, at, datagram_of}
-use Rattle.ec_bringup.specs.Stages.{Stage, Up, if_mine, after, Fits, FitsMine, IsUp}
-use Rattle.ec_bringup.specs.Standing.{Stands}
-use Rattle.ec_slave.proofs.SwitchedOn.{switched_on}
-use Rattle.ec_bringup.specs.Frames.{Untouched, ReadsOn, Arrives, IsOther, Met}
+use Rattle.ec_bringup.proofs.Words.{ℕ, ◌+◌, ◌*◌, ◌%◌, ◌<◌, ◌≡◌, ◌≢◌, ◌⊎◌, Bool, refl, sym, ◌∙◌, ap, subst, inl, inr, arith, slice_index, cases_eq, ne_eqb, if_false, SlaveKind, Command, Fprd, Fpwr, Fprw, Datagram, IsDatagram, SlaveState, Meeting, station_of, power_on, meets, slave_met, datagram_met, other_station_passes, Action, AskWord, AwaitWord, SetManager, SetFmmu, AskState, AwaitState, SendRequest, AwaitReply, SdoRequest, station, at, datagram_of, Stage, Up, if_mine, after, Fits, FitsMine, IsUp, Stands, switched_on, Untouched, ReadsOn, Arrives, IsOther, Met}
 
 -- ---- station addresses
 

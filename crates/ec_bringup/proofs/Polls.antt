@@ -1,65 +1,24 @@
 -- A poll of registers at the slave that it is for.
-use Rattle.std.proofs.Common.{ℕ, ◌+◌, ◌*◌, ◌%◌, ◌<◌, ◌≤◌, ◌≡◌, ◌≢◌, ◌⊎◌, Bool, true, false, Option, None, refl, sym, ◌∙◌, ap, subst, inl, inr, arith, List, length, slice_index}
-use Rattle.std.specs.Int.{bit_at, from_bool}
-use Rattle.std.proofs.lemmas.Bool.{eq-eqb, both_ways, or_left}
-use Rattle.ec_bits.specs.Bits.{zeros}
-use Rattle.ec_bits.proofs.AnyLaws.{if_true, any_below_from}
-use Rattle.ec_device.specs.Types.{SlaveKind}
-use Rattle.ec_regs.specs.Memory.{ram_start, takes_writes}
-use Rattle.ec_frame.specs.declared.command.Command.{Command}
-use Rattle.ec_frame.specs.declared.command.Command.TheVariants.{Fprd, Apwr, Fpwr, Bwr}
-use Rattle.ec_frame.specs.Datagram.{Datagram, IsDatagram, adp_of, ado_of}
-use Rattle.ec_al.specs.declared.state.State.{State}
-use Rattle.ec_al.specs.declared.state.State.TheVariants.{Init, PreOp, SafeOp, Op}
-use Rattle.ec_al.specs.States.{state_number}
-use Rattle.ec_slave.specs.Roles.{role_of, adp_after, is_reading, is_writing, is_joining}
-use Rattle.ec_slave.specs.State.{SlaveState, Met as Meeting, station_of, power_on}
-use Rattle.ec_slave.specs.Physical.{Window, touches, physical_after, byte_at, byte_read, retold, may_read_byte, may_write_byte, some_byte_read, some_byte_written, is_written}
-use Rattle.ec_slave.specs.Meeting.{window_of, meets, slave_met, datagram_met}
-use Rattle.ec_slave.proofs.Bystanders.{other_station_passes}
-use Rattle.ec_slave.specs.Interface.{OnlyReads, OnlyWrites}
-use Rattle.ec_slave.proofs.Meetings.{reads_meet, goes_on, writes_meet}
-use Rattle.ec_slave.proofs.RegisterAccess.{registers_open, registers_read, shows_itself}
-use Rattle.ec_slave.proofs.Bytes.{reads_by_byte}
-use Rattle.ec_start.specs.declared.action.Action.{Action}
-use Rattle.ec_start.specs.declared.action.Action.TheVariants.{AwaitState, AwaitWord}
-use Rattle.ec_start.specs.Actions.{station, at, sent}
-use Rattle.ec_bringup.specs.Stages.{Rise, Stays, Climbs, Config, Stage, Up, Talk, told, after, CanTell, IsClimbing, IsStepUp, IsLow}
-use Rattle.ec_bringup.specs.Standing.{IsConfigured, IsIn, StaysIn, Rises, IsSilent, Talks, IsUpAt, Reached, IsGone, IsFaulted, IsTop, HadFault, Stands}
-use Rattle.ec_bringup.specs.Frames.{Untouched, ReadsOn, Arrives, IsOther, MayEnd, Met}
-use Rattle.ec_bringup.proofs.Passing.{IsOne, one-await-state, one-await-word, station-zero}
-use Rattle.ec_bringup.proofs.Owns.{window-sent, own-writes}
+use Rattle.ec_bringup.proofs.Words.{ℕ, ◌+◌, ◌*◌, ◌%◌, ◌<◌, ◌≤◌, ◌≡◌, ◌≢◌, ◌⊎◌, Bool, true, false, Option, None, refl, sym, ◌∙◌, ap, subst, inl, inr, arith, List, length, slice_index, bit_at, from_bool, eq-eqb, both_ways, or_left, zeros, if_true, any_below_from, SlaveKind, ram_start, takes_writes, Command, Fprd, Apwr, Fpwr, Bwr, Datagram, IsDatagram, adp_of, State, Init, PreOp, SafeOp, Op, state_number, role_of, is_reading, is_writing, is_joining, SlaveState, Meeting, station_of, Window, touches, physical_after, byte_at, byte_read, retold, may_read_byte, may_write_byte, some_byte_read, some_byte_written, is_written, window_of, slave_met, datagram_met, OnlyReads, OnlyWrites, reads_meet, writes_meet, registers_open, registers_read, shows_itself, reads_by_byte, Action, AwaitState, AwaitWord, station, at, sent, Rise, Stays, Climbs, Config, Stage, Up, Talk, told, after, CanTell, IsClimbing, IsStepUp, IsConfigured, IsIn, StaysIn, Rises, IsSilent, Talks, IsUpAt, Reached, IsGone, IsFaulted, IsTop, HadFault, Stands, Untouched, Arrives, IsOther, MayEnd, Met}
+use Rattle.ec_bringup.proofs.Passing.{IsOne, one-await-state, one-await-word}
+use Rattle.ec_bringup.proofs.Owns.{window-sent, own-writes, reads-on, gone-passes}
 use Rattle.ec_bringup.proofs.Names.{position-writes}
 use Rattle.ec_bringup.proofs.Broadcasts.{broadcast-writes}
-
-pub reads : (s : SlaveState) (d : Datagram) → d.command ≡ Fprd → adp_of d ≡ station_of s → is_reading (role_of d.command (adp_of d) (station_of s)) ≡ true
-reads s d c e = ap (λ (x : Command). is_reading (role_of x (adp_of d) (station_of s))) c ∙ ap is_reading (if_true _ _ _ (eq-eqb _ _ e))
-
-pub writes-none : (s : SlaveState) (d : Datagram) → d.command ≡ Fprd → adp_of d ≡ station_of s → is_writing (role_of d.command (adp_of d) (station_of s)) ≡ false
-writes-none s d c e = ap (λ (x : Command). is_writing (role_of x (adp_of d) (station_of s))) c ∙ ap is_writing (if_true _ _ _ (eq-eqb _ _ e))
-
-joins-none : (s : SlaveState) (d : Datagram) → d.command ≡ Fprd → adp_of d ≡ station_of s → is_joining (role_of d.command (adp_of d) (station_of s)) ≡ false
-joins-none s d c e = ap (λ (x : Command). is_joining (role_of x (adp_of d) (station_of s))) c ∙ ap is_joining (if_true _ _ _ (eq-eqb _ _ e))
+use Rattle.ec_bringup.proofs.Sets.{low-top}
 
 -- the slave that is meant is told to read
 pub own-reads : (s : SlaveState) (d : Datagram) → d.command ≡ Fprd → adp_of d ≡ station_of s → OnlyReads s d
-own-reads s d c e = record { reads = reads s d c e; writes = writes-none s d c e; joins = joins-none s d c e }
+own-reads s d c e = record {
+  reads = ap (λ (x : Command). is_reading (role_of x (adp_of d) (station_of s))) c ∙ ap is_reading (if_true _ _ _ (eq-eqb _ _ e));
+  writes = ap (λ (x : Command). is_writing (role_of x (adp_of d) (station_of s))) c ∙ ap is_writing (if_true _ _ _ (eq-eqb _ _ e));
+  joins = ap (λ (x : Command). is_joining (role_of x (adp_of d) (station_of s))) c ∙ ap is_joining (if_true _ _ _ (eq-eqb _ _ e));
+}
 
 pub read-slave : (s : SlaveState) (d : Datagram) → d.command ≡ Fprd → adp_of d ≡ station_of s → slave_met s d ≡ physical_after s true false (window_of d)
 read-slave s d c e = (reads_meet s d (own-reads s d c e)).slave
 
 pub read-bytes : (s : SlaveState) (d : Datagram) → d.command ≡ Fprd → adp_of d ≡ station_of s → (datagram_met s d).data_bytes ≡ retold d.data_bytes (byte_read s false (window_of d))
 read-bytes s d c e = (reads_meet s d (own-reads s d c e)).bytes
-
-pub reads-on : (s : SlaveState) (d e : Datagram) → ReadsOn e d → d.command ≡ Fprd → ReadsOn e (datagram_met s d)
-reads-on s d e g c =
-    let same : adp_of d + 65536 * ado_of d ≡ d.address = omega arith in
-    let o = goes_on s d in
-    record { command = o.command ∙ g.command; address = o.address ∙ (ap (λ (x : Command). adp_after x (adp_of d) + 65536 * ado_of d) c ∙ (same ∙ g.address)) }
-
-pub gone-passes : (i : ℕ) (s : SlaveState) (d : Datagram) → i < 64 → IsDatagram d → d.command ≡ Fprd → adp_of d ≡ station i → s ≡ power_on s.kind s.identity
-    → meets s d ≡ record { slave = s; datagram = d }
-gone-passes i s d l good c e g = other_station_passes s d good (inl c) (λ q. let z = station-zero s g in let a : adp_of d ≡ station_of s = q in omega (arith, e, z, a))
 
 -- byte k of the data, of a datagram on registers
 pub read-byte : (s : SlaveState) (d : Datagram) (w : Window) (k : ℕ) → d.command ≡ Fprd → adp_of d ≡ station_of s → window_of d ≡ w → w.from + length w.bytes ≤ ram_start → k < length w.bytes
@@ -84,34 +43,25 @@ pass-poll kind i c trouble a number d s w one l cm win ado registers aft self up
     let cmd : d.command ≡ Fprd = u.gone_by.command ∙ cm in
     let adp : adp_of d ≡ station i = let x = u.gone_by.address in let y = one.address in omega (arith, x, y, at, ado) in
     let at_w : window_of d ≡ w = ap window_of e ∙ win in
-    (by h.at cmd adp at_w, one.arrived (i + 1) (datagram_met s d) (record { to_come = λ k. absurd (omega arith); gone_by = reads-on s d one.e u.gone_by cmd }))
+    (by h.at cmd adp at_w, one.arrived (i + 1) (datagram_met s d) (record { to_come = λ k. absurd (omega arith); gone_by = reads-on Fprd s d one.e refl u.gone_by cmd }))
   where
     stays : d.command ≡ Fprd → adp_of d ≡ station_of s → window_of d ≡ w → slave_met s d ≡ s
     stays cmd e q = read-slave s d cmd e ∙ (ap (λ (x : Window). physical_after s true false x) q ∙ registers_read s w registers)
 
+    met : slave_met s d ≡ s → (MayEnd a (datagram_met s d) → Reached i (Up (told c a)) s ⊎ ((trouble ≡ true) × (IsGone (Up (told c a)) s ⊎ HadFault i (Up (told c a)) s)))
+        → Met kind i (Up c) trouble a (datagram_met s d) (slave_met s d)
+    met same at = record {
+      other = λ o. absurd (self o);
+      repeated = λ _. subst (λ (t : SlaveState). Stands kind i (Up c) trouble t) (sym same) h;
+      ended = λ m. subst (λ (t : SlaveState). Stands kind i (after i (Up c) a) trouble t) (sym same) (subst (λ (x : Stage). Stands kind i x trouble s) (sym aft) (record { slave = h.slave; at = at m }));
+    }
+
     by : Reached i (Up c) s ⊎ ((trouble ≡ true) × (IsGone (Up c) s ⊎ HadFault i (Up c) s)) → d.command ≡ Fprd → adp_of d ≡ station i → window_of d ≡ w → Met kind i (Up c) trouble a (datagram_met s d) (slave_met s d)
     by (inl r) cmd adp q =
         let st : adp_of d ≡ station_of s = adp ∙ sym r.configured.station_is in
-        let same : slave_met s d ≡ s = stays cmd st q in record {
-          other = λ o. absurd (self o);
-          repeated = λ _. subst (λ (t : SlaveState). Stands kind i (Up c) trouble t) (sym same) h;
-          ended = λ m. subst (λ (t : SlaveState). Stands kind i (after i (Up c) a) trouble t) (sym same) (subst (λ (x : Stage). Stands kind i x trouble s) (sym aft)
-              (record { slave = h.slave; at = inl (up (λ k b. read-byte s d w k cmd st q registers b) m r) }));
-        }
-    by (inr (f, inl g)) cmd adp q =
-        let same : slave_met s d ≡ s = ap (λ (x : Meeting). x.slave) (gone-passes i s d l good cmd adp g) in record {
-          other = λ o. absurd (self o);
-          repeated = λ _. subst (λ (t : SlaveState). Stands kind i (Up c) trouble t) (sym same) h;
-          ended = λ m. subst (λ (t : SlaveState). Stands kind i (after i (Up c) a) trouble t) (sym same) (subst (λ (x : Stage). Stands kind i x trouble s) (sym aft)
-              (record { slave = h.slave; at = inr (f, inl g) }));
-        }
-    by (inr (f, inr g)) cmd adp q =
-        let same : slave_met s d ≡ s = stays cmd (adp ∙ sym g.faulted.configured.station_is) q in record {
-          other = λ o. absurd (self o);
-          repeated = λ _. subst (λ (t : SlaveState). Stands kind i (Up c) trouble t) (sym same) h;
-          ended = λ m. subst (λ (t : SlaveState). Stands kind i (after i (Up c) a) trouble t) (sym same) (subst (λ (x : Stage). Stands kind i x trouble s) (sym aft)
-              (record { slave = h.slave; at = inr (f, inr (faulted g)) }));
-        }
+        met (stays cmd st q) (λ m. inl (up (λ k b. read-byte s d w k cmd st q registers b) m r))
+    by (inr (f, inl g)) cmd adp q = met (ap (λ (x : Meeting). x.slave) (gone-passes i s d l good (inl cmd) adp g)) (λ m. inr (f, inl g))
+    by (inr (f, inr g)) cmd adp q = met (stays cmd (adp ∙ sym g.faulted.configured.station_is) q) (λ m. inr (f, inr (faulted g)))
 
 -- ---- the AL status
 
@@ -133,13 +83,11 @@ not-yet SafeOp Op h e = omega (arith, e)
 not-yet _ _ h e = h
 
 in-stays : (from to : State) (s : SlaveState) → IsStepUp from to → IsIn to s → StaysIn to s
-in-stays from PreOp s h k = k
-in-stays from SafeOp s h k = k
-in-stays from Op s h k = k
 in-stays Init Init s h k = absurd h
 in-stays PreOp Init s h k = absurd h
 in-stays SafeOp Init s h k = absurd h
 in-stays Op Init s h k = absurd h
+in-stays from _ s h k = k
 
 await-rises : (r : Rise) (to : State) (s : SlaveState) → IsClimbing r to → s.al.error ≡ false → state_number s.al.state ≡ state_number to → Rises r s → StaysIn to s
 await-rises (Stays from) to s can e n h = absurd can
@@ -172,12 +120,7 @@ await-up i c to s d none can e m u =
 top-climbs : (r : Rise) (to : State) → IsClimbing r to → IsTop r → IsTop (Stays to)
 top-climbs (Stays from) to can top = absurd can
 top-climbs (Climbs SafeOp Op) to (step, same) top = subst (λ (x : State). IsTop (Stays x)) same tt
-top-climbs (Climbs SafeOp Init) to can top = absurd top
-top-climbs (Climbs SafeOp PreOp) to can top = absurd top
-top-climbs (Climbs SafeOp SafeOp) to can top = absurd top
-top-climbs (Climbs Init other) to can top = absurd top
-top-climbs (Climbs PreOp other) to can top = absurd top
-top-climbs (Climbs Op other) to can top = absurd top
+top-climbs _ to can top = absurd top
 
 await-faulted : (i : ℕ) (c : Config) (to : State) (s : SlaveState) → IsClimbing c.rise to → IsFaulted i c s → IsFaulted i (record c { rise = Stays to }) s
 await-faulted i c to s can h = let k = h.faulted in record {
@@ -218,20 +161,12 @@ idle-configured i c s e k = record { station_is = k.station_is; settings = k.set
 idle-silent : (c : Config) (s : SlaveState) → IsSilent c s → IsSilent (record c { idle = true }) s
 idle-silent c s k = record { no_message = k.no_message; no_reply = k.no_reply; assigned = record { outs = k.assigned.outs; ins = k.assigned.ins } }
 
-low-top : (r : Rise) → IsLow r → IsTop r → ⊥
-low-top (Stays Init) low top = top
-low-top (Stays PreOp) low top = top
-low-top (Stays SafeOp) low top = low
-low-top (Stays Op) low top = low
-low-top (Climbs from to) low top = low
-
 word-up : (i : ℕ) (c : Config) (s : SlaveState) (which : ℕ) (d : Datagram) → c.talk ≡ None
     → slice_index d.data_bytes 0 ≡ byte_at s 0x0502 → slice_index d.data_bytes 1 ≡ byte_at s 0x0503 → MayEnd (AwaitWord i which) d → IsUpAt i c s → IsUpAt i (record c { idle = true }) s
 word-up i c s which d none e f m u =
     let a : slice_index d.data_bytes 0 ≡ 0 = e ∙ (shows_itself s).sii_low in
-    let b = f ∙ (shows_itself s).sii_high in
     let n : bit_at (0 + 256 * (from_bool s.sii.busy + 32 * from_bool s.sii.error + 128 * from_bool s.sii.busy)) 15 ≢ 1
-    = subst (λ (x : ℕ). bit_at (0 + 256 * x) 15 ≢ 1) b (subst (λ (x : ℕ). bit_at (x + 256 * slice_index d.data_bytes 1) 15 ≢ 1) a m.1) in
+    = subst (λ (x : ℕ). bit_at (0 + 256 * x) 15 ≢ 1) (f ∙ (shows_itself s).sii_high) (subst (λ (x : ℕ). bit_at (x + 256 * slice_index d.data_bytes 1) 15 ≢ 1) a m.1) in
     record {
       configured = idle-configured i c s (busy-by s.sii.busy s.sii.error n) u.configured;
       unlocked = u.unlocked;

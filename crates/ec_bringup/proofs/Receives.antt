@@ -1,42 +1,10 @@
 -- A reply is read from a slave's mailbox.
-use Rattle.std.proofs.Common.{ℕ, zero, suc, ◌+◌, ◌-◌, ◌/◌, ◌%◌, ◌<◌, ◌≤◌, ◌≡◌, ◌⊎◌, ◌&&◌, not, Bool, true, false, Option, Some, None, refl, sym, ◌∙◌, ap, subst, inl, inr, arith, List, [], ◌∷◌, length, slice_index, is_some, is_none, unwrap_or}
-use Rattle.std.specs.Int.{from_bool}
-use Rattle.std.proofs.lemmas.Bool.{eq-eqb, cases_Bool, and_from, and_left, and_right, lt-ltb, eqb-true}
-use Rattle.std.proofs.lemmas.List.{length-replicate}
-use Rattle.ec_bits.specs.Bits.{zeros, any_below}
-use Rattle.ec_bits.proofs.AnyLaws.{if_true, if_false, within_true, within_below, within_above, any_below_none, any_below_from}
-use Rattle.ec_regs.specs.declared.manager.SyncManagerSettings.{SyncManagerSettings}
-use Rattle.ec_device.specs.declared.slave_type.Mailbox.{Mailbox}
-use Rattle.ec_device.specs.Types.{SlaveKind}
-use Rattle.ec_regs.specs.Memory.{ram_start, ram_end}
-use Rattle.ec_regs.specs.Managers.{is_set, is_mailbox, is_master_written, is_master_read, span}
-use Rattle.ec_sync.specs.SyncManager.{SyncManager, may_read, is_enabled, ring_read, shown}
-use Rattle.ec_sync.specs.Governing.{covers, governor, governs, in_first_buffer}
-use Rattle.ec_frame.specs.declared.command.Command.TheVariants.{Fprd}
-use Rattle.ec_frame.specs.Datagram.{Datagram, IsDatagram, adp_of}
-use Rattle.ec_slave.specs.State.{SlaveState, Met as Meeting, manager_at, station_of}
-use Rattle.ec_slave.specs.Managers.{reads_under, is_ungoverned, is_read_by}
-use Rattle.ec_slave.specs.Physical.{Window, touches, physical_after, physical_manager, physical_managers, may_read_byte, some_byte_read, byte_read, byte_at, ram_byte, retold}
-use Rattle.ec_slave.specs.Meeting.{window_of, slave_met, datagram_met}
-use Rattle.ec_coe.specs.Messages.{message_read}
-use Rattle.ec_regs.specs.Fmmus.{fmmu_bytes}
-use Rattle.ec_start.specs.Plans.{settings_at, fmmu_at}
-use Rattle.ec_start.specs.declared.action.Action.TheVariants.{AwaitReply}
-use Rattle.ec_start.specs.declared.action.SdoRequest.{SdoRequest}
-use Rattle.ec_start.specs.Actions.{station, at, datagram_of}
-use Rattle.ec_start.specs.Verdicts.{message_verdict}
-use Rattle.ec_start.specs.declared.verdict.Verdict.TheVariants.{Next}
-use Rattle.ec_bringup.specs.Stages.{Rise, Config, Stage, Up, Talk, answered, after, CanTell}
-use Rattle.ec_start.specs.Planned.{AreMailboxes}
-use Rattle.ec_bringup.specs.Standing.{IsOfKind, IsAssigned, Talks, IsUpAt, Rises, Reached, IsGone, HadFault, Stands}
-use Rattle.ec_bringup.specs.Frames.{Arrives, Met}
+use Rattle.ec_bringup.proofs.Words.{ℕ, zero, suc, ◌+◌, ◌-◌, ◌/◌, ◌%◌, ◌<◌, ◌≤◌, ◌≡◌, ◌⊎◌, ◌&&◌, not, Bool, true, false, Option, Some, None, refl, sym, ◌∙◌, ap, subst, inl, inr, arith, List, [], ◌∷◌, length, slice_index, is_some, is_none, unwrap_or, from_bool, eq-eqb, cases_Bool, and_from, and_left, and_right, lt-ltb, eqb-true, length-replicate, zeros, any_below, if_true, if_false, within_true, within_below, within_above, any_below_none, any_below_from, SyncManagerSettings, Mailbox, SlaveKind, ram_start, ram_end, is_set, is_mailbox, is_master_written, is_master_read, span, SyncManager, may_read, is_enabled, ring_read, shown, covers, governor, governs, in_first_buffer, Fprd, Datagram, IsDatagram, adp_of, SlaveState, Meeting, manager_at, station_of, reads_under, is_ungoverned, is_read_by, Window, touches, physical_after, physical_manager, physical_managers, may_read_byte, some_byte_read, byte_read, byte_at, ram_byte, retold, window_of, slave_met, datagram_met, message_read, fmmu_bytes, settings_at, fmmu_at, AwaitReply, SdoRequest, station, at, datagram_of, message_verdict, Next, Rise, Config, Stage, Up, Talk, answered, after, CanTell, AreMailboxes, IsOfKind, IsAssigned, Talks, IsUpAt, Rises, Reached, IsGone, HadFault, Stands, Arrives, Met, reads_meet, accesses_leave, managers_accessed, ram_governed, retold_whole}
 use Rattle.ec_bringup.proofs.Alike.{rises-alike}
-use Rattle.ec_bringup.proofs.Owns.{window-sent}
-use Rattle.ec_bringup.proofs.Polls.{own-reads, read-slave, read-bytes, reads-on, gone-passes}
+use Rattle.ec_bringup.proofs.Owns.{window-sent, reads-on, gone-passes}
+use Rattle.ec_bringup.proofs.Polls.{own-reads, read-slave, read-bytes}
 use Rattle.ec_bringup.proofs.Sets.{low-top}
-use Rattle.ec_bringup.proofs.Sends.{none-set, four-of, set-lies}
-use Rattle.ec_slave.proofs.Meetings.{reads_meet}
-use Rattle.ec_slave.proofs.RegisterAccess.{accesses_leave, managers_accessed, ram_governed, retold_whole}
+use Rattle.ec_bringup.proofs.Sends.{none-set, four-of, set-lies, list4}
 use Rattle.ec_bringup.proofs.Leading.{SameFrame, answered-frame}
 
 abbrev pub asking : Mailbox → Window
@@ -121,10 +89,9 @@ pub governed : (b : Mailbox) (s : SlaveState) (a : ℕ) → Boxes b s → b.send
 governed b s a h l m =
     let m0 = manager_at s.managers 0 in let m1 = manager_at s.managers 1 in
     let st = h.start in let ln = h.len in
-    let not0 : governs m0 a ≡ false = not-first b s a h l m in
     let wide : span m1.settings ≡ m1.settings.length = if_true _ _ _ h.box in
     let is1 : governs m1 a ≡ true = and_from _ _ h.set (within_true m1.settings.start (span m1.settings) a (omega (arith, st, l)) (omega (arith, st, ln, wide, m))) in
-    ap (λ (ms : List SyncManager). governor ms a) (four-of s.managers h.four) ∙ (if_false _ _ _ not0 ∙ if_true _ _ _ is1)
+    ap (λ (ms : List SyncManager). governor ms a) (four-of s.managers h.four) ∙ (if_false _ _ _ (not-first b s a h l m) ∙ if_true _ _ _ is1)
 
 pub covered : (b : Mailbox) (s : SlaveState) → Boxes b s → covers (touches (asking b)) (manager_at s.managers 1) ≡ true
 covered b s h =
@@ -161,10 +128,6 @@ met-kept lower w n m e = (managers_accessed lower w n m).read ∙ if_false _ _ _
 
 met-read : (lower : List SyncManager) (w : Window) (n : ℕ) (m : SyncManager) → is_read_by (touches w) (is_ungoverned lower) m ≡ true → physical_manager lower true false w n m ≡ ring_read m
 met-read lower w n m e = (managers_accessed lower w n m).read ∙ if_true _ _ _ e
-
-list4 : (a b c d x y z v : SyncManager) → a ≡ x → b ≡ y → c ≡ z → d ≡ v → a ∷ b ∷ c ∷ d ∷ [] ≡ x ∷ y ∷ z ∷ v ∷ []
-list4 a b c d x y z v p q r s =
-    ap (λ (k : SyncManager). k ∷ b ∷ c ∷ d ∷ []) p ∙ (ap (λ (k : SyncManager). x ∷ k ∷ c ∷ d ∷ []) q ∙ (ap (λ (k : SyncManager). x ∷ y ∷ k ∷ d ∷ []) r ∙ ap (λ (k : SyncManager). x ∷ y ∷ z ∷ k ∷ []) s))
 
 managers-after : (b : Mailbox) (s : SlaveState) (x : SyncManager) → Boxes b s → physical_manager (manager_at s.managers 0 ∷ []) true false (asking b) 1 (manager_at s.managers 1) ≡ x
     → physical_managers [] true false (asking b) 0 s.managers ≡ manager_at s.managers 0 ∷ x ∷ manager_at s.managers 2 ∷ manager_at s.managers 3 ∷ []
@@ -216,26 +179,17 @@ emptied-slave kind s h = record {
 }
   where
     emptied-locked : (s : SlaveState) (n : ℕ) → n < 4 → (manager_at (emptied s).managers n).locked ≡ (manager_at s.managers n).locked
-    emptied-locked s zero l = refl
-    emptied-locked s (suc zero) l = refl
-    emptied-locked s (suc (suc zero)) l = refl
-    emptied-locked s (suc (suc (suc zero))) l = refl
     emptied-locked s (suc (suc (suc (suc n)))) l = absurd (omega (arith, l))
+    emptied-locked s _ l = refl
 
 -- its front, whatever its configuration is called
 emptied-settings : (s : SlaveState) (n : ℕ) → n < 4 → (manager_at (emptied s).managers n).settings ≡ (manager_at s.managers n).settings
-emptied-settings s zero l = refl
-emptied-settings s (suc zero) l = refl
-emptied-settings s (suc (suc zero)) l = refl
-emptied-settings s (suc (suc (suc zero))) l = refl
 emptied-settings s (suc (suc (suc (suc n)))) l = absurd (omega (arith, l))
+emptied-settings s _ l = refl
 
 emptied-lock : (s : SlaveState) (n : ℕ) → n < 4 → (manager_at (emptied s).managers n).locked ≡ (manager_at s.managers n).locked
-emptied-lock s zero l = refl
-emptied-lock s (suc zero) l = refl
-emptied-lock s (suc (suc zero)) l = refl
-emptied-lock s (suc (suc (suc zero))) l = refl
 emptied-lock s (suc (suc (suc (suc n)))) l = absurd (omega (arith, l))
+emptied-lock s _ l = refl
 
 emptied-others : (s : SlaveState) (n : ℕ) → 2 ≤ n → n < 4 → (manager_at (emptied s).managers n).mail ≡ (manager_at s.managers n).mail
 emptied-others s zero a l = absurd (omega (arith, a))
@@ -289,7 +243,7 @@ pass-await-reply kind i b r c trouble number d s l can good arrives h =
     let adp : adp_of d ≡ station i = let x = arrives.gone_by.address in omega (arith, x, at, l) in
     let w : window_of d ≡ asking b = ap window_of e ∙ window-sent Fprd (station i) b.send_start (zeros b.send_size) number in
     let z : d.counter ≡ 0 = ap (λ (x : Datagram). x.counter) e in
-    (by h.at cmd adp w z, record { to_come = λ k. absurd (omega (arith, k)); gone_by = reads-on s d (datagram_of (AwaitReply i b r) number) arrives.gone_by cmd })
+    (by h.at cmd adp w z, record { to_come = λ k. absurd (omega (arith, k)); gone_by = reads-on Fprd s d (datagram_of (AwaitReply i b r) number) refl arrives.gone_by cmd })
   where
     aft : after i (Up c) (AwaitReply i b r) ≡ Up (answered c r)
     aft = if_true _ _ _ (eq-eqb i i refl)
@@ -322,11 +276,10 @@ pass-await-reply kind i b r c trouble number d s l can good arrives h =
 
     by : Reached i (Up c) s ⊎ ((trouble ≡ true) × (IsGone (Up c) s ⊎ HadFault i (Up c) s)) → d.command ≡ Fprd → adp_of d ≡ station i → window_of d ≡ asking b → d.counter ≡ 0 → Met kind i (Up c) trouble (AwaitReply i b r) (datagram_met s d) (slave_met s d)
     by (inl u) cmd adp w z =
-        let boxes : AreMailboxes b c.managers = can.2 in
-        let bx : Boxes b s = boxes-of i b c s h.slave.four boxes u in
+        let bx : Boxes b s = boxes-of i b c s h.slave.four can.2 u in
         read (found i can.1.0 b r c s bx (subst (λ (o : Option Talk). Talks i c o s) can.1.1 u.talks)) bx u cmd (adp ∙ sym u.configured.station_is) w z
     by (inr (f, inl g)) cmd adp w z =
-        let same : slave_met s d ≡ s = ap (λ (x : Meeting). x.slave) (gone-passes i s d l good cmd adp g) in record {
+        let same : slave_met s d ≡ s = ap (λ (x : Meeting). x.slave) (gone-passes i s d l good (inl cmd) adp g) in record {
           other = λ o. absurd (o refl);
           repeated = λ _. subst (λ (t : SlaveState). Stands kind i (Up c) trouble t) (sym same) h;
           ended = λ m. subst (λ (t : SlaveState). Stands kind i (after i (Up c) (AwaitReply i b r)) trouble t) (sym same) (subst (λ (x : Stage). Stands kind i x trouble s) (sym aft) (record { slave = h.slave; at = inr (f, inl g) }));

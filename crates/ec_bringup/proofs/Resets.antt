@@ -1,18 +1,5 @@
 -- A slave that is reset stands where it stood, if it has no station address yet, and else is gone.
-use Rattle.std.proofs.Common.{ℕ, zero, suc, ◌+◌, ◌≡◌, ◌⊎◌, Bool, true, refl, sym, ◌∙◌, ap, subst, inl, inr, List, [], ◌∷◌, length, get_or}
-use Rattle.std.proofs.lemmas.Bool.{both_ways}
-use Rattle.std.proofs.lemmas.List.{length-map}
-use Rattle.ec_bits.specs.Bits.{zeros}
-use Rattle.ec_device.specs.declared.slave_type.Identity.{Identity}
-use Rattle.ec_device.specs.declared.slave_type.Pdo.{Pdo}
-use Rattle.ec_device.specs.Types.{SlaveKind}
-use Rattle.ec_sync.specs.SyncManager.{SyncManager, no_manager}
-use Rattle.ec_coe.specs.Objects.{Assignment, all_assigned}
-use Rattle.ec_al.specs.Al.{Al}
-use Rattle.ec_slave.specs.State.{manager_at, power_on}
-use Rattle.ec_slave.proofs.SwitchedOn.{switched_on}
-use Rattle.ec_bringup.specs.Stages.{Stage, Before, Called, Down, Up}
-use Rattle.ec_bringup.specs.Standing.{IsOfKind, HoldsZeros, IsInInit, IsDownAt, Reached, IsGone, HadFault, Stands}
+use Rattle.ec_bringup.proofs.Words.{ℕ, zero, suc, ◌+◌, ◌≡◌, ◌⊎◌, Bool, true, refl, sym, ◌∙◌, ap, subst, inl, inr, List, [], ◌∷◌, length, get_or, both_ways, length-map, zeros, Identity, Pdo, SlaveKind, SyncManager, no_manager, Assignment, all_assigned, Al, manager_at, power_on, switched_on, Stage, Before, Called, Down, Up, IsOfKind, HoldsZeros, IsInInit, IsDownAt, Reached, IsGone, HadFault, Stands}
 
 pub get_or-zeros : (n k : ℕ) → get_or (zeros n) k 0 ≡ 0
 get_or-zeros zero k = refl

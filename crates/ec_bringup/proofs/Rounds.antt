@@ -1,15 +1,5 @@
 -- A start-up's frame of two datagrams past all slaves: the first is a NOP, and the frame that comes back is taken.
-use Rattle.std.proofs.Common.{ℕ, ◌≡◌, refl, sym, ◌∙◌, ap, subst, List, [], ◌∷◌, length}
-use Rattle.ec_frame.specs.declared.command.Command.{Command}
-use Rattle.ec_frame.specs.Datagram.{Datagram, IsDatagram}
-use Rattle.ec_slave.specs.State.{SlaveState, Met}
-use Rattle.ec_slave.proofs.Meetings.{datagrams_stay as meets-keeps, logical_meet}
-use Rattle.ec_slave.specs.Meeting.{Passed, slave_met, datagram_met, passes}
-use Rattle.ec_slave.proofs.Bystanders.{heading_stays}
-use Rattle.ec_start.specs.Actions.{datagram_of, numbered}
-use Rattle.ec_start.specs.Running.{action_of, Shape, shape, IsStartAnswer}
-use Rattle.ec_bringup.specs.Undisturbed.{all_passed, all_met, RoundLaw}
-use Rattle.ec_ring.specs.Rings.{passes_ring}
+use Rattle.ec_bringup.proofs.Words.{ℕ, ◌≡◌, refl, sym, ◌∙◌, ap, subst, List, [], ◌∷◌, length, Command, Datagram, IsDatagram, SlaveState, Meeting as Met, meets-keeps, logical_meet, Passed, slave_met, datagram_met, passes, heading_stays, datagram_of, numbered, action_of, Shape, shape, IsStartAnswer, all_passed, all_met, RoundLaw, passes_ring}
 
 pub two-pass : (s : SlaveState) (number : ℕ) (d : Datagram) → passes s (numbered number 0 ∷ d ∷ []) ≡ record { slave = slave_met s d; datagrams = numbered number 0 ∷ datagram_met s d ∷ [] }
 two-pass s number d = ap (λ (m : Met). record { slave = (passes m.slave (d ∷ [])).slave; datagrams = m.datagram ∷ (passes m.slave (d ∷ [])).datagrams }) ((logical_meet s (numbered number 0)).nop refl)

@@ -1,45 +1,9 @@
 -- A request is put into a slave's mailbox.
-use Rattle.std.proofs.Common.{ℕ, zero, suc, ◌+◌, ◌-◌, ◌*◌, ◌/◌, ◌%◌, ◌<◌, ◌≤◌, ◌≡◌, ◌==◌, ◌&&◌, ◌||◌, not, Bool, true, false, Option, Some, None, refl, sym, ◌∙◌, ap, subst, inl, inr, arith, List, [], ◌∷◌, length, slice_index, is_none, nat_lt, nat_le, length-append}
-use Rattle.std.proofs.lemmas.Bool.{eq-eqb, cases_Bool, and_parts, and_from, and_left, and_right, eqb-true, leb-true}
-use Rattle.std.proofs.lemmas.List.{length-replicate}
-use Rattle.ec_bits.specs.Bits.{zeros, any_below}
-use Rattle.ec_bits.proofs.AnyLaws.{if_true, if_false, within_true, within_below, any_below_from}
-use Rattle.ec_regs.specs.declared.manager.SyncManagerSettings.{SyncManagerSettings}
-use Rattle.ec_device.specs.declared.slave_type.Mailbox.{Mailbox}
-use Rattle.ec_device.specs.Types.{SlaveKind}
-use Rattle.ec_regs.specs.Memory.{ram_start, ram_end}
-use Rattle.ec_regs.specs.Managers.{no_settings, is_set, is_mailbox, is_buffered, is_master_written, is_master_read, span, manager_bytes}
-use Rattle.ec_sync.specs.SyncManager.{SyncManager, may_write, is_enabled, ring_written}
-use Rattle.ec_sync.specs.Governing.{covers}
-use Rattle.ec_frame.specs.declared.command.Command.TheVariants.{Fpwr, Apwr, Fprd, Brd, Bwr}
-use Rattle.ec_frame.specs.Datagram.{Datagram, IsDatagram}
-use Rattle.ec_al.specs.Al.{Al}
-use Rattle.ec_slave.specs.State.{SlaveState, manager_at}
-use Rattle.ec_coe.specs.Objects.{Assignment, all_assigned}
-use Rattle.ec_slave.specs.Managers.{is_ungoverned, is_written_by}
-use Rattle.ec_slave.specs.Physical.{Window, touches, is_configured, physical_value, physical_manager, physical_managers, physical_after}
-use Rattle.ec_slave.specs.Meeting.{slave_met, datagram_met}
-use Rattle.ec_slave.proofs.Bytes.{writes_by_byte}
-use Rattle.ec_coe.proofs.ReadBack.{length-message}
-use Rattle.ec_start.specs.Plans.{settings_at}
-use Rattle.ec_start.specs.declared.action.Action.TheVariants.{SendRequest, CountSlaves, AskInit, AwaitInit, ClearFmmus, ClearManagers, ClearStations, NameSlave, AskWord, AwaitWord, SetManager, SetFmmu, AskState, AwaitState, AwaitReply}
-use Rattle.ec_start.specs.declared.action.SdoRequest.{SdoRequest}
-use Rattle.ec_start.specs.Actions.{station, filled, request_bytes, request_message, sent, datagram_of, word_place}
-use Rattle.ec_bringup.specs.Stages.{Config, Up, Talk, CanTell}
-use Rattle.ec_start.specs.Planned.{AreMailboxes, IsRequest}
-use Rattle.ec_bringup.specs.Standing.{HoldsZeros, IsOfKind, IsSilent, Talks, IsUpAt, IsTop, Stands}
-use Rattle.ec_bringup.specs.Frames.{Arrives, Met}
-use Rattle.ec_bringup.proofs.Alike.{claims-alike, rises-alike}
+use Rattle.ec_bringup.proofs.Words.{ℕ, zero, suc, ◌+◌, ◌-◌, ◌*◌, ◌/◌, ◌%◌, ◌<◌, ◌≤◌, ◌≡◌, ◌==◌, ◌&&◌, ◌||◌, not, Bool, true, false, Option, Some, None, refl, sym, ◌∙◌, ap, subst, inl, inr, arith, List, [], ◌∷◌, length, slice_index, is_none, nat_lt, nat_le, length-append, eq-eqb, cases_Bool, and_parts, and_from, and_left, and_right, eqb-true, leb-true, length-replicate, zeros, any_below, if_true, if_false, within_true, within_below, any_below_from, SyncManagerSettings, Mailbox, SlaveKind, ram_start, ram_end, no_settings, is_set, is_mailbox, is_buffered, is_master_written, is_master_read, span, manager_bytes, SyncManager, may_write, is_enabled, ring_written, covers, Fpwr, Apwr, Fprd, Brd, Bwr, Datagram, IsDatagram, Al, SlaveState, manager_at, is_ungoverned, is_written_by, Window, touches, is_configured, physical_value, physical_manager, physical_managers, physical_after, slave_met, datagram_met, writes_by_byte, length-message, settings_at, SendRequest, CountSlaves, AskInit, AwaitInit, ClearFmmus, ClearManagers, ClearStations, NameSlave, AskWord, AwaitWord, SetManager, SetFmmu, AskState, AwaitState, AwaitReply, SdoRequest, station, filled, request_bytes, request_message, sent, datagram_of, word_place, Config, Up, Talk, CanTell, AreMailboxes, IsRequest, HoldsZeros, IsOfKind, IsSilent, Talks, IsUpAt, IsTop, Stands, Arrives, Met, accesses_leave, managers_accessed, whole_values, unconfigured, Command, fmmu_bytes, state_number, read_command, Action, IsReachable}
+use Rattle.ec_bringup.proofs.Alike.{claims-alike, rises-alike, kind-kept}
 use Rattle.ec_bringup.proofs.Passing.{one-send}
-use Rattle.ec_slave.proofs.RegisterAccess.{accesses_leave, managers_accessed, whole_values, managers_aside as unconfigured}
 use Rattle.ec_bringup.proofs.Owns.{window-sent, pass-own}
 use Rattle.ec_bringup.proofs.Sets.{aside-busy, low-top}
-use Rattle.ec_frame.specs.declared.command.Command.{Command}
-use Rattle.ec_regs.specs.Fmmus.{fmmu_bytes}
-use Rattle.ec_al.specs.States.{state_number}
-use Rattle.ec_sii.specs.Laws.{read_command}
-use Rattle.ec_start.specs.declared.action.Action.{Action}
-use Rattle.ec_bringup.specs.Complete.{IsReachable}
 
 -- ---- one manager
 
@@ -65,13 +29,13 @@ met-written lower w n m u e = (managers_accessed lower w n m).written u ∙ if_t
 
 -- ---- four managers
 
+pub list4 : (a b c d x y z v : SyncManager) → a ≡ x → b ≡ y → c ≡ z → d ≡ v → a ∷ b ∷ c ∷ d ∷ [] ≡ x ∷ y ∷ z ∷ v ∷ []
+list4 a b c d x y z v p q r s =
+    ap (λ (k : SyncManager). k ∷ b ∷ c ∷ d ∷ []) p ∙ (ap (λ (k : SyncManager). x ∷ k ∷ c ∷ d ∷ []) q ∙ (ap (λ (k : SyncManager). x ∷ y ∷ k ∷ d ∷ []) r ∙ ap (λ (k : SyncManager). x ∷ y ∷ z ∷ k ∷ []) s))
+
 pub four-of : (ms : List SyncManager) → length ms ≡ 4 → ms ≡ manager_at ms 0 ∷ manager_at ms 1 ∷ manager_at ms 2 ∷ manager_at ms 3 ∷ []
-four-of [] e = absurd (omega (arith, e))
-four-of (a ∷ []) e = absurd (omega (arith, e))
-four-of (a ∷ b ∷ []) e = absurd (omega (arith, e))
-four-of (a ∷ b ∷ c ∷ []) e = absurd (omega (arith, e))
 four-of (a ∷ b ∷ c ∷ d ∷ []) e = refl
-four-of (a ∷ b ∷ c ∷ d ∷ x ∷ xs) e = absurd (omega (arith, e))
+four-of _ e = absurd (omega (arith, e))
 
 abbrev pub sending : Mailbox → ℕ → SdoRequest → Window
 sending b counter r = record { from = b.receive_start; bytes = filled b.receive_size (request_bytes counter r) }
@@ -81,10 +45,9 @@ request-length counter r = length-message (request_message counter r)
 
 pub sending-length : (b : Mailbox) (counter : ℕ) (r : SdoRequest) → 16 ≤ b.receive_size → length (sending b counter r).bytes ≡ b.receive_size
 sending-length b counter r l =
-    let a = request-length counter r in
     let e = length-append (request_bytes counter r) (zeros (b.receive_size - length (request_bytes counter r))) in
     let f = length-replicate {A = ℕ} (b.receive_size - length (request_bytes counter r)) 0 in
-    omega (arith, a, e, f, l)
+    omega (arith, request-length counter r, e, f, l)
 
 -- a set manager lies in the RAM
 pub set-lies : (m : SyncManagerSettings) → is_set m ≡ true → (ram_start ≤ m.start) × (m.start + span m ≤ ram_end)
@@ -131,10 +94,6 @@ sent-managers i counter c b r s four h u none =
     ∙ list4 _ _ _ _ _ _ _ _ first (met-stays (m0 ∷ []) (sending b counter r) 1 m1 (free 1 (omega arith)) no1)
     (met-stays (m0 ∷ m1 ∷ []) (sending b counter r) 2 m2 (free 2 (omega arith)) no2)
     (met-stays (m0 ∷ m1 ∷ m2 ∷ []) (sending b counter r) 3 m3 (free 3 (omega arith)) no3)
-  where
-    list4 : (a b c d x y z v : SyncManager) → a ≡ x → b ≡ y → c ≡ z → d ≡ v → a ∷ b ∷ c ∷ d ∷ [] ≡ x ∷ y ∷ z ∷ v ∷ []
-    list4 a b c d x y z v p q r s =
-        ap (λ (k : SyncManager). k ∷ b ∷ c ∷ d ∷ []) p ∙ (ap (λ (k : SyncManager). x ∷ k ∷ c ∷ d ∷ []) q ∙ (ap (λ (k : SyncManager). x ∷ y ∷ k ∷ d ∷ []) r ∙ ap (λ (k : SyncManager). x ∷ y ∷ z ∷ k ∷ []) s))
 
 -- ---- the slave
 
@@ -157,25 +116,17 @@ abbrev with_message : List SyncManager → List ℕ → List SyncManager
 with_message ms x = record (manager_at ms 0) { mail = Some x } ∷ manager_at ms 1 ∷ manager_at ms 2 ∷ manager_at ms 3 ∷ []
 
 mailbox_message-settings : (ms : List SyncManager) (x : List ℕ) (n : ℕ) → n < 4 → (manager_at (with_message ms x) n).settings ≡ (manager_at ms n).settings
-mailbox_message-settings ms x zero l = refl
-mailbox_message-settings ms x (suc zero) l = refl
-mailbox_message-settings ms x (suc (suc zero)) l = refl
-mailbox_message-settings ms x (suc (suc (suc zero))) l = refl
 mailbox_message-settings ms x (suc (suc (suc (suc n)))) l = absurd (omega (arith, l))
+mailbox_message-settings ms x _ l = refl
 
 mailbox_message-locked : (ms : List SyncManager) (x : List ℕ) (n : ℕ) → n < 4 → (manager_at (with_message ms x) n).locked ≡ (manager_at ms n).locked
-mailbox_message-locked ms x zero l = refl
-mailbox_message-locked ms x (suc zero) l = refl
-mailbox_message-locked ms x (suc (suc zero)) l = refl
-mailbox_message-locked ms x (suc (suc (suc zero))) l = refl
 mailbox_message-locked ms x (suc (suc (suc (suc n)))) l = absurd (omega (arith, l))
+mailbox_message-locked ms x _ l = refl
 
 mailbox_message-mail : (ms : List SyncManager) (x : List ℕ) (n : ℕ) → 1 ≤ n → n < 4 → (manager_at (with_message ms x) n).mail ≡ (manager_at ms n).mail
 mailbox_message-mail ms x zero a l = absurd (omega (arith, a))
-mailbox_message-mail ms x (suc zero) a l = refl
-mailbox_message-mail ms x (suc (suc zero)) a l = refl
-mailbox_message-mail ms x (suc (suc (suc zero))) a l = refl
 mailbox_message-mail ms x (suc (suc (suc (suc n)))) a l = absurd (omega (arith, l))
+mailbox_message-mail ms x _ a l = refl
 
 pub delivered : (i counter : ℕ) (c : Config) (b : Mailbox) (r : SdoRequest) (s : SlaveState) → length s.managers ≡ 4 → AreMailboxes b c.managers → IsUpAt i c s → (manager_at s.managers 0).mail ≡ None
     → Delivered b counter r s (physical_after s false true (sending b counter r))
@@ -202,18 +153,8 @@ delivered i counter c b r s four h u none =
     })
 
 delivered-slave : (kind : SlaveKind) (b : Mailbox) (counter : ℕ) (r : SdoRequest) (s t : SlaveState) → Delivered b counter r s t → IsOfKind kind s → IsOfKind kind t
-delivered-slave kind b counter r s t a h = record {
-  kind_is = a.kind ∙ h.kind_is;
-  room = a.room ∙ h.room;
-  four = a.count;
-  outs = ap (λ (x : Assignment). length x.slots) a.outs ∙ h.outs;
-  ins = ap (λ (x : Assignment). length x.slots) a.ins ∙ h.ins;
-  fixed = λ e. let f = h.fixed e in record {
-    outs = a.outs ∙ (f.outs ∙ ap (λ (k : SlaveKind). all_assigned k.outputs) (sym a.kind));
-    ins = a.ins ∙ (f.ins ∙ ap (λ (k : SlaveKind). all_assigned k.inputs) (sym a.kind));
-  };
-  unlocked_in_init = λ e n l. a.locked n l ∙ h.unlocked_in_init (ap (λ (x : Al). x.state) (sym a.al) ∙ e) n l;
-}
+delivered-slave kind b counter r s t a h = kind-kept kind s t a.kind a.room (a.count ∙ sym h.four) a.outs a.ins
+    (λ e n l. a.locked n l ∙ h.unlocked_in_init (ap (λ (x : Al). x.state) (sym a.al) ∙ e) n l) h
 
 delivered-up : (i counter : ℕ) (c : Config) (b : Mailbox) (r : SdoRequest) (s t : SlaveState) → length s.memory ≡ 0x3000 → c.talk ≡ None → AreMailboxes b c.managers → IsRequest r → (IsTop c.rise → ⊥)
     → Delivered b counter r s t → IsUpAt i c s → IsUpAt i (record c { talk = Some (record { mailbox = b; counter = counter; request = r }) }) t
@@ -250,10 +191,9 @@ pub pass-send : (kind : SlaveKind) (i counter : ℕ) (b : Mailbox) (r : SdoReque
 pass-send kind i counter b r c trouble number d s l can good arrives h =
     let low = can.0 in let none = can.1 in let boxes = can.2 in let q = can.3 in
     let lies = set-lies (settings_at c.managers 0) boxes.receive_set in
-    let rs = boxes.receive_start in
     let silent = λ (u : IsUpAt i c s). subst (λ (o : Option Talk). Talks i c o s) none u.talks in
     pass-own kind i c trouble (SendRequest i counter b r) number d s (sending b counter r) (one-send i counter b r number) l refl
-    (window-sent Fpwr (station i) b.receive_start (filled b.receive_size (request_bytes counter r)) number) (let a = lies.1 in omega (arith, a, rs))
+    (window-sent Fpwr (station i) b.receive_start (filled b.receive_size (request_bytes counter r)) number) (let a = lies.1 in omega (arith, a, boxes.receive_start))
     (if_true _ _ _ (eq-eqb i i refl)) (λ o. o) (λ o. o refl) (low-top c.rise low)
     (λ k u. delivered-slave kind b counter r s (physical_after s false true (sending b counter r)) (delivered i counter c b r s k.four boxes u (silent u).no_message) k)
     (λ k u. delivered-up i counter c b r s (physical_after s false true (sending b counter r)) k.room none boxes q (low-top c.rise low) (delivered i counter c b r s k.four boxes u (silent u).no_message) u)
@@ -276,11 +216,10 @@ zeros-few n l = let e = length-replicate {A = ℕ} n 0 in omega (arith, e, l)
 
 filled-few : (b : Mailbox) (counter : ℕ) (r : SdoRequest) → IsReachable b → length (filled b.receive_size (request_bytes counter r)) < 2048
 filled-few b counter r h =
-    let a = length-message (request_message counter r) in
     let e = length-append (request_bytes counter r) (zeros (b.receive_size - length (request_bytes counter r))) in
     let f = length-replicate {A = ℕ} (b.receive_size - length (request_bytes counter r)) 0 in
     let x = h.receive_few in let y = h.receive_some in
-    omega (arith, a, e, f, x, y)
+    omega (arith, length-message (request_message counter r), e, f, x, y)
 
 six : (which : ℕ) → length (read_command (word_place which)) ≡ 6
 six which = refl

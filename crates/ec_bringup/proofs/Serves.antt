@@ -1,27 +1,6 @@
 -- A firmware step of a slave that stands at a stage: the AL request, and the SII read.
-use Rattle.std.proofs.Common.{ℕ, zero, suc, ◌<◌, ◌≡◌, ◌⊎◌, ◌&&◌, not, Bool, true, false, refl, sym, ◌∙◌, ap, subst, inl, inr, arith, List, [], ◌∷◌, length, map, set, if◌then◌else◌, length-set, get_or-set_same, get_or-set_other, slice_index, Result, Ok, Err}
-use Rattle.std.proofs.lemmas.Bool.{both_ways, cases_Bool, and_left, and_right, cases_eq}
-use Rattle.std.proofs.lemmas.List.{length-map}
-use Rattle.ec_bits.proofs.AnyLaws.{if_false}
-use Rattle.ec_device.specs.Types.{SlaveKind}
-use Rattle.ec_sync.specs.SyncManager.{SyncManager, no_manager, zeros_published}
-use Rattle.ec_al.specs.declared.state.State.{State}
-use Rattle.ec_al.specs.declared.state.State.TheVariants.{Init, PreOp, SafeOp, Op}
-use Rattle.ec_al.specs.declared.status_code.StatusCode.{StatusCode}
-use Rattle.ec_al.specs.declared.status_code.StatusCode.TheVariants.{InvalidMailboxConfiguration, InvalidOutputConfiguration, InvalidInputConfiguration}
-use Rattle.ec_al.specs.declared.transition.Checks.{Checks}
-use Rattle.ec_al.specs.States.{state_number, code_number}
-use Rattle.ec_al.specs.Transitions.{answer, requested_by, acknowledges}
-use Rattle.ec_al.specs.Al.{Al, decided, answered}
+use Rattle.ec_bringup.proofs.Words.{ℕ, zero, suc, ◌<◌, ◌≡◌, ◌⊎◌, ◌&&◌, not, Bool, true, false, refl, sym, ◌∙◌, ap, subst, inl, inr, arith, List, [], ◌∷◌, length, map, set, if◌then◌else◌, length-set, get_or-set_same, get_or-set_other, slice_index, Result, Ok, Err, both_ways, cases_Bool, and_left, and_right, cases_eq, length-map, if_false, SlaveKind, SyncManager, no_manager, zeros_published, State, Init, PreOp, SafeOp, Op, StatusCode, InvalidMailboxConfiguration, InvalidOutputConfiguration, InvalidInputConfiguration, Checks, state_number, code_number, answer, requested_by, acknowledges, Al, decided, slave_answered as answered, SlaveState, manager_at, control_word, checks_of, unlocked_empty, managers_entered, with_al, request_decided, read_finished, Sii, requests_decided, finished, switched_on, Rise, Stays, Climbs, Config, Stage, Before, Called, Down, Up, IsStepUp, unviewed, IsOfKind, IsInInit, Rises, IsUpAt, IsDownAt, Reached, IsGone, HadFault, Stands}
 use Rattle.ec_al.specs.Al as al
-use Rattle.ec_slave.specs.State.{SlaveState, manager_at}
-use Rattle.ec_slave.specs.Checking.{control_word, checks_of}
-use Rattle.ec_slave.specs.Serving.{unlocked_empty, managers_entered, with_al, request_decided, read_finished}
-use Rattle.ec_sii.specs.Port.{Sii}
-use Rattle.ec_slave.proofs.FirmwareSteps.{decided as requests_decided, finished}
-use Rattle.ec_slave.proofs.SwitchedOn.{switched_on}
-use Rattle.ec_bringup.specs.Stages.{Rise, Stays, Climbs, Config, Stage, Before, Called, Down, Up, IsStepUp}
-use Rattle.ec_bringup.specs.Standing.{unviewed, IsOfKind, IsInInit, Rises, IsUpAt, IsDownAt, Reached, IsGone, HadFault, Stands}
 use Rattle.ec_bringup.proofs.Alike.{SameFront, front-refl, SameFronts, fronts-refl, Alike, slave-alike, stands-alike, down-rest, up-rest}
 
 -- ---- the managers, where a state is entered
@@ -52,21 +31,11 @@ NoFall old new = Unit {0}
 
 entered-front : (old new : State) (ms : List SyncManager) → 3 < length ms → NoFall old new → SameFronts ms (managers_entered old new ms)
 entered-front Init Init ms l h = fronts-refl ms
-entered-front Init PreOp ms l h = fronts-refl ms
-entered-front Init SafeOp ms l h = fronts-refl ms
-entered-front Init Op ms l h = fronts-refl ms
 entered-front PreOp Init ms l h = absurd h
-entered-front PreOp PreOp ms l h = fronts-refl ms
 entered-front PreOp SafeOp ms l h = zeros-front ms l
-entered-front PreOp Op ms l h = fronts-refl ms
 entered-front SafeOp Init ms l h = absurd h
-entered-front SafeOp PreOp ms l h = fronts-refl ms
-entered-front SafeOp SafeOp ms l h = fronts-refl ms
-entered-front SafeOp Op ms l h = fronts-refl ms
 entered-front Op Init ms l h = absurd h
-entered-front Op PreOp ms l h = fronts-refl ms
-entered-front Op SafeOp ms l h = fronts-refl ms
-entered-front Op Op ms l h = fronts-refl ms
+entered-front _ _ ms l h = fronts-refl ms
 
 -- INIT entered from another state: all unlocked
 abbrev Falls : State → State → Type 0
@@ -227,12 +196,11 @@ climbed-no_fall from to a up (Granted e) = subst (λ (t : State). NoFall from t)
 climbed-no_fall from to a up (Refused code e) = subst (λ (t : State). NoFall from t) (sym (ap (λ (x : Al). x.state) e)) (no_fall-same from)
 
 up-decided : (i : ℕ) (c : Config) (r : Rise) (s : SlaveState) → c.rise ≡ r → 3 < length s.managers → Rises r s → IsUpAt i c s → IsUpAt i c (request_decided s)
-up-decided i c (Stays Init) s e l h u = kept (kept-init s h)
-  where
-    kept : Kept s (request_decided s) → IsUpAt i c (request_decided s)
-    kept (Same q) = subst (λ (t : SlaveState). IsUpAt i c t) (sym q) u
-    kept (Turned q z) = subst (λ (t : SlaveState). IsUpAt i c t) (sym q)
-        (up-rest i c s (with_al s al.power_on) (turned-alike s z l) (subst (λ (x : Rise). Rises x (with_al s al.power_on)) (sym e) (in-init s)) u)
+up-decided i c (Stays Init) s e l h u = elim (kept-init s h) [
+  | Same q ↦ subst (λ (t : SlaveState). IsUpAt i c t) (sym q) u
+  | Turned q z ↦ subst (λ (t : SlaveState). IsUpAt i c t) (sym q)
+      (up-rest i c s (with_al s al.power_on) (turned-alike s z l) (subst (λ (x : Rise). Rises x (with_al s al.power_on)) (sym e) (in-init s)) u)
+]
 up-decided i c (Stays PreOp) s e l h u = subst (λ (t : SlaveState). IsUpAt i c t) (sym (waits-none s h.no_request)) u
 up-decided i c (Stays SafeOp) s e l h u = subst (λ (t : SlaveState). IsUpAt i c t) (sym (waits-none s h.no_request)) u
 up-decided i c (Stays Op) s e l h u = subst (λ (t : SlaveState). IsUpAt i c t) (sym (waits-none s h.no_request)) u
@@ -253,11 +221,10 @@ reached-decided i Called s l (inr h) = inr (kept (kept-init s h))
     kept : Kept s (request_decided s) → IsInInit (request_decided s)
     kept (Same q) = subst (λ (t : SlaveState). IsInInit t) (sym q) h
     kept (Turned q z) = subst (λ (t : SlaveState). IsInInit t) (sym q) (in-init s)
-reached-decided i (Down f m) s l h = kept (kept-init s h.init)
-  where
-    kept : Kept s (request_decided s) → IsDownAt f m (request_decided s)
-    kept (Same q) = subst (λ (t : SlaveState). IsDownAt f m t) (sym q) h
-    kept (Turned q z) = subst (λ (t : SlaveState). IsDownAt f m t) (sym q) (down-rest f m s (with_al s al.power_on) (turned-alike s z l) (in-init s) h)
+reached-decided i (Down f m) s l h = elim (kept-init s h.init) [
+  | Same q ↦ subst (λ (t : SlaveState). IsDownAt f m t) (sym q) h
+  | Turned q z ↦ subst (λ (t : SlaveState). IsDownAt f m t) (sym q) (down-rest f m s (with_al s al.power_on) (turned-alike s z l) (in-init s) h)
+]
 reached-decided i (Up c) s l h = up-decided i c c.rise s refl l h.rises h
 
 gone-waits : (st : Stage) (s : SlaveState) → IsGone st s → s.al.requested ≡ false

@@ -1,33 +1,7 @@
 -- Registers that are set at one slave: the SII command, a manager, an FMMU.
-use Rattle.std.proofs.Common.{ℕ, zero, suc, ◌+◌, ◌-◌, ◌*◌, ◌/◌, ◌%◌, ◌<◌, ◌≤◌, ◌≡◌, ◌≢◌, Bool, true, false, Option, None, refl, sym, ◌∙◌, ap, subst, inl, inr, arith, if◌then◌else◌, List, length, slice_index, set, get_or-set_same, get_or-set_other}
-use Rattle.std.proofs.lemmas.Bool.{eq-eqb, both_ways, cases_eq, cases_lt, or_left, or_right}
-use Rattle.ec_bits.specs.Bits.{within, any_below}
-use Rattle.ec_bits.proofs.AnyLaws.{if_true, if_false, within_true, within_below, within_above}
-use Rattle.ec_regs.specs.declared.manager.SyncManagerSettings.{SyncManagerSettings}
-use Rattle.ec_regs.specs.declared.fmmu.FmmuSettings.{FmmuSettings}
-use Rattle.ec_device.specs.Types.{SlaveKind}
-use Rattle.ec_regs.specs.Memory.{ram_start, is_stored}
-use Rattle.ec_regs.specs.Managers.{no_settings, manager_bytes, settings_of}
-use Rattle.ec_regs.specs.Fmmus.{fmmu_bytes, no_fmmu}
-use Rattle.ec_sync.specs.SyncManager.{SyncManager, empty_manager}
-use Rattle.ec_frame.specs.declared.command.Command.TheVariants.{Fpwr}
-use Rattle.ec_frame.specs.Datagram.{Datagram, IsDatagram}
-use Rattle.ec_al.specs.declared.state.State.TheVariants.{Init, PreOp, SafeOp, Op}
-use Rattle.ec_sii.specs.Port.{Sii, written, byte_for, commanded, addressed, address_written}
-use Rattle.ec_sii.specs.Laws.{read_command}
-use Rattle.ec_slave.specs.State.{SlaveState, manager_at, station_of}
-use Rattle.ec_slave.specs.Physical.{Window, physical_after, is_configured, settings_written}
-use Rattle.ec_slave.specs.Meeting.{slave_met, datagram_met}
-use Rattle.ec_start.specs.Plans.{settings_at, fmmu_at}
-use Rattle.ec_start.specs.declared.action.Action.TheVariants.{AskWord, SetManager, SetFmmu}
-use Rattle.ec_start.specs.Actions.{station, word_place}
-use Rattle.ec_bringup.specs.Stages.{Rise, Stays, Climbs, Config, Up, Talk, CanTell, IsLow}
-use Rattle.ec_bringup.specs.Standing.{HoldsZeros, IsConfigured, IsSilent, Talks, IsUpAt, IsTop, Rises, Claims, Stands}
-use Rattle.ec_bringup.specs.Frames.{Arrives, Met}
+use Rattle.ec_bringup.proofs.Words.{ℕ, suc, ◌+◌, ◌-◌, ◌*◌, ◌/◌, ◌%◌, ◌<◌, ◌≤◌, ◌≡◌, ◌≢◌, Bool, true, false, Option, None, refl, sym, ◌∙◌, ap, subst, inl, inr, arith, if◌then◌else◌, List, length, slice_index, set, get_or-set_same, get_or-set_other, eq-eqb, both_ways, cases_eq, cases_lt, or_left, or_right, within, any_below, if_true, if_false, within_true, within_below, within_above, SyncManagerSettings, FmmuSettings, SlaveKind, ram_start, is_stored, no_settings, manager_bytes, settings_of, fmmu_bytes, no_fmmu, SyncManager, empty_manager, Fpwr, Datagram, IsDatagram, Init, PreOp, Sii, written, byte_for, commanded, addressed, address_written, read_command, SlaveState, manager_at, station_of, Window, physical_after, is_configured, settings_written, slave_met, datagram_met, settings_at, fmmu_at, AskWord, SetManager, SetFmmu, station, word_place, Rise, Stays, Config, Up, Talk, CanTell, IsLow, HoldsZeros, IsConfigured, IsSilent, Talks, IsUpAt, IsTop, Rises, Claims, Stands, Arrives, Met, Wrote, set_by, wrote, unconfigured}
 use Rattle.ec_bringup.proofs.Alike.{claims-alike, rises-alike, word_of}
 use Rattle.ec_bringup.proofs.Passing.{one-ask-word, one-set-manager, one-set-fmmu}
-use Rattle.ec_slave.specs.Interface.{Wrote, set_by}
-use Rattle.ec_slave.proofs.RegisterAccess.{registers_written as wrote, managers_aside as unconfigured}
 use Rattle.ec_bringup.proofs.Owns.{set-locked, slave-wrote, window-sent, pass-own}
 
 -- ---- what stays where neither the station address nor the AL control word is written
@@ -78,19 +52,11 @@ abbrev mail_of : SyncManager → Option (List ℕ)
 mail_of m = m.mail
 
 set-mail : (w : Window) (n : ℕ) (m : SyncManager) → m.mail ≡ None → (set_by w n m).mail ≡ None
-set-mail w n m e = by (is_configured w n)
-  where
-    by : (b : Bool) → mail_of (if b then empty_manager (settings_written w n m) m.locked else m) ≡ None
-    by true = refl
-    by false = e
+set-mail w n m e = elim (is_configured w n) as (λ b. mail_of (if b then empty_manager (settings_written w n m) m.locked else m) ≡ None) [ true ↦ refl | false ↦ e ]
 
 -- new settings leave zeros
 set-zeros : (w : Window) (n : ℕ) (m : SyncManager) → HoldsZeros m → HoldsZeros (set_by w n m)
-set-zeros w n m h = by (is_configured w n)
-  where
-    by : (b : Bool) → HoldsZeros (if b then empty_manager (settings_written w n m) m.locked else m)
-    by true = refl
-    by false = h
+set-zeros w n m h = elim (is_configured w n) as (λ b. HoldsZeros (if b then empty_manager (settings_written w n m) m.locked else m)) [ true ↦ refl | false ↦ h ]
 
 -- a slave that is silent, after registers were set: what is left to show is what they set
 pub set-up : (i : ℕ) (c d : Config) (s t : SlaveState) (w : Window) → Aside w → Wrote w s t → length s.memory ≡ 0x3000 → length s.managers ≡ 4 → c.talk ≡ None
@@ -122,9 +88,7 @@ set-up i c d s t w h k room four none free eo ei er settings fmmus idle u =
 pub low-top : (r : Rise) → IsLow r → IsTop r → ⊥
 low-top (Stays Init) low top = top
 low-top (Stays PreOp) low top = top
-low-top (Stays SafeOp) low top = low
-low-top (Stays Op) low top = low
-low-top (Climbs from to) low top = low
+low-top _ low top = low
 
 -- settings and FMMUs that a write leaves
 same-settings : (c : Config) (i : ℕ) (w : Window) (s t : SlaveState) (n : ℕ) → Wrote w s t → length s.managers ≡ 4 → n < 4 → is_configured w n ≡ false → IsConfigured i c s → (manager_at t.managers n).settings ≡ settings_at c.managers n
@@ -208,11 +172,8 @@ managing n m = record { from = 0x0800 + 8 * n; bytes = manager_bytes m }
 
 managed : (n : ℕ) (m : SyncManagerSettings) (x : SyncManager) → n < 4 → (set_by (managing n m) n x).settings ≡ settings_of (slice_index (manager_bytes m))
 unfolding any_below
-managed zero m x l = refl
-managed (suc zero) m x l = refl
-managed (suc (suc zero)) m x l = refl
-managed (suc (suc (suc zero))) m x l = refl
 managed (suc (suc (suc (suc n)))) m x l = absurd (omega arith)
+managed _ m x l = refl
 
 read-back : (m : SyncManagerSettings) → settings_of (slice_index (manager_bytes m)) ≡ m
 read-back m =

@@ -1,30 +1,5 @@
 -- The polls of a start-up at a slave that has what is waited for: one poll ends the wait.
-use Rattle.std.proofs.Common.{ℕ, zero, suc, ◌+◌, ◌*◌, ◌%◌, ◌^◌, ◌<◌, ◌≤◌, ◌≡◌, ◌==◌, ◌&&◌, not, Bool, true, false, Some, refl, sym, ◌∙◌, ap, arith, List, length, slice_index, is_some}
-use Rattle.std.specs.Int.{bit_at, to_le_bytes, w32, from_bool}
-use Rattle.std.proofs.lemmas.Nat.{from_le_bytes-to_le_bytes_4}
-use Rattle.std.proofs.lemmas.Bool.{eq-eqb, and_from}
-use Rattle.std.proofs.lemmas.List.{length-replicate}
-use Rattle.ec_bits.specs.Bits.{zeros}
-use Rattle.ec_bits.proofs.AnyLaws.{if_true, if_false}
-use Rattle.ec_device.specs.declared.slave_type.Device.{Device}
-use Rattle.ec_device.specs.declared.slave_type.Mailbox.{Mailbox}
-use Rattle.ec_regs.specs.Memory.{ram_start}
-use Rattle.ec_frame.specs.declared.command.Command.TheVariants.{Fprd}
-use Rattle.ec_frame.specs.Datagram.{Datagram, adp_of}
-use Rattle.ec_al.specs.declared.state.State.{State}
-use Rattle.ec_al.specs.declared.state.State.TheVariants.{Init, PreOp, SafeOp, Op}
-use Rattle.ec_al.specs.States.{state_number}
-use Rattle.ec_sync.specs.SyncManager.{may_read}
-use Rattle.ec_slave.specs.State.{SlaveState, station_of, manager_at}
-use Rattle.ec_slave.specs.Physical.{Window, byte_at, byte_read, retold, some_byte_read}
-use Rattle.ec_slave.specs.Meeting.{window_of, datagram_met}
-use Rattle.ec_coe.specs.Messages.{message_read}
-use Rattle.ec_start.specs.declared.action.Action.TheVariants.{AwaitWord, AwaitState, AwaitReply}
-use Rattle.ec_start.specs.declared.action.SdoRequest.{SdoRequest}
-use Rattle.ec_start.specs.Actions.{station, sent, datagram_of}
-use Rattle.ec_start.specs.declared.verdict.Verdict.TheVariants.{Next, Shows}
-use Rattle.ec_start.specs.Verdicts.{with_word, is_device, word_at, long_at, word_verdict, state_verdict, message_verdict, verdict}
-use Rattle.ec_slave.proofs.RegisterAccess.{shows_itself}
+use Rattle.ec_bringup.proofs.Words.{ℕ, zero, suc, ◌+◌, ◌*◌, ◌%◌, ◌^◌, ◌<◌, ◌≤◌, ◌≡◌, ◌==◌, ◌&&◌, not, Bool, true, false, Some, refl, sym, ◌∙◌, ap, arith, List, length, slice_index, is_some, bit_at, to_le_bytes, w32, from_bool, from_le_bytes-to_le_bytes_4, eq-eqb, and_from, length-replicate, zeros, if_true, if_false, Device, Mailbox, ram_start, Fprd, Datagram, adp_of, State, Init, PreOp, SafeOp, Op, state_number, may_read, SlaveState, station_of, manager_at, Window, byte_at, byte_read, retold, some_byte_read, window_of, datagram_met, message_read, AwaitWord, AwaitState, AwaitReply, SdoRequest, station, sent, datagram_of, Next, Shows, with_word, is_device, word_at, long_at, word_verdict, state_verdict, message_verdict, verdict, shows_itself}
 use Rattle.ec_bringup.proofs.Owns.{window-sent}
 use Rattle.ec_bringup.proofs.Polls.{read-byte, read-bytes, register-shows}
 use Rattle.ec_bringup.proofs.Receives.{Boxes, asking, read-counter, some-read, raw-read}
@@ -76,8 +51,7 @@ spells n l = let e = from_le_bytes-to_le_bytes_4 n l in omega (arith, e)
 long-spells : (bytes : List ℕ) (n : ℕ) → n < 2 ^ 32 → ((j : ℕ) → j < 4 → slice_index bytes (6 + j) ≡ slice_index (to_le_bytes w32 n) j) → long_at bytes 6 ≡ n
 long-spells bytes n l h =
     let a = h 0 (omega arith) in let b = h 1 (omega arith) in let c = h 2 (omega arith) in let d = h 3 (omega arith) in
-    let e = spells n l in
-    omega (arith, a, b, c, d, e)
+    omega (arith, a, b, c, d, spells n l)
 
 -- the words that this slave has shown before are the type's
 abbrev pub Tells : Device → Device → ℕ → Type 0
@@ -86,11 +60,10 @@ Tells t s (suc zero) = s.vendor ≡ t.vendor
 Tells t s (suc (suc which)) = (s.vendor ≡ t.vendor) × (s.product ≡ t.product)
 
 fits : (t : Device) (s : Device) (which : ℕ) → which < 3 → Tells t s which → ((which == 2) && not (is_device t (with_word s which (word_of t which)))) ≡ false
-fits t s zero l h = refl
-fits t s (suc zero) l h = refl
 fits t s (suc (suc zero)) l h =
     ap not (and_from _ _ (eq-eqb t.vendor s.vendor (sym h.0)) (and_from _ _ (eq-eqb t.product s.product (sym h.1)) (eq-eqb t.revision t.revision refl)))
 fits t s (suc (suc (suc which))) l h = absurd (omega (arith, l))
+fits t s _ l h = refl
 
 pub word-ends : (t : Device) (seen : Device) (i which : ℕ) (bytes : List ℕ) → which < 3 → Tells t seen which → word_at bytes 0 ≡ 0 → long_at bytes 6 ≡ word_of t which
     → word_verdict t seen i which bytes ≡ Shows (word_of t which)

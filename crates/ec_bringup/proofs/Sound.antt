@@ -1,12 +1,5 @@
 -- A type within its limits offers each PDO that an index names: no PDO of the other direction, and no other object, hides it.
-use Rattle.std.proofs.Common.{ℕ, suc, ◌≡◌, ◌≢◌, ◌==◌, Option, Some, None, refl, sym, ◌∙◌, ap, subst, inl, inr, arith, List, [], ◌∷◌, ◌++◌}
-use Rattle.std.specs.Prelude.{All}
-use Rattle.std.proofs.lemmas.Bool.{cases_Bool, eqb-true, ne_eqb}
-use Rattle.ec_bits.proofs.AnyLaws.{if_true, if_false}
-use Rattle.ec_device.specs.declared.slave_type.Pdo.{Pdo}
-use Rattle.ec_device.specs.Types.{SlaveKind, IsPdo, IsWithinLimits, first_output_index, first_input_index}
-use Rattle.ec_device.specs.Objects.{pdo_at}
-use Rattle.ec_bringup.specs.Complete.{IsNumbered, IsOffered}
+use Rattle.ec_bringup.proofs.Words.{ℕ, suc, ◌≡◌, ◌≢◌, ◌==◌, Option, Some, refl, sym, ◌∙◌, ap, subst, inl, inr, arith, List, [], ◌∷◌, ◌++◌, All, cases_Bool, eqb-true, ne_eqb, if_true, if_false, Pdo, SlaveKind, IsPdo, IsWithinLimits, first_output_index, first_input_index, pdo_at, IsNumbered, IsOffered}
 
 all-tail : (P : Pdo → Type 0) (q : Pdo) (ps : List Pdo) → All P (q ∷ ps) → All P ps
 all-tail P q ps h = λ k d l. h (suc k) d (omega (arith, l))
@@ -16,14 +9,11 @@ pub record Found (P : Pdo → Type 0) (x : ℕ) (p : Pdo) : Type 0 where
   pub index_is : p.index ≡ x
   pub good : P p
 
-none-not : (p : Pdo) → (let o : Option Pdo = None in o ≡ Some p) → ⊥
-none-not p e = cc
-
 some-is : (q p : Pdo) → (let o : Option Pdo = Some q in o ≡ Some p) → q ≡ p
 some-is q p e = cc
 
 found : (P : Pdo → Type 0) (ps : List Pdo) (x : ℕ) (p : Pdo) → All P ps → pdo_at ps x ≡ Some p → Found P x p
-found P [] x p h e = absurd (none-not p e)
+found P [] x p h e = absurd (cc e)
 found P (q ∷ ps) x p h e = elim (cases_Bool (q.index == x)) [
   | inl y ↦
       let z : q ≡ p = some-is q p (sym (if_true _ _ _ y) ∙ e) in
@@ -33,7 +23,7 @@ found P (q ∷ ps) x p h e = elim (cases_Bool (q.index == x)) [
 
 -- in the first of two lists, and in the second where the first has no such index
 found-first : (ps qs : List Pdo) (x : ℕ) (p : Pdo) → pdo_at ps x ≡ Some p → pdo_at (ps ++ qs) x ≡ Some p
-found-first [] qs x p e = absurd (none-not p e)
+found-first [] qs x p e = absurd (cc e)
 found-first (q ∷ ps) qs x p e = elim (cases_Bool (q.index == x)) [
   | inl y ↦ if_true _ _ _ y ∙ (sym (if_true _ _ _ y) ∙ e)
   | inr n ↦ if_false _ _ _ n ∙ found-first ps qs x p (sym (if_false _ _ _ n) ∙ e)

@@ -1,41 +1,15 @@
 -- Every run of a world that starts up: up to the step that makes it ready, and from then on without a cycle.
-use Rattle.std.proofs.Common.{ℕ, ◌+◌, ◌-◌, ◌*◌, ◌%◌, ◌<◌, ◌≤◌, ◌≡◌, ◌==◌, Bool, true, false, Option, Some, None, refl, sym, ◌∙◌, ap, subst, inl, inr, arith, if◌then◌else◌, List, [], ◌∷◌, length, get_or, replicate, drop}
-use Rattle.std.proofs.lemmas.Bool.{cases_Bool, and_parts, eqb-true}
-use Rattle.std.proofs.lemmas.List.{length-replicate}
-use Rattle.ec_bits.proofs.AnyLaws.{if_true, if_false}
-use Rattle.ec_device.specs.Types.{SlaveKind}
-use Rattle.ec_frame.specs.Datagram.{Datagram, IsDatagram}
-use Rattle.ec_slave.specs.State.{SlaveState, power_on}
-use Rattle.ec_slave.specs.Meeting.{slave_met, datagram_met, passes as passes_all}
-use Rattle.ec_slave.specs.Serving.{served}
-use Rattle.ec_link.specs.declared.settings.SlavePlan.{SlavePlan}
-use Rattle.ec_start.specs.declared.action.Action.{Action}
-use Rattle.ec_start.specs.declared.action.Action.TheVariants.{CountSlaves, AskInit, AwaitInit, ClearFmmus, ClearManagers, ClearStations, NameSlave}
-use Rattle.ec_start.specs.Actions.{datagram_of, numbered}
-use Rattle.ec_start.specs.Scripts.{script}
-use Rattle.ec_start.specs.declared.error.StartError.{StartError}
-use Rattle.ec_start.specs.declared.error.StartError.TheVariants.{Lost, TooSlow}
-use Rattle.ec_start.specs.declared.verdict.Verdict.{Verdict}
-use Rattle.ec_start.specs.declared.verdict.Verdict.TheVariants.{Again}
-use Rattle.ec_start.specs.Verdicts.{verdict}
-use Rattle.ec_start.specs.Running.{StartState, sending, action_of, type_of, taken, judged, begun}
-use Rattle.ec_start.specs.declared.phase.Phase.TheVariants.{Idle, Sent, Ready, Failed}
-use Rattle.ec_bringup.specs.Stages.{Config, Talk, Stage, Before, Up, end_of}
-use Rattle.ec_bringup.specs.Instants.{Leads, AreAhead, IsBetween, Instant, Between, UnderWay, Adrift, Over, IsReady, Starts, LaterLaw, TakeLaw, SlaveLaw}
-use Rattle.ec_bringup.specs.Standing.{IsOfKind, IsConfigured, IsSilent, IsUpAt, IsFaultedAt, Talks, Stands}
-use Rattle.ec_bringup.specs.Frames.{Arrives}
+use Rattle.ec_bringup.proofs.Words.{ℕ, ◌-◌, ◌<◌, ◌≤◌, ◌≡◌, ◌==◌, Bool, true, false, Option, Some, None, refl, sym, ◌∙◌, ap, subst, inl, inr, arith, List, [], ◌∷◌, length, get_or, replicate, drop, cases_Bool, and_parts, eqb-true, length-replicate, if_true, if_false, SlaveKind, Datagram, IsDatagram, SlaveState, power_on, slave_met, datagram_met, passes as passes_all, served, SlavePlan, datagram_of, numbered, script, StartError, Lost, StartState, sending, action_of, type_of, taken, begun, Ready, Failed, Config, Talk, Stage, Before, Up, end_of, Leads, AreAhead, IsBetween, Instant, Between, UnderWay, Adrift, Over, IsReady, Starts, LaterLaw, TakeLaw, SlaveLaw, IsOfKind, IsConfigured, IsSilent, IsUpAt, IsFaultedAt, Talks, Stands, IsStartable, Carried, Starting, slave_at, trouble_at, kind_at, no_plan, AreSlaves, is_idle, is_beginning, with_passed, with_start, with_sent, with_begun, with_empty, with_lost, AreStartable, ends_of, Happens, Sends, Passes, Loses, Returns, Strays, Closes, Serves, Puts, Gets, Faults, Resets, Runs, Stops, Steps, Begins, HoldsAll, Works, HasFault, Shown, Working, Faulted, WasReset, StartUpLaw, IsNew, taken_plan}
 use Rattle.ec_bringup.proofs.Rounds.{two-pass}
 use Rattle.ec_bringup.proofs.Resets.{power_on_is, reset_stands}
 use Rattle.ec_bringup.proofs.Events.{fault-stands, put-stands, got-stands}
 use Rattle.ec_bringup.proofs.Messages.{stands-served}
 use Rattle.ec_bringup.proofs.PassLaws.{pass-law, later-law, take-law}
 use Rattle.ec_bringup.proofs.Keeping.{slave-law}
-use Rattle.ec_start.specs.Planned.{IsStartable}
 use Rattle.ec_bringup.proofs.Assigns.{assignment-held}
 use Rattle.ec_bringup.proofs.Leading.{script-leads, asked-frame}
-use Rattle.ec_bringup.specs.Starting.{Carried, Starting, slave_at, trouble_at, kind_at, no_plan, AreSlaves}
-use Rattle.ec_bringup.specs.Runs.{is_idle, is_beginning, with_passed, with_start, with_sent, with_begun, with_empty, with_lost, AreStartable, ends_of, Happens, Sends, Passes, Loses, Returns, Strays, Closes, Serves, Puts, Gets, Faults, Resets, Runs, Stops, Steps, Begins, HoldsAll, Works, HasFault, Shown, Working, Faulted, WasReset, StartUpLaw, IsNew}
 use Rattle.ec_bringup.proofs.Composes.{pass-starts, pass-slaves, take-starts, slave-starts, Keeps}
+use Rattle.ec_bringup.proofs.Passed.{sets-out}
 
 -- ---- the laws
 
@@ -49,16 +23,6 @@ keeps : SlaveLaw
 keeps kind s d h = slave-law kind s d h
 
 -- ---- a frame is sent
-
-sent-arrives : (a : Action) (number : ℕ) → Arrives a number 0 (datagram_of a number)
-sent-arrives CountSlaves number = record { command = refl; ado = refl; data_length = refl }
-sent-arrives AskInit number = record { command = refl; ado = refl; adp_is = refl; bytes = refl }
-sent-arrives AwaitInit number = record { command = refl; ado = refl; data_length = refl }
-sent-arrives ClearFmmus number = record { command = refl; ado = refl; adp_is = refl; bytes = refl }
-sent-arrives ClearManagers number = record { command = refl; ado = refl; adp_is = refl; bytes = refl }
-sent-arrives ClearStations number = record { command = refl; ado = refl; adp_is = refl; bytes = refl }
-sent-arrives (NameSlave t) number = let e : ((65536 - t) % 65536 + 65536 * 0x0010) % 65536 ≡ (65536 - t + 0) % 65536 = omega arith in record { command = refl; ado = refl; adp_is = e; bytes = refl }
-sent-arrives _ number = record { to_come = λ l. refl; gone_by = record { command = refl; address = refl } }
 
 -- the first frame clears the flags: whatever slaves stood at, a start-up leads them from before its first action on
 abbrev cleared : Starting → Starting
@@ -105,7 +69,7 @@ sent-between ends w h good b = record {
     stages = b.stages;
     ahead = b.ahead;
     good = good;
-    arrives = sent-arrives (action_of w.start) w.start.next;
+    arrives = sets-out (action_of w.start) w.start.next;
     met = record { passed = λ i l. absurd (omega (arith, l)); to_come = λ i l m. b.stand.each i m };
   });
 }
@@ -147,29 +111,8 @@ begun-starts w h planned = record {
 
 -- ---- the events of a world that starts up
 
-none-some : (c : Carried) → (let o : Option Carried = None in o ≡ Some c) → ⊥
-none-some c e = cc
-
 some-same : (b c : Carried) → (let o : Option Carried = Some b in o ≡ Some c) → b ≡ c
 some-same b c e = cc
-
-idle-sent : (n : ℕ) → Idle ≡ Sent n → ⊥
-idle-sent n e = cc
-
-idle-failed : (f : StartError) → Idle ≡ Failed f → ⊥
-idle-failed f e = cc
-
-idle-ready : Idle ≡ Ready → ⊥
-idle-ready e = cc
-
-sent-failed : (n : ℕ) (f : StartError) → Sent n ≡ Failed f → ⊥
-sent-failed n f e = cc
-
-failed-ready : (f : StartError) → Failed f ≡ Ready → ⊥
-failed-ready f e = cc
-
-sent-ready : (n : ℕ) → Sent n ≡ Ready → ⊥
-sent-ready n e = cc
 
 over : (ends : ℕ → Config) (v : Starting) (f : StartError) → AreSlaves v → v.start.phase ≡ Failed f → Starts ends v
 over ends v f h e = record { slaves = h; instant = Over (record { failure = f; failed = e }) }
@@ -194,38 +137,38 @@ happens-starts ends w v (Sends idle good e) h = subst (Starts ends) (sym e) (by 
   where
     by : Instant ends w → Starts ends (with_sent w)
     by (Between b) = sent-starts ends w h.slaves good b
-    by (UnderWay b) = absurd (idle-sent _ (sym idle ∙ b.sent))
-    by (Adrift b) = absurd (idle-sent _ (sym idle ∙ b.sent))
-    by (Over b) = absurd (idle-failed _ (sym idle ∙ b.failed))
-    by (IsReady b) = absurd (idle-ready (sym idle ∙ b.ready))
+    by (UnderWay b) = absurd (cc (sym idle ∙ b.sent))
+    by (Adrift b) = absurd (cc (sym idle ∙ b.sent))
+    by (Over b) = absurd (cc (sym idle ∙ b.failed))
+    by (IsReady b) = absurd (cc (sym idle ∙ b.ready))
 happens-starts ends w v (Passes c full l e) h = subst (Starts ends) (sym e) (by h.instant)
   where
     by : Instant ends w → Starts ends (with_passed w c)
-    by (Between b) = absurd (none-some c (sym b.empty ∙ full))
+    by (Between b) = absurd (cc (sym b.empty ∙ full))
     by (UnderWay b) =
         let q : b.carried ≡ c = some-same b.carried c (sym b.full ∙ full) in
         subst (λ (x : Carried). Starts ends (with_passed w x)) q (pass-starts keeps pass-law later ends w h.slaves b (subst (λ (x : Carried). x.passed < length w.start.plan) (sym q) l))
-    by (Adrift b) = absurd (none-some c (sym b.empty ∙ full))
+    by (Adrift b) = absurd (cc (sym b.empty ∙ full))
     by (Over b) = over ends (with_passed w c) b.failure (pass-slaves keeps w c l h.slaves) b.failed
-    by (IsReady b) = absurd (none-some c (sym b.empty ∙ full))
+    by (IsReady b) = absurd (cc (sym b.empty ∙ full))
 happens-starts ends w v (Loses c full e) h = subst (Starts ends) (sym e) (by h.instant)
   where
     by : Instant ends w → Starts ends (with_empty w)
-    by (Between b) = absurd (none-some c (sym b.empty ∙ full))
+    by (Between b) = absurd (cc (sym b.empty ∙ full))
     by (UnderWay b) = record { slaves = same-slaves w w.start None refl h.slaves; instant = Adrift (record { number = b.carried.number; sent = b.sent; empty = refl }) }
-    by (Adrift b) = absurd (none-some c (sym b.empty ∙ full))
+    by (Adrift b) = absurd (cc (sym b.empty ∙ full))
     by (Over b) = over ends (with_empty w) b.failure (same-slaves w w.start None refl h.slaves) b.failed
-    by (IsReady b) = absurd (none-some c (sym b.empty ∙ full))
+    by (IsReady b) = absurd (cc (sym b.empty ∙ full))
 happens-starts ends w v (Returns c full l sent e) h = subst (Starts ends) (sym e) (by h.instant)
   where
     by : Instant ends w → Starts ends (with_start w (taken w.start c.datagram))
-    by (Between b) = absurd (none-some c (sym b.empty ∙ full))
+    by (Between b) = absurd (cc (sym b.empty ∙ full))
     by (UnderWay b) =
         let q : b.carried ≡ c = some-same b.carried c (sym b.full ∙ full) in
         subst (λ (x : Carried). Starts ends (with_start w (taken w.start x.datagram))) q (take-starts takes ends w h.slaves b (ap (λ (x : Carried). x.passed) q ∙ l))
-    by (Adrift b) = absurd (none-some c (sym b.empty ∙ full))
-    by (Over b) = absurd (sent-failed _ _ (sym sent ∙ b.failed))
-    by (IsReady b) = absurd (sent-ready _ (sym sent ∙ b.ready))
+    by (Adrift b) = absurd (cc (sym b.empty ∙ full))
+    by (Over b) = absurd (cc (sym sent ∙ b.failed))
+    by (IsReady b) = absurd (cc (sym sent ∙ b.ready))
 happens-starts ends w v (Strays c f full failed e) h = subst (Starts ends) (sym e) (over ends (with_empty w) f (same-slaves w w.start None refl h.slaves) failed)
 happens-starts ends w v (Closes number sent e) h = subst (Starts ends) (sym e) (over ends (with_lost w) Lost (same-slaves w (record w.start { phase = Failed Lost }) w.slot refl h.slaves) refl)
 happens-starts ends w v (Serves k l e) h = subst (Starts ends) (sym e) (slave-starts ends w k _ _ l (served-keeps (kind_at w.start.plan k) (trouble_at w.troubles k) (slave_at w.slaves k)) h)
@@ -288,27 +231,18 @@ stands-shown i p trouble s planned h = elim h.at [
 -- A world whose start-up is ready: each slave that doesn't work had a fault or a reset in this start-up.
 pub ready-shown : (w : Starting) → AreStartable w.start.plan → Starts (ends_of w.start.plan) w → w.start.phase ≡ Ready → (i : ℕ) → i < length w.start.plan
     → Shown i (get_or w.start.plan i no_plan) (trouble_at w.troubles i) (slave_at w.slaves i)
-ready-shown w planned h ready i l = by h.instant
-  where
-    by : Instant (ends_of w.start.plan) w → Shown i (get_or w.start.plan i no_plan) (trouble_at w.troubles i) (slave_at w.slaves i)
-    by (IsReady b) = stands-shown i (get_or w.start.plan i no_plan) (trouble_at w.troubles i) (slave_at w.slaves i) (planned.each i l) (b.stand.each i l)
-    by (Between b) = absurd (idle-ready (sym b.idle ∙ ready))
-    by (UnderWay b) = absurd (sent-ready _ (sym b.sent ∙ ready))
-    by (Adrift b) = absurd (sent-ready _ (sym b.sent ∙ ready))
-    by (Over b) = absurd (failed-ready _ (sym b.failed ∙ ready))
+ready-shown w planned h ready i l = elim h.instant [
+  | IsReady b ↦ stands-shown i (get_or w.start.plan i no_plan) (trouble_at w.troubles i) (slave_at w.slaves i) (planned.each i l) (b.stand.each i l)
+  | Between b ↦ absurd (cc (sym b.idle ∙ ready))
+  | UnderWay b ↦ absurd (cc (sym b.sent ∙ ready))
+  | Adrift b ↦ absurd (cc (sym b.sent ∙ ready))
+  | Over b ↦ absurd (cc (sym b.failed ∙ ready))
+]
 
 -- ---- whole runs
 
-again-plan : (s : StartState) (b : Bool) → (let t : StartState = if b then record s { phase = Failed (TooSlow s.place) } else record s { polls = s.polls + 1; phase = Idle } in t.plan) ≡ s.plan
-again-plan s true = refl
-again-plan s false = refl
-
-judged-plan : (s : StartState) (x : Verdict) → (judged s x).plan ≡ s.plan
-judged-plan s Again = again-plan s (s.polls + 1 == 1000)
-judged-plan s _ = refl
-
 pub taken-plan : (s : StartState) (d : Datagram) → (taken s d).plan ≡ s.plan
-taken-plan s d = judged-plan s (verdict (length s.plan) s.place s.seen (type_of s.plan) (action_of s) d)
+taken-plan = taken_plan
 
 pub happens-plan : (w v : Starting) → Happens w v → v.start.plan ≡ w.start.plan
 happens-plan w v (Sends idle good e) = ap (λ (x : Starting). x.start.plan) e

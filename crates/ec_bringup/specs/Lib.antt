@@ -27,3 +27,5 @@ pub mod Instants
 pub mod Slots
 -- what turns lead to, in words of stages
 pub mod Turned
+-- what the proofs above may name, handed on
+pub mod Interface

@@ -1,12 +1,12 @@
--- What the crates above may know of a master of cycles besides what its words say: laws of its frames on their way and of what is
+-- What the crates above may know of a master of cycles: its words, handed on, and laws of its frames on their way and of what is
 -- kept of them. Nothing above opens a definition of this crate; what is not said here can change without them.
 use Rattle.std.specs.Prelude.{ℕ, ◌^◌, ◌<◌, ◌≡◌, ◌≢◌, Bool, List, [], length}
-use Rattle.ec_link.specs.Shares.{Gave, counters_of}
 use Rattle.ec_link.specs.Plan.{PlanState, part_at}
+use Rattle.ec_link.specs.Shares.{Gave, counters_of}
 use Rattle.ec_link.specs.declared.plan.PartPlan.{PartPlan}
-use Rattle.ec_cycle.specs.Closing.{KeptPart, kept_of}
-use Rattle.ec_cycle.specs.Frames.{process_bytes, returned_first, name_datagram, cyclic_datagrams}
-use Rattle.ec_cycle.specs.Master.{MasterState, Answers, IsTaken}
+pub use Rattle.ec_cycle.specs.Closing.{KeptPart, kept_of, nones, is_good, unit_taken, bytes_of, returned_bit, inputs_closed, report_of, bytes_at, ReportState, joined, word_of_kept, all_from}
+pub use Rattle.ec_cycle.specs.Frames.{process_bytes, returned_first, name_datagram, cyclic_datagrams, sent_datagrams, status_datagram, process_datagrams, process_datagram}
+pub use Rattle.ec_cycle.specs.Master.{MasterState, Answers, IsTaken, OpenCycle, cycle_limit, readied, Begun, frame_of, value_at, value_of, IsAnswer, closed, holds_value, value_put, variable_set, name_of, with_kept}
 
 -- ---- a frame
 

@@ -1,33 +1,38 @@
--- What the crates above may know of a plan besides what its words say: laws of the plan of a table that `compile` accepts, and
--- of each plan that is usable. Nothing above opens a definition of this crate; what is not said here can change without them.
-use Rattle.std.specs.Prelude.{ℕ, ◌+◌, ◌*◌, ◌<◌, ◌≤◌, ◌≡◌, ◌&&◌, List, [], ◌∷◌, length, get_or, slice_get, Bool, true, false, Some, None, All, Contains}
+-- What the crates above may know of a plan: the words of it and of its table, handed on, and laws of the plan of a table that
+-- `compile` accepts and of each plan that is usable. Nothing above opens a definition of this crate; what is not said here can
+-- change without them.
 use Rattle.std.specs.Option.{ForSome, option_map_or}
+use Rattle.std.specs.Prelude.{ℕ, ◌+◌, ◌*◌, ◌<◌, ◌≤◌, ◌≡◌, ◌&&◌, List, [], ◌∷◌, length, get_or, slice_get, Bool, true, false, Some, None, All, Contains}
 use Rattle.ec_bits.specs.Bits.{within, bytes_of_bits}
-use Rattle.ec_regs.specs.declared.manager.SyncManagerSettings.{SyncManagerSettings}
-use Rattle.ec_device.specs.declared.slave_type.Pdo.{Pdo}
-use Rattle.ec_regs.specs.Managers.{no_settings, is_set, span, outputs_control, inputs_control}
-use Rattle.ec_regs.specs.Fmmus.{no_fmmu}
-use Rattle.ec_regs.specs.Memory.{ram_start, ram_end}
 use Rattle.ec_device.specs.Objects.{bits_assigned}
 use Rattle.ec_device.specs.Types.{IsWithinLimits}
+use Rattle.ec_device.specs.declared.slave_type.Pdo.{Pdo}
+use Rattle.ec_regs.specs.Fmmus.{no_fmmu}
+use Rattle.ec_regs.specs.Managers.{no_settings, is_set, span, outputs_control, inputs_control}
+use Rattle.ec_regs.specs.Memory.{ram_start, ram_end}
+use Rattle.ec_regs.specs.declared.manager.SyncManagerSettings.{SyncManagerSettings}
 use Rattle.ec_fmmu.specs.Runs.{RunOf}
-use Rattle.ec_table.specs.declared.rows.Direction.{Direction}
-use Rattle.ec_table.specs.declared.rows.SlaveRow.{SlaveRow}
+pub use Rattle.ec_table.specs.Contents.{Contents}
+pub use Rattle.ec_table.specs.Objects.{identity_of, object_bits}
+pub use Rattle.ec_table.specs.Pdos.{indices_of}
+pub use Rattle.ec_table.specs.declared.rows.Direction.{Direction}
+pub use Rattle.ec_table.specs.declared.rows.Direction.TheVariants.{Out, In}
+pub use Rattle.ec_table.specs.declared.rows.SlaveRow.{SlaveRow}
 use Rattle.ec_table.specs.declared.rows.VariableRow.{VariableRow}
-use Rattle.ec_table.specs.Contents.{Contents}
-use Rattle.ec_table.specs.Sound as table
-use Rattle.ec_link.specs.declared.settings.SlavePlan.{SlavePlan}
-use Rattle.ec_link.specs.declared.image.Variable.{Variable}
-use Rattle.ec_link.specs.Faults.{compile_fault}
-use Rattle.ec_link.specs.Image.{image_from}
-use Rattle.ec_link.specs.Laws.{AreItsLinks}
-use Rattle.ec_link.specs.Meaning.{Linked, in_source, slave_at}
-use Rattle.ec_link.specs.Plan.{PlanState, plan_of}
-use Rattle.ec_link.specs.SlavePlan.{process_manager, fmmus_of}
-use Rattle.ec_link.specs.Sound.{manager_of, fmmu_of, IsSound}
-use Rattle.ec_link.specs.Usable.{IsUsable}
+pub use Rattle.ec_link.specs.Faults.{compile_fault}
+pub use Rattle.ec_link.specs.Image.{image_from, placed, image}
+pub use Rattle.ec_link.specs.Laws.{AreItsLinks, IsPair}
+pub use Rattle.ec_link.specs.LinkRuns.{IsLinked, is_out}
+pub use Rattle.ec_link.specs.Meaning.{Linked, in_source, slave_at, Meaning, meaning, share_of, area_at, place_of_part, IsLaid, out_source, no_slave, area_of}
+pub use Rattle.ec_link.specs.Plan.{PlanState, plan_of, part_at, no_part, part_of}
+pub use Rattle.ec_link.specs.Shares.{same_counters, unit_of_part, predicted, Gave, counters_of, sum_of, lwr_count, lrd_count, lrw_count, whole_share, nothing_given, has_outs, has_ins, share_in}
+pub use Rattle.ec_link.specs.SlavePlan.{process_manager, fmmus_of}
+pub use Rattle.ec_link.specs.Sound.{manager_of, fmmu_of, IsSound, AreManagers}
+pub use Rattle.ec_link.specs.Usable.{IsUsable, IsInImage}
 use Rattle.ec_link.specs.Variables.{AreApart}
-use Rattle.ec_link.specs.LinkRuns.{IsLinked}
+use Rattle.ec_link.specs.declared.image.Variable.{Variable}
+use Rattle.ec_link.specs.declared.settings.SlavePlan.{SlavePlan}
+use Rattle.ec_table.specs.Sound as table
 
 -- ---- a table that is accepted
 

@@ -1,37 +1,79 @@
--- What the crates above may know of a slave besides what its words say: laws for each thing that happens to it. Nothing above
--- opens a definition of this crate; what is not said here can change without them.
-use Rattle.std.specs.Prelude.{ℕ, zero, suc, ◌+◌, ◌-◌, ◌*◌, ◌%◌, ◌<◌, ◌≤◌, ◌≡◌, ◌≢◌, ◌⊎◌, List, [], ◌∷◌, length, slice_index, slice_set, unwrap_or, Bool, true, false, if◌then◌else◌, Option, Some, None}
+-- What the crates above may know of a slave: the words of it and of its parts, handed on, and laws for each thing that happens
+-- to it. Nothing above opens a definition of this crate; what is not said here can change without them.
 use Rattle.std.specs.Int.{from_bool, to_le_bytes, w32}
+use Rattle.std.specs.Prelude.{ℕ, zero, suc, ◌+◌, ◌-◌, ◌*◌, ◌%◌, ◌<◌, ◌≤◌, ◌≡◌, ◌≢◌, ◌⊎◌, List, [], ◌∷◌, length, slice_index, slice_set, unwrap_or, Bool, true, false, if◌then◌else◌, Option, Some, None}
 use Rattle.ec_bits.specs.Bits.{within}
-use Rattle.ec_device.specs.declared.slave_type.Identity.{Identity}
-use Rattle.ec_device.specs.Types.{SlaveKind}
-use Rattle.ec_regs.specs.Memory.{al_control, al_status, sii_control, sii_data, sync_managers, manager_place, ram_start, ram_end, is_stored, takes_writes}
-use Rattle.ec_device.specs.Objects.{bits_assigned}
-use Rattle.ec_frame.specs.declared.command.Command.TheVariants.{Nop, Lrd, Lwr, Lrw}
-use Rattle.ec_frame.specs.Datagram.{Datagram, adp_of, ado_of}
+pub use Rattle.ec_frame.specs.Building.{bare_payload}
+pub use Rattle.ec_frame.specs.Datagram.{Datagram, adp_of, ado_of, IsDatagram}
+pub use Rattle.ec_frame.specs.Fields.{with_adp}
+pub use Rattle.ec_frame.specs.Frame.{Payload, IsFrame, with_datagrams}
 use Rattle.ec_frame.specs.Walk.{KeepsLength}
-use Rattle.ec_sync.specs.Governing.{governor}
-use Rattle.ec_sync.specs.SyncManager.{SyncManager, no_manager, empty_manager, padded, ring_read, ring_written}
-use Rattle.ec_sync.specs.Sound.{IsManager}
-use Rattle.ec_al.specs.declared.state.State.TheVariants.{Init}
-use Rattle.ec_al.specs.Al as al
+pub use Rattle.ec_frame.specs.declared.command.Command.{Command}
+pub use Rattle.ec_frame.specs.declared.command.Command.TheVariants.{Nop, Lrd, Lwr, Lrw, Bwr, Fprd, Fpwr, Apwr, Fprw, Brd}
+pub use Rattle.ec_device.specs.Objects.{bits_assigned, pdo_at}
+pub use Rattle.ec_device.specs.Types.{SlaveKind, device_of, IsEntry, IsMailbox, ArePdos, first_output_index, first_input_index, IsPdo, IsWithinLimits, plain_kind, device_identity}
+pub use Rattle.ec_device.specs.declared.slave_type.Device.{Device}
+pub use Rattle.ec_device.specs.declared.slave_type.Entry.{Entry}
+pub use Rattle.ec_device.specs.declared.slave_type.Identity.{Identity}
+pub use Rattle.ec_device.specs.declared.slave_type.Mailbox.{Mailbox}
+pub use Rattle.ec_device.specs.declared.slave_type.Pdo.{Pdo}
+pub use Rattle.ec_regs.specs.Fmmus.{fmmu_bytes, no_fmmu, fmmu_of}
+pub use Rattle.ec_regs.specs.Managers.{no_settings, manager_bytes, area_settings, outputs_control, inputs_control, is_mailbox, is_master_written, is_master_read, span, is_buffered, settings_of}
+pub use Rattle.ec_regs.specs.Memory.{al_control, al_status, sii_control, sii_data, sync_managers, manager_place, ram_start, ram_end, is_stored, takes_writes}
+pub use Rattle.ec_regs.specs.Words.{al_flag, sii_error, sii_busy, al_word}
+pub use Rattle.ec_regs.specs.declared.fmmu.FmmuSettings.{FmmuSettings}
+pub use Rattle.ec_regs.specs.declared.manager.SyncManagerSettings.{SyncManagerSettings}
+pub use Rattle.ec_al.specs.Al.{Al, requesting, decided, answered, status_word}
+pub use Rattle.ec_al.specs.States.{state_number, code_number}
+pub use Rattle.ec_al.specs.Transitions.{answer, requested_by, acknowledges}
+pub use Rattle.ec_al.specs.declared.state.State.{State}
+pub use Rattle.ec_al.specs.declared.state.State.TheVariants.{Init, PreOp, SafeOp, Op}
+pub use Rattle.ec_al.specs.declared.status_code.StatusCode.{StatusCode}
+pub use Rattle.ec_al.specs.declared.status_code.StatusCode.TheVariants.{InvalidMailboxConfiguration, InvalidOutputConfiguration, InvalidInputConfiguration}
+pub use Rattle.ec_al.specs.declared.transition.Checks.{Checks}
 use Rattle.ec_dl.specs.DataLink.{new_data_link, dl_written}
-use Rattle.ec_sii.specs.SiiImage.{image_of}
+pub use Rattle.ec_sii.specs.Laws.{read_command}
+pub use Rattle.ec_sii.specs.Port.{Sii, byte_for, commanded, addressed, address_written}
+pub use Rattle.ec_sii.specs.SiiImage.{image_of, size_of}
+pub use Rattle.ec_sii.specs.declared.image.SiiImage.{SiiImage}
+pub use Rattle.ec_sync.specs.Buffer.{emptied_buffer, Buffer, Got, view_next, drafted, draft_next, publishing}
+pub use Rattle.ec_sync.specs.Governing.{governor, covers, in_first_buffer, governs}
+use Rattle.ec_sync.specs.Sound.{IsManager}
+pub use Rattle.ec_sync.specs.SyncManager.{SyncManager, no_manager, empty_manager, padded, ring_read, ring_written, buffer_length, app_put, may_app_put, may_app_get, app_got, is_enabled, message_in as sync_manager_message_in, may_write, may_read, shown, zeros_published}
+pub use Rattle.ec_fmmu.specs.Applied.{Place, inside_place}
+pub use Rattle.ec_fmmu.specs.Areas.{Area, Spans}
+pub use Rattle.ec_fmmu.specs.Sets.{target, source, readers, writers}
+pub use Rattle.ec_coe.specs.Answers.{Answer, answer_by, download_answer, value_of, upload_answer, reply_to}
+pub use Rattle.ec_coe.specs.Messages.{message_length, size_number, message_read, message_bytes, message_in, command_of, command_number, service_of, service_number}
+pub use Rattle.ec_coe.specs.Objects.{all_assigned, assigned, Assignment, indices, byte_value, word_value, output_assignment, input_assignment, has_some, Dictionary, identity_object, entry_number, long_value, assignment_values, pdo_values, device_name_object, shown_values, send_room}
+pub use Rattle.ec_coe.specs.Replies.{reply_of, reply_by, response_in, abort_in}
+pub use Rattle.ec_coe.specs.ReplyBytes.{reply_bytes}
+pub use Rattle.ec_coe.specs.Transfers.{written_over, contains, distinct, value_or_abort, value_at, takes_value, is_open, with_value, with_outs, with_ins}
+pub use Rattle.ec_coe.specs.declared.abort_code.AbortCode.{AbortCode}
+pub use Rattle.ec_coe.specs.declared.message.Message.{Message}
+pub use Rattle.ec_coe.specs.declared.message.SdoCommand.{SdoCommand}
+pub use Rattle.ec_coe.specs.declared.message.SdoCommand.TheVariants.{DownloadRequest, DownloadResponse, UploadRequest, UploadResponse, Abort}
+pub use Rattle.ec_coe.specs.declared.message.Service.{Service}
+pub use Rattle.ec_coe.specs.declared.message.Service.TheVariants.{Request, Response, Other}
+pub use Rattle.ec_coe.specs.declared.reply.Reply.{Reply}
+pub use Rattle.ec_coe.specs.declared.reply.Reply.TheVariants.{Downloaded, Uploaded, Aborted, Unexpected}
+pub use Rattle.ec_coe.specs.declared.value.SdoValue.{SdoValue}
+pub use Rattle.ec_coe.specs.declared.value.ValueSize.{ValueSize}
+pub use Rattle.ec_coe.specs.declared.value.ValueSize.TheVariants.{One, Two, Three, Four}
+pub use Rattle.ec_slave.specs.Application.{input_put, inputs_put, output_got, output_taken, outputs_taken, is_running, with_manager, outputs_shown}
+pub use Rattle.ec_slave.specs.Checking.{checks_of, control_word, mailbox_check, process_check, outputs_mode, inputs_mode, is_manager}
+pub use Rattle.ec_slave.specs.Exchange.{with_outputs, with_published, outputs_from, inputs_into, inputs_of, IsMapped, takes, gives, IsBufferAt}
+pub use Rattle.ec_slave.specs.Faulting.{faulted, locked_empty}
+pub use Rattle.ec_slave.specs.Logical.{meets_logically, place_of}
+pub use Rattle.ec_slave.specs.LogicalLaws.{Misses}
+pub use Rattle.ec_slave.specs.Managers.{reads_under, writes_under, is_ungoverned, is_read_by, is_written_by}
+pub use Rattle.ec_slave.specs.Meeting.{window_of, meets, slave_met, datagram_met, passes, Passed, IsPassed}
+pub use Rattle.ec_slave.specs.Physical.{Window, touches, byte_at, ram_byte, may_read_byte, may_write_byte, byte_read, retold, memory_written, is_configured, settings_written, physical_value, physical_manager, physical_managers, physical_after, some_byte_read, is_written, some_byte_written}
+pub use Rattle.ec_slave.specs.Roles.{role_of, adp_after, is_reading, is_writing, is_joining}
+pub use Rattle.ec_slave.specs.Serving.{with_al, request_decided, read_finished, is_served, request_in, answer_to, bytes_to, message_served, served, dictionary_of, is_preop, has_mailbox, takes_reply, request_for, reply_counter, is_init, unlocked_empty, managers_entered}
+pub use Rattle.ec_slave.specs.State.{SlaveState, manager_at, station_of, power_on, fmmus, Met, with_answer, with_memory, fmmus_of}
+use Rattle.ec_al.specs.Al as al
 use Rattle.ec_sii.specs.Port as port
-use Rattle.ec_coe.specs.declared.message.Message.{Message}
-use Rattle.ec_coe.specs.Messages.{message_length}
-use Rattle.ec_coe.specs.Objects.{all_assigned, assigned}
-use Rattle.ec_slave.specs.State.{SlaveState, manager_at, station_of, power_on}
-use Rattle.ec_slave.specs.Roles.{role_of, adp_after, is_reading, is_writing, is_joining}
-use Rattle.ec_slave.specs.Managers.{reads_under, writes_under, is_ungoverned, is_read_by, is_written_by}
-use Rattle.ec_slave.specs.Physical.{Window, touches, byte_at, ram_byte, may_read_byte, may_write_byte, byte_read, retold, memory_written, is_configured, settings_written, physical_value, physical_manager, physical_managers, physical_after, some_byte_read, is_written}
-use Rattle.ec_slave.specs.Logical.{meets_logically}
-use Rattle.ec_slave.specs.Exchange.{with_outputs, with_published}
-use Rattle.ec_slave.specs.Meeting.{window_of, meets, slave_met, datagram_met}
-use Rattle.ec_slave.specs.Application.{input_put, inputs_put, output_got, output_taken, outputs_taken}
-use Rattle.ec_slave.specs.Checking.{checks_of, control_word, mailbox_check, process_check, outputs_mode, inputs_mode}
-use Rattle.ec_slave.specs.Serving.{with_al, request_decided, read_finished, is_served, request_in, answer_to, bytes_to, message_served, served}
-use Rattle.ec_slave.specs.Faulting.{faulted, locked_empty}
 
 -- ---- the power comes on
 

@@ -1,39 +1,9 @@
 -- A firmware step of a slave for which nothing waits changes nothing.
-use Rattle.std.proofs.Common.{◌≡◌, ℕ, zero, suc, ◌<◌, ◌≤◌, ◌≢◌, ◌&&◌, Bool, true, false, Option, None, refl, sym, ◌∙◌, ap, subst, inl, inr, arith, List, [], ◌∷◌, length, get_or, set, is_some, option_and_then, nat_lt, length-set, get_or-set_same, get_or-set_other, ◌+◌, ◌==◌, not, Some, map, slice_set, if◌then◌else◌, option_map, unwrap_or}
-use Rattle.ec_slave.specs.State.{SlaveState, manager_at, power_on}
-use Rattle.ec_slave.specs.Serving.{served}
+use Rattle.ec_world.proofs.Words.{◌≡◌, ℕ, zero, suc, ◌<◌, ◌≤◌, ◌≢◌, ◌&&◌, Bool, true, false, Option, None, refl, sym, ◌∙◌, ap, subst, inl, inr, arith, List, [], ◌∷◌, length, get_or, set, is_some, option_and_then, nat_lt, length-set, get_or-set_same, get_or-set_other, ◌+◌, ◌==◌, not, Some, map, slice_set, if◌then◌else◌, option_map, unwrap_or, SlaveState, manager_at, power_on, served, IsQuiet, Holds, IsWorking, IsFaulted, IsReset, IsAs, SlaveShows, HoldsData, map-set_same, cases_eq, cases_lt, and_from, and_left, and_parts, lt-ltb, le-ltb, both_ways, length-map, length-replicate, set-get_or, slice_get-get_or, slice_get_past, bytes_of_bits, zeros, if_true, if_false, emptied_buffer, Buffer, Got, app_written, app_read, drafted, draft_next, view_next, SyncManager, no_manager, empty_manager, buffer_length, Init, Identity, SlaveKind, Sii, switched_on, faults, SlavePlan, slave_at, AreListed, output_manager, Plain, PlainSlave, Health, Working, Faulted, Reset, plain_slave, no_plain_slave, is_working, failing, restarting, at_slave, is_reset, got_byte, WorldState, slave_of, no_slave, with_slave, Puts, Gets, faulted, Shows, none_some, some_same, listed, is_set, is_running, input_put, output_got, output_taken, with_manager, IsUsable, IsOfLength, MasterState, ReportState, CyclesShow, ReportShows}
 use Rattle.ec_slave.proofs.Serves as serves
-use Rattle.ec_world.specs.SlaveShows.{IsQuiet, Holds, IsWorking, IsFaulted, IsReset, IsAs, SlaveShows, HoldsData}
-use Rattle.std.proofs.Math.Seq.{map-set_same}
-use Rattle.std.proofs.lemmas.Bool.{cases_eq, cases_lt, and_from, and_left, and_parts, lt-ltb, le-ltb, both_ways}
-use Rattle.std.proofs.lemmas.List.{length-map, length-replicate, set-get_or}
-use Rattle.std.proofs.lemmas.Option.{slice_get-get_or, slice_get_past}
-use Rattle.ec_bits.specs.Bits.{bytes_of_bits, zeros}
-use Rattle.ec_bits.proofs.AnyLaws.{if_true, if_false}
-use Rattle.ec_sync.specs.Buffer.{emptied_buffer, Buffer, Got, app_written, app_read, drafted, draft_next, view_next}
-use Rattle.ec_sync.specs.SyncManager.{SyncManager, no_manager, empty_manager, buffer_length}
-use Rattle.ec_al.specs.declared.state.State.TheVariants.{Init}
 use Rattle.ec_al.specs.Al as al
-use Rattle.ec_device.specs.declared.slave_type.Identity.{Identity}
-use Rattle.ec_device.specs.Types.{SlaveKind}
-use Rattle.ec_sii.specs.Port.{Sii}
-use Rattle.ec_slave.proofs.SwitchedOn.{switched_on}
-use Rattle.ec_slave.proofs.Meetings.{faults}
-use Rattle.ec_link.specs.declared.settings.SlavePlan.{SlavePlan}
-use Rattle.ec_link.specs.Meaning.{slave_at}
-use Rattle.ec_link.specs.Interface.{AreListed, output_manager}
-use Rattle.ec_world.specs.Plain.{Plain, PlainSlave, Health, Working, Faulted, Reset, plain_slave, no_plain_slave, is_working, failing, restarting, at_slave, is_reset, got_byte}
-use Rattle.ec_world.specs.World.{WorldState, slave_of, no_slave, with_slave, Puts, Gets}
-use Rattle.ec_slave.specs.Faulting.{faulted}
 use Rattle.ec_world.specs.Plain as plain
-use Rattle.ec_world.specs.Shows.{Shows}
 use Rattle.ec_world.proofs.Mapped.{some_bits, no_bits, set_for_outs, unset, third_held, outs_enabled, ins_enabled, locked_denies, fourth_held}
-use Rattle.ec_world.proofs.Lists.{none_some, some_same}
-use Rattle.ec_link.proofs.Listed.{listed}
-use Rattle.ec_regs.specs.Managers.{is_set}
-use Rattle.ec_slave.specs.Application.{is_running, input_put, output_got, output_taken, with_manager}
-use Rattle.ec_link.specs.Usable.{IsUsable}
-use Rattle.ec_world.specs.Lengths.{IsOfLength}
 
 pub quiet-rests : (s : SlaveState) → IsQuiet s → served s ≡ s
 quiet-rests s q = serves.rests_quietly s (record { no_request = q.no_request; no_read = q.no_read; no_message = q.no_message 0 })
@@ -65,6 +35,28 @@ slave_changed w p t x q s h l = record {
         subst (λ (y : SlaveState). SlaveShows u (slave_at w.plan u) y (get_or (set p.slaves t q) u no_plain_slave)) (sym (get_or-set_other w.slaves t u x no_slave ne))
         (subst (λ (y : PlainSlave). SlaveShows u (slave_at w.plan u) (slave_of w u) y) (sym (get_or-set_other p.slaves t u q no_plain_slave ne)) (s.slaves u b))
   ];
+  progress = s.progress;
+  frames = s.frames;
+}
+
+-- the master, the report and what was read last change, and slaves and slots stay
+pub master_changed : (w : WorldState) (p q : Plain) (m : MasterState) (r : Option ReportState) (g : Option ℕ) → Shows w p → m.is_ready ≡ true → m.plan ≡ w.plan → m.outputs ≡ q.outputs
+    → m.inputs ≡ q.inputs → m.next ≡ q.next → g ≡ q.got → CyclesShow w.plan m.cycle q.cycle → ReportShows w.plan r q.closed
+    → Shows (record w { master = m; report = r; got = g }) (record q { slaves = p.slaves; slots = p.slots })
+master_changed w p q m r g s ready plan outputs inputs next got cycle report = record {
+  started = s.started;
+  no_start = s.no_start;
+  is_ready = ready;
+  same_plan = plan;
+  outputs = outputs;
+  inputs = inputs;
+  next = next;
+  got = got;
+  cycle = cycle;
+  report = report;
+  count = s.count;
+  plain_count = s.plain_count;
+  slaves = s.slaves;
   progress = s.progress;
   frames = s.frames;
 }
@@ -117,9 +109,8 @@ quiet_on s e =
     }
 
 pub quiet : (i : ℕ) (p : SlavePlan) (s : SlaveState) (q : PlainSlave) (x : Health) → IsAs i p s q x → IsQuiet s
-quiet i p s q Working h = h.quiet
-quiet i p s q Faulted h = h.quiet
 quiet i p s q Reset h = quiet_on s h.as_on
+quiet i p s q _ h = h.quiet
 
 pub serve_shows : (w : WorldState) (p : Plain) (t : ℕ) → Shows w p → t < length w.plan.slaves
     → Shows (with_slave w t (served (slave_of w t))) p
@@ -139,9 +130,8 @@ reset_is p s e =
     }
 
 kind_of : (i : ℕ) (p : SlavePlan) (s : SlaveState) (q : PlainSlave) (x : Health) → IsAs i p s q x → s.kind ≡ p.kind
-kind_of i p s q Working h = h.holds.kind
-kind_of i p s q Faulted h = h.holds.kind
 kind_of i p s q Reset h = h.kind
+kind_of i p s q _ h = h.holds.kind
 
 pub reset_shows : (w : WorldState) (p : Plain) (t : ℕ) → Shows w p → t < length w.plan.slaves
     → Shows (with_slave w t (power_on (slave_of w t).kind (slave_of w t).identity)) (plain.with_slave p t (restarting (plain_slave p t)))
@@ -212,14 +202,12 @@ module _ (i : ℕ) (p : SlavePlan) (s : SlaveState) (q : PlainSlave) (fits : Are
   state_on e = ap (λ (x : SlaveState). x.al.state) e ∙ ap (λ (a : al.Al). a.state) (switched_on s.kind s.identity).al
 
   pub fault_let : (x : Health) → IsAs i p s q x → al.is_operational s.al.state ≡ is_working x
-  fault_let Working h = ap al.is_operational h.state
-  fault_let Faulted h = ap al.is_operational h.state
   fault_let Reset h = ap al.is_operational (state_on h.as_on)
+  fault_let _ h = ap al.is_operational h.state
 
   pub fault_as : (x : Health) → IsAs i p s q x → is_working x ≡ true → IsFaulted i p (faulted s) (failing q)
   fault_as Working h e = subst (λ (y : SlaveState). IsFaulted i p y (failing q)) (sym (fault_made s (ap al.is_operational h.state))) (fault_is h)
-  fault_as Faulted h e = absurd (let z : false ≡ true = e in cc)
-  fault_as Reset h e = absurd (let z : false ≡ true = e in cc)
+  fault_as _ h e = absurd (let z : false ≡ true = e in cc)
 
 -- ---- bytes of a slave's application
 
@@ -308,9 +296,8 @@ module _ (i : ℕ) (p : SlavePlan) (s : SlaveState) (q : PlainSlave) (fits : Are
   ]
 
   pub put_by : (k x : ℕ) (h : Health) → IsAs i p s q h → input_put s k x ≡ (if not (is_reset h) then option_map put_into (app_written q.inputs k x) else None)
-  put_by k x Working w = put_is k x w.holds w.process w.in_unlocked (ap is_running w.state)
-  put_by k x Faulted w = put_is k x w.holds w.process w.in_unlocked (ap is_running w.state)
   put_by k x Reset w = if_false _ _ _ (ap is_running (state_on i p s q fits w.as_on))
+  put_by k x _ w = put_is k x w.holds w.process w.in_unlocked (ap is_running w.state)
 
   pub got_by : (k : ℕ) (h : Health) → IsAs i p s q h → output_got s k ≡ (if is_working h then app_read q.outputs k else None)
   got_by k Working w = got_is k w.holds w.process w.out_unlocked (ap is_running w.state)
@@ -392,8 +379,7 @@ module _ (i : ℕ) (p : SlavePlan) (s : SlaveState) (q : PlainSlave) (fits : Are
     out_unlocked = ap (λ (x : SyncManager). x.locked) (own_of 2 (record m2 { buffer = g.buffer }) (omega arith) w.holds) ∙ w.out_unlocked;
     in_unlocked = ap (λ (x : SyncManager). x.locked) (others_of 2 3 (record m2 { buffer = g.buffer }) (omega arith)) ∙ w.in_unlocked;
   }
-  got_shows Faulted k g e z w = absurd (let y : false ≡ true = z in cc)
-  got_shows Reset k g e z w = absurd (let y : false ≡ true = z in cc)
+  got_shows _ k g e z w = absurd (let y : false ≡ true = z in cc)
 
 -- ---- the events
 
@@ -417,9 +403,7 @@ pub put_shows_both : (w : WorldState) (p : Plain) (t i x : ℕ) (w2 : WorldState
 put_shows_both w p t i x w2 sound s can puts =
     let l = here_of w p t (is_some (input_put (slave_of w t) i x)) s can in
     let q = plain_slave p t in
-    let a = slave_of w t in
-    let pl = slave_at w.plan t in
-    let by = put_by t pl a q (listed w.plan sound t l) i x q.health (s.slaves t l) in
+    let by = put_by t (slave_at w.plan t) (slave_of w t) q (listed w.plan sound t l) i x q.health (s.slaves t l) in
     subst (λ (y : WorldState). Shows y (unwrap_or (at_slave p t (put_plain p t i x)) p)) (sym puts.is)
     (subst (λ (o : Option Plain). Shows (with_slave w t puts.slave) (unwrap_or o p)) (sym (at_there w p t (put_plain p t i x) s l))
     (go l (is_reset q.health) refl (app_written q.inputs i x) refl (sym puts.put ∙ by)))
@@ -432,13 +416,12 @@ put_shows_both w p t i x w2 sound s can puts =
     go l false e (Some b) h is =
         let q = plain_slave p t in
         let a = slave_of w t in
-        let pl = slave_at w.plan t in
         let put : SlaveState = with_manager a 3 (record (manager_at a.managers 3) { buffer = b }) in
         let same : puts.slave ≡ put = some_same puts.slave put (is ∙ (if_true _ _ _ (ap not e) ∙ ap (option_map _) h)) in
         let made : put_plain p t i x q ≡ Some (plain.with_slave p t (record q { inputs = b })) = if_true _ _ _ (ap not e) ∙ ap (option_map _) h in
         subst (λ (y : SlaveState). Shows (with_slave w t y) (unwrap_or (put_plain p t i x q) p)) (sym same)
         (subst (λ (o : Option Plain). Shows (with_slave w t put) (unwrap_or o p)) (sym made)
-        (slave_changed w p t put (record q { inputs = b }) s (put_shows t pl a q (listed w.plan sound t l) q.health i x b h e (s.slaves t l)) l))
+        (slave_changed w p t put (record q { inputs = b }) s (put_shows t (slave_at w.plan t) a q (listed w.plan sound t l) q.health i x b h e (s.slaves t l)) l))
 
 abbrev get_plain : Plain → ℕ → ℕ → PlainSlave → Option Plain
 get_plain p t i q = if is_working q.health then option_map (got_byte p t q) (app_read q.outputs i) else None
@@ -461,8 +444,7 @@ get_shows_both w p t i w2 sound s can gets =
     let l = here_of w p t (is_some (output_got (slave_of w t) i)) s can in
     let q = plain_slave p t in
     let a = slave_of w t in
-    let pl = slave_at w.plan t in
-    let by = got_by t pl a q (listed w.plan sound t l) i q.health (s.slaves t l) in
+    let by = got_by t (slave_at w.plan t) a q (listed w.plan sound t l) i q.health (s.slaves t l) in
     subst (λ (y : WorldState). Shows y (unwrap_or (at_slave p t (get_plain p t i)) p)) (sym gets.is)
     (subst (λ (o : Option Plain). Shows (record (with_slave w t (output_taken a (Some gets.got))) { got = Some gets.got.byte }) (unwrap_or o p)) (sym (at_there w p t (get_plain p t i) s l))
     (go l (is_working q.health) refl (sym gets.read ∙ by)))
@@ -479,20 +461,6 @@ get_shows_both w p t i w2 sound s can gets =
         let h : app_read q.outputs i ≡ Some g = sym (is ∙ if_true _ _ _ e) in
         let made : get_plain p t i q ≡ Some (got_byte p t q g) = if_true _ _ _ e ∙ ap (option_map (got_byte p t q)) h in
         let c = slave_changed w p t (output_taken a (Some g)) (record q { outputs = g.buffer }) s (got_shows t pl a q (listed w.plan sound t l) q.health i g h e (s.slaves t l)) l in
-        subst (λ (o : Option Plain). Shows (record (with_slave w t (output_taken a (Some g))) { got = Some g.byte }) (unwrap_or o p)) (sym made) (record {
-          started = c.started;
-          no_start = c.no_start;
-          is_ready = c.is_ready;
-          same_plan = c.same_plan;
-          outputs = c.outputs;
-          inputs = c.inputs;
-          next = c.next;
-          got = refl;
-          cycle = c.cycle;
-          report = c.report;
-          count = c.count;
-          plain_count = c.plain_count;
-          slaves = c.slaves;
-          progress = c.progress;
-          frames = c.frames;
-        })
+        subst (λ (o : Option Plain). Shows (record (with_slave w t (output_taken a (Some g))) { got = Some g.byte }) (unwrap_or o p)) (sym made)
+        (master_changed (with_slave w t (output_taken a (Some g))) (plain.with_slave p t (record q { outputs = g.buffer })) (got_byte p t q g) w.master w.report (Some g.byte) c
+        c.is_ready c.same_plan c.outputs c.inputs c.next refl c.cycle c.report)

@@ -1,33 +1,10 @@
 -- A cycle of a world that is Ready, with no cycle open and no frame on its way: it can begin, and be closed.
-use Rattle.std.proofs.Common.{ℕ, zero, suc, ◌+◌, ◌-◌, ◌^◌, ◌<◌, ◌≤◌, ◌≡◌, nat_le, Bool, true, Option, Some, None, refl, sym, ◌∙◌, ap, subst, arith, List, [], ◌∷◌, ◌++◌, length, map, get_or, replicate, is_none, option_map, unwrap_or}
-use Rattle.std.proofs.lemmas.Bool.{and_from, lt-ltb, le-leb}
-use Rattle.std.proofs.lemmas.List.{length-map}
-use Rattle.ec_bits.proofs.AnyLaws.{if_true}
-use Rattle.ec_device.specs.declared.slave_type.Identity.{Identity}
-use Rattle.ec_table.specs.Contents.{Contents}
-use Rattle.ec_link.specs.declared.plan.PartPlan.{PartPlan}
-use Rattle.ec_link.specs.Meaning.{Meaning, meaning}
-use Rattle.ec_link.specs.Plan.{PlanState, plan_of}
-use Rattle.ec_link.specs.Usable.{IsUsable}
-use Rattle.ec_link.proofs.Soundness.{plan_sound}
-use Rattle.ec_cycle.specs.Closing.{nones}
-use Rattle.ec_cycle.specs.Master.{OpenCycle, cycle_limit}
-use Rattle.ec_world.specs.declared.event.Event.{Event}
-use Rattle.ec_world.specs.declared.event.Event.TheVariants.{Begin, Close}
-use Rattle.ec_world.specs.Plain.{Plain, PlainFrame, Cycle, unit_full, step, run, frame_at, filled, new_frames, progress_of}
-use Rattle.ec_world.specs.World.{WorldState, is_up, flight_at, flight_progress, IsStep}
-use Rattle.ec_world.specs.Shows.{Shows, CyclesShow}
-use Rattle.ec_world.specs.Laws.{IsRun}
-use Rattle.ec_world.specs.Whole.{IsNew, plain_of}
-use Rattle.ec_world.specs.Promises.{IsBegun, IsClosedAs}
-use Rattle.ec_world.specs.Headline.{Says}
-use Rattle.ec_world.specs.Undisturbed.{rounds_of, IsAtRest, Rests}
-use Rattle.ec_world.proofs.Lists.{same_progress, none_some, some_same, all_none}
+use Rattle.ec_world.proofs.Words.{ℕ, zero, suc, ◌+◌, ◌-◌, ◌^◌, ◌<◌, ◌≤◌, ◌≡◌, nat_le, Bool, true, Option, Some, None, refl, sym, ◌∙◌, ap, subst, arith, List, [], ◌∷◌, ◌++◌, length, map, get_or, replicate, is_none, option_map, unwrap_or, and_from, lt-ltb, le-leb, length-map, if_true, Identity, Contents, PartPlan, Meaning, meaning, PlanState, plan_of, IsUsable, plan_sound, nones, OpenCycle, cycle_limit, Event, Begin, Close, Plain, PlainFrame, Cycle, unit_full, step, run, frame_at, progress_of, WorldState, is_up, flight_at, flight_progress, IsStep, Shows, CyclesShow, IsRun, IsNew, plain_of, IsBegun, IsClosedAs, Says, rounds_of, IsAtRest, Rests, same_progress, none_some, some_same, all_none, cycle_begun}
 use Rattle.ec_world.proofs.StepLaws.{runs_show, runs_join}
 use Rattle.ec_world.proofs.Promising.{inputs_law}
 use Rattle.ec_world.proofs.Sized.{run_many}
 use Rattle.ec_world.proofs.Calm.{Slots, at_way, empty, fresh, Between, AllMade, Goes, get_mapped, first_made, both_made, rounds_go, filled_fresh}
-use Rattle.ec_world.proofs.Headlines.{MadeAt, made_at, run_plan, Sees, sees}
+use Rattle.ec_world.proofs.Headlines.{MadeAt, made_at, Sees, sees}
 use Rattle.ec_world.proofs.HeadlineInputs.{says}
 
 -- ---- empty slots
@@ -90,11 +67,7 @@ pub record Beginning (t : Contents) (w : WorldState) : Type 0 where
   pub count : length p.slaves ≡ length t.slaves
   pub no_frame : (k : ℕ) → frame_at p k ≡ None
   pub begun : Plain
-  pub is : begun ≡ record p {
-    next = p.next + 1;
-    cycle = Some (record { number = p.next; kept = map (λ u. None) (meaning w.plan).parts });
-    slots = filled (new_frames p.next p.outputs 0 (meaning w.plan).parts) p.slots;
-  }
+  pub is : begun ≡ cycle_begun (meaning w.plan) p
   pub begins : step (meaning w.plan) p Begin ≡ Some begun
   pub between : Between (length t.slaves) p.next 0 (length (plan_of t).parts) (left_over t) begun
 
@@ -111,17 +84,8 @@ module _ (t : Contents) (ids : List Identity) (w : WorldState) (o : Comes t ids 
   abbrev p : Plain
   p = (run (meaning s.ready.plan) first s.after).plain
 
-  shown : Shows w p
-  shown = (runs_show s.ready s.after w s.rest s.usable s.onward).shown first s.shows
-
-  w_plan : w.plan ≡ plan_of t
-  w_plan = run_plan s.ready s.after w s.rest first s.usable s.onward s.shows ∙ s.plan_is
-
-  usable : IsUsable w.plan
-  usable = subst IsUsable (s.plan_is ∙ sym w_plan) s.usable
-
   many : length w.plan.slaves ≡ length t.slaves
-  many = ap (λ (x : PlanState). length x.slaves) w_plan ∙ (plan_sound t o.new.sound o.new.accepted).as_many
+  many = ap (λ (x : PlanState). length x.slaves) s.plan_kept ∙ (plan_sound t o.new.sound o.new.accepted).as_many
 
   abbrev N : ℕ
   N = length t.slaves
@@ -130,21 +94,21 @@ module _ (t : Contents) (ids : List Identity) (w : WorldState) (o : Comes t ids 
   K = length (plan_of t).parts
 
   parts : length m.parts ≡ K
-  parts = length-map w.plan.parts (λ (k : PartPlan). k.unit) ∙ ap (λ (x : PlanState). length x.parts) w_plan
+  parts = length-map w.plan.parts (λ (k : PartPlan). k.unit) ∙ ap (λ (x : PlanState). length x.parts) s.plan_kept
 
   few : K ≤ 32
-  few = let x = usable.few_parts in let y = ap (λ (z : PlanState). length z.parts) w_plan in omega (arith, x, y)
+  few = let x = s.still_usable.few_parts in let y = ap (λ (z : PlanState). length z.parts) s.plan_kept in omega (arith, x, y)
 
   abbrev z : ℕ
   z = 64 - K
 
   -- slots
   slot_free : (k : ℕ) → frame_at p k ≡ None
-  slot_free k = unmapped (frame_at p k) (sym (same_progress w.slots p.slots k shown.progress) ∙ ap (option_map flight_progress) (free.no_frame k))
+  slot_free k = unmapped (frame_at p k) (sym (same_progress w.slots p.slots k s.shown.progress) ∙ ap (option_map flight_progress) (free.no_frame k))
 
   as_many : length p.slots ≡ 64
   as_many =
-      sym (length-map p.slots (λ o. option_map progress_of o)) ∙ (sym (ap length shown.progress) ∙ (length-map w.slots (λ o. option_map flight_progress o)
+      sym (length-map p.slots (λ o. option_map progress_of o)) ∙ (sym (ap length s.shown.progress) ∙ (length-map w.slots (λ o. option_map flight_progress o)
       ∙ (run_many o.old o.events w o.made o.reached ∙ ap (λ (x : WorldState). length x.slots) o.new.is)))
 
   all_free : p.slots ≡ replicate (length m.parts + z) None
@@ -152,19 +116,15 @@ module _ (t : Contents) (ids : List Identity) (w : WorldState) (o : Comes t ids 
 
   -- the beginning
   abbrev B : Plain
-  B = record p {
-    next = p.next + 1;
-    cycle = Some (record { number = p.next; kept = map (λ u. None) m.parts });
-    slots = filled (new_frames p.next p.outputs 0 m.parts) p.slots;
-  }
+  B = cycle_begun m p
 
   shut : p.cycle ≡ None
-  shut = no_cycle_shown w.plan w.master.cycle p.cycle shown.cycle free.no_cycle
+  shut = no_cycle_shown w.plan w.master.cycle p.cycle s.shown.cycle free.no_cycle
 
   begins : step m p Begin ≡ Some B
   begins = if_true _ _ _ (and_from (is_none p.cycle) _ (ap (λ o. is_none o) shut) (and_from (nat_le (length m.parts) (nones p.slots)) _
       (le-leb (length m.parts) (nones p.slots) (let a = ap (λ os. nones os) all_free in let b = count_none (length m.parts + z) in omega (arith, a, b)))
-      (lt-ltb p.next (2 ^ 64 - 1) (let a = free.numbers in let b = shown.next in omega (arith, a, b)))))
+      (lt-ltb p.next (2 ^ 64 - 1) (let a = free.numbers in let b = s.shown.next in omega (arith, a, b)))))
 
   between : Between N p.next 0 K z B
   between = record {
@@ -172,11 +132,11 @@ module _ (t : Contents) (ids : List Identity) (w : WorldState) (o : Comes t ids 
     cycle = record { number = p.next; kept = map (λ u. None) m.parts };
     is_open = refl;
     number_is = refl;
-    count_is = shown.plain_count ∙ many;
+    count_is = s.shown.plain_count ∙ many;
   }
 
   pub beginning : Beginning t w
-  beginning = record { p = p; shown = shown; w_plan = w_plan; usable = usable; count = shown.plain_count ∙ many; no_frame = slot_free; begun = B; is = refl; begins = begins; between = between }
+  beginning = record { p = p; shown = s.shown; w_plan = s.plan_kept; usable = s.still_usable; count = s.shown.plain_count ∙ many; no_frame = slot_free; begun = B; is = refl; begins = begins; between = between }
 
 -- ---- what follows
 

@@ -1,17 +1,6 @@
 -- A cycle of the plain machine that nothing disturbs: each of its frames goes round, one after another.
-use Rattle.std.proofs.Common.{ℕ, zero, suc, ◌+◌, ◌<◌, ◌≤◌, ◌≡◌, ◌==◌, ◌&&◌, ◌||◌, nat_lt, Bool, true, false, Option, Some, None, refl, sym, ◌∙◌, ap, subst, arith, List, [], ◌∷◌, ◌++◌, length, get_or, set, replicate, is_some, if◌then◌else◌, option_map, unwrap_or, length-set}
-use Rattle.std.specs.List.{list_all}
-use Rattle.std.proofs.lemmas.Bool.{and_parts, and_from, lt-ltb, le-ltb, eq-eqb}
-use Rattle.std.proofs.lemmas.List.{length_push, map-set, length-append}
-use Rattle.ec_bits.proofs.AnyLaws.{if_true, if_false}
-use Rattle.ec_link.specs.Meaning.{Meaning}
-use Rattle.ec_world.specs.declared.event.Event.{Event}
-use Rattle.ec_world.specs.declared.event.Event.TheVariants.{Pass, Return}
-use Rattle.ec_world.specs.declared.progress.Progress.{Progress}
-use Rattle.ec_world.specs.Plain.{Plain, PlainFrame, Cycle, step, run, frame_at, plain_slave, moved, keeping, filled, new_frames, with_note, met_note, progress_of, all_progress, is_older, lets_by, may_pass, may_return}
-use Rattle.ec_world.specs.Undisturbed.{round_of, rounds_of}
+use Rattle.ec_world.proofs.Words.{ℕ, zero, suc, ◌+◌, ◌<◌, ◌≤◌, ◌≡◌, ◌==◌, ◌&&◌, ◌||◌, nat_lt, Bool, true, false, Option, Some, None, refl, sym, ◌∙◌, ap, subst, arith, List, [], ◌∷◌, ◌++◌, length, get_or, set, replicate, is_some, if◌then◌else◌, option_map, unwrap_or, length-set, list_all, and_parts, and_from, lt-ltb, le-ltb, eq-eqb, length_push, map-set, length-append, if_true, if_false, Meaning, Event, Pass, Return, Progress, Plain, PlainFrame, Cycle, step, run, frame_at, plain_slave, moved, keeping, filled, new_frames, with_note, met_note, progress_of, all_progress, is_older, lets_by, may_pass, may_return, round_of, rounds_of, none_some, some_same}
 use Rattle.ec_world.proofs.Histories.{run_joins, keeping_number}
-use Rattle.ec_world.proofs.Lists.{none_some, some_same}
 
 -- ---- slots
 
@@ -171,11 +160,7 @@ first_made m p e es R Then g a =
 
 pub both_made : (m : Meaning) (p : Plain) (xs ys : List Event) (R Then : Plain → Type 0) (a : AllMade m p xs R) → AllMade m (run m p xs).plain ys Then → AllMade m p (xs ++ ys) Then
 both_made m p xs ys R Then a b =
-    let n = run_made m p xs ys in
-    let l = length-append xs ys in
-    let x = a.made in
-    let y = b.made in
-    record { made = omega (arith, n, l, x, y); after = subst Then (sym (run_joins m p xs ys)) b.after }
+    record { made = omega (arith, run_made m p xs ys, length-append xs ys, a.made, b.made); after = subst Then (sym (run_joins m p xs ys)) b.after }
 
 passes_go : (m : Meaning) (N n j count z : ℕ) (d i : ℕ) (p : Plain) → i + d ≡ N → Going N n j i (fresh n (j + 1) count ++ empty z) p → AllMade m p (replicate d (Pass j)) (Going N n j N (fresh n (j + 1) count ++ empty z))
 passes_go m N n j count z zero i p e h = record { made = refl; after = subst (λ (k : ℕ). Going N n j k (fresh n (j + 1) count ++ empty z) p) (omega (arith, e)) h }

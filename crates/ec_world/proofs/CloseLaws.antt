@@ -1,34 +1,8 @@
 -- Closing a cycle: a master that goes by counters takes what the plain machine takes by its notes.
-use Rattle.std.proofs.Common.{ℕ, ◌+◌, ◌-◌, ◌*◌, ◌<◌, ◌≡◌, ◌≢◌, ◌==◌, true, false, Option, Some, None, refl, sym, ◌∙◌, ap, subst, inl, inr, arith, List, [], length, map, get_or, is_some, slice_get, if◌then◌else◌, option_and_then, option_map, unwrap_or, suc, Bool, ◌∷◌}
-use Rattle.std.proofs.Math.ListN.{get_or-map as get_or-mapped}
-use Rattle.std.proofs.lemmas.Bool.{cases_Bool, eq-eqb, eqb-true, and_parts, cases_eq}
-use Rattle.std.proofs.lemmas.List.{length-map, get_or-map}
-use Rattle.std.proofs.lemmas.Option.{slice_get-get_or}
-use Rattle.ec_link.proofs.LinkLaws.{linked_inputs}
-use Rattle.ec_bits.specs.Bits.{bit}
-use Rattle.ec_bits.proofs.BitLaws.{overlay_alike}
-use Rattle.ec_bits.proofs.AnyLaws.{if_true, if_false}
-use Rattle.ec_link.specs.declared.settings.Share.{Share}
-use Rattle.ec_link.specs.declared.plan.ExpectedCounters.{ExpectedCounters}
-use Rattle.ec_link.specs.declared.plan.ExpectedCounters.TheVariants.{Lrw, Split, Lrw as InOne}
-use Rattle.ec_link.specs.Shares.{same_counters, unit_of_part, predicted, Gave, counters_of, sum_of, lwr_count, lrd_count, lrw_count, whole_share, nothing_given}
-use Rattle.ec_link.specs.Meaning.{share_of, Linked, slave_at, area_at, meaning, in_source, place_of_part}
-use Rattle.ec_link.specs.Plan.{PlanState, part_at, no_part}
-use Rattle.ec_link.specs.declared.plan.PartPlan.{PartPlan}
-use Rattle.ec_link.specs.Usable.{IsUsable}
-use Rattle.ec_cycle.specs.Closing.{KeptPart, is_good, unit_taken, bytes_of, returned_bit, inputs_closed, report_of, nones, kept_of}
-use Rattle.ec_cycle.specs.Master.{OpenCycle, Answers}
-use Rattle.ec_world.specs.Plain.{Note, Other, Short, Full, Cycle, is_full, all_full, unit_full, noted_bit, notes_of_part, taken_bit, inputs_taken, PlainFrame}
-use Rattle.ec_world.specs.FrameShows.{note_at, GaveAs, DatagramsShow, KeptShows}
-use Rattle.ec_world.specs.Shows.{CycleShows, said, CountersPredicted}
-use Rattle.ec_world.specs.Promises.{IsCounted}
+use Rattle.ec_world.proofs.Words.{ℕ, ◌+◌, ◌-◌, ◌*◌, ◌<◌, ◌≡◌, ◌≢◌, ◌==◌, true, false, Option, Some, None, refl, sym, ◌∙◌, ap, subst, inl, inr, arith, List, [], length, map, get_or, is_some, slice_get, if◌then◌else◌, option_and_then, option_map, unwrap_or, suc, Bool, ◌∷◌, get_or-map as get_or-mapped, cases_Bool, eq-eqb, eqb-true, and_parts, cases_eq, length-map, list_get_or-map as get_or-map, slice_get-get_or, linked_inputs, bit, overlay_alike, if_true, if_false, Share, ExpectedCounters, Lrw, Split, Lrw as InOne, same_counters, unit_of_part, predicted, Gave, counters_of, sum_of, lwr_count, lrd_count, lrw_count, whole_share, nothing_given, share_of, Linked, slave_at, area_at, meaning, in_source, place_of_part, PlanState, part_at, no_part, PartPlan, IsUsable, KeptPart, is_good, unit_taken, bytes_of, returned_bit, inputs_closed, report_of, nones, kept_of, OpenCycle, Answers, Note, Other, Short, Full, Cycle, is_full, all_full, unit_full, noted_bit, notes_of_part, taken_bit, inputs_taken, PlainFrame, note_at, GaveAs, DatagramsShow, KeptShows, CycleShows, said, CountersPredicted, IsCounted, all_from-each, all_from-alike, nones-alike, there_too, map-alike, all_each, Datagram, IsKept, answer_on_their_way, frames_are_kept}
 use Rattle.ec_world.proofs.Knowing.{share_is}
-use Rattle.ec_world.proofs.Lists.{all_from-each, all_from-alike, nones-alike, there_too, map-alike, all_each}
 use Rattle.ec_world.proofs.RoundTrips.{good_is_full, at}
-use Rattle.ec_frame.specs.Datagram.{Datagram}
 use Rattle.ec_world.proofs.DataLaws.{same_place, full_in_part}
-use Rattle.ec_cycle.specs.Interface.{IsKept}
-use Rattle.ec_cycle.proofs.OnTheirWay.{answer_on_their_way, frames_are_kept}
 
 unit_is : (plan : PlanState) (k : ℕ) → unit_of_part (meaning plan) k ≡ (part_at plan.parts k).unit
 unit_is plan k = get_or-mapped (λ (x : PartPlan). x.unit) plan.parts k no_part
@@ -43,7 +17,7 @@ taken_is_full plan c q u h = all_from-alike
     subst (λ (n : ℕ). (if (part_at plan.parts n).unit == u then is_good plan n (Some x) else true) ≡ (if unit_of_part (meaning plan) n == u then all_full (Some y) else true)) (sym z)
     (ap (λ v. if v == u then is_good plan i (Some x) else true) (sym (unit_is plan i)) ∙ ap (λ v. if unit_of_part (meaning plan) i == u then v else true) (good_is_full plan i y x (h.kept i x y a b))))
 
-full_or : (n : Note) → is_full n ≡ true → n ≢ Other → (v : List ℕ) × (n ≡ Full v)
+pub full_or : (n : Note) → is_full n ≡ true → n ≢ Other → (v : List ℕ) × (n ≡ Full v)
 full_or Other e ne = absurd (ne refl)
 full_or Short e ne = absurd (let z : false ≡ true = e in cc)
 full_or (Full v) e ne = (v, refl)
@@ -81,10 +55,9 @@ returned_is_taken plan c q i sound h l b =
           let few : i.slave < length notes.0 = let x = shows.all in omega arith in
           let full = all_each is_full notes.0 i.slave Other (sym (ap all_full notes.1) ∙ own) few in
           let note = full_or (note_at notes.0 i.slave) full (shows.in_part i.slave few part) in
-          let bits = shows.noted i.slave i.bit_of note.0 few note.1 b in
           if_true _ _ _ (same ∙ on)
           ∙ (ap (λ o. Some (bit (bytes_of o) ((area_at plan i.slave).in_at + i.bit_of - 8 * (part_at plan.parts k).address))) kept.1
-          ∙ (ap (λ x. Some x) bits
+          ∙ (ap (λ x. Some x) (shows.noted i.slave i.bit_of note.0 few note.1 b)
           ∙ sym (plain ∙ (if_true _ _ _ on
           ∙ (ap (λ o. noted_bit (slice_get (unwrap_or o []) i.slave) i.bit_of) notes.1
           ∙ (ap (λ o. noted_bit o i.bit_of) (slice_get-get_or notes.0 i.slave Other few)
@@ -113,11 +86,10 @@ report_said plan c q h =
 
 counters_equal : (a b : ExpectedCounters) → same_counters a b ≡ true → a ≡ b
 counters_equal (Lrw n) (Lrw m) e = ap (λ x. Lrw x) (eqb-true n m e)
-counters_equal (Lrw n) (Split w r) e = absurd (let z : false ≡ true = e in cc)
-counters_equal (Split w r) (Lrw n) e = absurd (let z : false ≡ true = e in cc)
 counters_equal (Split w r) (Split v q) e =
     let both = and_parts (w == v) (r == q) e in
     ap (λ x. Split x r) (eqb-true w v both.0) ∙ ap (λ x. Split v x) (eqb-true r q both.1)
+counters_equal _ _ e = absurd (let z : false ≡ true = e in cc)
 
 good_counters : (plan : PlanState) (k : ℕ) (o : Option KeptPart) → is_good plan k o ≡ true → option_map (λ (q : KeptPart). q.counters) o ≡ Some (predicted plan k)
 good_counters plan k None e = absurd (let z : false ≡ true = e in cc)
@@ -156,8 +128,7 @@ counted plan c q k h there on =
 -- a taken unit has the predicted counters
 pub counters_predicted : (plan : PlanState) (kept : List (Option KeptPart)) → length kept ≡ length plan.parts → CountersPredicted plan (report_of plan kept)
 counters_predicted plan kept len i k b taken there unit =
-    let u = get_or plan.units i 0 in
-    let on : unit_taken plan kept u ≡ true = sym (get_or-map (unit_taken plan kept) plan.units i 0 false b) ∙ taken in
+    let on : unit_taken plan kept (get_or plan.units i 0) ≡ true = sym (get_or-map (unit_taken plan kept) plan.units i 0 false b) ∙ taken in
     let own : is_good plan k (get_or kept k None) ≡ true = good_part plan kept k len there (ap (unit_taken plan kept) unit ∙ on) in
     get_or-mapped (λ (o : Option KeptPart). option_map (λ q. q.counters) o) kept k None ∙ good_counters plan k (get_or kept k None) own
 

@@ -1,45 +1,11 @@
 -- The slaves of a new world are devices of their types.
-use Rattle.std.proofs.Common.{ℕ, zero, suc, ◌<◌, ◌≡◌, refl, sym, ◌∙◌, ap, arith, List, [], ◌∷◌, length, get_or, None, ◌+◌, ◌⊎◌, Bool, true, false, if◌then◌else◌, Option, subst, inl, inr, ◌++◌, replicate}
-use Rattle.ec_device.specs.declared.slave_type.Identity.{Identity}
-use Rattle.ec_link.specs.declared.settings.SlavePlan.{SlavePlan}
-use Rattle.ec_link.specs.Plan.{plan_of, PlanState}
-use Rattle.ec_link.proofs.Soundness.{plan_sound}
-use Rattle.ec_bringup.specs.Devices.{IsOfType, IsGenuine, AreGenuine}
-use Rattle.ec_bringup.specs.Undisturbed.{plan_at, slave_of, Rising, turns}
-use Rattle.ec_bringup.proofs.Genuine.{switched_on as genuine-on, stay}
-use Rattle.ec_bringup.specs.SwitchedOn.{no_identity, switched_on}
-use Rattle.ec_table.specs.Contents.{Contents}
+use Rattle.ec_world.proofs.Words.{ℕ, zero, suc, ◌<◌, ◌≡◌, refl, sym, ◌∙◌, ap, arith, List, [], ◌∷◌, length, get_or, None, ◌+◌, ◌⊎◌, Bool, true, false, if◌then◌else◌, Option, subst, inl, inr, ◌++◌, replicate, Identity, SlavePlan, plan_of, PlanState, plan_sound, IsOfType, IsGenuine, AreGenuine, plan_at, bringup_slave_of as slave_of, BringupRising as Rising, turns, genuine-on, stay, no_identity, bringup_switched_on as switched_on, Contents, compile_fault, AreOfTypes, IsTurn, AreTurns, BringUp, IsToStart, IsBroughtUp, NewLaw, rising_of, append-nil, length-append, SlaveState, plan_usable, MasterState, readied, cycle_limit, StartError, Phase, Idle, Ready, Failed, script, StartState, begun, IsUpAndWorks, AreStartable, are-plans, compiled-up, Event, WorldState, Flight, flight_at, phase_ready, phase_awaits, is_up, awaits, resumed, ready_with, IsRun, IsNew, new_world, all_none, none_free}
 use Rattle.ec_table.specs.Sound as table
-use Rattle.ec_link.specs.Faults.{compile_fault}
-use Rattle.ec_world.specs.NewWorld.{AreOfTypes, IsTurn, AreTurns, BringUp, IsToStart, IsBroughtUp, NewLaw, rising_of}
-use Rattle.std.proofs.lemmas.List.{append-nil, length-append}
-use Rattle.ec_slave.specs.State.{SlaveState}
-use Rattle.ec_link.proofs.UsableLaws.{plan_usable}
-use Rattle.ec_cycle.specs.Master.{MasterState, readied, cycle_limit}
-use Rattle.ec_start.specs.declared.error.StartError.{StartError}
-use Rattle.ec_start.specs.declared.phase.Phase.{Phase}
-use Rattle.ec_start.specs.declared.phase.Phase.TheVariants.{Idle, Ready, Failed}
-use Rattle.ec_start.specs.Scripts.{script}
-use Rattle.ec_start.specs.Running.{StartState, begun}
-use Rattle.ec_bringup.specs.ComesUp.{IsUpAndWorks}
-use Rattle.ec_bringup.specs.Runs.{AreStartable}
-use Rattle.ec_bringup.proofs.CompleteLaws.{are-plans}
-use Rattle.ec_bringup.proofs.ComesUp.{compiled-up}
-use Rattle.ec_world.specs.declared.event.Event.{Event}
-use Rattle.ec_world.specs.World.{WorldState, Flight, flight_at, phase_ready, phase_awaits, is_up, awaits, resumed, ready_with}
-use Rattle.ec_world.specs.Laws.{IsRun}
-use Rattle.ec_world.specs.Whole.{IsNew, new_world}
 use Rattle.ec_world.proofs.ScriptLengths.{script_fits}
 use Rattle.ec_world.proofs.Sized.{run_many}
-use Rattle.ec_world.proofs.Whole.{StillRises, still_rises, new-rises, new-low}
+use Rattle.ec_world.proofs.Whole.{StillRises, still_rises, new-rises, new-low, on-count}
 use Rattle.ec_world.proofs.Turning.{Sending, length-turned}
 use Rattle.ec_world.proofs.Turns.{HasTurned, turns_once}
-use Rattle.ec_world.proofs.Lists.{all_none}
-
-length-on : (ps : List SlavePlan) (is : List Identity) → length is ≡ length ps → length (switched_on ps is) ≡ length ps
-length-on [] is e = refl
-length-on (p ∷ ps) [] e = absurd (omega (arith, e))
-length-on (p ∷ ps) (i ∷ is) e = ap (λ (n : ℕ). suc n) (length-on ps is (omega (arith, e)))
 
 each-on : (ps : List SlavePlan) (is : List Identity) → length is ≡ length ps → ((k : ℕ) → k < length ps → IsOfType (plan_at ps k).kind.device (get_or is k no_identity))
     → (k : ℕ) → k < length ps → IsGenuine (plan_at ps k).kind (slave_of (switched_on ps is) k)
@@ -56,7 +22,7 @@ devices t is sound free e h =
     let few = plan.few in
     let same : length is ≡ length (plan_of t).slaves = e ∙ sym many in
     record {
-      count = length-on (plan_of t).slaves is same;
+      count = on-count (plan_of t).slaves is same;
       few = omega (arith, few, many);
       each = each-on (plan_of t).slaves is same (λ i l. h i (omega (arith, l, many)));
     }
@@ -77,9 +43,8 @@ split : (xs ys : List Event) (w v : WorldState) (made : ℕ) → IsRun w (xs ++ 
 split [] ys w v made h = record { mid = w; first = 0; rest = made; to_mid = (refl, refl); onward = h; sum = omega arith }
 split (x ∷ xs) ys w v made h =
     let r = split xs ys h.0 v h.2 h.4 in
-    let s = r.sum in
     let k : ℕ = if h.1 then 1 else 0 in
-    let z : k + h.2 ≡ k + r.first + r.rest = omega (arith, s) in
+    let z : k + h.2 ≡ k + r.first + r.rest = omega (arith, r.sum) in
     record { mid = r.mid; first = k + r.first; rest = r.rest; to_mid = (h.0, h.1, r.first, h.3, r.to_mid, refl); onward = r.onward; sum = h.5 ∙ z }
 
 pub record IsGoing (r : Rising) : Type 0 where
@@ -124,11 +89,7 @@ turns_all (suc k) n w s es v made can free go are h =
     (λ j l. subst (λ (x : Rising). IsGoing (turns j x)) (sym o.is) (go (suc j) (omega (arith, l))))
     (subst (λ (m : ℕ). AreTurns m (suc k) are.1) (sym many) are.4) p.onward in
     let low : ready_with w.master p.mid.start ≡ w.master = low_master w.master p.mid.start (is_up p.mid.start) refl (ap (λ (q : Phase). phase_ready q) now.idle) in
-    let long = length-append are.0 are.1 in
-    let c = once.0 in
-    let d = r.count in
-    let sum = p.sum in
-    let total : made ≡ length (are.0 ++ are.1) = omega (arith, long, c, d, sum) in
+    let total : made ≡ length (are.0 ++ are.1) = omega (arith, length-append are.0 are.1, once.0, r.count, p.sum) in
     record {
       is = r.is ∙ ap (λ (x : Rising). turns (suc k) x) o.is;
       slots = r.slots;
@@ -144,11 +105,6 @@ some_script (p ∷ ps) = (_, refl)
 
 pub free_slots : (n : ℕ) (os : List (Option Flight)) → length os ≡ n → ((k : ℕ) → get_or os k None ≡ None) → os ≡ replicate n None
 free_slots n os e h = all_none os h ∙ ap (λ m. replicate m None) e
-
-none_free : (n k : ℕ) → (let o : Option Flight = None in get_or (replicate n o) k o) ≡ None
-none_free zero k = refl
-none_free (suc n) zero = refl
-none_free (suc n) (suc k) = none_free n k
 
 record IsAnew (w : WorldState) (ps : List SlavePlan) : Type 0 where
   resumes : w.start.plan ≡ ps → resumed w.start w.start.phase ≡ begun ps w.start.next
@@ -178,12 +134,10 @@ begun_next ps n = refl
 risen : (t : Contents) (w : WorldState) (s : IsToStart t w) → is_up w.start ≡ false → StillRises (plan_of t).slaves (new_world (plan_of t) s.identities) w
 risen t w s low =
     let n = s.new in
-    let sound = plan_sound t n.sound n.accepted in
-    let many = sound.as_many in
     let planned : AreStartable (plan_of t).slaves = record { each = (are-plans t n.sound n.accepted).planned } in
     let usable = plan_usable t n.sound n.accepted in
     still_rises s.events (plan_of t).slaves (new_world (plan_of t) s.identities) w s.made _ usable planned
-    (new-rises (plan_of t) s.identities usable planned (n.one_each ∙ sym many)) (new-low (plan_of t) s.identities)
+    (new-rises (plan_of t) s.identities usable planned (n.one_each ∙ sym ((plan_sound t n.sound n.accepted).as_many))) (new-low (plan_of t) s.identities)
     (devices t s.identities n.sound n.accepted n.one_each s.devices)
     (subst (λ (x : WorldState). IsRun x s.events w s.made) n.is s.reached) low
 
@@ -264,11 +218,10 @@ comes_up t w s events v made are h =
     let ps : List SlavePlan = (plan_of t).slaves in
     let b : IsBeginning t w = beginning t w s in
     let from : ℕ = w.start.next in
-    let long = b.long in
     let left = b.turns_left in
     let turned : HaveTurned (suc b.k) 63 w (begun ps from) events v made
     = turns_all b.k 63 w (begun ps from) events v made left.can left.free left.go
-    (subst (λ (m : ℕ). AreTurns m (suc b.k) events) (sym b.many) (subst (λ (m : ℕ). AreTurns (length t.slaves) m events) long are)) h in
+    (subst (λ (m : ℕ). AreTurns m (suc b.k) events) (sym b.many) (subst (λ (m : ℕ). AreTurns (length t.slaves) m events) b.long are)) h in
     let works : IsUpAndWorks ps (from + length (script ps)) (rising_of v) = subst (IsUpAndWorks ps (from + length (script ps))) (sym turned.is) b.up in
     let now : is_up v.start ≡ true = ap (λ (p : Phase). phase_ready p) works.ready in
     let master : v.master ≡ readied w.master v.start.next = turned.master ∙ high_master w.master v.start now in

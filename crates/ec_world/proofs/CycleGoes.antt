@@ -1,14 +1,7 @@
 -- What the plain machine makes whole, a world that shows it makes whole.
-use Rattle.std.proofs.Common.{ℕ, suc, ◌+◌, ◌≤◌, ◌≡◌, Bool, true, false, if◌then◌else◌, is_some, unwrap_or, refl, sym, ◌∙◌, ap, subst, arith, List, [], ◌∷◌, length}
-use Rattle.ec_link.specs.Meaning.{Meaning, meaning}
-use Rattle.ec_link.specs.Plan.{PlanState}
-use Rattle.ec_link.specs.Usable.{IsUsable}
-use Rattle.ec_world.specs.declared.event.Event.{Event}
-use Rattle.ec_world.specs.Plain.{Plain, step, run}
-use Rattle.ec_world.specs.World.{WorldState}
-use Rattle.ec_world.specs.Shows.{Shows}
+use Rattle.ec_world.proofs.Words.{ℕ, suc, ◌+◌, ◌≤◌, ◌≡◌, Bool, true, false, if◌then◌else◌, is_some, unwrap_or, refl, sym, ◌∙◌, ap, subst, arith, List, [], ◌∷◌, length, Meaning, meaning, PlanState, IsUsable, Event, Plain, step, run, WorldState, Shows}
 use Rattle.ec_world.proofs.StepLaws.{steps_show}
-use Rattle.ec_world.proofs.Turns.{Onward, Goes}
+use Rattle.ec_world.proofs.Turns.{Goes, onward}
 
 made_few : (m : Meaning) (p : Plain) (es : List Event) → (run m p es).made ≤ length es
 made_few m p [] = omega arith
@@ -22,10 +15,6 @@ one_made : (one : Bool) (rest : ℕ) (es : List Event) (e : Event) → rest ≤ 
 one_made true rest es e l h = (refl, omega (arith, h))
 one_made false rest es e l h = absurd (omega (arith, l, h))
 
-further : {X : Type 0} (Y : Type 0) (one : Bool) → one ≡ true → Onward one X Y → X
-further Y true e h = h
-further Y false e h = absurd (let bad : false ≡ true = e in cc)
-
 pub goes_full : (es : List Event) (w new : WorldState) (all : Bool) (p : Plain) → IsUsable w.plan → Shows w p → Goes es w new all → (run (meaning w.plan) p es).made ≡ length es → all ≡ true
 goes_full [] w new all p usable shows h full = h.1
 goes_full (e ∷ es) w new all p usable shows h full =
@@ -34,5 +23,5 @@ goes_full (e ∷ es) w new all p usable shows h full =
     let both = one_made (is_some (step (meaning w.plan) p e)) (run (meaning w.plan) q es).made es e (made_few (meaning w.plan) q es) full in
     let plan = s.same_plan p shows in
     goes_full es h.0 new all q (subst IsUsable (sym plan) usable) (s.shown p shows)
-    (further ((new ≡ h.0) × (all ≡ false)) h.1 (s.made_is p shows ∙ both.0) h.3)
+    (onward ((new ≡ h.0) × (all ≡ false)) h.1 (s.made_is p shows ∙ both.0) h.3)
     (ap (λ (x : PlanState). (run (meaning x) q es).made) plan ∙ both.1)

@@ -1,14 +1,5 @@
 -- A world at rest makes a cycle whole.
-use Rattle.std.proofs.Common.{◌≡◌, ◌≤◌, Bool, true, Some, None, Option, refl, ◌∙◌, ap, arith, List, [], ◌∷◌, length, replicate, option_map, unwrap_or}
-use Rattle.ec_device.specs.declared.slave_type.Identity.{Identity}
-use Rattle.ec_table.specs.Contents.{Contents}
-use Rattle.ec_link.specs.Meaning.{Meaning, meaning}
-use Rattle.ec_link.specs.Plan.{PlanState, plan_of}
-use Rattle.ec_link.proofs.Soundness.{plan_sound}
-use Rattle.ec_world.specs.declared.event.Event.TheVariants.{Begin, Close}
-use Rattle.ec_world.specs.Plain.{Plain, run}
-use Rattle.ec_world.specs.World.{WorldState}
-use Rattle.ec_world.specs.Undisturbed.{cycle_of, Rests}
+use Rattle.ec_world.proofs.Words.{◌≡◌, ◌≤◌, Bool, true, Some, None, Option, refl, ◌∙◌, ap, arith, List, [], ◌∷◌, length, replicate, option_map, unwrap_or, Identity, Contents, Meaning, meaning, PlanState, plan_of, plan_sound, Begin, Close, Plain, run, WorldState, cycle_of, Rests}
 use Rattle.ec_world.proofs.AtRest.{Beginning, beginning, comes_of, free_of, rounds, going}
 use Rattle.ec_world.proofs.Calm.{AllMade, Goes, first_made, both_made}
 use Rattle.ec_world.proofs.ComingUp.{free_slots}

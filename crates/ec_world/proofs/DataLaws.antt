@@ -1,17 +1,5 @@
 -- The process data of a frame before and after one more slave.
-use Rattle.std.proofs.Common.{ℕ, ◌+◌, ◌-◌, ◌*◌, ◌<◌, ◌≤◌, ◌≡◌, ◌≢◌, Bool, true, false, refl, sym, ◌∙◌, ap, subst, inl, inr, arith, if◌then◌else◌, List, [], ◌∷◌, ◌++◌, length, get_or, unwrap_or, option_map}
-use Rattle.std.proofs.lemmas.Bool.{cases_Bool, cases_lt, cases_eq, lt-ltb, le-ltb, both_ways}
-use Rattle.std.proofs.lemmas.List.{get_or_append_left, get_or_push, length_push}
-use Rattle.ec_bits.specs.Bits.{bit, within, bytes_of_bits, zeros}
-use Rattle.ec_bits.proofs.BitLaws.{bit-overlay, bit-zeros, overlay_alike, length-overlay}
-use Rattle.ec_bits.proofs.AnyLaws.{if_true, if_false, within_true, within_parts}
-use Rattle.ec_fmmu.specs.Applied.{Place}
-use Rattle.ec_slave.specs.Exchange.{outputs_from, inputs_into}
-use Rattle.ec_fmmu.specs.Areas.{Area, Spans}
-use Rattle.ec_link.specs.Shares.{Gave, nothing_given}
-use Rattle.ec_link.specs.Meaning.{Meaning, share_of, IsLaid}
-use Rattle.ec_world.specs.Plain.{PlainFrame, Note, Other, Full, linked_outputs, with_note}
-use Rattle.ec_world.specs.FrameShows.{GaveAs, note_at, ShowsData}
+use Rattle.ec_world.proofs.Words.{ℕ, ◌+◌, ◌-◌, ◌*◌, ◌<◌, ◌≤◌, ◌≡◌, ◌≢◌, Bool, true, false, refl, sym, ◌∙◌, ap, subst, inl, inr, arith, if◌then◌else◌, List, [], ◌∷◌, ◌++◌, length, get_or, unwrap_or, option_map, cases_Bool, cases_lt, cases_eq, lt-ltb, le-ltb, both_ways, get_or_append_left, get_or_push, length_push, bit, within, bytes_of_bits, zeros, bit-overlay, bit-zeros, overlay_alike, length-overlay, if_true, if_false, within_true, within_parts, Place, outputs_from, inputs_into, Area, Spans, Gave, nothing_given, Meaning, share_of, IsLaid, PlainFrame, Note, Other, Full, linked_outputs, with_note, GaveAs, note_at, ShowsData}
 
 -- the outputs that a frame has for a slave to come are the linked ones
 pub outputs_are : (m : Meaning) (area : ℕ → Area) (place : ℕ → Place) (p : Place) (f : PlainFrame) (sent returned : List ℕ) (gave : List Gave) (t : ℕ)
@@ -77,11 +65,8 @@ note-old f n t l = get_or_append_left f.notes (n ∷ []) Other t l
 note-new : (f : PlainFrame) (n : Note) → note_at (f.notes ++ (n ∷ [])) (length f.notes) ≡ n
 note-new f n = get_or_push f.notes n Other (length f.notes) refl
 
-differ : (v : List ℕ) → Other ≡ Full v → ⊥
-differ v h = cc
-
 pub full_in_part : (m : Meaning) (t k : ℕ) (n : Note) (v : List ℕ) → n ≡ Full v → ((share_of m t).part ≢ k → n ≡ Other) → (share_of m t).part ≡ k
-full_in_part m t k n v e elsewhere = elim (cases_eq (share_of m t).part k) [ inl x ↦ x | inr y ↦ absurd (differ v (sym (elsewhere y) ∙ e)) ]
+full_in_part m t k n v e elsewhere = elim (cases_eq (share_of m t).part k) [ inl x ↦ x | inr y ↦ absurd (cc (sym (elsewhere y) ∙ e)) ]
 
 pub data_passed : (m : Meaning) (area : ℕ → Area) (place : ℕ → Place) (f : PlainFrame) (sent returned sent2 returned2 : List ℕ) (gave : List Gave) (n : Note) (g : Gave)
     → IsLaid m area place → ShowsData m area (place f.part) f sent returned gave → length f.notes < length m.slaves

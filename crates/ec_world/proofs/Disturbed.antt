@@ -1,23 +1,9 @@
 -- What disturbs a cycle for a unit keeps the unit from being taken: one of its parts is spoiled, and stays so.
-use Rattle.std.proofs.Common.{ℕ, suc, ◌+◌, ◌<◌, ◌≤◌, ◌≡◌, ◌≢◌, ◌==◌, ◌&&◌, ◌||◌, Bool, true, false, Option, Some, None, refl, sym, ◌∙◌, ap, subst, inl, inr, arith, List, [], ◌∷◌, ◌++◌, length, map, get_or, set, if◌then◌else◌, unwrap_or, nat_le, get_or-set_same, length-set}
-use Rattle.std.specs.List.{list_all, list_any}
-use Rattle.std.proofs.lemmas.Bool.{cases_Bool, cases_eq, and_cases, and_parts, and_left, and_right, or_cases, or_left, eqb-true, eq-eqb, leb-true, true≢false}
-use Rattle.std.proofs.lemmas.List.{length-map, length_push}
-use Rattle.ec_bits.proofs.AnyLaws.{if_true}
-use Rattle.ec_link.specs.Meaning.{Meaning, share_of, meaning}
-use Rattle.ec_link.specs.Shares.{has_outs, has_ins, unit_of_part}
-use Rattle.ec_link.specs.declared.plan.PartPlan.{PartPlan}
-use Rattle.ec_link.specs.Plan.{PlanState}
-use Rattle.ec_link.specs.Usable.{IsUsable}
-use Rattle.ec_world.specs.declared.event.Event.{Event}
-use Rattle.ec_world.specs.declared.event.Event.TheVariants.{Pass, Lose, Fault, Reset as ResetSlave}
-use Rattle.ec_world.specs.Plain.{Plain, PlainSlave, PlainFrame, Health, Working, Faulted, Reset, Note, Short, Cycle, unit_full, step, run, frame_at, plain_slave, no_plain_slave, keeping, filled, new_frames, with_note, with_slot, met_note, giving, is_full, all_full}
-use Rattle.ec_world.specs.Promises.{IsBegun, FallsShort, QuietLaw, unit_of_slave, is_of_unit, holds_of_unit, still_comes, is_awaited, disturbs}
-use Rattle.ec_world.proofs.Lists.{all_from-each, none_some, some_same}
+use Rattle.ec_world.proofs.Words.{ℕ, suc, ◌+◌, ◌<◌, ◌≤◌, ◌≡◌, ◌≢◌, ◌==◌, ◌&&◌, ◌||◌, Bool, true, false, Option, Some, None, refl, sym, ◌∙◌, ap, subst, inl, inr, arith, List, [], ◌∷◌, ◌++◌, length, get_or, set, if◌then◌else◌, unwrap_or, nat_le, get_or-set_same, length-set, list_all, list_any, cases_Bool, cases_eq, and_cases, and_parts, and_left, and_right, or_cases, or_left, eqb-true, eq-eqb, leb-true, true≢false, length-map, length_push, if_true, Meaning, share_of, meaning, has_outs, has_ins, unit_of_part, PartPlan, PlanState, IsUsable, Event, Pass, Lose, Fault, ResetSlave, Plain, PlainSlave, PlainFrame, Health, Working, Faulted, Reset, Note, Short, Cycle, unit_full, step, run, frame_at, plain_slave, no_plain_slave, keeping, new_frames, with_note, with_slot, met_note, giving, is_full, all_full, IsBegun, FallsShort, QuietLaw, unit_of_slave, is_of_unit, holds_of_unit, still_comes, is_awaited, disturbs, all_from-each, none_some, some_same, cycle_begun, none_in}
 use Rattle.ec_world.proofs.CloseLaws.{all_full_kept}
 use Rattle.ec_world.proofs.Knowing.{share_is}
 use Rattle.ec_world.proofs.Tracing.{guarded, Leaves, leaves, Turned, faulted, switched}
-use Rattle.ec_world.proofs.Histories.{run_always, run_joins, begun_below, filled_has, new_one, none_there, keeping_number, count_kept, frames_left, cycle_left, next_left, kept_on, Rests, HasFailed, HasRestarted, became}
+use Rattle.ec_world.proofs.Histories.{run_always, run_joins, begun_below, filled_has, new_one, keeping_number, count_kept, frames_left, cycle_left, next_left, kept_on, Rests, HasFailed, HasRestarted, became}
 use Rattle.ec_world.proofs.Quiet.{short_alike}
 use Rattle.ec_world.proofs.Single.{left_there, Single, single_step, single_begun}
 
@@ -222,15 +208,11 @@ begun_spoiled m p begun s b c inside short = record {
   ways = λ i f at own part.
       Coming s (let n = ap (λ (ns : List Note). length ns) (fresh i f at own) in omega (arith, n)) (let n = ap (λ (x : Plain). length x.slaves) is in omega (arith, inside, n)) (sym part)
       (subst (λ (x : Plain). FallsShort m s (plain_slave x s)) is short);
-  kept = λ d at own notes e. absurd (none_there m.parts (share_of m s).part notes
+  kept = λ d at own notes e. absurd (none_in m.parts (share_of m s).part notes
       (ap (λ (x : Cycle). get_or x.kept (share_of m s).part None) (some_same _ d (ap (λ (x : Plain). x.cycle) is ∙ at)) ∙ e));
 }
   where
-    is : record p {
-      next = p.next + 1;
-      cycle = Some (record { number = p.next; kept = map (λ v. None) m.parts });
-      slots = filled (new_frames p.next p.outputs 0 m.parts) p.slots;
-    } ≡ begun
+    is : cycle_begun m p ≡ begun
     is = guarded _ _ begun b.begins
 
     fresh : (i : ℕ) (f : PlainFrame) → frame_at begun i ≡ Some f → f.number ≡ p.next → f.notes ≡ []
@@ -311,10 +293,9 @@ spoiled_not_full m p begun after c u b opened own taken before behind slot q f s
       kept = λ d at num_d notes e. absurd (none_some notes (sym (single.missing d at num_d slot f there num) ∙ e));
     } in
     let later : Spoiled m p.next f.part (run m q behind).plain = run_always (Spoiled m p.next f.part) m (λ y e z h r. spoiled_step m p.next f.part y e z h r) q behind (spoiled_step m p.next f.part x (Pass slot) q made spoiled) in
-    let end : Spoiled m p.next f.part (run m begun after).plain = subst (Spoiled m p.next f.part) (sym cut) later in
     let full : all_full (get_or c.kept f.part None) ≡ true = whole in
     let r = all_full_kept (get_or c.kept f.part None) full in
-    true≢false (sym (sym (ap all_full r.1) ∙ full) ∙ end.kept c opened own r.0 r.1)
+    true≢false (sym (sym (ap all_full r.1) ∙ full) ∙ (subst (Spoiled m p.next f.part) (sym cut) later).kept c opened own r.0 r.1)
   where
     x : Plain
     x = (run m begun before).plain

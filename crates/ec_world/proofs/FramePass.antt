@@ -1,26 +1,5 @@
 -- The AL word in a cyclic frame: each slave that the frame passes joins its own by OR.
-use Rattle.std.proofs.Common.{ℕ, ◌+◌, ◌≡◌, sym, ◌∙◌, ap, subst, arith, List, [], ◌∷◌, slice_index, bit_or, Some, ◌*◌, ◌%◌, ◌<◌, ◌≤◌, refl, ◌++◌, length, mod-eq_of_lt}
-use Rattle.ec_al.specs.Al.{status_word}
-use Rattle.ec_slave.specs.State.{SlaveState, with_answer}
-use Rattle.ec_slave.specs.Physical.{byte_at, retold}
-use Rattle.ec_slave.proofs.RegisterAccess.{shows_itself, retold_by_place}
-use Rattle.std.proofs.lemmas.List.{length_push, length-map}
-use Rattle.ec_frame.specs.Datagram.{Datagram, adp_of, ado_of}
-use Rattle.ec_frame.specs.Frame.{Payload, IsFrame, with_datagrams}
-use Rattle.ec_frame.proofs.Verdict.{one_payload}
-use Rattle.ec_slave.proofs.Meetings.{logical_meet}
-use Rattle.ec_slave.specs.Meeting.{meets, passes, Passed, IsPassed}
-use Rattle.ec_slave.proofs.Broadcast.{broadcast_read}
-use Rattle.ec_link.specs.Plan.{PlanState, part_at}
-use Rattle.ec_link.specs.Meaning.{slave_at, area_at, place_of_part, meaning}
-use Rattle.ec_link.specs.Usable.{IsUsable}
-use Rattle.ec_cycle.specs.Closing.{bytes_at}
-use Rattle.ec_cycle.specs.Frames.{name_datagram, status_datagram, process_datagrams}
-use Rattle.ec_world.specs.Plain.{PlainSlave, PlainFrame, met_note, met_slave, with_note}
-use Rattle.ec_world.specs.SlaveShows.{SlaveShows}
-use Rattle.ec_world.specs.FrameShows.{DatagramsShow, FrameShows}
-use Rattle.ec_world.specs.Exchanging.{given_in, slave_left}
-use Rattle.ec_world.specs.Laws.{BringsWord}
+use Rattle.ec_world.proofs.Words.{ℕ, ◌+◌, ◌≡◌, sym, ◌∙◌, ap, subst, arith, List, [], ◌∷◌, slice_index, bit_or, Some, ◌*◌, ◌%◌, ◌<◌, ◌≤◌, refl, ◌++◌, length, mod-eq_of_lt, status_word, SlaveState, with_answer, byte_at, retold, shows_itself, retold_by_place, length_push, length-map, Datagram, adp_of, ado_of, Payload, IsFrame, with_datagrams, one_payload, logical_meet, meets, passes, Passed, IsPassed, broadcast_read, PlanState, part_at, slave_at, area_at, place_of_part, meaning, IsUsable, bytes_at, name_datagram, status_datagram, process_datagrams, PlainSlave, PlainFrame, met_note, met_slave, with_note, SlaveShows, DatagramsShow, FrameShows, given_in, slave_left, BringsWord}
 use Rattle.ec_world.proofs.ProcessPass.{ProcessPassed, process_pass, passes_first}
 use Rattle.ec_world.proofs.Knowing.{knows, left_shows}
 
@@ -88,10 +67,9 @@ frame_word plan f s bytes bytes2 few shows passed w says p2 e =
     let p = shows.payload in
     let d = shows.shows in
     let al : d.al ≡ w ∷ 0 ∷ [] = ap (λ (xs : List Datagram). bytes_at xs 1) (sym d.is) ∙ says p shows.spelled in
-    let part = part_at plan.parts f.part in
     let on : BringsWord (passes s p.datagrams).datagrams (bit_or w (status_word s.al))
     = subst (λ (xs : List Datagram). BringsWord (passes s xs).datagrams (bit_or w (status_word s.al))) (sym d.is)
-    (word_on s f.number f.part (length f.notes) d.al (process_datagrams part f.number d.sent d.returned d.gave) w d.al_word few al) in
+    (word_on s f.number f.part (length f.notes) d.al (process_datagrams (part_at plan.parts f.part) f.number d.sent d.returned d.gave) w d.al_word few al) in
     subst (λ (y : Payload). BringsWord y.datagrams (bit_or w (status_word s.al))) (one_payload bytes2 (with_datagrams p (passes s p.datagrams).datagrams) p2 (passed p shows.spelled) e) on
 
 -- the datagrams of a cyclic frame after one more slave
@@ -108,21 +86,19 @@ datagrams_pass plan f q s ds sound l h shows =
     let t = length f.notes in
     let part = part_at plan.parts f.part in
     let n = met_note m t f q in
-    let g = given_in m t f q in
     let few : length plan.slaves ≤ 64 = sound.few_slaves in
     let many : length m.slaves ≡ length plan.slaves = length-map plan.slaves (λ s. s.share) in
     let st = status_meets s f.number t shows.al shows.al_word (omega arith) in
     let on : ProcessPassed m (area_at plan) (place_of_part plan f.part) part f q s shows.gave (passes s (process_datagrams part f.number shows.sent shows.returned shows.gave))
     = process_pass m (area_at plan) (place_of_part plan) part f q s shows.sent shows.returned shows.gave sound.laid (omega arith) (omega arith) refl shows.process shows.one_datagram (knows plan t f q s sound l h) in
     let more : length (f.notes ++ (n ∷ [])) ≡ t + 1 = length_push f.notes n in
-    let s3 = slave_left m t f q s in
-    let gs = shows.gave ++ (g ∷ []) in
+    let gs = shows.gave ++ ((given_in m t f q) ∷ []) in
     let process = process_datagrams part f.number on.sent on.returned gs in
     let name = name_datagram f.number f.part in
     let status = status_datagram f.number t shows.al in
     let status2 = status_datagram f.number (t + 1) st.al2 in
     let first = process_datagrams part f.number shows.sent shows.returned shows.gave in
-    let whole : passes s ds ≡ record { slave = s3; datagrams = name ∷ status2 ∷ process }
+    let whole : passes s ds ≡ record { slave = (slave_left m t f q s); datagrams = name ∷ status2 ∷ process }
     = ap (passes s) shows.is
     ∙ (passes_first s s name name (status ∷ first) (nop_meets s f.number f.part)
     ∙ (ap (λ (x : Passed). record { slave = x.slave; datagrams = name ∷ x.datagrams }) (passes_first s s status status2 first st.is)

@@ -1,20 +1,5 @@
 -- A cyclic frame as it is sent.
-use Rattle.std.proofs.Common.{ℕ, ◌+◌, ◌-◌, ◌*◌, ◌^◌, ◌<◌, ◌≡◌, refl, sym, ◌∙◌, ap, subst, arith, List, [], length, Option, Some, None, false, option_map, unwrap_or}
-use Rattle.std.specs.Option.{option_map_or}
-use Rattle.std.proofs.lemmas.List.{length-map}
-use Rattle.ec_bits.specs.Bits.{bit, zeros}
-use Rattle.ec_bits.proofs.AnyLaws.{if_false}
-use Rattle.ec_frame.specs.Frame.{IsFrame}
-use Rattle.ec_frame.specs.Building.{bare_payload}
-use Rattle.ec_link.specs.Meaning.{share_of, slave_at, area_at, place_of_part, meaning, out_source}
-use Rattle.ec_link.specs.declared.settings.Share.{Share}
-use Rattle.ec_link.specs.Plan.{PlanState, part_at}
-use Rattle.ec_link.specs.Usable.{IsUsable}
-use Rattle.ec_cycle.specs.Frames.{process_bytes, returned_first, sent_datagrams}
-use Rattle.ec_cycle.proofs.OnTheirWay.{data_fill_their_part}
-use Rattle.ec_cycle.proofs.ProcessBits.{outputs_by_source}
-use Rattle.ec_world.specs.Plain.{PlainFrame}
-use Rattle.ec_world.specs.FrameShows.{out_bit, DatagramsShow, FrameShows}
+use Rattle.ec_world.proofs.Words.{ℕ, ◌+◌, ◌-◌, ◌*◌, ◌^◌, ◌<◌, ◌≡◌, refl, sym, ◌∙◌, ap, subst, arith, List, [], length, Option, Some, None, false, option_map, unwrap_or, option_map_or, length-map, bit, zeros, if_false, IsFrame, bare_payload, share_of, slave_at, area_at, place_of_part, meaning, out_source, Share, PlanState, part_at, IsUsable, process_bytes, returned_first, sent_datagrams, data_fill_their_part, outputs_by_source, PlainFrame, out_bit, DatagramsShow, FrameShows}
 use Rattle.ec_world.proofs.DataLaws.{same_place}
 use Rattle.ec_world.proofs.Knowing.{share_is}
 
@@ -26,10 +11,8 @@ fresh_bit : (plan : PlanState) (k : ℕ) (image : List ℕ) (t o : ℕ) → IsUs
     → bit (process_bytes plan k image) ((area_at plan t).out_at + o - 8 * (part_at plan.parts k).address) ≡ out_bit (meaning plan) t image o
 fresh_bit plan k image t o sound b part e =
     let m = meaning plan in
-    let a = area_at plan t in
-    let from = 8 * (part_at plan.parts k).address in
     let c = same_place m (area_at plan) (place_of_part plan) k t sound.laid (subst (λ (n : ℕ). t < n) (sym (length-map plan.slaves (λ s. s.share))) b) part in
-    let i = a.out_at + o - from in
+    let i = (area_at plan t).out_at + o - (8 * (part_at plan.parts k).address) in
     let own : (slave_at plan t).share.part ≡ k = ap (λ (x : Share). x.part) (sym (share_is plan t)) ∙ part in
     outputs_by_source plan k t o i image sound b own e (omega (arith, c.out_to, c.out_from)) (omega (arith, c.out_from)) ∙ or_false (out_source plan.out_links t o)
   where

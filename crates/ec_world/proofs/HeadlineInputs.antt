@@ -1,63 +1,12 @@
 -- The headline of a close, of what a world's calls show.
-use Rattle.std.proofs.Common.{ℕ, zero, suc, ◌+◌, ◌*◌, ◌<◌, ◌≤◌, ◌≡◌, ◌≢◌, ◌==◌, ◌||◌, Bool, true, false, Option, Some, None, refl, sym, ◌∙◌, ap, subst, inl, inr, arith, List, [], ◌∷◌, ◌++◌, length, map, get_or, is_some, if◌then◌else◌, option_map, slice_get}
-use Rattle.std.proofs.Math.ListN.{get_or-map as get_or-mapped}
-use Rattle.std.specs.Option.{option_map_or}
-use Rattle.std.specs.List.{AllByRecursion}
-use Rattle.std.specs.Int.{bit_at}
-use Rattle.std.proofs.lemmas.Bool.{cases_Bool, cases_lt, cases_eq, and_from, or_left, or_right, or_cases, lt-ltb, ltb-true, eq-eqb, true≢false}
-use Rattle.std.proofs.lemmas.List.{append_assoc, get_or-map, length-replicate}
-use Rattle.std.proofs.lemmas.Nat.Bits.{bit_at_above}
-use Rattle.std.proofs.lemmas.Option.{slice_get-get_or}
-use Rattle.ec_bits.specs.Bits.{bit, bits_number, bytes_of_bits}
-use Rattle.ec_bits.proofs.AnyLaws.{if_true, if_false}
-use Rattle.ec_bits.proofs.Numbers.{bits_number-lt, bit_at-bits_number}
-use Rattle.ec_device.specs.declared.slave_type.Identity.{Identity}
-use Rattle.ec_sync.specs.Buffer.{Buffer}
-use Rattle.ec_slave.specs.State.{SlaveState}
-use Rattle.ec_slave.specs.Exchange.{inputs_of}
-use Rattle.ec_table.specs.declared.rows.Direction.{Direction}
-use Rattle.ec_table.specs.declared.rows.Direction.TheVariants.{Out, In}
-use Rattle.ec_table.specs.declared.rows.SlaveRow.{SlaveRow}
-use Rattle.ec_table.specs.Contents.{Contents}
-use Rattle.ec_link.specs.declared.image.Variable.{Variable}
-use Rattle.ec_link.specs.declared.settings.Share.{Share}
-use Rattle.ec_link.specs.declared.settings.SlavePlan.{SlavePlan}
-use Rattle.ec_link.specs.declared.plan.PartPlan.{PartPlan}
-use Rattle.ec_link.specs.Shares.{has_outs, has_ins, predicted, unit_of_part as unit_of_plain}
-use Rattle.ec_link.specs.LinkRuns.{IsLinked, is_out}
-use Rattle.ec_link.specs.Image.{image_from, placed}
-use Rattle.ec_link.specs.Laws.{IsPair, AreItsLinks}
-use Rattle.ec_link.specs.Meaning.{Meaning, Linked, meaning, share_of, in_source, slave_at as settings_of}
-use Rattle.ec_link.specs.Plan.{PlanState, plan_of, part_of, part_at, no_part}
+use Rattle.ec_world.proofs.Words.{ℕ, zero, suc, ◌+◌, ◌*◌, ◌<◌, ◌≤◌, ◌≡◌, ◌≢◌, ◌==◌, ◌||◌, Bool, true, false, Option, Some, None, refl, sym, ◌∙◌, ap, subst, inl, inr, arith, List, [], ◌∷◌, ◌++◌, length, map, get_or, is_some, if◌then◌else◌, option_map, slice_get, get_or-map as get_or-mapped, option_map_or, AllByRecursion, bit_at, cases_Bool, cases_lt, cases_eq, and_from, or_left, or_right, or_cases, lt-ltb, ltb-true, eq-eqb, true≢false, append_assoc, list_get_or-map as get_or-map, length-replicate, bit_at_above, slice_get-get_or, bit, bits_number, bytes_of_bits, if_true, if_false, bits_number-lt, bit_at-bits_number, Identity, Buffer, SlaveState, inputs_of, Direction, Out, In, SlaveRow, Contents, Variable, Share, SlavePlan, PartPlan, has_outs, has_ins, predicted, unit_of_part as unit_of_plain, IsLinked, is_out, image_from, placed, IsPair, AreItsLinks, Meaning, Linked, meaning, share_of, in_source, slave_at as settings_of, PlanState, plan_of, part_of, part_at, no_part, IsUsable, IsInImage, HasBit, IsPlaced, linked_inputs, variables_are_placed, linked_bits_are_there, plan_sound, links_are_the_tables, lists_units, bits_are_apart, ReportState, MasterState, OpenCycle, value_at, value_of, Event, Begin, Pass, Lose, Close, Progress, Plain, PlainSlave, PlainFrame, Health, Working, Faulted, Reset, Note, Other, Short, Full, Cycle, unit_full, giving, step, run, frame_at, plain_slave, progress_of, met_note, WorldState, slave_of, is_up, ByStart, GivesUp, Closes, IsStep, IsAs, Shows, CyclesShow, IsRun, IsNew, plain_of, IsNoted, IsMissed as IsMissedPlain, NotBack, FellShort as FellShortAt, FallsShort, IsClosedAs, IsNotedAt, IsBegun as IsBegunPlain, PromisesIsQuiet as IsQuiet, unit_of_slave, is_of_unit, holds_of_unit, IsMade, HeadlineIsBegun as IsBegun, HasLost, IsUnderWay, HadTrouble, IsInOp, progress_at, variable_bit, output_bits, input_bits, GivesLess, unit_of, headline_unit_of_part as unit_of_part, Says, IsRead, HeadlineIsTaken as IsTaken, HeadlineFellShort as FellShort, Cause, ByLoss, ByEarlyClose, ByFallingShort, HeadlineIsMissed as IsMissed, ListsUnits, CloseShows, HeadlineLaw, EachIsPromised, same_progress, none_some, some_same, plain_frame}
 use Rattle.ec_link.specs.Sound as link
-use Rattle.ec_link.specs.Usable.{IsUsable, IsInImage}
-use Rattle.ec_link.specs.Interface.{HasBit, IsPlaced}
-use Rattle.ec_link.proofs.LinkLaws.{linked_inputs}
-use Rattle.ec_link.proofs.Placed.{variables_are_placed, linked_bits_are_there}
-use Rattle.ec_link.proofs.Soundness.{plan_sound}
-use Rattle.ec_link.proofs.InputsBack.{links_are_the_tables}
-use Rattle.ec_link.proofs.UnitsListed.{lists_units}
-use Rattle.ec_link.proofs.VariablesApart.{bits_are_apart}
-use Rattle.ec_cycle.specs.Closing.{ReportState}
-use Rattle.ec_cycle.specs.Master.{MasterState, OpenCycle, value_at, value_of}
-use Rattle.ec_world.specs.declared.event.Event.{Event}
-use Rattle.ec_world.specs.declared.event.Event.TheVariants.{Begin, Pass, Lose, Close}
-use Rattle.ec_world.specs.declared.progress.Progress.{Progress}
-use Rattle.ec_world.specs.Plain.{Plain, PlainSlave, PlainFrame, Health, Working, Faulted, Reset, Note, Other, Short, Full, Cycle, unit_full, giving, step, run, frame_at, plain_slave, progress_of, met_note}
-use Rattle.ec_world.specs.World.{WorldState, slave_of, is_up, ByStart, GivesUp, Closes, IsStep}
-use Rattle.ec_world.specs.SlaveShows.{IsAs}
-use Rattle.ec_world.specs.Shows.{Shows, CyclesShow}
-use Rattle.ec_world.specs.Laws.{IsRun}
-use Rattle.ec_world.specs.Whole.{IsNew, plain_of}
-use Rattle.ec_world.specs.Promises.{IsNoted, IsMissed as IsMissedPlain, NotBack, FellShort as FellShortAt, FallsShort, IsClosedAs, IsNotedAt, IsBegun as IsBegunPlain, IsQuiet, unit_of_slave, is_of_unit, holds_of_unit}
-use Rattle.ec_world.specs.Headline.{IsMade, IsBegun, HasLost, IsUnderWay, HadTrouble, IsInOp, progress_at, variable_bit, output_bits, input_bits, GivesLess, unit_of, unit_of_part, Says, IsRead, IsTaken, FellShort, Cause, ByLoss, ByEarlyClose, ByFallingShort, IsMissed, ListsUnits, CloseShows, HeadlineLaw, EachIsPromised}
-use Rattle.ec_world.proofs.Lists.{same_progress, none_some, some_same}
 use Rattle.ec_world.proofs.Knowing.{share_is}
 use Rattle.ec_world.proofs.MasterSteps.{OpenBoth, open_both}
 use Rattle.ec_world.proofs.StepLaws.{runs_show, runs_join, steps_show}
 use Rattle.ec_world.proofs.Promising.{inputs_law, notes_law}
 use Rattle.ec_world.proofs.Published.{published_law}
-use Rattle.ec_world.proofs.Headlines.{bit_past, shown_bit, MadeAt, made_at, made_later, run_plan, Sees, sees, PassedOn, passed_on, op_works, works_op, part_is, free_slots, outs_are, ins_are, safe_faulted, init_reset, faulted_safe, reset_init, Cut, cut, headline_outputs}
+use Rattle.ec_world.proofs.Headlines.{bit_past, shown_bit, MadeAt, made_at, made_later, run_plan, Sees, sees, PassedOn, passed_on, op_works, works_op, part_is, free_slots, outs_are, ins_are, state_in, state_is, health_is, Cut, cut, headline_outputs}
 use Rattle.ec_world.proofs.Since.{BeganAt, are_begun, begun_of, begun_on}
 use Rattle.ec_world.proofs.Disturbed.{in_parts, quiet_law, spoiled_not_full}
 use Rattle.ec_world.proofs.Quiet.{Away}
@@ -95,9 +44,8 @@ noted_on m s f q v is ins reset = elim (cases_Bool ((share_of m s).part == f.par
 ]
 
 pub inputs_held : (i : ℕ) (x : SlavePlan) (s : SlaveState) (q : PlainSlave) (h : Health) → IsAs i x s q h → h ≢ Reset → inputs_of s ≡ q.inputs.published
-inputs_held i x s q Working a ne = ap (λ (b : Buffer). b.published) a.process.inputs
-inputs_held i x s q Faulted a ne = ap (λ (b : Buffer). b.published) a.process.inputs
 inputs_held i x s q Reset a ne = absurd (ne refl)
+inputs_held i x s q _ a ne = ap (λ (b : Buffer). b.published) a.process.inputs
 
 pub short_works : (m : Meaning) (s : ℕ) (q : PlainSlave) → FallsShort m s q → q.health ≢ Working
 short_works m s q (inl x) w = let z : Working ≡ Reset = sym w ∙ x.0 in cc
@@ -171,15 +119,6 @@ module _ (t : Contents) (ids : List Identity) (old : WorldState) (events : List 
   abbrev p : Plain
   p = (run M first s.after).plain
 
-  shown : Shows w p
-  shown = (runs_show s.ready s.after w s.rest s.usable s.onward).shown first s.shows
-
-  w_plan : w.plan ≡ plan_of t
-  w_plan = run_plan s.ready s.after w s.rest first s.usable s.onward s.shows ∙ s.plan_is
-
-  usable : IsUsable w.plan
-  usable = subst IsUsable (s.plan_is ∙ sym w_plan) s.usable
-
   usable_t : IsUsable (plan_of t)
   usable_t = subst IsUsable s.plan_is s.usable
 
@@ -187,19 +126,19 @@ module _ (t : Contents) (ids : List Identity) (old : WorldState) (events : List 
   sound = plan_sound t n.sound n.accepted
 
   links : AreItsLinks t w.plan
-  links = subst (AreItsLinks t) (sym w_plan) (links_are_the_tables t n.sound n.accepted)
+  links = subst (AreItsLinks t) (sym s.plan_kept) (links_are_the_tables t n.sound n.accepted)
 
   closes : Closes w v
-  closes = subst (λ (b : Bool). ByStart b (GivesUp w v) (Closes w v)) shown.no_start (does.happens refl)
+  closes = subst (λ (b : Bool). ByStart b (GivesUp w v) (Closes w v)) s.shown.no_start (does.happens refl)
 
   both : OpenBoth w.plan closes.cycle p.cycle
-  both = open_both w.plan closes.cycle p.cycle (subst (λ (o : Option OpenCycle). CyclesShow w.plan o p.cycle) closes.is_open shown.cycle)
+  both = open_both w.plan closes.cycle p.cycle (subst (λ (o : Option OpenCycle). CyclesShow w.plan o p.cycle) closes.is_open s.shown.cycle)
 
   abbrev c : Cycle
   c = both.cycle
 
   closed : IsClosedAs w c v
-  closed = inputs_law w p c v usable shown both.is does
+  closed = inputs_law w p c v s.still_usable s.shown both.is does
 
   -- the beginning
   no_frame : (j : ℕ) → frame_at first j ≡ None
@@ -232,7 +171,7 @@ module _ (t : Contents) (ids : List Identity) (old : WorldState) (events : List 
   -- ---- bits
 
   variables_w : w.master.plan.variables ≡ (plan_of t).variables
-  variables_w = ap (λ (x : PlanState). x.variables) (shown.same_plan ∙ w_plan)
+  variables_w = ap (λ (x : PlanState). x.variables) (s.shown.same_plan ∙ s.plan_kept)
 
   same_plan : v.master.plan ≡ w.master.plan
   same_plan = ap (λ (x : WorldState). x.master.plan) closed.rest
@@ -256,7 +195,7 @@ module _ (t : Contents) (ids : List Identity) (old : WorldState) (events : List 
   bit_in x y i o l =
       let has : HasBit t In x y = linked_bits_are_there t n.accepted In x y i o l in
       let source : in_source w.plan.in_links (image_from t.variables x + y) ≡ Some (record { slave = i; bit_of = o }) = (links.inputs (image_from t.variables x + y) i o).1 (record { variable = x; bit = y; linked = l; image_is = refl }) in
-      let here = linked_inputs w.plan usable (image_from t.variables x + y) (record { slave = i; bit_of = o }) source in
+      let here = linked_inputs w.plan s.still_usable (image_from t.variables x + y) (record { slave = i; bit_of = o }) source in
       record {
         inside = let e = in_image t usable_t x y has in let z = sized in omega (arith, e, z);
         source = source;
@@ -267,16 +206,16 @@ module _ (t : Contents) (ids : List Identity) (old : WorldState) (events : List 
       }
 
   unit_here : (i : ℕ) → i < length w.plan.slaves → unit_of t i ≡ unit_of_slave m i
-  unit_here i l = slave_unit t sound i (let z = ap (λ (x : PlanState). length x.slaves) w_plan in omega (arith, l, z)) ∙ ap (λ (x : PlanState). unit_of_slave (meaning x) i) (sym w_plan)
+  unit_here i l = slave_unit t sound i (let z = ap (λ (x : PlanState). length x.slaves) s.plan_kept in omega (arith, l, z)) ∙ ap (λ (x : PlanState). unit_of_slave (meaning x) i) (sym s.plan_kept)
 
   unit_part : (k : ℕ) → unit_of_plain m k ≡ unit_of_part t k
-  unit_part k = part_unit w.plan k ∙ ap (λ (x : PlanState). (part_at x.parts k).unit) w_plan
+  unit_part k = part_unit w.plan k ∙ ap (λ (x : PlanState). (part_at x.parts k).unit) s.plan_kept
 
   part_here : (i : ℕ) → i < length w.plan.slaves → part_of (plan_of t) i ≡ (share_of m i).part
-  part_here i l = ap (λ (x : PlanState). part_of x i) (sym w_plan) ∙ part_is w.plan i l
+  part_here i l = ap (λ (x : PlanState). part_of x i) (sym s.plan_kept) ∙ part_is w.plan i l
 
   same_meaning : m ≡ M
-  same_meaning = ap (λ (x : PlanState). meaning x) (w_plan ∙ sym s.plan_is)
+  same_meaning = ap (λ (x : PlanState). meaning x) (s.plan_kept ∙ sym s.plan_is)
 
   -- ---- a pass in this cycle
 
@@ -287,7 +226,7 @@ module _ (t : Contents) (ids : List Identity) (old : WorldState) (events : List 
     pub plan : event.at.plan ≡ w.plan
 
   to_w : s.ready.plan ≡ w.plan
-  to_w = s.plan_is ∙ sym w_plan
+  to_w = s.plan_is ∙ sym s.plan_kept
 
   pass_at : (k i : ℕ) (x : Note) (np : IsNotedAt M b.begun pb.next b.behind k i x) → Pass_ k i x np
   pass_at k i x np =
@@ -332,7 +271,7 @@ module _ (t : Contents) (ids : List Identity) (old : WorldState) (events : List 
   -- ---- why a unit isn't taken
 
   in_plan : (i : ℕ) → i < length w.plan.slaves → i < length (plan_of t).slaves
-  in_plan i l = let z = ap (λ (x : PlanState). length x.slaves) w_plan in omega (arith, l, z)
+  in_plan i l = let z = ap (λ (x : PlanState). length x.slaves) s.plan_kept in omega (arith, l, z)
 
   outs_M : (i : ℕ) → i < length (plan_of t).slaves → (share_of M i).outs ≡ output_bits t i
   outs_M i l = ap (λ (z : Share). z.outs) (share_is s.ready.plan i) ∙ (ap (λ (z : PlanState). (settings_of z i).share.outs) s.plan_is ∙ outs_are t sound i l)
@@ -342,11 +281,9 @@ module _ (t : Contents) (ids : List Identity) (old : WorldState) (events : List 
 
   some_bits : (i : ℕ) → i < length (plan_of t).slaves → (has_outs (share_of M i) || has_ins (share_of M i)) ≡ true → 0 < output_bits t i + input_bits t i
   some_bits i l e =
-      let a = outs_M i l in
-      let b = ins_M i l in
       elim (or_cases (has_outs (share_of M i)) (has_ins (share_of M i)) e) [
-        | inl x ↦ (let y = ltb-true 0 (share_of M i).outs x in omega (arith, a, y))
-        | inr x ↦ (let y = ltb-true 0 (share_of M i).ins x in omega (arith, b, y))
+        | inl x ↦ (let y = ltb-true 0 (share_of M i).outs x in omega (arith, outs_M i l, y))
+        | inr x ↦ (let y = ltb-true 0 (share_of M i).ins x in omega (arith, ins_M i l, y))
       ]
 
   lost : (k u : ℕ) → unit_of_part t k ≡ u → LostAt M b.begun pb.next b.behind k → HasLost t begun.event.next begun.event.behind w c.number u
@@ -365,7 +302,7 @@ module _ (t : Contents) (ids : List Identity) (old : WorldState) (events : List 
   under_way k u mine a = record {
     slot = a.slot;
     frame = progress_of a.frame;
-    there = same_progress w.slots p.slots a.slot shown.progress ∙ ap (option_map progress_of) (ap (λ (x : Plain). frame_at x a.slot) on ∙ a.there);
+    there = same_progress w.slots p.slots a.slot s.shown.progress ∙ ap (option_map progress_of) (ap (λ (x : Plain). frame_at x a.slot) on ∙ a.there);
     number_is = a.is.number_is ∙ b.number_is;
     unit_is = ap (unit_of_part t) a.is.part_is ∙ mine;
   }
@@ -389,7 +326,7 @@ module _ (t : Contents) (ids : List Identity) (old : WorldState) (events : List 
       x = at.event.at
 
       usable_x : IsUsable x.plan
-      usable_x = subst IsUsable (sym at.plan) usable
+      usable_x = subst IsUsable (sym at.plan) s.still_usable
 
       q : PlainSlave
       q = plain_slave (run M b.begun np.before).plain i
@@ -419,8 +356,8 @@ module _ (t : Contents) (ids : List Identity) (old : WorldState) (events : List 
           is_as = at.shows.slaves i here_x
 
           by : FallsShort M i q → GivesLess t x i
-          by (inl z) = inr (reset_init i (settings_of x.plan i) (slave_of x i) q q.health is_as z.0, some_bits i (in_plan i here) z.1)
-          by (inr z) = inl (faulted_safe i (settings_of x.plan i) (slave_of x i) q q.health is_as z.0, (let y = ltb-true 0 (share_of M i).outs z.1 in let e = outs_M i (in_plan i here) in omega (arith, y, e)))
+          by (inl z) = inr (state_is i (settings_of x.plan i) (slave_of x i) q q.health is_as ∙ ap state_in z.0, some_bits i (in_plan i here) z.1)
+          by (inr z) = inl (state_is i (settings_of x.plan i) (slave_of x i) q q.health is_as ∙ ap state_in z.0, (let y = ltb-true 0 (share_of M i).outs z.1 in let e = outs_M i (in_plan i here) in omega (arith, y, e)))
 
       -- from the world that was Ready to the pass
       way : List Event
@@ -493,14 +430,6 @@ module _ (t : Contents) (ids : List Identity) (old : WorldState) (events : List 
         plan = plan ∙ to_w;
       }
 
-  -- the plain frame of a slot
-  frame_of : (x : WorldState) (P : Plain) (k : ℕ) (f : Progress) → Shows x P → progress_at x k ≡ Some f → (g : PlainFrame) × ((frame_at P k ≡ Some g) × (progress_of g ≡ f))
-  frame_of x P k f shows at = by (frame_at P k) (sym (same_progress x.slots P.slots k shows.progress) ∙ at)
-    where
-      by : (o : Option PlainFrame) → option_map progress_of o ≡ Some f → (g : PlainFrame) × ((o ≡ Some g) × (progress_of g ≡ f))
-      by None e = absurd (none_some f e)
-      by (Some g) e = (g, (refl, some_same (progress_of g) f e))
-
   of_unit : (g : PlainFrame) (f : Progress) (u : ℕ) → progress_of g ≡ f → f.number ≡ c.number → unit_of_part t f.part ≡ u → is_of_unit M pb.next u g ≡ true
   of_unit g f u same num unit = and_from _ _
       (eq-eqb g.number pb.next (ap (λ (z : Progress). z.number) same ∙ (num ∙ sym b.number_is)))
@@ -533,10 +462,10 @@ module _ (t : Contents) (ids : List Identity) (old : WorldState) (events : List 
           f = record { number = c.number; part = part_of (plan_of t) x.slave; passed = x.slave }
 
           g : (g : PlainFrame) × ((frame_at P x.pass.slot ≡ Some g) × (progress_of g ≡ f))
-          g = frame_of x.pass.event.at P x.pass.slot f e.shows x.pass.frame
+          g = plain_frame x.pass.event.at P x.pass.slot f e.shows x.pass.frame
 
           o : PassedOn x.pass.event.at P x.pass.slot f x.pass.event.next
-          o = passed_on x.pass.event.at P x.pass.slot f x.pass.event.next (subst IsUsable (sym e.plan) usable) e.shows x.pass.frame x.pass.event.step
+          o = passed_on x.pass.event.at P x.pass.slot f x.pass.event.next (subst IsUsable (sym e.plan) s.still_usable) e.shows x.pass.frame x.pass.event.step
 
           here_x : x.slave < length x.pass.event.at.plan.slaves
           here_x = let z = o.here in let y = ap (λ (k : Progress). k.passed) o.same in omega (arith, y, z)
@@ -557,25 +486,24 @@ module _ (t : Contents) (ids : List Identity) (old : WorldState) (events : List 
           is_as = e.shows.slaves x.slave here_x
 
           short : FallsShort M x.slave q
-          short = from x.less
-            where
-              from : GivesLess t x.pass.event.at x.slave → FallsShort M x.slave q
-              from (inl z) = inr (safe_faulted x.slave _ _ q q.health is_as z.0, lt-ltb 0 (share_of M x.slave).outs (let y = outs_M x.slave (in_plan x.slave here) in let l = z.1 in omega (arith, y, l)))
-              from (inr z) = inl (
-                init_reset x.slave _ _ q q.health is_as z.0,
-                elim (cases_lt 0 (share_of M x.slave).outs) [
-                  | inl l ↦ or_left _ _ (lt-ltb 0 (share_of M x.slave).outs l)
-                  | inr l ↦ or_right _ _ (lt-ltb 0 (share_of M x.slave).ins (let y = outs_M x.slave (in_plan x.slave here) in let v = ins_M x.slave (in_plan x.slave here) in let k = z.1 in omega (arith, y, v, l, k)))
-                ],
-              )
+          short = elim x.less [
+            | inl z ↦ inr (health_is x.slave _ _ q q.health Faulted is_as z.0, lt-ltb 0 (share_of M x.slave).outs (let y = outs_M x.slave (in_plan x.slave here) in let l = z.1 in omega (arith, y, l)))
+            | inr z ↦ inl (
+              health_is x.slave _ _ q q.health Reset is_as z.0,
+              elim (cases_lt 0 (share_of M x.slave).outs) [
+                | inl l ↦ or_left _ _ (lt-ltb 0 (share_of M x.slave).outs l)
+                | inr l ↦ or_right _ _ (lt-ltb 0 (share_of M x.slave).ins (let y = outs_M x.slave (in_plan x.slave here) in let v = ins_M x.slave (in_plan x.slave here) in let k = z.1 in omega (arith, y, v, l, k)))
+              ],
+            )
+          ]
 
       by : Cause t begun u → ⊥
       by (ByLoss x) =
           let e = seen_ (Lose x.slot) x.event in
-          let g = frame_of x.event.at (run M b.begun x.event.before).plain x.slot x.frame e.shows x.there in
+          let g = plain_frame x.event.at (run M b.begun x.event.before).plain x.slot x.frame e.shows x.there in
           true≢false (sym (of_unit g.0 x.frame u g.1.1 x.number_is x.unit_is) ∙ (sym (ap (holds_of_unit M pb.next u) g.1.0) ∙ quiet.undisturbed x.event.before x.event.behind (Lose x.slot) e.next e.split e.makes))
       by (ByEarlyClose x) =
-          let g = frame_of w p x.slot x.frame shown x.there in
+          let g = plain_frame w p x.slot x.frame s.shown x.there in
           true≢false (sym (of_unit g.0 x.frame u g.1.1 x.number_is x.unit_is) ∙ quiet.back x.slot g.0 (ap (λ (z : Plain). frame_at z x.slot) (sym on) ∙ g.1.0))
       by (ByFallingShort x) = by_short x
 
@@ -605,8 +533,7 @@ module _ (t : Contents) (ids : List Identity) (old : WorldState) (events : List 
                 | inl same ↦
                     let e1 : Some g ≡ Some own = sym e ∙ (ap (λ (z : ℕ). slice_get w.master.plan.variables z) (sym same) ∙ there) in
                     let from1 : g.from ≡ own.from = ap (λ (z : Variable). z.from) (some_same g own e1) in
-                    let at1 = pair.image_is in
-                    let bit1 : pair.bit ≡ y = omega (arith, from1, at.from, at1) in
+                    let bit1 : pair.bit ≡ y = omega (arith, from1, at.from, pair.image_is) in
                     none l.slave l.bit_of (subst (λ (z : ℕ). IsLinked t In x z l.slave l.bit_of) bit1 (subst (λ (z : ℕ). IsLinked t In z pair.bit l.slave l.bit_of) same pair.linked))
                 | inr ne ↦
                     let at1 = pair.image_is in
@@ -650,8 +577,8 @@ module _ (t : Contents) (ids : List Identity) (old : WorldState) (events : List 
     said = says (unit_full m c) closed.report m.units u true closed.units closed.says full;
     inputs = λ x y i o l own. read x y i o u l own full;
     counters = λ k l own. (
-        let r = closed.counted k (let z = ap (λ (x : PlanState). length x.parts) w_plan in omega (arith, l, z)) (ap (unit_full m c) (unit_part k ∙ own) ∙ full) in
-        r.told ∙ ap (λ z. Some z) (r.counters ∙ ap (λ (x : PlanState). predicted x k) w_plan));
+        let r = closed.counted k (let z = ap (λ (x : PlanState). length x.parts) s.plan_kept in omega (arith, l, z)) (ap (unit_full m c) (unit_part k ∙ own) ∙ full) in
+        r.told ∙ ap (λ z. Some z) (r.counters ∙ ap (λ (x : PlanState). predicted x k) s.plan_kept));
     no_cause = no_cause u full;
   }
 
@@ -672,7 +599,7 @@ module _ (t : Contents) (ids : List Identity) (old : WorldState) (events : List 
     reported = closed.reported;
     listed = (
         let own = lists_units t n.sound in
-        subst (ListsUnits t) (sym (closed.units ∙ ap (λ (x : PlanState). x.units) w_plan)) (record { each = own.each; once = own.once; only = own.only; zero_alone = own.zero_alone }));
+        subst (ListsUnits t) (sym (closed.units ∙ ap (λ (x : PlanState). x.units) s.plan_kept)) (record { each = own.each; once = own.once; only = own.only; zero_alone = own.zero_alone }));
     each = λ u. elim (cases_Bool (unit_full m c u)) [
       | inl full ↦ inl (taken_one u full)
       | inr off ↦ inr (missed_one u off)
@@ -681,15 +608,11 @@ module _ (t : Contents) (ids : List Identity) (old : WorldState) (events : List 
     rest = closed.rest;
   }
 
-pub headline_inputs : (t : Contents) (identities : List Identity) (old : WorldState) (events : List Event) (w : WorldState) (made : ℕ) → IsNew t identities old → IsRun old events w made → is_up w.start ≡ true
-    → (v : WorldState) → IsStep w Close v true → CloseShows t old events w v
-headline_inputs t ids old events w made n h up v does = close_shows t ids old events w made n h up v does
-
 -- ---- the headline as one law, and over the events of a list
 
 pub headline_law : HeadlineLaw
 headline_law t ids old events w made n h up (Pass k) v does = headline_outputs t ids old events w made n h up k v does
-headline_law t ids old events w made n h up Close v does = headline_inputs t ids old events w made n h up v does
+headline_law t ids old events w made n h up Close v does = close_shows t ids old events w made n h up v does
 headline_law t ids old events w made n h up _ v does = tt
 
 -- ---- over a list of events

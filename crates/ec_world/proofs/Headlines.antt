@@ -1,74 +1,8 @@
 -- A linked bit of a variable, as a bit of the image.
-use Rattle.std.proofs.Common.{ℕ, ◌+◌, ◌*◌, ◌/◌, ◌%◌, ◌≤◌, ◌≡◌, ◌==◌, false, ◌∙◌, ap, arith, List, length, get_or, if◌then◌else◌, slice_get, zero, suc, ◌<◌, ◌≢◌, ◌⊎◌, ◌&&◌, Bool, true, Option, Some, None, refl, sym, subst, inl, inr, [], ◌∷◌, ◌++◌, map, set, replicate, is_some, option_map, unwrap_or, nat_lt, get_or-set_same, get_or-set_other}
-use Rattle.std.specs.Int.{bit_at}
-use Rattle.std.proofs.lemmas.List.{get_or_past, append_assoc, set-get_or}
-use Rattle.std.proofs.lemmas.Nat.Bits.{bit_at-zero}
-use Rattle.ec_bits.specs.Bits.{bit, bytes_of_bits}
-use Rattle.ec_bits.proofs.Numbers.{bit_at-bits_number}
-use Rattle.ec_table.specs.declared.rows.Direction.{Direction}
-use Rattle.ec_table.specs.Contents.{Contents}
-use Rattle.ec_link.specs.declared.image.Variable.{Variable}
-use Rattle.ec_link.specs.LinkRuns.{is_out, IsLinked}
-use Rattle.ec_link.specs.Image.{image_from, image}
-use Rattle.ec_link.specs.Interface.{HasBit, output_manager}
-use Rattle.ec_link.specs.Plan.{plan_of, PlanState, part_of}
-use Rattle.ec_link.proofs.Placed.{variables_are_placed, linked_bits_are_there}
-use Rattle.ec_cycle.specs.Master.{value_at}
-use Rattle.ec_world.specs.World.{WorldState, Flight, slave_of, no_slave, flight_at, flight_progress, flights_progress, is_up, Passes, IsStep}
-use Rattle.ec_world.specs.Headline.{variable_bit, IsMade, IsBegun, HadTrouble, IsInOp, progress_at, output_bits, input_bits, ShowsLinked, PassShows}
-use Rattle.std.specs.List.{list_all}
-use Rattle.std.specs.Option.{option_map_or}
-use Rattle.std.proofs.lemmas.Bool.{cases_Bool, cases_lt, and_parts, and_from, and_left, ltb-true, eqb-true, eq-eqb, lt-ltb, le-ltb, true≢false}
-use Rattle.std.proofs.lemmas.Option.{slice_get-get_or, slice_get_within}
-use Rattle.ec_bits.proofs.AnyLaws.{if_true, if_false}
-use Rattle.ec_device.specs.declared.slave_type.Identity.{Identity}
-use Rattle.ec_regs.specs.declared.manager.SyncManagerSettings.{SyncManagerSettings}
-use Rattle.ec_regs.specs.Managers.{is_set, is_buffered}
-use Rattle.ec_device.specs.Types.{SlaveKind}
-use Rattle.ec_al.specs.declared.state.State.TheVariants.{Init, SafeOp, Op}
-use Rattle.ec_sync.specs.Buffer.{Buffer}
-use Rattle.ec_sync.specs.SyncManager.{SyncManager, no_manager}
-use Rattle.ec_frame.specs.Frame.{Payload}
-use Rattle.ec_frame.proofs.Verdict.{one_payload}
-use Rattle.ec_al.specs.Al.{Al}
-use Rattle.ec_slave.proofs.SwitchedOn.{switched_on}
-use Rattle.ec_slave.specs.State.{SlaveState, manager_at, with_memory, power_on}
-use Rattle.ec_slave.specs.Exchange.{with_outputs, with_published}
-use Rattle.ec_slave.specs.Application.{outputs_shown}
-use Rattle.ec_slave.specs.Meeting.{IsPassed, passes as passes_all}
-use Rattle.ec_ring.specs.Rings.{IsPassedAt}
-use Rattle.ec_table.specs.declared.rows.Direction.TheVariants.{Out}
-use Rattle.ec_table.specs.declared.rows.SlaveRow.{SlaveRow}
-use Rattle.ec_table.specs.Objects.{object_bits}
+use Rattle.ec_world.proofs.Words.{ℕ, ◌+◌, ◌*◌, ◌/◌, ◌%◌, ◌≤◌, ◌≡◌, ◌==◌, false, ◌∙◌, ap, arith, List, length, get_or, if◌then◌else◌, slice_get, zero, suc, ◌<◌, ◌≢◌, ◌⊎◌, ◌&&◌, Bool, true, Option, Some, None, refl, sym, subst, inl, inr, [], ◌∷◌, ◌++◌, map, set, replicate, is_some, option_map, unwrap_or, nat_lt, get_or-set_same, get_or-set_other, bit_at, get_or_past, append_assoc, set-get_or, bit_at-zero, bit, bytes_of_bits, bit_at-bits_number, Direction, Contents, Variable, is_out, IsLinked, image_from, image, HasBit, output_manager, plan_of, PlanState, part_of, variables_are_placed, linked_bits_are_there, value_at, WorldState, Flight, slave_of, no_slave, flight_at, flight_progress, is_up, Passes, IsStep, variable_bit, IsMade, HeadlineIsBegun as IsBegun, HadTrouble, IsInOp, progress_at, output_bits, input_bits, ShowsLinked, PassShows, option_map_or, cases_Bool, cases_lt, and_from, and_left, eqb-true, eq-eqb, lt-ltb, le-ltb, true≢false, slice_get-get_or, slice_get_within, if_true, if_false, Identity, SyncManagerSettings, is_set, is_buffered, Init, SafeOp, Op, Buffer, SyncManager, no_manager, Al, switched_on, SlaveState, manager_at, with_memory, with_outputs, with_published, outputs_shown, Out, SlaveRow, object_bits, Share, SlavePlan, Gave, has_outs, compile_fault, AreItsLinks, Meaning, meaning, share_of, out_source, slave_at as settings_of, no_slave_plan, IsUsable, listed, plan_sound, plan_usable, links_are_the_tables, trouble_at, AreStartable, are-plans, Event, Begin, Pass, Progress, Plain, PlainSlave, PlainFrame, Health, Working, Faulted, Reset, step, run, frame_at, plain_slave, linked_outputs, progress_of, given_by, given_in, slave_left, IsAs, IsWorking, Shows, IsRun, IsNew, new_world, plain_of, AreLinked, some_same, within_of, State}
 use Rattle.ec_table.specs.Sound as table
-use Rattle.ec_link.specs.declared.settings.Share.{Share}
-use Rattle.ec_link.specs.declared.settings.SlavePlan.{SlavePlan}
-use Rattle.ec_link.specs.Shares.{Gave, has_outs}
-use Rattle.ec_link.specs.Faults.{compile_fault}
-use Rattle.ec_link.specs.Laws.{AreItsLinks}
-use Rattle.ec_link.specs.Meaning.{Meaning, meaning, share_of, out_source, slave_at as settings_of, no_slave as no_slave_plan}
 use Rattle.ec_link.specs.Sound as link
-use Rattle.ec_link.specs.Usable.{IsUsable}
-use Rattle.ec_link.proofs.Listed.{listed}
-use Rattle.ec_link.proofs.Soundness.{plan_sound}
-use Rattle.ec_link.proofs.UsableLaws.{plan_usable}
-use Rattle.ec_link.proofs.InputsBack.{links_are_the_tables}
-use Rattle.ec_bringup.specs.Starting.{trouble_at}
-use Rattle.ec_bringup.specs.Runs.{AreStartable}
-use Rattle.ec_bringup.proofs.CompleteLaws.{are-plans}
-use Rattle.ec_world.specs.declared.event.Event.{Event}
-use Rattle.ec_world.specs.declared.event.Event.TheVariants.{Begin, Pass}
-use Rattle.ec_world.specs.declared.progress.Progress.{Progress}
-use Rattle.ec_world.specs.Plain.{Plain, PlainSlave, PlainFrame, Health, Working, Faulted, Reset, step, run, frame_at, plain_slave, linked_outputs, progress_of, all_progress, may_pass, lets_by}
-use Rattle.ec_world.specs.Exchanging.{given_by, given_in, slave_left}
-use Rattle.ec_world.specs.SlaveShows.{IsAs, IsWorking}
-use Rattle.ec_world.specs.Shows.{Shows}
-use Rattle.ec_world.specs.Laws.{IsRun}
-use Rattle.ec_world.specs.Whole.{IsNew, new_world, plain_of}
-use Rattle.ec_world.specs.Promises.{AreLinked}
-use Rattle.ec_world.proofs.FramePass.{frame_pass}
-use Rattle.ec_world.proofs.FrameSteps.{pass_can}
-use Rattle.ec_world.proofs.Lists.{flight_pairs, some_same, within_of}
+use Rattle.ec_world.proofs.FrameSteps.{has_met, same_way}
 use Rattle.ec_world.proofs.Knowing.{share_is}
 use Rattle.ec_world.proofs.Mapped.{for_bits, some_bits, no_bits, set_for_outs, unset, third_held, holds_mapped}
 use Rattle.ec_world.proofs.StepLaws.{runs_show, runs_join, steps_show}
@@ -136,11 +70,10 @@ pub made_at : (old : WorldState) (p : Plain) (events : List Event) (new : WorldS
     → IsUsable old.plan → Shows old p → IsRun old events new count → events ≡ xs ++ (e ∷ ys) → step (meaning old.plan) (run (meaning old.plan) p xs).plain e ≡ Some q
     → MadeAt (meaning old.plan) old p events xs e ys q new
 made_at old p events new count xs e ys q sound s h split does =
-    let m = meaning old.plan in
     let c = cut old xs e ys new count (subst (λ (zs : List Event). IsRun old zs new count) split h) in
     let at = (runs_show old xs c.at c.first sound c.to_it).shown p s in
     let same : c.at.plan ≡ old.plan = run_plan old xs c.at c.first p sound c.to_it s in
-    let x = (run m p xs).plain in
+    let x = (run (meaning old.plan) p xs).plain in
     let one = steps_show c.at e c.next c.one (subst IsUsable (sym same) sound) c.step in
     let here : step (meaning c.at.plan) x e ≡ Some q = ap (λ (y : PlanState). step (meaning y) x e) same ∙ does in
     let done : c.one ≡ true = one.made_is x at ∙ ap (λ o. is_some o) here in
@@ -194,6 +127,9 @@ pub record Sees (t : Contents) (old : WorldState) (events : List Event) (w : Wor
   pub plan_is : ready.plan ≡ plan_of t
   pub usable : IsUsable ready.plan
   pub shows : Shows ready (plain_of ready)
+  pub shown : Shows w (run (meaning ready.plan) (plain_of ready) after).plain
+  pub plan_kept : w.plan ≡ plan_of t
+  pub still_usable : IsUsable w.plan
   pub told : (i : ℕ) → i < length ready.plan.slaves → ((plain_slave (plain_of ready) i).health ≡ Working) ⊎ HadTrouble old before ready i
 
 no_flag : (n i : ℕ) → trouble_at (replicate n false) i ≡ true → ⊥
@@ -208,6 +144,8 @@ sees t ids old events w made n h up =
     let flags : List Bool = replicate (length plan.slaves) false in
     let run : IsRun (new_world plan ids) events w made = subst (λ (x : WorldState). IsRun x events w made) n.is h in
     let s = started events (new_world plan ids) w made flags sound planned (new-rises plan ids sound planned many) (new-low plan ids) run up in
+    let ready_usable : IsUsable s.ready.plan = subst IsUsable (sym s.plan_is) sound in
+    let kept : w.plan ≡ plan = run_plan s.ready s.after w s.rest (plain_of s.ready) ready_usable s.onward s.is_ready.shows ∙ s.plan_is in
     record {
       before = s.before;
       after = s.after;
@@ -218,8 +156,11 @@ sees t ids old events w made n h up =
       to_ready = subst (λ (x : WorldState). IsRun x s.before s.ready s.first) (sym n.is) s.to_ready;
       onward = s.onward;
       plan_is = s.plan_is;
-      usable = subst IsUsable (sym s.plan_is) sound;
+      usable = ready_usable;
       shows = s.is_ready.shows;
+      shown = (runs_show s.ready s.after w s.rest ready_usable s.onward).shown (plain_of s.ready) s.is_ready.shows;
+      plan_kept = kept;
+      still_usable = subst IsUsable (sym kept) sound;
       told = λ i l. elim (s.is_ready.told i l) [
         | inl works ↦ inl works
         | inr flag ↦ inr (from n.is s.before s.ready flags i (s.origin i flag) (length plan.slaves) refl)
@@ -244,94 +185,58 @@ pub record PassedOn (w : WorldState) (p : Plain) (k : ℕ) (f : Progress) (v : W
   pub slots : (j : ℕ) → j ≢ k → flight_at v j ≡ flight_at w j
   pub rest : v ≡ record w { slaves = v.slaves; slots = v.slots }
 
-same_way : (x : Flight) (g : PlainFrame) → x.number ≡ g.number → x.part ≡ g.part → x.passed ≡ length g.notes → flight_progress x ≡ progress_of g
-same_way x g number part passed =
-    ap (λ (n : ℕ). record { number = n; part = x.part; passed = x.passed }) number
-    ∙ (ap (λ (n : ℕ). record { number = g.number; part = n; passed = x.passed }) part
-    ∙ ap (λ (n : ℕ). record { number = g.number; part = g.part; passed = n }) passed)
-
 pub passed_on : (old : WorldState) (p : Plain) (k : ℕ) (f : Progress) (new : WorldState) → IsUsable old.plan → Shows old p → progress_at old k ≡ Some f → IsStep old (Pass k) new true → PassedOn old p k f new
 passed_on old p k f new sound s at h =
-    let m = meaning old.plan in
     let pass : Passes old k new = h.happens refl in
-    let can : may_pass (length old.slaves) (flights_progress old.slots) (option_map flight_progress (flight_at old k)) ≡ true = sym h.can in
     let x = pass.flight in
-    let both = flight_pairs old.slots p.slots k x s.progress pass.there in
-    let g = both.frame in
+    let met = has_met old p k new sound s (sym h.can) pass in
+    let g = met.both.frame in
     let t = length g.notes in
-    let q = plain_slave p t in
-    let may : may_pass (length p.slaves) (all_progress p.slots) (option_map progress_of (Some g)) ≡ true
-    = ap (λ o. may_pass (length p.slaves) (all_progress p.slots) (option_map progress_of o)) (sym both.there) ∙ (sym (pass_can old p k s) ∙ can) in
-    let here : t < length old.plan.slaves = let y = ltb-true t (length p.slaves) (and_parts (nat_lt t (length p.slaves)) (list_all (lets_by (progress_of g)) (all_progress p.slots)) may).0 in let z = s.plain_count in omega arith in
-    let shows = s.frames k x g pass.there both.there in
-    let y = slave_of old t in
-    let p1 = shows.payload in
-    let after = (passes_all y p1.datagrams).slave in
-    let by_ring : IsPassedAt old.slaves t y x.bytes new.slaves pass.bytes = subst (λ (n : ℕ). IsPassedAt old.slaves n (slave_of old n) x.bytes new.slaves pass.bytes) both.passed pass.passed in
-    let moved_on : IsPassed y x.bytes after pass.bytes = record {
-      slave = λ p2 e. ap (λ (r : Payload). (passes_all y r.datagrams).slave) (one_payload x.bytes p1 p2 shows.spelled e);
-      frame = by_ring.frame;
-    } in
-    let one = frame_pass old.plan g q y after x.bytes pass.bytes sound here (s.slaves t here) shows moved_on in
-    let slaves : new.slaves ≡ set old.slaves t after = by_ring.slaves p1 shows.spelled in
-    let inside : t < length old.slaves = let c = s.count in omega arith in
+    let inside : t < length old.slaves = omega (arith, met.here, s.count) in
     let on : Flight = record x { bytes = pass.bytes; passed = x.passed + 1 } in
     let own : flight_progress x ≡ f = some_same (flight_progress x) f (sym (ap (option_map flight_progress) pass.there) ∙ at) in
     let slots : new.slots ≡ set old.slots k (Some on) = ap (λ (w : WorldState). w.slots) pass.is in
     record {
       frame = g;
-      there = both.there;
-      same = sym (same_way x g both.number both.part both.passed) ∙ own;
-      here = here;
-      slave = ap (λ (ss : List SlaveState). get_or ss t no_slave) slaves ∙ (get_or-set_same old.slaves t after no_slave inside ∙ one.slave);
-      others = λ u ne. ap (λ (ss : List SlaveState). get_or ss u no_slave) slaves ∙ get_or-set_other old.slaves t u after no_slave ne;
+      there = met.both.there;
+      same = sym (same_way x g met.both.number met.both.part met.both.passed) ∙ own;
+      here = met.here;
+      slave = ap (λ (ss : List SlaveState). get_or ss t no_slave) met.slaves ∙ (get_or-set_same old.slaves t met.after no_slave inside ∙ met.one.slave);
+      others = λ u ne. ap (λ (ss : List SlaveState). get_or ss u no_slave) met.slaves ∙ get_or-set_other old.slaves t u met.after no_slave ne;
       goes_on = ap (λ os. option_map flight_progress (get_or os k None)) slots
           ∙ (ap (option_map flight_progress) (get_or-set_same old.slots k (Some on) None (within_of old.slots k x pass.there))
-          ∙ ap (λ (r : Progress). Some (record { number = r.number; part = r.part; passed = r.passed + 1 })) (same_way x g both.number both.part both.passed));
+          ∙ ap (λ (r : Progress). Some (record { number = r.number; part = r.part; passed = r.passed + 1 })) (same_way x g met.both.number met.both.part met.both.passed));
       slots = λ j ne. ap (λ os. get_or os j None) slots ∙ get_or-set_other old.slots k j (Some on) None ne;
       rest = pass.is ∙ ap (λ os. record old { slaves = new.slaves; slots = os }) (sym slots);
     }
 
 -- ---- health and state
 
-on_state : (k : SlaveKind) (j : Identity) → (power_on k j).al.state ≡ Init
-on_state k j = ap (λ (a : Al). a.state) (switched_on k j).al
+-- the AL state of a slave that shows a plain one tells its health, and its health tells the state
+abbrev pub state_in : Health → State
+state_in Working = Op
+state_in Faulted = SafeOp
+state_in Reset = Init
 
-op_health : (i : ℕ) (x : SlavePlan) (s : SlaveState) (q : PlainSlave) (h : Health) → IsAs i x s q h → s.al.state ≡ Op → h ≡ Working
-op_health i x s q Working a e = refl
-op_health i x s q Faulted a e = absurd (let z : SafeOp ≡ Op = sym a.state ∙ e in cc)
-op_health i x s q Reset a e = absurd (let z : Init ≡ Op = sym (ap (λ (y : SlaveState). y.al.state) a.as_on ∙ on_state s.kind s.identity) ∙ e in cc)
+pub state_is : (i : ℕ) (x : SlavePlan) (s : SlaveState) (q : PlainSlave) (h : Health) → IsAs i x s q h → s.al.state ≡ state_in h
+state_is i x s q Working a = a.state
+state_is i x s q Faulted a = a.state
+state_is i x s q Reset a = ap (λ (y : SlaveState). y.al.state) a.as_on ∙ ap (λ (y : Al). y.state) (switched_on s.kind s.identity).al
 
-health_op : (i : ℕ) (x : SlavePlan) (s : SlaveState) (q : PlainSlave) (h : Health) → IsAs i x s q h → h ≡ Working → s.al.state ≡ Op
-health_op i x s q Working a e = a.state
-health_op i x s q Faulted a e = absurd (let z : Faulted ≡ Working = e in cc)
-health_op i x s q Reset a e = absurd (let z : Reset ≡ Working = e in cc)
+same_health : (g h : Health) → state_in g ≡ state_in h → g ≡ h
+same_health Working Working e = refl
+same_health Faulted Faulted e = refl
+same_health Reset Reset e = refl
+same_health _ _ e = absurd cc
 
-pub safe_faulted : (i : ℕ) (x : SlavePlan) (s : SlaveState) (q : PlainSlave) (h : Health) → IsAs i x s q h → s.al.state ≡ SafeOp → h ≡ Faulted
-safe_faulted i x s q Working a e = absurd (let z : Op ≡ SafeOp = sym a.state ∙ e in cc)
-safe_faulted i x s q Faulted a e = refl
-safe_faulted i x s q Reset a e = absurd (let z : Init ≡ SafeOp = sym (ap (λ (y : SlaveState). y.al.state) a.as_on ∙ on_state s.kind s.identity) ∙ e in cc)
-
-pub init_reset : (i : ℕ) (x : SlavePlan) (s : SlaveState) (q : PlainSlave) (h : Health) → IsAs i x s q h → s.al.state ≡ Init → h ≡ Reset
-init_reset i x s q Working a e = absurd (let z : Op ≡ Init = sym a.state ∙ e in cc)
-init_reset i x s q Faulted a e = absurd (let z : SafeOp ≡ Init = sym a.state ∙ e in cc)
-init_reset i x s q Reset a e = refl
-
-pub faulted_safe : (i : ℕ) (x : SlavePlan) (s : SlaveState) (q : PlainSlave) (h : Health) → IsAs i x s q h → h ≡ Faulted → s.al.state ≡ SafeOp
-faulted_safe i x s q Working a e = absurd (let z : Working ≡ Faulted = e in cc)
-faulted_safe i x s q Faulted a e = a.state
-faulted_safe i x s q Reset a e = absurd (let z : Reset ≡ Faulted = e in cc)
-
-pub reset_init : (i : ℕ) (x : SlavePlan) (s : SlaveState) (q : PlainSlave) (h : Health) → IsAs i x s q h → h ≡ Reset → s.al.state ≡ Init
-reset_init i x s q Working a e = absurd (let z : Working ≡ Reset = e in cc)
-reset_init i x s q Faulted a e = absurd (let z : Faulted ≡ Reset = e in cc)
-reset_init i x s q Reset a e = ap (λ (y : SlaveState). y.al.state) a.as_on ∙ on_state s.kind s.identity
+pub health_is : (i : ℕ) (x : SlavePlan) (s : SlaveState) (q : PlainSlave) (h k : Health) → IsAs i x s q h → s.al.state ≡ state_in k → h ≡ k
+health_is i x s q h k a e = same_health h k (sym (state_is i x s q h a) ∙ e)
 
 pub op_works : (w : WorldState) (p : Plain) (s : ℕ) → Shows w p → s < length w.plan.slaves → IsInOp w s → (plain_slave p s).health ≡ Working
-op_works w p s h l op = op_health s (settings_of w.plan s) (slave_of w s) (plain_slave p s) (plain_slave p s).health (h.slaves s l) op
+op_works w p s h l op = health_is s (settings_of w.plan s) (slave_of w s) (plain_slave p s) (plain_slave p s).health Working (h.slaves s l) op
 
 pub works_op : (w : WorldState) (p : Plain) (s : ℕ) → Shows w p → s < length w.plan.slaves → (plain_slave p s).health ≡ Working → IsInOp w s
-works_op w p s h l works = health_op s (settings_of w.plan s) (slave_of w s) (plain_slave p s) (plain_slave p s).health (h.slaves s l) works
+works_op w p s h l works = state_is s (settings_of w.plan s) (slave_of w s) (plain_slave p s) (plain_slave p s).health (h.slaves s l) ∙ ap state_in works
 
 -- ---- the slave behind a frame
 
@@ -343,8 +248,7 @@ not_wrote m t f q h = elim (cases_Bool ((share_of m t).part == f.part)) [
   where
     by : (x : Health) → q.health ≡ x → (share_of m t).part ≡ f.part → (given_by (share_of m t) x).wrote ≡ false
     by Working e own = absurd (h e own)
-    by Faulted e own = refl
-    by Reset e own = refl
+    by _ e own = refl
 
 -- in OP, of the frame's part
 in_op_left : (m : Meaning) (t : ℕ) (f : PlainFrame) (q : PlainSlave) (s : SlaveState) → q.health ≡ Working → (share_of m t).part ≡ f.part
@@ -419,8 +323,7 @@ showing plan t s q value after sound l works is = elim (cases_lt 0 (settings_of 
     own none =
         let bytes : length M.buffer.published ≡ bytes_of_bits x.share.outs = ap (λ (b : Buffer). length b.published) works.process.outputs ∙ works.process.out_bytes.published in
         let zero_bytes : length M.buffer.published ≡ 0 = bytes ∙ ap bytes_of_bits none in
-        let value_is : M.buffer.published ≡ [] = empty M.buffer.published zero_bytes in
-        let same : with_published M [] ≡ M = ap (with_published M) (sym value_is) in
+        let same : with_published M [] ≡ M = ap (with_published M) (sym (empty M.buffer.published zero_bytes)) in
         sym (ap (λ ms. with_memory s s.memory ms) (ap (λ (y : SyncManager). set s.managers 2 y) same ∙ set-get_or s.managers 2 no_manager))
 
 -- ---- the plan of a table
@@ -461,11 +364,10 @@ shows_linked t fine free plan is source v u here variables shown nothing = recor
       let some : 0 < (settings_of plan u).share.outs = omega (arith, outs, within) in
       let inside : i < 8 * length value = omega (arith, outs, share, within, fits.size) in
       let source_is : out_source plan.out_links u i ≡ Some (image_from t.variables x + c) = (links.outputs u i (image_from t.variables x + c)).1 (record { variable = x; bit = c; linked = l; image_is = refl }) in
-      let has : HasBit t Out x c = linked_bits_are_there t free Out x c u i l in
       ap (λ ys. bit ys i) (shown some)
       ∙ (fits.each i inside
       ∙ (bit_of_source source.master.outputs (out_source plan.out_links u i) (image_from t.variables x + c) source_is
-      ∙ sym (shown_bit t source Out x c has variables)));
+      ∙ sym (shown_bit t source Out x c (linked_bits_are_there t free Out x c u i l) variables)));
   unlinked = λ i none. elim (cases_lt 0 (settings_of plan u).share.outs) [
     | inl some ↦ ap (λ ys. bit ys i) (shown some) ∙ elim (cases_lt i (8 * length value)) [
       | inl l ↦ fits.each i l ∙ off i (out_source plan.out_links u i) refl none
@@ -507,10 +409,10 @@ pub headline_outputs : (t : Contents) (identities : List Identity) (old : WorldS
     → (k : ℕ) (v : WorldState) → IsStep w (Pass k) v true → (f : Progress) → progress_at w k ≡ Some f → PassShows t old events w k f v
 headline_outputs t ids old events w made n h up k v does f at = subst (λ (g : Progress). PassShows t old events w k g v) o.same (record {
   begun = begun;
-  shows = λ op own. shows_linked t n.sound n.accepted w.plan w_plan begun.event.at v u o.here variables_then
+  shows = λ op own. shows_linked t n.sound n.accepted w.plan s.plan_kept begun.event.at v u o.here variables_then
       (λ some. (showing_in op own).shown some ∙ ap (linked_outputs m u) snapshot) (showing_in op own).nothing;
   slave = λ op own. (showing_in op own).is;
-  untouched = λ out. o.slave ∙ if_false _ _ _ (not_wrote m u g q (λ works same. out (works_op w p u shown o.here works) (part_here ∙ same)));
+  untouched = λ out. o.slave ∙ if_false _ _ _ (not_wrote m u g q (λ works same. out (works_op w p u s.shown o.here works) (part_here ∙ same)));
   others = o.others;
   goes_on = o.goes_on;
   slots = o.slots;
@@ -526,17 +428,8 @@ headline_outputs t ids old events w made n h up k v does f at = subst (λ (g : P
     p : Plain
     p = (run (meaning s.ready.plan) first s.after).plain
 
-    shown : Shows w p
-    shown = (runs_show s.ready s.after w s.rest s.usable s.onward).shown first s.shows
-
-    w_plan : w.plan ≡ plan_of t
-    w_plan = run_plan s.ready s.after w s.rest first s.usable s.onward s.shows ∙ s.plan_is
-
-    usable : IsUsable w.plan
-    usable = subst IsUsable (s.plan_is ∙ sym w_plan) s.usable
-
     o : PassedOn w p k f v
-    o = passed_on w p k f v usable shown at does
+    o = passed_on w p k f v s.still_usable s.shown at does
 
     g : PlainFrame
     g = o.frame
@@ -580,7 +473,7 @@ headline_outputs t ids old events w made n h up k v does f at = subst (λ (g : P
 
     -- the slave
     part_here : part_of (plan_of t) u ≡ (share_of m u).part
-    part_here = ap (λ (z : PlanState). part_of z u) (sym w_plan) ∙ part_is w.plan u o.here
+    part_here = ap (λ (z : PlanState). part_of z u) (sym s.plan_kept) ∙ part_is w.plan u o.here
 
     share : (share_of m u).outs ≡ (settings_of w.plan u).share.outs
     share = ap (λ (x : Share). x.outs) (share_is w.plan u)
@@ -589,13 +482,13 @@ headline_outputs t ids old events w made n h up k v does f at = subst (λ (g : P
     value = linked_outputs m u g.snapshot
 
     showing_in : IsInOp w u → part_of (plan_of t) u ≡ g.part → Showing w.plan u (slave_of w u) value (slave_of v u)
-    showing_in op own = showing w.plan u (slave_of w u) q value (slave_of v u) usable o.here as_working left
+    showing_in op own = showing w.plan u (slave_of w u) q value (slave_of v u) s.still_usable o.here as_working left
       where
         works : q.health ≡ Working
-        works = op_works w p u shown o.here op
+        works = op_works w p u s.shown o.here op
 
         as_working : IsWorking u (settings_of w.plan u) (slave_of w u) q
-        as_working = subst (λ (x : Health). IsAs u (settings_of w.plan u) (slave_of w u) q x) works (shown.slaves u o.here)
+        as_working = subst (λ (x : Health). IsAs u (settings_of w.plan u) (slave_of w u) q x) works (s.shown.slaves u o.here)
 
         left : slave_of v u ≡ (if nat_lt 0 (settings_of w.plan u).share.outs then with_outputs (slave_of w u) value else slave_of w u)
         left = o.slave ∙ (in_op_left m u g q (slave_of w u) works (sym part_here ∙ own) ∙ ap (λ (z : ℕ). if nat_lt 0 z then with_outputs (slave_of w u) value else slave_of w u) share)

@@ -1,39 +1,9 @@
 -- What the frames of a cycle hear of the slaves' AL status, over a world's run; and the AL word of a report.
-use Rattle.std.proofs.Common.{ℕ, zero, suc, ◌+◌, ◌*◌, ◌^◌, ◌<◌, ◌≡◌, ◌⊎◌, ◌==◌, ◌&&◌, not, Bool, true, false, Option, Some, None, refl, sym, ◌∙◌, ap, subst, inl, inr, arith, List, [], ◌∷◌, ◌++◌, length, map, get_or, set, is_some, option_map, nat_lt, slice_get, slice_index, bit_or}
-use Rattle.std.specs.List.{fold}
-use Rattle.std.proofs.lemmas.Bool.{cases_lt, and_parts, eqb-true, false≢true}
-use Rattle.std.proofs.lemmas.List.{append_assoc, length_push, length-map, get_or-map}
-use Rattle.std.proofs.lemmas.List.Sums.{fold-append}
-use Rattle.std.proofs.Math.Seq.{get_or-append_seam}
-use Rattle.std.proofs.Math.ListN.{get_or-append}
-use Rattle.ec_device.specs.declared.slave_type.Identity.{Identity}
-use Rattle.ec_frame.specs.Frame.{Payload, IsFrame}
-use Rattle.ec_frame.specs.Building.{bare_payload}
-use Rattle.ec_frame.proofs.Verdict.{one_payload}
-use Rattle.ec_table.specs.Contents.{Contents}
-use Rattle.ec_link.specs.declared.plan.ExpectedCounters.{ExpectedCounters}
-use Rattle.ec_link.specs.Meaning.{Meaning, meaning}
-use Rattle.ec_link.specs.Plan.{PlanState, plan_of, part_at}
-use Rattle.ec_link.specs.Usable.{IsUsable}
-use Rattle.ec_link.proofs.Soundness.{plan_sound}
-use Rattle.ec_start.specs.Running.{last_number}
-use Rattle.ec_cycle.specs.Closing.{KeptPart, nones, kept_of, bytes_at, joined, word_of_kept, report_of}
-use Rattle.ec_cycle.specs.Frames.{sent_datagrams}
-use Rattle.ec_cycle.specs.Master.{MasterState, OpenCycle, IsAnswer, IsTaken}
-use Rattle.ec_world.specs.declared.event.Event.{Event}
-use Rattle.ec_world.specs.declared.event.Event.TheVariants.{StartNext, Set, Begin, Pass, Lose, Return, Close, Serve, AppPut, AppGet, Fault, Reset as ResetSlave}
-use Rattle.ec_world.specs.Plain.{Plain, Cycle, run, frame_at, may_return}
-use Rattle.ec_world.specs.World.{WorldState, Flight, slave_of, flight_at, flight_progress, flights_progress, flights_from, awaits, is_up, can_start, ByStart, StartReturns, Returns, GivesUp, Closes, Passes, Begins, IsStep}
-use Rattle.ec_world.specs.Shows.{Shows, CyclesShow}
-use Rattle.ec_world.specs.Laws.{IsRun}
-use Rattle.ec_world.specs.Whole.{IsNew, plain_of}
-use Rattle.ec_world.specs.Headline.{IsBegun, HasPassed}
-use Rattle.ec_world.specs.AlWords.{said_by, IsHeard, AreHeard, PartSays, IsNotBack, IsBack, WordShows, WordLaw, OpWordLaw}
+use Rattle.ec_world.proofs.Words.{ℕ, zero, suc, ◌+◌, ◌*◌, ◌^◌, ◌<◌, ◌≡◌, ◌⊎◌, ◌==◌, ◌&&◌, not, Bool, true, false, Option, Some, None, refl, sym, ◌∙◌, ap, subst, inl, inr, arith, List, [], ◌∷◌, ◌++◌, length, map, get_or, set, is_some, option_map, nat_lt, slice_get, slice_index, bit_or, fold, cases_lt, and_parts, eqb-true, false≢true, append_assoc, length_push, length-map, list_get_or-map as get_or-map, fold-append, get_or-append_seam, get_or-append, Identity, Payload, IsFrame, bare_payload, one_payload, Contents, ExpectedCounters, Meaning, meaning, PlanState, plan_of, part_at, IsUsable, plan_sound, last_number, KeptPart, nones, kept_of, bytes_at, joined, word_of_kept, report_of, sent_datagrams, MasterState, OpenCycle, IsAnswer, IsTaken, Event, StartNext, Set, Begin, Pass, Lose, Return, Close, Serve, AppPut, AppGet, Fault, ResetSlave, Plain, Cycle, run, frame_at, may_return, WorldState, Flight, slave_of, flight_at, flight_progress, flights_progress, flights_from, awaits, is_up, can_start, ByStart, StartReturns, Returns, GivesUp, Closes, Passes, Begins, IsStep, Shows, CyclesShow, IsRun, IsNew, plain_of, HeadlineIsBegun as IsBegun, HeadlineHasPassed as HasPassed, said_by, IsHeard, AreHeard, PartSays, IsNotBack, IsBack, WordShows, WordLaw, OpWordLaw, flight_pairs, none_some, some_same, none_in}
 use Rattle.ec_world.proofs.FramePass.{FrameBrings, frame_word}
 use Rattle.ec_world.proofs.ReturnStep.{answer_tells}
 use Rattle.ec_world.proofs.Stepping.{next-there}
-use Rattle.ec_world.proofs.Lists.{flight_pairs, none_some, some_same}
-use Rattle.ec_world.proofs.Histories.{AreBelow, filled_has, set_has, set_at, none_there, begun_below}
+use Rattle.ec_world.proofs.Histories.{AreBelow, filled_has, set_has, set_at, begun_below}
 use Rattle.ec_world.proofs.MasterSteps.{OpenBoth, open_both}
 use Rattle.ec_world.proofs.Since.{BeganAt, are_begun, begun_of}
 use Rattle.ec_world.proofs.StepLaws.{steps_show, runs_show, run_more}
@@ -126,13 +96,11 @@ module _ (base : WorldState) (all : List Event) (last : WorldState) (number : �
             (λ i g there mine. absurd (
             let both = flight_pairs w.slots p.slots i g s.progress there in
             let x = below i both.frame both.there in
-            let y = both.number in
-            let z = s.next in
-            omega (arith, x, y, z, own, mine)))
+            omega (arith, x, both.number, s.next, own, mine)))
             j f (ap (λ (x : WorldState). get_or x.slots j None) (sym b.is) ∙ at);
         kept = λ c at mine k q there. absurd (
             let same : b.cycle ≡ c = some_same b.cycle c (sym (ap (λ (m : MasterState). m.cycle) b.master.is) ∙ at) in
-            none_there w.master.plan.parts k q (ap (λ ks. get_or ks k None) (sym b.master.kept) ∙ (ap (λ (y : OpenCycle). get_or y.kept k None) same ∙ there)));
+            none_in w.master.plan.parts k q (ap (λ ks. get_or ks k None) (sym b.master.kept) ∙ (ap (λ (y : OpenCycle). get_or y.kept k None) same ∙ there)));
       }
     where
       fresh : (i : ℕ) (g : Flight) → IsOne w.master.next b.cycle.frames 0 i g → Carrying g.part g.passed g.bytes
@@ -218,11 +186,10 @@ module _ (base : WorldState) (all : List Event) (last : WorldState) (number : �
       answer t c i y a own =
           let both = flight_pairs w.slots p.slots k x s.progress r.there in
           let f = both.frame in
-          let shows = s.frames k x f r.there both.there in
           let around : length f.notes ≡ length w.plan.slaves = let z = passed_all in let u = both.passed in omega (arith, z, u, many) in
           let cycles = open_both w.plan c p.cycle (subst (λ (o : Option OpenCycle). CyclesShow w.plan o p.cycle) a.is_open s.cycle) in
           let fits : c.number < 2 ^ 64 = let z = cycles.shows.number in let u = cycles.shows.number_fits in omega (arith, z, u) in
-          let tells = answer_tells w.plan w.master v.master f x.bytes true sound s.same_plan shows around t c i y fits a in
+          let tells = answer_tells w.plan w.master v.master f x.bytes true sound s.same_plan (s.frames k x f r.there both.there) around t c i y fits a in
           let d = h.frames k x r.there (both.number ∙ (tells.0 ∙ own)) in
           let brought : bytes_at y.datagrams 1 ≡ joined d.words ∷ 0 ∷ [] = d.brings y a.spelled in
           record {

@@ -1,17 +1,6 @@
 -- What holds over runs of the plain machine: frames keep the image of their beginning, and slaves in OP stay there.
-use Rattle.std.proofs.Common.{ℕ, zero, suc, ◌+◌, ◌<◌, ◌≤◌, ◌≡◌, ◌≢◌, ◌⊎◌, ◌==◌, ◌&&◌, Bool, true, false, Option, Some, None, refl, sym, ◌∙◌, ap, subst, inl, inr, arith, List, [], ◌∷◌, ◌++◌, length, map, get_or, set, is_none, if◌then◌else◌, unwrap_or, slice_get, get_or-set_same, get_or-set_other, length-set}
-use Rattle.std.specs.List.{list_all}
-use Rattle.std.proofs.lemmas.Bool.{and_parts, cases_Bool, eqb-true, cases_eq, cases_lt}
-use Rattle.std.proofs.lemmas.List.{append-nil, append_assoc, get_or_past}
-use Rattle.ec_bits.proofs.AnyLaws.{if_true, if_false}
-use Rattle.ec_link.specs.Meaning.{Meaning}
-use Rattle.ec_cycle.specs.Closing.{nones}
-use Rattle.ec_world.specs.declared.event.Event.{Event}
-use Rattle.ec_world.specs.declared.event.Event.TheVariants.{Begin, Pass, Fault, Reset as ResetSlave}
-use Rattle.ec_world.specs.Plain.{Plain, PlainSlave, PlainFrame, Note, Cycle, step, run, frame_at, plain_slave, no_plain_slave, keeping, filled, new_frames, with_note, met_note, Working, Faulted, Reset}
-use Rattle.ec_world.specs.Promises.{IsBegun, SnapshotsLaw, WorkingLaw}
+use Rattle.ec_world.proofs.Words.{ℕ, zero, suc, ◌+◌, ◌<◌, ◌≤◌, ◌≡◌, ◌≢◌, ◌⊎◌, ◌==◌, ◌&&◌, Bool, true, false, Option, Some, None, refl, sym, ◌∙◌, ap, subst, inl, inr, arith, List, [], ◌∷◌, ◌++◌, length, map, get_or, set, is_none, if◌then◌else◌, unwrap_or, slice_get, get_or-set_same, get_or-set_other, length-set, list_all, and_parts, cases_Bool, eqb-true, cases_eq, cases_lt, append-nil, append_assoc, get_or_past, if_true, if_false, Meaning, nones, Event, Begin, Pass, Fault, ResetSlave, Plain, PlainSlave, PlainFrame, Note, Cycle, step, run, frame_at, plain_slave, no_plain_slave, keeping, filled, new_frames, with_note, met_note, Working, Faulted, Reset, IsBegun, SnapshotsLaw, WorkingLaw, none_some, some_same}
 use Rattle.ec_world.proofs.Tracing.{guarded, Leaves, Stays, Begins, Moves, Loses, Returns, Closes, leaves, Treats, Same, Uses, Fails, Resets, treats, mapped}
-use Rattle.ec_world.proofs.Lists.{none_some, some_same}
 
 -- ---- a run by its steps
 
@@ -118,12 +107,14 @@ set_at R (o ∷ os) zero x new old (suc k) y e = old (suc k) y e
 set_at R (o ∷ os) (suc j) x new old zero y e = old 0 y e
 set_at R (o ∷ os) (suc j) x new old (suc k) y e = set_at (λ i. R (suc i)) os j x new (λ i z q. old (suc i) z q) k y e
 
-pub none_there : {X Y : Type 0} (xs : List X) (k : ℕ) (y : Y) → get_or (map (λ x. None) xs) k None ≡ Some y → ⊥
-none_there [] k y e = none_some y e
-none_there (x ∷ xs) zero y e = none_some y e
-none_there (x ∷ xs) (suc k) y e = none_there xs k y e
-
 -- a frame that comes back leaves the number of the cycle
+pub keeping_length : (g : PlainFrame) (c : Cycle) → length (keeping g c).kept ≡ length c.kept
+keeping_length g c = go ((g.number == c.number) && is_none (get_or c.kept g.part None))
+  where
+    go : (b : Bool) → length (if b then record c { kept = set c.kept g.part (Some g.notes) } else c).kept ≡ length c.kept
+    go true = length-set c.kept g.part (Some g.notes)
+    go false = refl
+
 pub keeping_number : (g : PlainFrame) (c : Cycle) → (keeping g c).number ≡ c.number
 keeping_number g c = go ((g.number == c.number) && is_none (get_or c.kept g.part None))
   where
@@ -290,10 +281,9 @@ pub working_law : WorkingLaw
 working_law m p e q s h nf nr w = health_kept m p e q s h nf nr ∙ w
 
 pub count_kept : (m : Meaning) (p : Plain) (e : Event) (q : Plain) → step m p e ≡ Some q → length q.slaves ≡ length p.slaves
-count_kept m p e q h = by (treats m p e q h)
-  where
-    by : Treats m p e q → length q.slaves ≡ length p.slaves
-    by (Same is) = ap length is
-    by (Uses t y is own) = ap length is ∙ length-set p.slaves t y
-    by (Fails t y own is now before) = ap length is ∙ length-set p.slaves t y
-    by (Resets t y own is now) = ap length is ∙ length-set p.slaves t y
+count_kept m p e q h = elim (treats m p e q h) [
+  | Same is ↦ ap length is
+  | Uses t y is own ↦ ap length is ∙ length-set p.slaves t y
+  | Fails t y own is now before ↦ ap length is ∙ length-set p.slaves t y
+  | Resets t y own is now ↦ ap length is ∙ length-set p.slaves t y
+]

@@ -1,23 +1,7 @@
 -- Frames keep their order: an older frame passes each slave first.
-use Rattle.std.proofs.Common.{ℕ, zero, suc, ◌<◌, ◌≤◌, ◌≡◌, ◌⊎◌, ◌==◌, nat_lt, true, Option, Some, None, refl, sym, ◌∙◌, ap, subst, inl, inr, arith, List, [], ◌∷◌, ◌++◌, length, get_or, set, slice_get, option_map}
-use Rattle.std.specs.List.{list_all}
-use Rattle.std.proofs.lemmas.Bool.{cases_lt, and_parts, or_cases, ltb-true, eqb-true}
-use Rattle.std.proofs.lemmas.List.{length_push}
-use Rattle.ec_bits.proofs.AnyLaws.{if_true}
-use Rattle.ec_link.specs.Meaning.{Meaning, meaning}
-use Rattle.ec_link.specs.Usable.{IsUsable}
-use Rattle.ec_world.specs.declared.event.Event.{Event}
-use Rattle.ec_world.specs.declared.event.Event.TheVariants.{Pass}
-use Rattle.ec_world.specs.declared.progress.Progress.{Progress}
-use Rattle.ec_world.specs.Plain.{Plain, PlainFrame, step, run, frame_at, plain_slave, filled, new_frames, with_note, met_note, progress_of, is_older, lets_by, may_pass}
-use Rattle.ec_world.specs.World.{WorldState, flights_progress}
-use Rattle.ec_world.specs.Shows.{Shows}
-use Rattle.ec_world.specs.Whole.{plain_of}
-use Rattle.ec_world.specs.RunLaws.{OrderLaw}
-use Rattle.ec_world.specs.Headline.{progress_at}
+use Rattle.ec_world.proofs.Words.{ℕ, zero, suc, ◌<◌, ◌≤◌, ◌≡◌, ◌⊎◌, ◌==◌, nat_lt, true, Option, Some, None, refl, sym, ◌∙◌, ap, subst, inl, inr, arith, List, [], ◌∷◌, ◌++◌, length, get_or, set, slice_get, option_map, list_all, cases_lt, and_parts, or_cases, ltb-true, eqb-true, length_push, if_true, Meaning, meaning, IsUsable, Event, Pass, Progress, Plain, PlainFrame, step, run, frame_at, plain_slave, filled, new_frames, with_note, met_note, progress_of, is_older, lets_by, may_pass, flights_progress, Shows, plain_of, OrderLaw, none_some, some_same, plain_frame}
 use Rattle.ec_world.proofs.Tracing.{Leaves, Stays, Begins, Moves, Loses, Returns, Closes, leaves}
 use Rattle.ec_world.proofs.Histories.{run_always, run_joins, new_one, AreBelow, below_step, next_left}
-use Rattle.ec_world.proofs.Lists.{same_progress, none_some, some_same}
 use Rattle.ec_world.proofs.Calm.{get_mapped}
 use Rattle.ec_world.proofs.StepLaws.{runs_show}
 use Rattle.ec_world.proofs.Headlines.{run_plan, Sees, sees, free_slots}
@@ -122,13 +106,6 @@ not_later number other part k h = elim (or_cases (nat_lt number other) _ h) [
   | inr x ↦ (let e = eqb-true number other (and_parts (number == other) _ x).0 in omega (arith, e))
 ]
 
-frame_of : (x : WorldState) (P : Plain) (k : ℕ) (f : Progress) → Shows x P → progress_at x k ≡ Some f → (g : PlainFrame) × ((frame_at P k ≡ Some g) × (progress_of g ≡ f))
-frame_of x P k f shows at = by (frame_at P k) (sym (same_progress x.slots P.slots k shows.progress) ∙ at)
-  where
-    by : (o : Option PlainFrame) → option_map progress_of o ≡ Some f → (g : PlainFrame) × ((o ≡ Some g) × (progress_of g ≡ f))
-    by None e = absurd (none_some f e)
-    by (Some g) e = (g, (refl, some_same (progress_of g) f e))
-
 pub order_law : OrderLaw
 order_law t ids old events w made n h up more v count on number part other k s x y older = elim (cases_lt (length x.event.before) (length y.event.before)) [
   | inl l ↦ l
@@ -169,10 +146,10 @@ order_law t ids old events w made n h up more v count on number part other k s x
     base = P y.event.before
 
     f : (g : PlainFrame) × ((frame_at (P x.event.before) x.slot ≡ Some g) × (progress_of g ≡ record { number = number; part = part; passed = s }))
-    f = frame_of x.event.at (P x.event.before) x.slot (record { number = number; part = part; passed = s }) at_x x.frame
+    f = plain_frame x.event.at (P x.event.before) x.slot (record { number = number; part = part; passed = s }) at_x x.frame
 
     g : (g : PlainFrame) × ((frame_at base y.slot ≡ Some g) × (progress_of g ≡ record { number = other; part = k; passed = s }))
-    g = frame_of y.event.at base y.slot (record { number = other; part = k; passed = s }) at_y y.frame
+    g = plain_frame y.event.at base y.slot (record { number = other; part = k; passed = s }) at_y y.frame
 
     below : AreBelow base
     below = run_always AreBelow m (λ a b d made r. below_step m a b d refl made r) p y.event.before
@@ -197,6 +174,5 @@ order_law t ids old events w made n h up more v count on number part other k s x
         = ap (λ (z : ℕ). is_older (record { number = z; part = w1.frame.part; passed = 0 }) (record { number = other; part = k; passed = 0 })) (w1.number_is ∙ ap (λ (z : Progress). z.number) f.1.1)
         ∙ (ap (λ (z : ℕ). is_older (record { number = number; part = z; passed = 0 }) (record { number = other; part = k; passed = 0 })) (w1.part_is ∙ ap (λ (z : Progress). z.part) f.1.1) ∙ older) in
         let first : s < length w1.frame.notes = ltb-true s (length w1.frame.notes) (sym (if_true _ _ _ older1) ∙ (ap (lets_by (record { number = other; part = k; passed = s })) (sym at) ∙ lets)) in
-        let b = w1.behind in
         let c = ap (λ (z : Progress). z.passed) f.1.1 in
-        omega (arith, first, b, c)
+        omega (arith, first, w1.behind, c)

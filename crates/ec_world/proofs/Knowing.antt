@@ -1,37 +1,5 @@
 -- What a slave that shows a plain slave does with a cyclic frame, and what it shows then.
-use Rattle.std.proofs.Common.{ℕ, ◌+◌, ◌-◌, ◌*◌, ◌<◌, ◌≡◌, ◌≢◌, ◌==◌, ◌||◌, Bool, true, false, Some, None, refl, sym, ◌∙◌, ap, subst, inl, inr, arith, if◌then◌else◌, List, [], ◌∷◌, length, nat_lt, slice_index}
-use Rattle.std.specs.Int.{bit_at}
-use Rattle.std.proofs.Math.Seq.{map-set_same}
-use Rattle.std.proofs.Math.ListN.{get_or-map}
-use Rattle.std.proofs.lemmas.List.{length-replicate, length-map}
-use Rattle.std.proofs.lemmas.Bool.{cases_Bool, cases_eq, cases_lt, and_from, and_left, and_right, lt-ltb, le-ltb, eq-eqb, ne_eqb, both_ways}
-use Rattle.ec_link.proofs.Listed.{listed}
-use Rattle.ec_bits.specs.Bits.{bytes_of_bits, within, zeros}
-use Rattle.ec_bits.proofs.BitLaws.{length-overlay}
-use Rattle.ec_bits.proofs.AnyLaws.{if_true, if_false, within_parts}
-use Rattle.ec_regs.specs.declared.fmmu.FmmuSettings.{FmmuSettings}
-use Rattle.ec_regs.specs.Fmmus.{fmmu_of}
-use Rattle.ec_sync.specs.SyncManager.{SyncManager, no_manager, may_read, may_write}
-use Rattle.ec_sync.specs.Buffer.{publishing}
-use Rattle.ec_fmmu.specs.Applied.{Place, inside_place}
-use Rattle.ec_fmmu.specs.Sets.{target, source, readers, writers}
-use Rattle.ec_slave.specs.State.{SlaveState, manager_at, fmmus_of, power_on}
-use Rattle.ec_slave.specs.Exchange.{IsMapped, takes, gives, with_outputs, with_published}
-use Rattle.ec_fmmu.specs.Areas.{Area}
-use Rattle.ec_slave.specs.LogicalLaws.{Misses}
-use Rattle.ec_slave.proofs.Kept.{outputs_published}
-use Rattle.ec_slave.proofs.SwitchedOn.{switched_on}
-use Rattle.ec_link.specs.declared.settings.Share.{Share}
-use Rattle.ec_link.specs.Shares.{Gave, has_outs, has_ins, nothing_given}
-use Rattle.ec_link.specs.Meaning.{Meaning, share_of, slave_at, no_slave as no_slave_plan, area_of, area_at, place_of_part, meaning, IsLaid}
-use Rattle.ec_link.specs.Plan.{PlanState, part_at}
-use Rattle.ec_link.specs.declared.settings.SlavePlan.{SlavePlan}
-use Rattle.ec_link.specs.Interface.{AreListed}
-use Rattle.ec_link.specs.Usable.{IsUsable}
-use Rattle.ec_world.specs.Plain.{PlainSlave, PlainFrame, Health, Working, Faulted, Reset, Note, Other, Short, Full, linked_outputs, giving, met_note, met_slave, taking}
-use Rattle.ec_world.specs.SlaveShows.{Holds, IsWorking, IsFaulted, IsReset, IsAs, SlaveShows}
-use Rattle.ec_world.specs.FrameShows.{GaveAs}
-use Rattle.ec_world.specs.Exchanging.{given_by, given_in, slave_left}
+use Rattle.ec_world.proofs.Words.{ℕ, ◌+◌, ◌-◌, ◌*◌, ◌<◌, ◌≡◌, ◌≢◌, ◌==◌, ◌||◌, Bool, true, false, Some, None, refl, sym, ◌∙◌, ap, subst, inl, inr, arith, if◌then◌else◌, List, [], ◌∷◌, length, nat_lt, slice_index, bit_at, map-set_same, get_or-map, length-replicate, length-map, cases_Bool, cases_eq, cases_lt, and_from, and_left, and_right, lt-ltb, le-ltb, eq-eqb, ne_eqb, both_ways, listed, bytes_of_bits, within, zeros, length-overlay, if_true, if_false, within_parts, FmmuSettings, fmmu_of, SyncManager, no_manager, may_read, may_write, publishing, Place, inside_place, target, source, readers, writers, SlaveState, manager_at, fmmus_of, power_on, IsMapped, takes, gives, with_outputs, with_published, Area, Misses, outputs_published, switched_on, Share, Gave, has_outs, has_ins, nothing_given, Meaning, share_of, slave_at, no_slave_plan, area_of, area_at, place_of_part, meaning, IsLaid, PlanState, part_at, SlavePlan, AreListed, IsUsable, PlainSlave, PlainFrame, Health, Working, Faulted, Reset, Note, Other, Short, Full, linked_outputs, giving, met_note, met_slave, taking, Holds, IsWorking, IsFaulted, IsReset, IsAs, SlaveShows, GaveAs, given_by, given_in, slave_left}
 use Rattle.ec_world.proofs.ProcessPass.{Acts, Does, Acting, Missing, Knows}
 use Rattle.ec_world.proofs.Mapped.{outs_enabled, ins_enabled, locked_denies, holds_mapped, third_held, fourth_held}
 
@@ -58,16 +26,8 @@ short_other e = cc
 
 not_other : (h : Share) (q : PlainSlave) (x : Health) → giving h q x ≢ Other
 not_other h q Working = full_other q.inputs.published
-not_other h q Faulted = go (has_outs h)
-  where
-    go : (b : Bool) → (if b then Short else Full q.inputs.published) ≢ Other
-    go true = short_other
-    go false = full_other q.inputs.published
-not_other h q Reset = go (has_outs h || has_ins h)
-  where
-    go : (b : Bool) → (if b then Short else Full q.inputs.published) ≢ Other
-    go true = short_other
-    go false = full_other q.inputs.published
+not_other h q Faulted = elim (has_outs h) as (λ b. (if b then Short else Full q.inputs.published) ≢ Other) [ true ↦ short_other | false ↦ full_other q.inputs.published ]
+not_other h q Reset = elim (has_outs h || has_ins h) as (λ b. (if b then Short else Full q.inputs.published) ≢ Other) [ true ↦ short_other | false ↦ full_other q.inputs.published ]
 
 full_same : (v w : List ℕ) → Full v ≡ Full w → w ≡ v
 full_same v w e = cc
@@ -203,9 +163,8 @@ module _ (plan : PlanState) (t : ℕ) (f : PlainFrame) (q : PlainSlave) (s : Sla
 
   -- of another part
   misses_by : (x : Health) → IsAs t pl s q x → h.part ≢ f.part → Misses s (place_of_part plan f.part)
-  misses_by Working w ne = other_misses m (area_at plan) (place_of_part plan) f.part s t sound.laid (subst (λ (k : ℕ). t < k) (sym (length-map plan.slaves (λ s. s.share))) b) ne (holds_mapped t pl s w.holds fits)
-  misses_by Faulted w ne = other_misses m (area_at plan) (place_of_part plan) f.part s t sound.laid (subst (λ (k : ℕ). t < k) (sym (length-map plan.slaves (λ s. s.share))) b) ne (holds_mapped t pl s w.holds fits)
   misses_by Reset w ne = reset_misses pl s (place_of_part plan f.part) w
+  misses_by _ w ne = other_misses m (area_at plan) (place_of_part plan) f.part s t sound.laid (subst (λ (k : ℕ). t < k) (sym (length-map plan.slaves (λ s. s.share))) b) ne (holds_mapped t pl s w.holds fits)
 
   pub knows : SlaveShows t pl s q → Knows m (area_at plan t) (place_of_part plan f.part) (part_at plan.parts f.part).split f q s t
   knows w = elim (cases_eq h.part f.part) [
@@ -280,8 +239,7 @@ module _ (plan : PlanState) (t : ℕ) (f : PlainFrame) (q : PlainSlave) (s : Sla
       go : (o : Bool) → SlaveShows t pl (if o then with_outputs s (linked_outputs m t f.snapshot) else s) (if o then record q { outputs = publishing q.outputs (linked_outputs m t f.snapshot) } else q)
       go true = subst (λ (x : Health). IsAs t pl (with_outputs s (linked_outputs m t f.snapshot)) (record q { outputs = publishing q.outputs (linked_outputs m t f.snapshot) }) x) (sym e) (working_left (linked_outputs m t f.snapshot) long w)
       go false = subst (λ (x : Health). IsAs t pl s q x) (sym e) w
-  left_by Faulted e w = subst (λ (x : Health). IsAs t pl s q x) (sym e) w
-  left_by Reset e w = subst (λ (x : Health). IsAs t pl s q x) (sym e) w
+  left_by _ e w = subst (λ (x : Health). IsAs t pl s q x) (sym e) w
 
   pub left_shows : SlaveShows t pl s q → SlaveShows t pl (slave_left m t f q s) (met_slave m t f q)
   left_shows w = go (h.part == f.part)

@@ -1,17 +1,8 @@
 -- Where the frames of an open cycle are: kept, on their way, or lost in an event since the cycle began.
-use Rattle.std.proofs.Common.{ℕ, ◌+◌, ◌<◌, ◌≤◌, ◌≡◌, ◌==◌, ◌&&◌, Bool, true, false, Option, Some, None, refl, sym, ◌∙◌, ap, subst, inl, inr, arith, List, [], ◌∷◌, ◌++◌, length, map, get_or, set, is_none, if◌then◌else◌, option_map, get_or-set_same, get_or-set_other, length-set}
-use Rattle.std.proofs.lemmas.Bool.{cases_Bool, cases_eq, and_from, eq-eqb, false≢true}
-use Rattle.std.proofs.lemmas.List.{length-map, append_assoc}
-use Rattle.ec_bits.proofs.AnyLaws.{if_true, if_false}
-use Rattle.ec_link.specs.Meaning.{Meaning}
-use Rattle.ec_cycle.specs.Closing.{nones}
-use Rattle.ec_world.specs.declared.event.Event.{Event}
-use Rattle.ec_world.specs.declared.event.Event.TheVariants.{Begin, Lose}
-use Rattle.ec_world.specs.Plain.{Plain, PlainFrame, Note, Cycle, step, run, frame_at, plain_slave, keeping, filled, new_frames, with_note, met_note}
+use Rattle.ec_world.proofs.Words.{ℕ, ◌+◌, ◌<◌, ◌≤◌, ◌≡◌, ◌==◌, ◌&&◌, Option, Some, None, refl, sym, ◌∙◌, ap, subst, inl, inr, arith, List, [], ◌∷◌, ◌++◌, length, get_or, set, is_none, option_map, get_or-set_same, get_or-set_other, cases_Bool, cases_eq, and_from, eq-eqb, length-map, append_assoc, if_true, if_false, Meaning, nones, Event, Begin, Lose, Plain, PlainFrame, Note, Cycle, step, run, frame_at, plain_slave, keeping, new_frames, with_note, met_note, none_some, some_same, cycle_begun, some_or}
 use Rattle.ec_world.proofs.Tracing.{mapped, guarded, Leaves, Stays, Begins, Moves, Loses, Returns, Closes, leaves}
-use Rattle.ec_world.proofs.Histories.{run_tells, filled_holds, new_at, as_many, keeping_number, next_left}
+use Rattle.ec_world.proofs.Histories.{run_tells, filled_holds, new_at, as_many, keeping_number, next_left, keeping_length}
 use Rattle.ec_world.proofs.Quiet.{IsAway, Away, moved_away}
-use Rattle.ec_world.proofs.Lists.{none_some, some_same}
 
 -- the frame of part k was lost on the way
 pub record LostAt (m : Meaning) (begun : Plain) (number : ℕ) (done : List Event) (k : ℕ) : Type 0 where
@@ -56,10 +47,6 @@ later_place m begun number done e slots kept k (Lost l) = Lost (later_lost m beg
 still : (m : Meaning) (begun : Plain) (number : ℕ) (done : List Event) (e : Event) (p : Plain) → Located m begun number done p → Located m begun number (done ++ (e ∷ [])) p
 still m begun number done e p h = record { past = h.past; each = λ c at own k l. later_place m begun number done e p.slots c.kept k (h.each c at own k l) }
 
-is_some_or : {X : Type 0} (o : Option X) → is_none o ≡ false → (x : X) × (o ≡ Some x)
-is_some_or None e = absurd (false≢true (sym e))
-is_some_or (Some x) e = (x, refl)
-
 -- what is kept stays kept as a frame comes back
 kept_on : (g : PlainFrame) (c : Cycle) (k : ℕ) (notes : List Note) → k < length c.kept → get_or c.kept k None ≡ Some notes → (ns : List Note) × (get_or (keeping g c).kept k None ≡ Some ns)
 kept_on g c k notes l e = elim (cases_Bool ((g.number == c.number) && is_none (get_or c.kept g.part None))) [
@@ -74,15 +61,8 @@ kept_on g c k notes l e = elim (cases_Bool ((g.number == c.number) && is_none (g
 kept_now : (g : PlainFrame) (c : Cycle) (k : ℕ) → k < length c.kept → g.number ≡ c.number → g.part ≡ k → (ns : List Note) × (get_or (keeping g c).kept k None ≡ Some ns)
 kept_now g c k l num part = elim (cases_Bool (is_none (get_or c.kept g.part None))) [
   | inl free ↦ (g.notes, ap (λ (x : Cycle). get_or x.kept k None) (if_true _ _ _ (and_from (g.number == c.number) _ (eq-eqb _ _ num) free)) ∙ (ap (λ (n : ℕ). get_or (set c.kept g.part (Some g.notes)) n None) (sym part) ∙ get_or-set_same c.kept g.part (Some g.notes) None (omega (arith, l, part))))
-  | inr full ↦ (let r = is_some_or (get_or c.kept g.part None) full in kept_on g c k r.0 l (ap (λ (n : ℕ). get_or c.kept n None) (sym part) ∙ r.1))
+  | inr full ↦ (let r = some_or (get_or c.kept g.part None) full in kept_on g c k r.0 l (ap (λ (n : ℕ). get_or c.kept n None) (sym part) ∙ r.1))
 ]
-
-keeping_length : (g : PlainFrame) (c : Cycle) → length (keeping g c).kept ≡ length c.kept
-keeping_length g c = go ((g.number == c.number) && is_none (get_or c.kept g.part None))
-  where
-    go : (b : Bool) → length (if b then record c { kept = set c.kept g.part (Some g.notes) } else c).kept ≡ length c.kept
-    go true = length-set c.kept g.part (Some g.notes)
-    go false = refl
 
 located_step : (m : Meaning) (begun : Plain) (number : ℕ) (done : List Event) (e : Event) (q : Plain)
     → step m (run m begun done).plain e ≡ Some q → Located m begun number done (run m begun done).plain → Located m begun number (done ++ (e ∷ [])) q
@@ -152,11 +132,7 @@ located_step m begun number done e q h c = record { past = omega (arith, c.past,
 located_begun : (m : Meaning) (p begun : Plain) → step m p Begin ≡ Some begun → Located m begun p.next [] begun
 located_begun m p begun h = by (leaves m p Begin begun h)
   where
-    is : record p {
-      next = p.next + 1;
-      cycle = Some (record { number = p.next; kept = map (λ v. None) m.parts });
-      slots = filled (new_frames p.next p.outputs 0 m.parts) p.slots;
-    } ≡ begun
+    is : cycle_begun m p ≡ begun
     is = guarded _ _ begun h
 
     made : length m.parts ≤ nones p.slots → Located m begun p.next [] begun

@@ -1,27 +1,5 @@
 -- The sync managers of process data, as a plan sets them.
-use Rattle.std.proofs.Common.{ℕ, ◌+◌, ◌*◌, ◌<◌, ◌≡◌, ◌&&◌, not, true, false, Some, refl, ◌∙◌, ap, arith, if◌then◌else◌, List, [], ◌∷◌, map, Bool, Option, sym, subst, inl, inr, length, get_or}
-use Rattle.std.specs.List.{position_from}
-use Rattle.std.proofs.lemmas.Bool.{and_from, and_left, and_right, lt-ltb, le-leb, ne_eqb, eq-eqb, cases_Bool, both_ways}
-use Rattle.ec_bits.specs.Bits.{bytes_of_bits}
-use Rattle.ec_bits.proofs.AnyLaws.{if_true, if_false, within_true}
-use Rattle.ec_regs.specs.declared.manager.SyncManagerSettings.{SyncManagerSettings}
-use Rattle.ec_regs.specs.Managers.{no_settings, is_set, is_mailbox, span}
-use Rattle.ec_regs.specs.Memory.{ram_start, ram_end}
-use Rattle.ec_sync.specs.SyncManager.{SyncManager, may_read, may_write, may_app_put, may_app_get, no_manager}
-use Rattle.ec_sync.specs.Governing.{governs, governor}
-use Rattle.ec_link.specs.SlavePlan.{process_manager}
-use Rattle.ec_link.specs.Interface.{has_byte, FitsRam, AreListed, output_manager, input_manager}
-use Rattle.std.proofs.Math.ListN.{get_or-map}
-use Rattle.std.proofs.lemmas.List.{length-map}
-use Rattle.ec_regs.specs.Fmmus.{no_fmmu}
-use Rattle.ec_fmmu.specs.Sets.{target, source, readers, writers}
-use Rattle.ec_fmmu.proofs.RunLaws.{read_set_is_run, write_set_is_run}
-use Rattle.ec_slave.specs.State.{SlaveState, manager_at, fmmus}
-use Rattle.ec_slave.specs.Exchange.{IsMapped, IsBufferAt}
-use Rattle.ec_link.specs.declared.settings.SlavePlan.{SlavePlan}
-use Rattle.ec_link.specs.Meaning.{area_of}
-use Rattle.ec_link.specs.Sound.{fmmu_of}
-use Rattle.ec_world.specs.SlaveShows.{Holds}
+use Rattle.ec_world.proofs.Words.{ℕ, ◌+◌, ◌*◌, ◌<◌, ◌≡◌, ◌&&◌, not, true, false, Some, refl, ◌∙◌, ap, arith, if◌then◌else◌, List, [], ◌∷◌, map, Bool, Option, sym, subst, inl, inr, length, get_or, position_from, and_from, and_left, and_right, lt-ltb, le-leb, ne_eqb, eq-eqb, cases_Bool, both_ways, bytes_of_bits, if_true, if_false, within_true, SyncManagerSettings, no_settings, is_set, is_mailbox, span, ram_start, ram_end, SyncManager, may_read, may_write, may_app_put, may_app_get, no_manager, governs, governor, process_manager, has_byte, FitsRam, AreListed, output_manager, input_manager, get_or-map, length-map, no_fmmu, target, source, readers, writers, read_set_is_run, write_set_is_run, SlaveState, manager_at, fmmus, IsMapped, IsBufferAt, SlavePlan, area_of, link_fmmu_of as fmmu_of, Holds}
 
 -- set for so many bits
 abbrev pub for_bits : ℕ → ℕ → ℕ → SyncManagerSettings

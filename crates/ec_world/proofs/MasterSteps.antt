@@ -1,27 +1,9 @@
 -- Events of the master: a variable set, a cycle begun, a frame that comes back, a cycle closed.
-use Rattle.std.proofs.Common.{ℕ, zero, suc, ◌+◌, ◌-◌, ◌^◌, ◌<◌, ◌≡◌, ◌&&◌, Bool, true, false, Option, Some, None, refl, sym, ◌∙◌, ap, subst, arith, List, [], ◌∷◌, length, map, get_or, is_some, is_none, slice_get, if◌then◌else◌, option_map, unwrap_or, nat_lt, nat_le}
-use Rattle.std.proofs.lemmas.Bool.{and_parts, ltb-true}
-use Rattle.std.proofs.lemmas.List.{length-map}
-use Rattle.ec_link.specs.LinkRuns.{is_out}
-use Rattle.ec_bits.specs.Bits.{with_number}
-use Rattle.ec_bits.proofs.AnyLaws.{if_true}
-use Rattle.ec_frame.specs.Frame.{IsFrame}
-use Rattle.ec_frame.specs.Building.{bare_payload}
-use Rattle.ec_link.specs.declared.image.Variable.{Variable}
-use Rattle.ec_link.specs.Plan.{PlanState}
-use Rattle.ec_link.specs.Meaning.{meaning}
-use Rattle.ec_link.specs.Usable.{IsUsable}
-use Rattle.ec_cycle.specs.Closing.{KeptPart, nones, inputs_closed, report_of, ReportState}
-use Rattle.ec_cycle.specs.Frames.{sent_datagrams}
-use Rattle.ec_cycle.specs.Master.{MasterState, OpenCycle, closed, cycle_limit, holds_value, value_put, variable_set}
-use Rattle.ec_world.specs.Plain.{Plain, PlainFrame, Note, Cycle, progress_of, all_progress, filled, new_frames, setting, beginning, closing}
-use Rattle.ec_world.specs.World.{WorldState, Flight, flight_progress, flights_progress, flights_from, can_begin, Begins, Closes}
-use Rattle.ec_world.specs.Shows.{Shows, CyclesShow, CycleShows, said, CountersPredicted}
-use Rattle.ec_world.specs.FrameShows.{FrameShows}
-use Rattle.ec_world.proofs.Lists.{theres, nones-alike, none_some, some_same, same_slots}
+use Rattle.ec_world.proofs.Words.{ℕ, zero, suc, ◌+◌, ◌-◌, ◌^◌, ◌<◌, ◌≡◌, ◌&&◌, Bool, true, false, Option, Some, None, refl, sym, ◌∙◌, ap, subst, arith, List, [], ◌∷◌, length, map, get_or, is_some, is_none, slice_get, if◌then◌else◌, option_map, unwrap_or, nat_lt, nat_le, and_parts, ltb-true, length-map, is_out, with_number, if_true, IsFrame, bare_payload, Variable, PlanState, meaning, IsUsable, KeptPart, nones, inputs_closed, report_of, ReportState, sent_datagrams, MasterState, OpenCycle, closed, cycle_limit, holds_value, value_put, variable_set, Plain, PlainFrame, Note, Cycle, progress_of, all_progress, filled, new_frames, setting, beginning, closing, WorldState, Flight, flight_progress, flights_progress, flights_from, can_begin, Begins, Closes, Shows, CyclesShow, CycleShows, said, CountersPredicted, FrameShows, theres, nones-alike, none_some, some_same, same_slots, cycle_begun, none_in}
 use Rattle.ec_world.proofs.Filling.{filled-map, filled-both}
 use Rattle.ec_world.proofs.Fresh.{fresh, fresh_shows}
 use Rattle.ec_world.proofs.CloseLaws.{inputs_same, report_said, counters_predicted}
+use Rattle.ec_world.proofs.AppSteps.{master_changed}
 
 -- ---- cycles
 
@@ -35,10 +17,9 @@ open_both plan c None h = absurd h
 open_both plan c (Some q) h = record { cycle = q; is = refl; shows = h }
 
 pub cycles_alike : (plan : PlanState) (o : Option OpenCycle) (p : Option Cycle) → CyclesShow plan o p → is_some o ≡ is_some p
-cycles_alike plan None None h = refl
 cycles_alike plan None (Some q) h = absurd h
 cycles_alike plan (Some c) None h = absurd h
-cycles_alike plan (Some c) (Some q) h = refl
+cycles_alike plan _ _ h = refl
 
 -- ---- a variable set
 
@@ -63,33 +44,18 @@ set_can w p v x s = ap (holds_value x) (variables_same w p v s) ∙ set_made p x
 pub set_shows : (w : WorldState) (p : Plain) (v x : ℕ) → Shows w p → holds_value x (slice_get w.master.plan.variables v) ≡ true
     → Shows (record w { master = variable_set w.master v x }) (unwrap_or (setting p x (slice_get (meaning w.plan).variables v)) p)
 set_shows w p v x s can =
-    subst (λ (q : Plain). Shows (record w { master = variable_set w.master v x }) q) (sym (set_is p x (slice_get w.plan.variables v) (sym (ap (holds_value x) (variables_same w p v s)) ∙ can))) (record {
-      started = s.started;
-      no_start = s.no_start;
-      is_ready = s.is_ready;
-      same_plan = s.same_plan;
-      outputs = ap (value_put w.master.outputs x) (variables_same w p v s) ∙ ap (λ image. value_put image x (slice_get w.plan.variables v)) s.outputs;
-      inputs = s.inputs;
-      next = s.next;
-      got = s.got;
-      cycle = s.cycle;
-      report = s.report;
-      count = s.count;
-      plain_count = s.plain_count;
-      slaves = s.slaves;
-      progress = s.progress;
-      frames = s.frames;
-    })
+    subst (λ (q : Plain). Shows (record w { master = variable_set w.master v x }) q) (sym (set_is p x (slice_get w.plan.variables v) (sym (ap (holds_value x) (variables_same w p v s)) ∙ can)))
+    (master_changed w p (record p { outputs = value_put p.outputs x (slice_get w.plan.variables v) }) (variable_set w.master v x) w.report w.got s s.is_ready s.same_plan
+    (ap (value_put w.master.outputs x) (variables_same w p v s) ∙ ap (λ image. value_put image x (slice_get w.plan.variables v)) s.outputs) s.inputs s.next s.got s.cycle s.report)
 
 -- ---- a cycle begun
 
 begin_made : (w : WorldState) (p : Plain) → Shows w p
     → (is_none p.cycle && (nat_le (length (meaning w.plan).parts) (nones p.slots) && nat_lt p.next (2 ^ 64 - 1))) ≡ can_begin w
 begin_made w p s =
-    let opened : is_none p.cycle ≡ is_none w.master.cycle = not_same w.master.cycle p.cycle s.cycle in
     let parts : length (meaning w.plan).parts ≡ length w.plan.parts = length-map w.plan.parts (λ k. k.unit) in
     let free : nones p.slots ≡ nones w.slots = sym (nones-alike w.slots p.slots (same_slots w.slots p.slots s.progress)) in
-    ap (λ b. b && (nat_le (length (meaning w.plan).parts) (nones p.slots) && nat_lt p.next (2 ^ 64 - 1))) opened
+    ap (λ b. b && (nat_le (length (meaning w.plan).parts) (nones p.slots) && nat_lt p.next (2 ^ 64 - 1))) (not_same w.master.cycle p.cycle s.cycle)
     ∙ (ap (λ n. is_none w.master.cycle && (nat_le n (nones p.slots) && nat_lt p.next (2 ^ 64 - 1))) parts
     ∙ (ap (λ n. is_none w.master.cycle && (nat_le (length w.plan.parts) n && nat_lt p.next (2 ^ 64 - 1))) free
     ∙ (ap (λ n. is_none w.master.cycle && (nat_le (length w.plan.parts) (nones w.slots) && nat_lt n (2 ^ 64 - 1))) (sym s.next)
@@ -101,39 +67,25 @@ begin_made w p s =
     not_same (Some c) None h = absurd h
     not_same (Some c) (Some q) h = refl
 
-abbrev begun_plain : WorldState → Plain → Plain
-begun_plain w p = record p {
-  next = p.next + 1;
-  cycle = Some (record { number = p.next; kept = map (λ u. None) (meaning w.plan).parts });
-  slots = filled (new_frames p.next p.outputs 0 (meaning w.plan).parts) p.slots;
-}
-
 pub begin_can : (w : WorldState) (p : Plain) → Shows w p → can_begin w ≡ is_some (beginning (meaning w.plan) p)
 begin_can w p s = sym (begin_made w p s) ∙ go (is_none p.cycle && (nat_le (length (meaning w.plan).parts) (nones p.slots) && nat_lt p.next (2 ^ 64 - 1)))
   where
-    go : (b : Bool) → b ≡ is_some (if b then Some (begun_plain w p) else None)
+    go : (b : Bool) → b ≡ is_some (if b then Some (cycle_begun (meaning w.plan) p) else None)
     go true = refl
     go false = refl
-
-none_of : {X Y : Type 0} (xs : List X) (k : ℕ) (y : Y) → get_or (map (λ x. None) xs) k None ≡ Some y → ⊥
-none_of [] k y e = none_some y e
-none_of (x ∷ xs) zero y e = none_some y e
-none_of (x ∷ xs) (suc k) y e = none_of xs k y e
 
 abbrev nothing : (Z : Type 0) → {X : Type 0} → X → Option Z
 nothing Z x = None
 
 none_there : {X Y : Type 0} (Z W : Type 0) (xs : List X) (ys : List Y) → length xs ≡ length ys → theres (map (nothing Z) xs) ≡ theres (map (nothing W) ys)
 none_there Z W [] [] e = refl
-none_there Z W [] (y ∷ ys) e = absurd (omega arith)
-none_there Z W (x ∷ xs) [] e = absurd (omega arith)
 none_there Z W (x ∷ xs) (y ∷ ys) e = ap (λ bs. false ∷ bs) (none_there Z W xs ys (omega arith))
+none_there Z W _ _ e = absurd (omega arith)
 
 same_start : (number k : ℕ) (image : List ℕ) (bs : List (List ℕ)) (us : List ℕ) → length bs ≡ length us → map flight_progress (flights_from number k bs) ≡ map progress_of (new_frames number image k us)
 same_start number k image [] [] e = refl
-same_start number k image [] (u ∷ us) e = absurd (omega arith)
-same_start number k image (b ∷ bs) [] e = absurd (omega arith)
 same_start number k image (b ∷ bs) (u ∷ us) e = ap (λ ps. record { number = number; part = k; passed = 0 } ∷ ps) (same_start number (k + 1) image bs us (omega arith))
+same_start number k image _ _ e = absurd (omega arith)
 
 many_flights : (number k : ℕ) (image : List ℕ) (bs : List (List ℕ)) (us : List ℕ) → length bs ≡ length us → length (flights_from number k bs) ≡ length (new_frames number image k us)
 many_flights number k image bs us e = sym (length-map (flights_from number k bs) flight_progress) ∙ (ap length (same_start number k image bs us e) ∙ length-map (new_frames number image k us) progress_of)
@@ -160,11 +112,7 @@ begin_shows w p w2 sound s can begins =
     let begun : MasterState = record w.master { next = w.master.next + 1; cycle = Some c } in
     let w3 : WorldState = record w { master = begun; slots = slots } in
     let is : w2 ≡ w3 = begins.is ∙ ap (λ x. record w { master = x; slots = slots }) b.is in
-    let p2 : Plain = record p {
-      next = p.next + 1;
-      cycle = Some (record { number = p.next; kept = map (λ u. None) m.parts });
-      slots = filled (new_frames p.next p.outputs 0 m.parts) p.slots;
-    } in
+    let p2 : Plain = cycle_begun m p in
     let made : beginning m p ≡ Some p2 = if_true _ _ _ (begin_made w p s ∙ can) in
     let parts : length m.parts ≡ length w.plan.parts = length-map w.plan.parts (λ k. k.unit) in
     let plan_parts : length w.master.plan.parts ≡ length w.plan.parts = ap (λ (x : PlanState). length x.parts) s.same_plan in
@@ -184,7 +132,7 @@ begin_shows w p w2 sound s can begins =
         number_fits = let e = s.next in omega arith;
         each_part = ap length b.kept ∙ (length-map w.master.plan.parts (nothing KeptPart) ∙ plan_parts);
         same_parts = ap theres b.kept ∙ none_there KeptPart (List Note) w.master.plan.parts m.parts (plan_parts ∙ sym parts);
-        kept = λ k part notes a z. absurd (none_of m.parts k notes z);
+        kept = λ k part notes a z. absurd (none_in m.parts k notes z);
       };
       report = s.report;
       count = s.count;
@@ -227,24 +175,10 @@ close_shows w p w2 sound s closes =
     let q = both.cycle in
     let w3 : WorldState = record w { master = closed w.master c; report = Some (report_of w.master.plan c.kept) } in
     subst (λ (x : WorldState). Shows x (unwrap_or (option_map (closing m p) p.cycle) p)) (sym closes.is)
-    (subst (λ (o : Option Cycle). Shows w3 (unwrap_or (option_map (closing m p) o) p)) (sym both.is) (record {
-      started = s.started;
-      no_start = s.no_start;
-      is_ready = s.is_ready;
-      same_plan = s.same_plan;
-      outputs = s.outputs;
-      inputs = ap (λ x. inputs_closed x c.kept w.master.inputs) s.same_plan ∙ (ap (inputs_closed w.plan c.kept) s.inputs ∙ inputs_same w.plan c q p.inputs sound both.shows);
-      next = s.next;
-      got = s.got;
-      cycle = tt;
-      report = record {
-        same = ap (λ x. Some x) (ap (λ x. said (report_of x c.kept)) s.same_plan ∙ report_said w.plan c q both.shows);
-        counters = λ r e. subst (λ (x : ReportState). CountersPredicted w.plan x) (some_same _ r e)
-            (subst (λ (x : PlanState). CountersPredicted w.plan (report_of x c.kept)) (sym s.same_plan) (counters_predicted w.plan c.kept both.shows.each_part));
-      };
-      count = s.count;
-      plain_count = s.plain_count;
-      slaves = s.slaves;
-      progress = s.progress;
-      frames = s.frames;
-    }))
+    (subst (λ (o : Option Cycle). Shows w3 (unwrap_or (option_map (closing m p) o) p)) (sym both.is)
+    (master_changed w p (closing m p q) (closed w.master c) (Some (report_of w.master.plan c.kept)) w.got s s.is_ready s.same_plan s.outputs
+    (ap (λ x. inputs_closed x c.kept w.master.inputs) s.same_plan ∙ (ap (inputs_closed w.plan c.kept) s.inputs ∙ inputs_same w.plan c q p.inputs sound both.shows)) s.next s.got tt (record {
+      same = ap (λ x. Some x) (ap (λ x. said (report_of x c.kept)) s.same_plan ∙ report_said w.plan c q both.shows);
+      counters = λ r e. subst (λ (x : ReportState). CountersPredicted w.plan x) (some_same _ r e)
+          (subst (λ (x : PlanState). CountersPredicted w.plan (report_of x c.kept)) (sym s.same_plan) (counters_predicted w.plan c.kept both.shows.each_part));
+    })))

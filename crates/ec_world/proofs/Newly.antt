@@ -1,22 +1,6 @@
 -- A new world of a table, and what its plan is.
-use Rattle.std.proofs.Common.{ℕ, ◌≡◌, None, sym, subst, List}
-use Rattle.std.specs.Prelude.{All}
-use Rattle.std.proofs.lemmas.List.Elements.{All-from_get_or}
-use Rattle.ec_device.specs.declared.slave_type.Identity.{Identity}
-use Rattle.ec_table.specs.Contents.{Contents}
+use Rattle.ec_world.proofs.Words.{ℕ, ◌≡◌, None, sym, subst, List, All, All-from_get_or, Identity, Contents, compile_fault, PlanState, plan_of, IsUsable, plan_usable, HasFewAssigned, IsStartable, startable_is_taken, no_plan, are-plans, Event, WorldState, IsRun, IsNew, Told, no_trouble}
 use Rattle.ec_table.specs.Sound as table
-use Rattle.ec_link.specs.Faults.{compile_fault}
-use Rattle.ec_link.specs.Plan.{PlanState, plan_of}
-use Rattle.ec_link.specs.Usable.{IsUsable}
-use Rattle.ec_link.proofs.UsableLaws.{plan_usable}
-use Rattle.ec_start.specs.Planned.{HasFewAssigned, IsStartable}
-use Rattle.ec_start.proofs.Assigned.{startable_is_taken}
-use Rattle.ec_bringup.specs.Starting.{no_plan}
-use Rattle.ec_bringup.proofs.CompleteLaws.{are-plans}
-use Rattle.ec_world.specs.declared.event.Event.{Event}
-use Rattle.ec_world.specs.World.{WorldState}
-use Rattle.ec_world.specs.Laws.{IsRun}
-use Rattle.ec_world.specs.Whole.{IsNew, Told, no_trouble}
 use Rattle.ec_world.proofs.Whole.{compiled}
 
 pub usable-of : (t : Contents) (plan : PlanState) → table.IsSound t → compile_fault t ≡ None → plan ≡ plan_of t → IsUsable plan

@@ -1,26 +1,6 @@
 -- A run of a new world has one outcome: its slots hold frames, and of a frame each event makes one thing.
-use Rattle.std.proofs.Common.{ℕ, zero, suc, ◌+◌, ◌<◌, ◌≡◌, Bool, true, false, Option, Some, None, refl, sym, ◌∙◌, ap, subst, arith, List, [], ◌∷◌, length, map, get_or, set, slice_get, replicate, if◌then◌else◌}
-use Rattle.std.proofs.lemmas.Bool.{false≢true}
-use Rattle.std.proofs.lemmas.List.{ext_get_or}
-use Rattle.ec_sync.specs.Buffer.{Got}
-use Rattle.ec_frame.specs.Datagram.{Datagram}
-use Rattle.ec_frame.specs.Frame.{Payload, IsFrame}
-use Rattle.ec_slave.specs.State.{SlaveState}
-use Rattle.ec_slave.specs.Application.{output_taken}
-use Rattle.ec_ring.specs.Rings.{IsPassedAt}
-use Rattle.ec_start.specs.Actions.{numbered, datagram_of}
-use Rattle.ec_start.specs.Running.{StartState, IsStartTaken, IsOutstanding, action_of, second, sending, shape as shape_sent}
-use Rattle.ec_cycle.specs.Closing.{KeptPart, report_of}
-use Rattle.ec_cycle.specs.Master.{MasterState, OpenCycle, Begun, IsTaken, closed}
-use Rattle.ec_world.specs.declared.event.Event.{Event}
-use Rattle.ec_world.specs.declared.event.Event.TheVariants.{StartNext, Begin, Pass, Lose, Return, Close, AppPut, AppGet}
-use Rattle.ec_world.specs.Plain.{filled}
-use Rattle.ec_world.specs.World.{WorldState, Flight, slave_of, flight_at, flights_from, with_slave, resumed, ready_with, awaits, Happens, Begins, Passes, Returns, StartReturns, GivesUp, Closes, ByStart, IsStep}
-use Rattle.ec_world.specs.Laws.{IsRun}
-use Rattle.ec_world.specs.Whole.{slot_count}
-use Rattle.ec_world.specs.RunLaws.{OneOutcomeLaw}
+use Rattle.ec_world.proofs.Words.{ℕ, zero, suc, ◌+◌, ◌<◌, ◌≡◌, Bool, true, false, Option, Some, None, refl, sym, ◌∙◌, ap, subst, arith, List, [], ◌∷◌, length, map, get_or, set, slice_get, replicate, if◌then◌else◌, false≢true, ext_get_or, Got, Datagram, Payload, IsFrame, SlaveState, output_taken, IsPassedAt, numbered, datagram_of, StartState, IsStartTaken, IsOutstanding, action_of, second, sending, shape_sent, KeptPart, report_of, MasterState, OpenCycle, Begun, IsTaken, closed, Event, StartNext, Begin, Pass, Lose, Return, Close, AppPut, AppGet, filled, WorldState, Flight, slave_of, flight_at, flights_from, with_slave, resumed, ready_with, awaits, Happens, Begins, Passes, Returns, StartReturns, GivesUp, Closes, ByStart, IsStep, IsRun, slot_count, OneOutcomeLaw, none_some, some_same, rest_same}
 use Rattle.ec_world.proofs.Histories.{filled_has, set_has}
-use Rattle.ec_world.proofs.Lists.{none_some, some_same, rest_same}
 
 -- ---- a frame that comes back
 
@@ -33,12 +13,9 @@ taken_one m payload true false n k x y = let a = x.only refl in absurd (false≢
 taken_one m payload false true n k x y = let a = y.only refl in absurd (false≢true (x.kept a.cycle a.part a.frame a.answer).0)
 taken_one m payload false false n k x y = (x.foreign (λ c j p a. false≢true (x.kept c j p a).0)).1 ∙ sym (y.foreign (λ c j p a. false≢true (y.kept c j p a).0)).1
 
-nil_cons : {X : Type 0} (x : X) (xs : List X) → [] ≡ x ∷ xs → ⊥
-nil_cons x xs e = cc
-
 second_there : (ds : List Datagram) (a b : Datagram) → map shape_sent ds ≡ map shape_sent (a ∷ b ∷ []) → (d : Datagram) × (second ds ≡ Some d)
-second_there [] a b e = absurd (nil_cons _ _ e)
-second_there (d ∷ []) a b e = absurd (nil_cons _ _ (rest_same _ _ _ _ e))
+second_there [] a b e = absurd (cc e)
+second_there (d ∷ []) a b e = absurd (cc (rest_same _ _ _ _ e))
 second_there (d ∷ x ∷ ds) a b e = (x, refl)
 
 start_taken_one : (s : StartState) (payload : List ℕ) (b c : Bool) (n k : StartState) → IsStartTaken s payload b n → IsStartTaken s payload c k → n ≡ k
@@ -109,8 +86,7 @@ step_holds old e new false h all = subst HoldsFrames (sym (h.refused refl)) all
 begun_frames : (m n k : MasterState) (c d : OpenCycle) → Begun m n c → Begun m k d → c.frames ≡ d.frames
 begun_frames m n k c d x y =
     let a = x.count in
-    let b = y.count in
-    ext_get_or [] c.frames d.frames (omega (arith, a, b)) (λ i l. bytes_one _ _ _ (x.frames i (omega (arith, l, a))) (y.frames i (omega (arith, l, a))))
+    ext_get_or [] c.frames d.frames (omega (arith, a, y.count)) (λ i l. bytes_one _ _ _ (x.frames i (omega (arith, l, a))) (y.frames i (omega (arith, l, a))))
 
 same_cycle : (c d : OpenCycle) → c.number ≡ d.number → c.frames ≡ d.frames → c.kept ≡ d.kept → c ≡ d
 same_cycle c d number frames kept =

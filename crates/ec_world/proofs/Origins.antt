@@ -1,19 +1,5 @@
 -- A world that is Ready: the world in which its start-up ended, and where its slaves' troubles come from.
-use Rattle.std.proofs.Common.{ℕ, zero, suc, ◌+◌, ◌≡◌, ◌⊎◌, ◌&&◌, Bool, true, false, refl, sym, ◌∙◌, ap, subst, inl, inr, List, [], ◌∷◌, ◌++◌, length, replicate, if◌then◌else◌, get_or-set_other}
-use Rattle.std.proofs.lemmas.Bool.{cases_Bool, cases_eq, both_ways, true≢false}
-use Rattle.ec_bits.proofs.AnyLaws.{if_true, if_false}
-use Rattle.ec_link.specs.Plan.{PlanState}
-use Rattle.ec_link.specs.Usable.{IsUsable}
-use Rattle.ec_bringup.specs.Starting.{trouble_at}
-use Rattle.ec_bringup.specs.Runs.{AreStartable, is_beginning}
-use Rattle.ec_world.specs.declared.event.Event.{Event}
-use Rattle.ec_world.specs.declared.event.Event.TheVariants.{StartNext, Fault, Reset}
-use Rattle.ec_world.specs.World.{WorldState, is_up, resumed, IsStep}
-use Rattle.ec_world.specs.Laws.{IsRun}
-use Rattle.ec_world.specs.Whole.{flags_after, flags_of, no_trouble, IsReadyWorld}
-use Rattle.ec_world.specs.Rising.{Rising}
-use Rattle.ec_world.specs.Headline.{HadTrouble, IsRunWithoutStart, begins_start}
-use Rattle.ec_world.specs.RunLaws.{TroubleLaw}
+use Rattle.ec_world.proofs.Words.{ℕ, zero, suc, ◌+◌, ◌≡◌, ◌⊎◌, ◌&&◌, Bool, true, false, refl, sym, ◌∙◌, ap, subst, inl, inr, List, [], ◌∷◌, ◌++◌, length, replicate, if◌then◌else◌, get_or-set_other, cases_Bool, cases_eq, both_ways, true≢false, if_true, if_false, PlanState, IsUsable, trouble_at, AreStartable, is_beginning, Event, StartNext, Fault, ResetSlave as Reset, WorldState, is_up, resumed, IsStep, IsRun, flags_after, flags_of, no_trouble, IsReadyWorld, Rising, HadTrouble, IsRunWithoutStart, begins_start, TroubleLaw}
 use Rattle.ec_world.proofs.Readies.{ready-world}
 use Rattle.ec_world.proofs.Whole.{step-rises, step-plan}
 

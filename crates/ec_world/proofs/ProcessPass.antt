@@ -1,30 +1,5 @@
 -- What a slave does with a logical datagram over its area, where it is known what it takes and gives.
-use Rattle.std.proofs.Common.{ℕ, ◌+◌, ◌*◌, ◌<◌, ◌≡◌, Bool, true, false, refl, ◌∙◌, ap, arith, if◌then◌else◌, List, length, nat_lt, ◌&&◌, ◌%◌, ◌≤◌, ◌≢◌, ◌==◌, sym, subst, inl, inr, [], ◌∷◌, ◌++◌, mod-eq_of_lt}
-use Rattle.std.specs.Int.{from_bool}
-use Rattle.ec_frame.specs.Datagram.{Datagram}
-use Rattle.ec_sync.specs.SyncManager.{SyncManager, may_read, may_write}
-use Rattle.ec_slave.specs.State.{SlaveState, with_answer, Met}
-use Rattle.ec_slave.specs.Logical.{place_of, meets_logically}
-use Rattle.ec_slave.specs.Exchange.{IsMapped, takes, gives, outputs_from, inputs_into, inputs_of, with_outputs}
-use Rattle.ec_fmmu.specs.Areas.{Area, Spans}
-use Rattle.ec_slave.proofs.ExchangeLaw.{exchange}
-use Rattle.ec_slave.proofs.Kept.{mapped_kept, outputs_published}
-use Rattle.ec_link.specs.Shares.{Gave, lwr_count, lrd_count, lrw_count, nothing_given, sum_of}
-use Rattle.std.proofs.lemmas.Bool.{cases_Bool, and_left, le-ltb, both_ways, eq-eqb, eqb-true}
-use Rattle.ec_frame.specs.declared.command.Command.TheVariants.{Lrd, Lwr, Lrw}
-use Rattle.ec_bits.proofs.AnyLaws.{if_true, if_false}
-use Rattle.ec_fmmu.specs.Applied.{Place}
-use Rattle.ec_slave.specs.LogicalLaws.{Misses}
-use Rattle.ec_bits.specs.Bits.{bit}
-use Rattle.ec_slave.specs.Meeting.{meets, passes, Passed}
-use Rattle.ec_slave.proofs.Meetings.{logical_meet}
-use Rattle.ec_slave.proofs.Misses.{misses}
-use Rattle.ec_link.specs.Meaning.{Meaning, share_of, IsLaid}
-use Rattle.ec_link.specs.declared.plan.PartPlan.{PartPlan}
-use Rattle.ec_cycle.specs.Frames.{process_datagram, process_datagrams}
-use Rattle.ec_world.specs.Plain.{PlainSlave, PlainFrame, Note, Other, Full, linked_outputs, met_note, with_note}
-use Rattle.ec_world.specs.FrameShows.{GaveAs, ShowsData}
-use Rattle.ec_world.specs.Exchanging.{given_in, slave_left}
+use Rattle.ec_world.proofs.Words.{ℕ, ◌+◌, ◌*◌, ◌<◌, ◌≡◌, Bool, true, false, refl, ◌∙◌, ap, arith, if◌then◌else◌, List, length, nat_lt, ◌&&◌, ◌%◌, ◌≤◌, ◌≢◌, ◌==◌, sym, subst, inl, inr, [], ◌∷◌, ◌++◌, mod-eq_of_lt, from_bool, Datagram, SyncManager, may_read, may_write, SlaveState, with_answer, Met, place_of, meets_logically, IsMapped, takes, gives, outputs_from, inputs_into, inputs_of, with_outputs, Area, Spans, exchange, mapped_kept, outputs_published, Gave, lwr_count, lrd_count, lrw_count, nothing_given, sum_of, cases_Bool, and_left, le-ltb, both_ways, eq-eqb, eqb-true, Lrd, Lwr, SlaveLrw as Lrw, if_true, if_false, Place, Misses, bit, meets, passes, Passed, logical_meet, misses, Meaning, share_of, IsLaid, PartPlan, process_datagram, process_datagrams, PlainSlave, PlainFrame, Note, Other, Full, linked_outputs, met_note, with_note, GaveAs, ShowsData, given_in, slave_left}
 use Rattle.ec_world.proofs.DataLaws.{outputs_are, Took, took, Meets, data_passed, same_place}
 
 -- a mapped slave that takes and gives this, and these inputs
@@ -68,11 +43,7 @@ published s a g v u h =
 
 -- it goes on so after it published
 pub acts_left : (s : SlaveState) (a : Area) (g : Gave) (v u : List ℕ) → Acts s a g v → Acts (left s g u) a g v
-acts_left s a g v u h = go g.wrote
-  where
-    go : (b : Bool) → Acts (if b then with_outputs s u else s) a g v
-    go true = published s a g v u h
-    go false = h
+acts_left s a g v u h = elim g.wrote as (λ b. Acts (if b then with_outputs s u else s) a g v) [ true ↦ published s a g v u h | false ↦ h ]
 
 -- ---- the process datagrams of a frame pass the next slave
 
@@ -342,8 +313,4 @@ module _ (m : Meaning) (area : ℕ → Area) (place : ℕ → Place) (part : Par
     ]
 
   pub process_pass : ProcessPassed m area (place f.part) part f q s gave (passes s (process_datagrams part f.number sent returned gave))
-  process_pass = go knows.does
-    where
-      go : Does s (place f.part) a g q.inputs.published ((share_of m t).part ≡ f.part) (part.split ≡ false → s.kind.lrw ≡ true) → ProcessPassed m area (place f.part) part f q s gave (passes s (process_datagrams part f.number sent returned gave))
-      go (Acting acts mine by_lrw) = acting acts mine by_lrw
-      go (Missing miss none) = missing miss none
+  process_pass = elim knows.does [ Acting acts mine by_lrw ↦ acting acts mine by_lrw | Missing miss none ↦ missing miss none ]

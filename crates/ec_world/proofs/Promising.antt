@@ -1,39 +1,9 @@
 -- What is promised to a user, of each world that shows a plain state.
-use Rattle.std.proofs.Common.{ℕ, suc, ◌+◌, ◌*◌, ◌<◌, ◌≡◌, ◌≢◌, ◌==◌, ◌&&◌, ◌||◌, Bool, true, false, Option, Some, None, refl, sym, ◌∙◌, ap, subst, inl, inr, arith, List, [], ◌∷◌, length, get_or, set, is_some, if◌then◌else◌, option_map, option_and_then, unwrap_or, nat_lt, slice_get, get_or-set_same, get_or-set_other, length-set}
-use Rattle.std.specs.List.{list_all}
-use Rattle.std.proofs.lemmas.Bool.{cases_Bool, and_parts, ltb-true, eqb-true, eq-eqb}
-use Rattle.std.proofs.lemmas.List.{length-map, length-replicate}
-use Rattle.std.proofs.lemmas.Option.{slice_get-get_or}
-use Rattle.ec_bits.specs.Bits.{bit, zeros, bytes_of_bits}
-use Rattle.ec_bits.proofs.BitLaws.{length-overlay, bit-overlay, bit-zeros}
-use Rattle.ec_bits.proofs.AnyLaws.{if_true, if_false}
-use Rattle.ec_frame.specs.Frame.{Payload}
-use Rattle.ec_frame.proofs.Verdict.{one_payload}
-use Rattle.ec_slave.specs.State.{SlaveState}
-use Rattle.ec_slave.specs.Exchange.{with_outputs}
-use Rattle.ec_slave.specs.Meeting.{IsPassed, passes as passes_all}
-use Rattle.ec_ring.specs.Rings.{IsPassedAt}
-use Rattle.ec_link.specs.declared.settings.Share.{Share}
-use Rattle.ec_link.specs.Shares.{has_outs, has_ins, whole_share, nothing_given, unit_of_part}
-use Rattle.ec_link.specs.Meaning.{Meaning, Linked, share_of, meaning, slave_at}
-use Rattle.ec_link.specs.Usable.{IsUsable}
-use Rattle.ec_link.specs.Plan.{PlanState}
-use Rattle.ec_link.proofs.LinkLaws.{linked_inputs}
-use Rattle.ec_cycle.specs.Closing.{ReportState, report_of, inputs_closed, all_from}
-use Rattle.ec_cycle.specs.Master.{OpenCycle}
-use Rattle.ec_world.specs.Plain.{Plain, PlainSlave, PlainFrame, Health, Note, Other, Short, Full, Cycle, Working, Faulted, Reset, unit_full, all_full, is_full, Closed, giving, plain_slave, linked_outputs, inputs_taken, taken_bit, noted_bit, notes_of_part, progress_of, all_progress, may_pass, lets_by}
-use Rattle.ec_world.specs.declared.progress.Progress.{Progress}
-use Rattle.ec_world.specs.World.{WorldState, Flight, slave_of, no_slave, flight_at, flight_progress, flights_progress, Passes, Closes, ByStart, GivesUp}
-use Rattle.ec_world.specs.Exchanging.{given_by, given_in, slave_left}
-use Rattle.ec_world.specs.FrameShows.{note_at}
-use Rattle.ec_world.specs.Shows.{Shows, CycleShows, CyclesShow}
-use Rattle.ec_world.specs.Promises.{AreLinked, has_outputs_for, IsPublished, OutputsLaw, FallsShort, NotesLaw, IsNoted, IsMissed, NotBack, FellShort, unit_of_slave, IsCounted, InputsLaw}
-use Rattle.ec_world.proofs.FramePass.{frame_pass}
-use Rattle.ec_world.proofs.FrameSteps.{pass_can}
-use Rattle.ec_world.proofs.Lists.{flight_pairs, all_from-each, all_each, there_too, some_same}
+use Rattle.ec_world.proofs.Words.{ℕ, suc, ◌+◌, ◌*◌, ◌<◌, ◌≡◌, ◌==◌, ◌&&◌, ◌||◌, Bool, true, false, Option, Some, None, refl, sym, ◌∙◌, ap, subst, inl, inr, arith, List, [], ◌∷◌, length, get_or, is_some, if◌then◌else◌, option_map, option_and_then, unwrap_or, slice_get, get_or-set_same, get_or-set_other, length-set, list_all, cases_Bool, eqb-true, eq-eqb, length-map, length-replicate, slice_get-get_or, bit, zeros, bytes_of_bits, length-overlay, bit-overlay, bit-zeros, if_true, if_false, SlaveState, with_outputs, Share, has_outs, has_ins, whole_share, nothing_given, unit_of_part, Meaning, Linked, share_of, meaning, slave_at, IsUsable, PlanState, linked_inputs, ReportState, report_of, inputs_closed, all_from, OpenCycle, Plain, PlainSlave, PlainFrame, Health, Note, Other, Short, Full, Cycle, Working, Faulted, Reset, unit_full, all_full, is_full, Closed, giving, plain_slave, linked_outputs, inputs_taken, taken_bit, noted_bit, notes_of_part, Progress, WorldState, slave_of, no_slave, Passes, Closes, ByStart, GivesUp, given_by, given_in, slave_left, note_at, Shows, CycleShows, CyclesShow, AreLinked, has_outputs_for, IsPublished, OutputsLaw, FallsShort, NotesLaw, IsNoted, IsMissed, NotBack, FellShort, unit_of_slave, IsCounted, InputsLaw, all_from-each, all_each, there_too, some_same}
+use Rattle.ec_world.proofs.FrameSteps.{has_met, same_way}
 use Rattle.ec_world.proofs.Knowing.{share_is}
 use Rattle.ec_world.proofs.MasterSteps.{open_both}
-use Rattle.ec_world.proofs.CloseLaws.{inputs_same, report_said, counted, all_full_kept}
+use Rattle.ec_world.proofs.CloseLaws.{inputs_same, report_said, counted, all_full_kept, full_or}
 
 -- ---- a pass
 
@@ -41,10 +11,9 @@ pub linked : (m : Meaning) (s : ℕ) (image : List ℕ) → AreLinked m s image 
 linked m s image =
     let n = bytes_of_bits (share_of m s).outs in
     let f : ℕ → Option Bool = λ k. option_map (bit image) (m.out_source s k) in
-    let room : length (zeros n) ≡ n = length-replicate {A = ℕ} n 0 in
     let same : length (linked_outputs m s image) ≡ length (zeros n) = length-overlay (zeros n) f in
     record {
-      size = same ∙ room;
+      size = same ∙ (length-replicate {A = ℕ} n 0);
       each = λ b l. bit-overlay (zeros n) f b (omega (arith, l, same)) ∙ ap (λ x. unwrap_or (f b) x) (bit-zeros n b);
     }
 
@@ -59,85 +28,50 @@ left_working m t f q s e =
     by true = refl
     by false = refl
 
-same_way : (x : Flight) (g : PlainFrame) → x.number ≡ g.number → x.part ≡ g.part → x.passed ≡ length g.notes → flight_progress x ≡ progress_of g
-same_way x g number part passed =
-    ap (λ (n : ℕ). record { number = n; part = x.part; passed = x.passed }) number
-    ∙ (ap (λ (n : ℕ). record { number = g.number; part = n; passed = x.passed }) part
-    ∙ ap (λ (n : ℕ). record { number = g.number; part = g.part; passed = n }) passed)
-
 pub outputs_law : OutputsLaw
 outputs_law old p k f new sound s there working h =
     let m = meaning old.plan in
     let pass : Passes old k new = h.happens refl in
-    let can : may_pass (length old.slaves) (flights_progress old.slots) (option_map flight_progress (flight_at old k)) ≡ true = sym h.can in
     let x = pass.flight in
-    let both = flight_pairs old.slots p.slots k x s.progress pass.there in
-    let g = both.frame in
-    let own : g ≡ f = some_same g f (sym both.there ∙ there) in
+    let met = has_met old p k new sound s (sym h.can) pass in
+    let g = met.both.frame in
+    let own : g ≡ f = some_same g f (sym met.both.there ∙ there) in
     let t = length g.notes in
-    let q = plain_slave p t in
-    let may : may_pass (length p.slaves) (all_progress p.slots) (option_map progress_of (Some g)) ≡ true
-    = ap (λ o. may_pass (length p.slaves) (all_progress p.slots) (option_map progress_of o)) (sym both.there) ∙ (sym (pass_can old p k s) ∙ can) in
-    let here : t < length old.plan.slaves = let y = ltb-true t (length p.slaves) (and_parts (nat_lt t (length p.slaves)) (list_all (lets_by (progress_of g)) (all_progress p.slots)) may).0 in let z = s.plain_count in omega arith in
-    let shows = s.frames k x g pass.there both.there in
     let y = slave_of old t in
-    let p1 = shows.payload in
-    let after = (passes_all y p1.datagrams).slave in
-    let by_ring : IsPassedAt old.slaves t y x.bytes new.slaves pass.bytes = subst (λ (n : ℕ). IsPassedAt old.slaves n (slave_of old n) x.bytes new.slaves pass.bytes) both.passed pass.passed in
-    let moved_on : IsPassed y x.bytes after pass.bytes = record {
-      slave = λ p2 e. ap (λ (r : Payload). (passes_all y r.datagrams).slave) (one_payload x.bytes p1 p2 shows.spelled e);
-      frame = by_ring.frame;
-    } in
-    let one = frame_pass old.plan g q y after x.bytes pass.bytes sound here (s.slaves t here) shows moved_on in
-    let slaves : new.slaves ≡ set old.slaves t after = by_ring.slaves p1 shows.spelled in
-    let inside : t < length old.slaves = let c = s.count in omega arith in
-    let well : q.health ≡ Working = ap (λ (e : PlainFrame). (plain_slave p (length e.notes)).health) own ∙ working in
+    let inside : t < length old.slaves = omega (arith, met.here, s.count) in
+    let well : (plain_slave p t).health ≡ Working = ap (λ (e : PlainFrame). (plain_slave p (length e.notes)).health) own ∙ working in
     let left : slave_of new t ≡ (if has_outputs_for m g t then with_outputs y (linked_outputs m t g.snapshot) else y)
-    = ap (λ (ss : List SlaveState). get_or ss t no_slave) slaves ∙ (get_or-set_same old.slaves t after no_slave inside ∙ (one.slave ∙ left_working m t g q y well)) in
-    let on : Flight = record x { bytes = pass.bytes; passed = x.passed + 1 } in
-    let same : flight_progress x ≡ progress_of g = same_way x g both.number both.part both.passed in
+    = ap (λ (ss : List SlaveState). get_or ss t no_slave) met.slaves ∙ (get_or-set_same old.slaves t met.after no_slave inside ∙ (met.one.slave ∙ left_working m t g (plain_slave p t) y well)) in
     subst (λ (e : PlainFrame). IsPublished old k e new) own (record {
       value = linked_outputs m t g.snapshot;
       linked = linked m t g.snapshot;
       slave = left;
-      others = λ u ne. ap (λ (ss : List SlaveState). get_or ss u no_slave) slaves ∙ get_or-set_other old.slaves t u after no_slave ne;
-      count = ap length slaves ∙ length-set old.slaves t after;
-      flight = on;
-      goes_on = ap (λ (r : Progress). record r { passed = r.passed + 1 }) same;
+      others = λ u ne. ap (λ (ss : List SlaveState). get_or ss u no_slave) met.slaves ∙ get_or-set_other old.slaves t u met.after no_slave ne;
+      count = ap length met.slaves ∙ length-set old.slaves t met.after;
+      flight = record x { bytes = pass.bytes; passed = x.passed + 1 };
+      goes_on = ap (λ (r : Progress). record r { passed = r.passed + 1 }) (same_way x g met.both.number met.both.part met.both.passed);
       slots = ap (λ (w : WorldState). w.slots) pass.is;
       rest = pass.is ∙ ap (λ os. record old { slaves = new.slaves; slots = os }) (sym (ap (λ (w : WorldState). w.slots) pass.is));
     })
 
 -- ---- notes
 
-other_short : Other ≡ Short → ⊥
-other_short e = cc
-
-full_short : (v : List ℕ) → Full v ≡ Short → ⊥
-full_short v e = cc
-
-other_full : (v : List ℕ) → Other ≡ Full v → ⊥
-other_full v e = cc
-
-short_full : (v : List ℕ) → Short ≡ Full v → ⊥
-short_full v e = cc
-
 full_same : (v w : List ℕ) → Full v ≡ Full w → v ≡ w
 full_same v w e = cc
 
 short_of : (m : Meaning) (s : ℕ) (q : PlainSlave) (h : Health) → q.health ≡ h → giving (share_of m s) q h ≡ Short → FallsShort m s q
-short_of m s q Working e n = absurd (full_short q.inputs.published n)
+short_of m s q Working e n = absurd (cc n)
 short_of m s q Faulted e n = elim (cases_Bool (has_outs (share_of m s))) [
   | inl on ↦ inr (e, on)
-  | inr off ↦ absurd (full_short q.inputs.published (sym (if_false _ _ _ off) ∙ n))
+  | inr off ↦ absurd (cc (sym (if_false _ _ _ off) ∙ n))
 ]
 short_of m s q Reset e n = elim (cases_Bool (has_outs (share_of m s) || has_ins (share_of m s))) [
   | inl on ↦ inl (e, on)
-  | inr off ↦ absurd (full_short q.inputs.published (sym (if_false _ _ _ off) ∙ n))
+  | inr off ↦ absurd (cc (sym (if_false _ _ _ off) ∙ n))
 ]
 
 full_if : (b : Bool) (v w : List ℕ) → (if b then Short else Full w) ≡ Full v → v ≡ w
-full_if true v w e = absurd (short_full v e)
+full_if true v w e = absurd (cc e)
 full_if false v w e = sym (full_same w v e)
 
 full_of : (m : Meaning) (s : ℕ) (q : PlainSlave) (h : Health) (v : List ℕ) → giving (share_of m s) q h ≡ Full v → v ≡ q.inputs.published
@@ -152,8 +86,8 @@ notes_law m s f q = elim (cases_Bool ((share_of m s).part == f.part)) [
     full = λ v e. full_of m s q q.health v (sym (if_true _ _ _ on) ∙ e);
   }
   | inr off ↦ record {
-    short = λ e. absurd (other_short (sym (if_false _ _ _ off) ∙ e));
-    full = λ v e. absurd (other_full v (sym (if_false _ _ _ off) ∙ e));
+    short = λ e. absurd (cc (sym (if_false _ _ _ off) ∙ e));
+    full = λ v e. absurd (cc (sym (if_false _ _ _ off) ∙ e));
   }
 ]
 
@@ -181,9 +115,8 @@ fails_at {X} t k (x ∷ xs) d e = go (λ r. fails_at t (k + 1) xs d r) (t k x) r
     go later false own rest = record { place = 0; inside = omega arith; fails = let z : k ≡ k + 0 = omega arith in subst (λ (n : ℕ). t n x ≡ false) z own }
 
 is_short : (n : Note) → is_full n ≡ false → n ≡ Short
-is_short Other e = absurd (let z : true ≡ false = e in cc)
 is_short Short e = refl
-is_short (Full v) e = absurd (let z : true ≡ false = e in cc)
+is_short _ e = absurd (let z : true ≡ false = e in cc)
 
 -- a short note among these
 one_short : (notes : List Note) → list_all is_full notes ≡ false → (s : ℕ) × (slice_get notes s ≡ Some Short)
@@ -212,11 +145,6 @@ missed m c u e =
     go : (k : ℕ) → k < length c.kept → unit_of_part m k ≡ u → (o : Option (List Note)) → get_or c.kept k None ≡ o → all_full o ≡ false → IsMissed m c u
     go k l own None at bad = NotBack k l own at
     go k l own (Some notes) at bad = let s = one_short notes bad in FellShort k s.0 notes own at s.1
-
-full_or : (n : Note) → is_full n ≡ true → n ≢ Other → (v : List ℕ) × (n ≡ Full v)
-full_or Other e ne = absurd (ne refl)
-full_or Short e ne = absurd (let z : false ≡ true = e in cc)
-full_or (Full v) e ne = (v, refl)
 
 -- a slave's note, where its unit is taken
 pub record Noted (c : Cycle) (k s : ℕ) : Type 0 where

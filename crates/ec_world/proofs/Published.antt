@@ -1,15 +1,8 @@
 -- What a cycle keeps was noted as its frames passed: each note of a frame, and each that is kept, goes back to its pass.
-use Rattle.std.proofs.Common.{ℕ, zero, suc, ◌+◌, ◌<◌, ◌≡◌, ◌⊎◌, Some, None, refl, sym, ◌∙◌, ap, subst, inl, inr, arith, List, [], ◌∷◌, ◌++◌, length, map, get_or, slice_get}
-use Rattle.std.proofs.lemmas.List.{append_assoc}
-use Rattle.ec_link.specs.Meaning.{Meaning}
-use Rattle.ec_world.specs.declared.event.Event.{Event}
-use Rattle.ec_world.specs.declared.event.Event.TheVariants.{Pass}
-use Rattle.ec_world.specs.Plain.{Plain, PlainFrame, Note, Cycle, step, run, frame_at, plain_slave, filled, new_frames, met_note}
-use Rattle.ec_world.specs.Promises.{IsBegun, IsNotedAt, PublishedLaw}
+use Rattle.ec_world.proofs.Words.{ℕ, zero, suc, ◌+◌, ◌<◌, ◌≡◌, ◌⊎◌, Some, None, refl, sym, ◌∙◌, ap, subst, inl, inr, arith, List, [], ◌∷◌, ◌++◌, length, get_or, slice_get, append_assoc, Meaning, Event, Pass, Plain, PlainFrame, Note, Cycle, step, run, frame_at, plain_slave, new_frames, met_note, IsBegun, IsNotedAt, PublishedLaw, none_some, some_same, cycle_begun, none_in}
 use Rattle.ec_world.proofs.Tracing.{guarded, Leaves, leaves}
 use Rattle.ec_world.proofs.Promising.{notes_law}
-use Rattle.ec_world.proofs.Histories.{run_tells, begun_below, filled_has, new_one, keeping_number, none_there, frames_left, cycle_left, next_left, passed_on, kept_on}
-use Rattle.ec_world.proofs.Lists.{none_some, some_same}
+use Rattle.ec_world.proofs.Histories.{run_tells, begun_below, filled_has, new_one, keeping_number, frames_left, cycle_left, next_left, passed_on, kept_on}
 
 -- a note behind others is one of them, or the last
 pushed_note : (ns : List Note) (n : Note) (s : ℕ) (x : Note) → slice_get (ns ++ (n ∷ [])) s ≡ Some x → (slice_get ns s ≡ Some x) ⊎ ((length ns ≡ s) × (x ≡ n))
@@ -117,17 +110,13 @@ traced_begun m p begun b = record {
   frames = λ j f at. filled_has (λ (g : PlainFrame). g.number ≡ p.next → AreNoted m begun p.next [] g.part g.notes) (new_frames p.next p.outputs 0 m.parts) p.slots
       (λ i g there own s n told. absurd (none_some n (ap (λ ns. slice_get ns s) (sym (new_one p.next 0 p.outputs m.parts i g there).notes) ∙ told)))
       (λ i g there own. absurd (let x = below i g there in omega (arith, x, own))) j f (ap (λ (x : Plain). frame_at x j) is ∙ at);
-  kept = λ d at own k notes back. absurd (none_there m.parts k notes (ap (λ (x : Cycle). get_or x.kept k None) (some_same _ d (ap (λ (x : Plain). x.cycle) is ∙ at)) ∙ back));
+  kept = λ d at own k notes back. absurd (none_in m.parts k notes (ap (λ (x : Cycle). get_or x.kept k None) (some_same _ d (ap (λ (x : Plain). x.cycle) is ∙ at)) ∙ back));
 }
   where
     below : (k : ℕ) (f : PlainFrame) → frame_at p k ≡ Some f → f.number < p.next
     below = begun_below m p begun b
 
-    is : record p {
-      next = p.next + 1;
-      cycle = Some (record { number = p.next; kept = map (λ u. None) m.parts });
-      slots = filled (new_frames p.next p.outputs 0 m.parts) p.slots;
-    } ≡ begun
+    is : cycle_begun m p ≡ begun
     is = guarded _ _ begun b.begins
 
 pub published_law : PublishedLaw

@@ -1,20 +1,8 @@
 -- A cycle that is quiet for a unit takes it: its frames note whole shares, and each of its parts is kept or still on its way.
-use Rattle.std.proofs.Common.{ℕ, zero, suc, ◌+◌, ◌<◌, ◌≤◌, ◌≡◌, ◌≢◌, ◌⊎◌, ◌==◌, ◌&&◌, ◌||◌, Bool, true, false, Option, Some, None, refl, sym, ◌∙◌, ap, subst, inl, inr, arith, List, [], ◌∷◌, ◌++◌, length, map, get_or, set, is_none, if◌then◌else◌, option_map, get_or-set_same, get_or-set_other, length-set}
-use Rattle.std.specs.List.{list_all, list_any}
-use Rattle.std.proofs.lemmas.Bool.{cases_Bool, cases_eq, and_parts, and_from, or_right, eqb-true, eq-eqb, le-leb, true≢false}
-use Rattle.std.proofs.lemmas.List.{length-map, length_push}
-use Rattle.ec_bits.proofs.AnyLaws.{if_true, if_false}
-use Rattle.ec_link.specs.Meaning.{Meaning, share_of}
-use Rattle.ec_link.specs.Shares.{has_outs, has_ins, unit_of_part}
-use Rattle.ec_cycle.specs.Closing.{nones, all_from}
-use Rattle.ec_world.specs.declared.event.Event.{Event}
-use Rattle.ec_world.specs.declared.event.Event.TheVariants.{Begin, Lose, Fault, Reset as ResetSlave}
-use Rattle.ec_world.specs.Plain.{Plain, PlainSlave, PlainFrame, Faulted, Reset, Note, Other, Short, Full, Cycle, step, run, frame_at, plain_slave, keeping, filled, new_frames, met_note, is_full, all_full}
-use Rattle.ec_world.specs.Promises.{IsBegun, FallsShort, TakenLaw, unit_of_slave, holds_of_unit, still_comes, is_awaited, disturbs}
+use Rattle.ec_world.proofs.Words.{ℕ, zero, suc, ◌+◌, ◌<◌, ◌≤◌, ◌≡◌, ◌≢◌, ◌⊎◌, ◌==◌, ◌&&◌, ◌||◌, Bool, true, false, Option, Some, None, refl, sym, ◌∙◌, ap, subst, inl, inr, arith, List, [], ◌∷◌, ◌++◌, length, get_or, set, is_none, if◌then◌else◌, option_map, get_or-set_same, get_or-set_other, length-set, list_all, list_any, cases_Bool, cases_eq, and_parts, and_from, or_right, eqb-true, eq-eqb, le-leb, true≢false, length-map, length_push, if_true, if_false, Meaning, share_of, has_outs, has_ins, unit_of_part, nones, all_from, Event, Begin, Lose, Fault, ResetSlave, Plain, PlainSlave, PlainFrame, Faulted, Reset, Note, Short, Cycle, step, run, frame_at, plain_slave, keeping, filled, new_frames, met_note, is_full, all_full, IsBegun, FallsShort, TakenLaw, unit_of_slave, holds_of_unit, still_comes, is_awaited, disturbs, none_some, some_same, cycle_begun, none_in, some_or}
 use Rattle.ec_world.proofs.Tracing.{mapped, guarded, Leaves, Stays, Begins, Moves, Loses, Returns, Closes, leaves}
-use Rattle.ec_world.proofs.Histories.{run_tells, begun_below, filled_has, filled_holds, new_one, new_at, as_many, set_at, none_there, keeping_number, count_kept, frames_left, next_left, passed_on, Rests, HasFailed, HasRestarted, became}
+use Rattle.ec_world.proofs.Histories.{run_tells, begun_below, filled_has, filled_holds, new_one, new_at, as_many, set_at, keeping_number, count_kept, frames_left, next_left, passed_on, Rests, HasFailed, HasRestarted, became}
 use Rattle.ec_world.proofs.Promising.{notes_law}
-use Rattle.ec_world.proofs.Lists.{none_some, some_same}
 
 -- ---- frames on their way
 
@@ -87,9 +75,8 @@ comes_short m p e q s h short = elim (became m p e q s h) [
 ]
 
 full_note : (n : Note) → (n ≡ Short → ⊥) → is_full n ≡ true
-full_note Other h = refl
 full_note Short h = absurd (h refl)
-full_note (Full v) h = refl
+full_note _ h = refl
 
 -- a slave that doesn't fall short gives its whole share
 whole_full : (m : Meaning) (s : ℕ) (f : PlainFrame) (q : PlainSlave) → ((share_of m s).part ≡ f.part → FallsShort m s q → ⊥) → is_full (met_note m s f q) ≡ true
@@ -115,10 +102,6 @@ IsAhead m p f = (s : ℕ) → length f.notes ≤ s → s < length p.slaves → (
 all_push : (ns : List Note) (n : Note) → list_all is_full ns ≡ true → is_full n ≡ true → list_all is_full (ns ++ (n ∷ [])) ≡ true
 all_push [] n h e = and_from (is_full n) true e refl
 all_push (x ∷ ns) n h e = let b = and_parts (is_full x) (list_all is_full ns) h in and_from (is_full x) (list_all is_full (ns ++ (n ∷ []))) b.0 (all_push ns n b.1 e)
-
-is_kept_or : {X : Type 0} (o : Option X) → is_none o ≡ false → (x : X) × (o ≡ Some x)
-is_kept_or None e = absurd (true≢false e)
-is_kept_or (Some x) e = (x, refl)
 
 -- what is kept of the unit's parts is full, and each of them is kept or on its way
 pub record Complete (m : Meaning) (number u : ℕ) (slots : List (Option PlainFrame)) (c : Cycle) : Type 0 where
@@ -173,7 +156,7 @@ kept_more m number u os j g c at full own h = elim (cases_Bool ((g.number == c.n
     }
       where
         kept_there : g.number ≡ number → (notes : List Note) × (get_or c.kept g.part None ≡ Some notes)
-        kept_there num = is_kept_or (get_or c.kept g.part None) (sym (ap (λ (b : Bool). b && is_none (get_or c.kept g.part None)) (eq-eqb g.number c.number (num ∙ sym own))) ∙ off)
+        kept_there num = some_or (get_or c.kept g.part None) (sym (ap (λ (b : Bool). b && is_none (get_or c.kept g.part None)) (eq-eqb g.number c.number (num ∙ sym own))) ∙ off)
 
         by_away : (k : ℕ) → k < length c.kept → unit_of_part m k ≡ u → (IsAway number k g → ⊥) → IsSomewhere number (set os j None) c k
         by_away k l mine ne = elim (h.each k l mine) [
@@ -256,11 +239,7 @@ peaceful_begun m p begun u b whole = by (leaves m p Begin begun b.begins)
     below : (k : ℕ) (f : PlainFrame) → frame_at p k ≡ Some f → f.number < p.next
     below = begun_below m p begun b
 
-    is : record p {
-      next = p.next + 1;
-      cycle = Some (record { number = p.next; kept = map (λ v. None) m.parts });
-      slots = filled (new_frames p.next p.outputs 0 m.parts) p.slots;
-    } ≡ begun
+    is : cycle_begun m p ≡ begun
     is = guarded _ _ begun b.begins
 
     made : length m.parts ≤ nones p.slots → Peaceful m p.next u begun
@@ -273,7 +252,7 @@ peaceful_begun m p begun u b whole = by (leaves m p Begin begun b.begins)
           (λ i g there own mine. absurd (let x = below i g there in omega (arith, x, own))) k f (ap (λ (x : Plain). frame_at x k) is ∙ at);
       cycle = λ d at own. subst (λ os. Complete m p.next u os d) (ap (λ (x : Plain). x.slots) is)
           (subst (Complete m p.next u (filled (new_frames p.next p.outputs 0 m.parts) p.slots)) (some_same _ d (ap (λ (x : Plain). x.cycle) is ∙ at)) (record {
-            full = λ k notes e mine. absurd (none_there m.parts k notes e);
+            full = λ k notes e mine. absurd (none_in m.parts k notes e);
             each = λ k l mine. inr (let f = new_at p.next 0 p.outputs m.parts k (omega (arith, l, length-map {A = ℕ} {B = Option (List Note)} m.parts (λ v. None))) in
                 let r = filled_holds (new_frames p.next p.outputs 0 m.parts) p.slots k _ (omega (arith, room, as_many p.next 0 p.outputs m.parts)) f in
                 record { slot = r.0; frame = _; there = r.1; is = record { number_is = refl; part_is = omega arith } });

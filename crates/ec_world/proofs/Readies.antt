@@ -1,50 +1,8 @@
 -- A world whose start-up is ready shows a plain state.
-use Rattle.std.proofs.Common.{ℕ, zero, suc, ◌<◌, ◌≡◌, ◌⊎◌, Bool, true, false, Option, Some, None, refl, sym, ◌∙◌, ap, subst, inl, inr, arith, List, [], ◌∷◌, length, map, get_or, option_map}
-use Rattle.std.proofs.Math.ListN.{get_or-map as get_or-mapped}
-use Rattle.std.proofs.lemmas.Bool.{cases_lt, and_from, and_left}
-use Rattle.std.proofs.lemmas.List.{ext_get_or, get_or_past, get_or-map, length-map, length-replicate}
-use Rattle.ec_bits.specs.Bits.{bytes_of_bits}
-use Rattle.ec_bits.proofs.AnyLaws.{if_true, if_false}
-use Rattle.ec_regs.specs.Managers.{no_settings}
-use Rattle.ec_regs.specs.Fmmus.{no_fmmu}
-use Rattle.ec_device.specs.declared.slave_type.Identity.{Identity}
-use Rattle.ec_device.specs.Types.{SlaveKind}
-use Rattle.ec_sync.specs.Buffer.{Buffer, emptied_buffer}
-use Rattle.ec_sync.specs.SyncManager.{SyncManager, no_manager, buffer_length}
-use Rattle.ec_al.specs.declared.state.State.TheVariants.{Init}
-use Rattle.ec_al.specs.Al.{Al as AlMachine}
-use Rattle.ec_slave.proofs.SwitchedOn.{switched_on}
-use Rattle.ec_slave.specs.State.{SlaveState, manager_at, power_on}
-use Rattle.ec_link.specs.declared.settings.SlavePlan.{SlavePlan}
-use Rattle.ec_link.specs.Meaning.{slave_at as settings_of}
-use Rattle.ec_link.specs.Interface.{AreListed, input_manager}
-use Rattle.ec_link.specs.Usable.{IsUsable}
-use Rattle.ec_link.proofs.Listed.{listed}
-use Rattle.ec_start.specs.Planned.{IsStartable}
-use Rattle.ec_bringup.specs.Stages.{end_of}
-use Rattle.ec_start.specs.declared.phase.Phase.{Phase}
-use Rattle.ec_start.specs.declared.phase.Phase.TheVariants.{Idle, Sent, Ready, Failed}
-use Rattle.ec_bringup.specs.Standing.{IsOfKind, unviewed}
-use Rattle.ec_bringup.specs.Stages.{Config}
-use Rattle.ec_start.specs.declared.error.StartError.{StartError}
-use Rattle.ec_cycle.specs.Master.{OpenCycle}
-use Rattle.ec_cycle.specs.Closing.{ReportState}
-use Rattle.ec_bringup.proofs.Decodes.{fmmus-held}
-use Rattle.ec_bringup.specs.Starting.{Starting, trouble_at, no_plan, kind_at}
-use Rattle.ec_bringup.specs.Instants.{Starts, Instant, Between, UnderWay, Adrift, Over, IsReady}
+use Rattle.ec_world.proofs.Words.{ℕ, zero, suc, ◌<◌, ◌≡◌, ◌⊎◌, Bool, true, false, Option, Some, None, refl, sym, ◌∙◌, ap, subst, inl, inr, arith, List, [], ◌∷◌, length, map, get_or, option_map, get_or-map as get_or-mapped, cases_lt, and_from, and_left, ext_get_or, get_or_past, list_get_or-map as get_or-map, length-map, length-replicate, bytes_of_bits, if_true, if_false, no_settings, no_fmmu, Identity, SlaveKind, Buffer, emptied_buffer, SyncManager, no_manager, buffer_length, Init, Al as AlMachine, switched_on, SlaveState, manager_at, power_on, SlavePlan, slave_at as settings_of, AreListed, input_manager, IsUsable, listed, IsStartable, end_of, Phase, Idle, Ready, IsOfKind, unviewed, Config, OpenCycle, ReportState, fmmus-held, Starting, trouble_at, no_plan, kind_at, Starts, Between, UnderWay, Adrift, Over, IsReady, AreStartable, ends_of, HoldsAll, Shown, ready-shown, PlainSlave, Health, Working, Faulted, Reset, no_plain_slave, plain_slave, all_progress, WorldState, Flight, no_slave, slave_of, flights_progress, is_up, phase_ready, phase_awaits, Holds, IsQuiet, HoldsData, IsAs, SlaveShows, CyclesShow, said, AreWhole, SlotsHold, seen_of, Rising, health_of, plain_slave_of, plain_of, ShowsZeros, IsReadyWorld, none_some}
 use Rattle.ec_bringup.specs.Runs as rise
-use Rattle.ec_bringup.specs.Runs.{AreStartable, ends_of, HoldsAll, Shown}
-use Rattle.ec_bringup.proofs.Theorem.{ready-shown}
-use Rattle.ec_world.specs.Plain.{PlainSlave, Health, Working, Faulted, Reset, no_plain_slave, plain_slave, all_progress}
-use Rattle.ec_world.specs.World.{WorldState, Flight, no_slave, slave_of, flights_progress, is_up, phase_ready, phase_awaits}
-use Rattle.ec_world.specs.SlaveShows.{Holds, IsQuiet, HoldsData, IsAs, SlaveShows}
-use Rattle.ec_world.specs.Shows.{CyclesShow, said}
-use Rattle.ec_slave.specs.Interface.{AreWhole}
-use Rattle.ec_world.specs.Rising.{SlotsHold, seen_of, Rising}
-use Rattle.ec_world.specs.Whole.{health_of, plain_slave_of, plain_of, ShowsZeros, IsReadyWorld}
 use Rattle.ec_world.proofs.Mapped.{some_bits, no_bits, set_for_ins, unset, third_held, fourth_held}
 use Rattle.ec_world.proofs.AppSteps.{out_length}
-use Rattle.ec_world.proofs.Lists.{none_some}
 
 in_length : (p : SlavePlan) → AreListed p → buffer_length (input_manager p) ≡ bytes_of_bits p.share.ins
 in_length p a = elim (cases_lt 0 p.share.ins) [
@@ -155,23 +113,10 @@ up-ready Ready e = refl
 up-ready _ e = absurd (let z : false ≡ true = e in cc)
 
 ready-slot : (ends : ℕ → Config) (v : Starting) → Starts ends v → v.start.phase ≡ Ready → v.slot ≡ None
-ready-slot ends v h e = by h.instant
+ready-slot ends v h e = elim h.instant [ Between b ↦ b.empty | UnderWay b ↦ absurd (cc (sym b.sent ∙ e)) | Adrift b ↦ b.empty | Over b ↦ absurd (cc (sym b.failed ∙ e)) | IsReady b ↦ b.empty ]
   where
     idle-ready : Idle ≡ Ready → ⊥
     idle-ready q = cc
-
-    sent-ready : (n : ℕ) → Sent n ≡ Ready → ⊥
-    sent-ready n q = cc
-
-    failed-ready : (f : StartError) → Failed f ≡ Ready → ⊥
-    failed-ready f q = cc
-
-    by : Instant ends v → v.slot ≡ None
-    by (Between b) = b.empty
-    by (UnderWay b) = absurd (sent-ready b.carried.number (sym b.sent ∙ e))
-    by (Adrift b) = b.empty
-    by (Over b) = absurd (failed-ready b.failure (sym b.failed ∙ e))
-    by (IsReady b) = b.empty
 
 pub ready-world : (flags : List Bool) (w : WorldState) → IsUsable w.plan → AreStartable w.plan.slaves → Rising flags w → is_up w.start ≡ true → IsReadyWorld flags w
 ready-world flags w sound planned r up =

@@ -1,22 +1,8 @@
 -- A frame comes back to the master.
-use Rattle.std.proofs.Common.{ℕ, ◌^◌, ◌<◌, ◌≡◌, ◌==◌, ◌&&◌, Bool, true, false, Option, Some, None, refl, sym, ◌∙◌, ap, subst, inl, inr, arith, List, length, get_or, set, is_some, is_none, option_map, unwrap_or, length-set, get_or-set_same, get_or-set_other}
-use Rattle.std.proofs.lemmas.Bool.{cases_Bool, cases_eq, and_from, and_parts, eq-eqb, eqb-true, both_ways}
-use Rattle.std.proofs.lemmas.List.{length-map, map-set}
-use Rattle.ec_bits.proofs.AnyLaws.{if_true, if_false}
-use Rattle.ec_frame.specs.Frame.{Payload}
-use Rattle.ec_frame.proofs.Verdict.{one_payload}
-use Rattle.ec_link.specs.Plan.{PlanState, part_at}
-use Rattle.ec_link.specs.Usable.{IsUsable}
-use Rattle.ec_cycle.specs.Closing.{KeptPart, kept_of}
-use Rattle.ec_cycle.specs.Master.{MasterState, OpenCycle, IsAnswer, IsTaken, Answers, name_of, with_kept}
-use Rattle.ec_world.specs.Plain.{Plain, PlainFrame, Note, Cycle, progress_of, may_return, keeping, returning}
-use Rattle.ec_world.specs.World.{WorldState, flight_progress, flight_at, Returns}
-use Rattle.ec_world.specs.Shows.{Shows, CyclesShow, CycleShows}
-use Rattle.ec_world.specs.FrameShows.{FrameShows, KeptShows}
-use Rattle.ec_world.proofs.Lists.{theres, there_too, none_some, some_same, same_progress, flight_pairs, returns_there, is_some-guarded}
+use Rattle.ec_world.proofs.Words.{ℕ, ◌^◌, ◌<◌, ◌≡◌, ◌==◌, ◌&&◌, Bool, true, false, Option, Some, None, refl, sym, ◌∙◌, ap, subst, inl, inr, arith, List, length, get_or, set, is_some, is_none, option_map, unwrap_or, length-set, get_or-set_same, get_or-set_other, cases_Bool, cases_eq, and_from, and_parts, eq-eqb, eqb-true, both_ways, length-map, map-set, if_true, if_false, Payload, one_payload, PlanState, part_at, IsUsable, KeptPart, kept_of, MasterState, OpenCycle, IsAnswer, IsTaken, Answers, name_of, with_kept, Plain, PlainFrame, Note, Cycle, progress_of, may_return, keeping, returning, WorldState, flight_progress, flight_at, Returns, Shows, CyclesShow, CycleShows, FrameShows, KeptShows, theres, there_too, none_some, some_same, same_progress, flight_pairs, returns_there, is_some-guarded, names_tell}
 use Rattle.ec_world.proofs.FrameSteps.{emptied_shows}
 use Rattle.ec_world.proofs.CloseLaws.{answers_own, kept_shows}
-use Rattle.ec_cycle.proofs.Answering.{names_tell}
+use Rattle.ec_world.proofs.AppSteps.{master_changed}
 
 none_is : {X : Type 0} (o : Option X) → is_none o ≡ true → o ≡ None
 none_is None e = refl
@@ -111,8 +97,6 @@ module _ (plan : PlanState) (old new : MasterState) (f : PlainFrame) (bytes : Li
 
   pub returned : (co : Option OpenCycle) (o : Option Cycle) → old.cycle ≡ co → CyclesShow plan co o → Returned plan old new (option_map (keeping f) o)
   returned None None e h = unchanged plan old new None ((taken.foreign (λ c k p a. none_some c (sym e ∙ a.is_open))).1) (subst (λ (x : Option OpenCycle). CyclesShow plan x None) (sym e) tt)
-  returned None (Some q) e h = absurd h
-  returned (Some c) None e h = absurd h
   returned (Some c) (Some q) e h = elim (cases_Bool ((f.number == q.number) && is_none (get_or q.kept f.part None))) [
     | inl on ↦
         let both = and_parts (f.number == q.number) (is_none (get_or q.kept f.part None)) on in
@@ -121,6 +105,7 @@ module _ (plan : PlanState) (old new : MasterState) (f : PlainFrame) (bytes : Li
         subst (λ (x : Cycle). Returned plan old new (Some x)) (sym (if_false _ _ _ off))
         (unchanged plan old new (Some q) (refuses c q e h off) (subst (λ (x : Option OpenCycle). CyclesShow plan x (Some q)) (sym e) h))
   ]
+  returned _ _ e h = absurd h
 
 -- ---- the event
 
@@ -144,21 +129,6 @@ return_shows w p k w2 sound s can returns =
     let made : returning p k ≡ Some (returned_plain p k f) = if_true _ _ _ (sym (return_can w p k s) ∙ can) ∙ ap (option_map (returned_plain p k)) both.there in
     let shows = s.frames k x f returns.there both.there in
     let back = returned w.plan w.master w2.master f x.bytes returns.is_kept sound s.same_plan shows all returns.master w.master.cycle p.cycle refl s.cycle in
-    let e = emptied_shows w p k s in
-    subst (λ (y : WorldState). Shows y (unwrap_or (returning p k) p)) (sym returns.is) (subst (λ (o : Option Plain). Shows (record w { master = w2.master; slots = set w.slots k None }) (unwrap_or o p)) (sym made) (record {
-      started = s.started;
-      no_start = s.no_start;
-      is_ready = back.is_ready ∙ s.is_ready;
-      same_plan = back.same_plan ∙ s.same_plan;
-      outputs = back.outputs ∙ s.outputs;
-      inputs = back.inputs ∙ s.inputs;
-      next = back.next ∙ s.next;
-      got = s.got;
-      cycle = back.cycle;
-      report = s.report;
-      count = s.count;
-      plain_count = s.plain_count;
-      slaves = s.slaves;
-      progress = e.progress;
-      frames = e.frames;
-    }))
+    subst (λ (y : WorldState). Shows y (unwrap_or (returning p k) p)) (sym returns.is) (subst (λ (o : Option Plain). Shows (record w { master = w2.master; slots = set w.slots k None }) (unwrap_or o p)) (sym made)
+    (master_changed (record w { slots = set w.slots k None }) (record p { slots = set p.slots k None }) (returned_plain p k f) w2.master w.report w.got (emptied_shows w p k s) (back.is_ready ∙ s.is_ready)
+    (back.same_plan ∙ s.same_plan) (back.outputs ∙ s.outputs) (back.inputs ∙ s.inputs) (back.next ∙ s.next) s.got back.cycle s.report))

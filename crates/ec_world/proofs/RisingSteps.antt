@@ -1,46 +1,6 @@
 -- Every event keeps a world that starts up one.
-use Rattle.std.proofs.Common.{ℕ, zero, suc, ◌+◌, ◌<◌, ◌≤◌, ◌≡◌, ◌≢◌, ◌==◌, ◌||◌, not, Bool, true, false, Option, Some, None, refl, sym, ◌∙◌, ap, subst, inl, inr, arith, if◌then◌else◌, List, [], ◌∷◌, length, set, get_or, option_map, is_some, nat_lt, unwrap_or}
-use Rattle.std.specs.List.{AllByRecursion}
-use Rattle.std.proofs.lemmas.Bool.{cases_Bool, cases_eq, both_ways, and_parts, eqb-true, ltb-true}
-use Rattle.std.proofs.Math.ListN.{length-set}
-use Rattle.std.proofs.lemmas.List.{get_or-set_same, get_or-set_other}
+use Rattle.ec_world.proofs.Words.{ℕ, zero, suc, ◌+◌, ◌<◌, ◌≤◌, ◌≡◌, ◌≢◌, ◌==◌, ◌||◌, not, Bool, true, false, Option, Some, None, refl, sym, ◌∙◌, ap, subst, inl, inr, arith, if◌then◌else◌, List, [], ◌∷◌, length, set, get_or, option_map, is_some, nat_lt, unwrap_or, AllByRecursion, cases_Bool, cases_eq, both_ways, and_parts, eqb-true, ltb-true, length-set, list_get_or-set_same as get_or-set_same, list_get_or-set_other as get_or-set_other, State, Op, Datagram, IsDatagram, Payload, with_datagrams, bare_payload, SlaveState, power_on, passes, Passed, slave_met, datagram_met, input_put, output_got, output_taken, Got, served, faulted, SlavePlan, nones, MasterState, OpenCycle, IsAnswer, readied, numbered, frame_of, datagram_of, StartError, Lost, StartState, action_of, sending, begun, taken, given_up_by, second, Phase, Idle, Sent, Ready, Failed, Config, Starting, Carried, trouble_at, Starts, Between, UnderWay, Adrift, Over, IsReady, IsCarried, AreStartable, ends_of, flags_sent, with_begun, with_slave_at, SendsNext, PassesOne, LosesOne, ReturnsOne, Strays, ClosesOne, BringupServes as Serves, PutsOne, GetsOne, Faults, Resets, taken-plan, happens-starts, begun-starts, frame-passes, Event, StartNext, Set, Begin, Pass, Lose, Return, Close, Serve, AppPut, AppGet, Fault, ResetSlave, filled, may_pass, may_return, WorldState, Flight, no_slave, slave_of, flight_at, flight_progress, flights_progress, is_up, awaits, phase_awaits, phase_ready, is_slave, can_happen, resumed, ready_with, ByStart, Sends, Passes, Returns, StartReturns, GivesUp, Closes, Happens, with_slave, AreWhole, flags_after, IsInSlot, SlotsHold, seen_of, Rising, stay_whole, on_whole, get_or-set_default, none_some, some_same, variable_set, filled-none, filled-length}
 use Rattle.ec_al.specs.Al as al
-use Rattle.ec_al.specs.declared.state.State.{State}
-use Rattle.ec_al.specs.declared.state.State.TheVariants.{Op}
-use Rattle.ec_frame.specs.Datagram.{Datagram, IsDatagram}
-use Rattle.ec_frame.specs.Frame.{Payload, with_datagrams}
-use Rattle.ec_frame.specs.Building.{bare_payload}
-use Rattle.ec_slave.specs.State.{SlaveState, power_on}
-use Rattle.ec_slave.specs.Meeting.{passes, Passed, slave_met, datagram_met}
-use Rattle.ec_slave.specs.Application.{input_put, output_got, output_taken}
-use Rattle.ec_sync.specs.Buffer.{Got}
-use Rattle.ec_slave.specs.Serving.{served}
-use Rattle.ec_slave.specs.Faulting.{faulted}
-use Rattle.ec_link.specs.declared.settings.SlavePlan.{SlavePlan}
-use Rattle.ec_cycle.specs.Closing.{nones}
-use Rattle.ec_cycle.specs.Master.{MasterState, OpenCycle, IsAnswer, readied}
-use Rattle.ec_start.specs.Actions.{numbered, frame_of, datagram_of}
-use Rattle.ec_start.specs.declared.error.StartError.{StartError}
-use Rattle.ec_start.specs.declared.error.StartError.TheVariants.{Lost}
-use Rattle.ec_start.specs.Running.{StartState, action_of, sending, begun, taken, given_up_by, second}
-use Rattle.ec_start.specs.declared.phase.Phase.{Phase}
-use Rattle.ec_start.specs.declared.phase.Phase.TheVariants.{Idle, Sent, Ready, Failed}
-use Rattle.ec_bringup.specs.Stages.{Config}
-use Rattle.ec_bringup.specs.Starting.{Starting, Carried, trouble_at}
-use Rattle.ec_bringup.specs.Instants.{Starts, Instant, Between, UnderWay, Adrift, Over, IsReady}
-use Rattle.ec_bringup.specs.Slots.{IsCarried}
-use Rattle.ec_bringup.specs.Runs.{AreStartable, ends_of, flags_sent, with_begun, with_slave as with_slave_at, Sends as SendsNext, Passes as PassesOne, Loses as LosesOne, Returns as ReturnsOne, Strays, Closes as ClosesOne, Serves, Puts as PutsOne, Gets as GetsOne, Faults, Resets}
-use Rattle.ec_bringup.proofs.Theorem.{taken-plan, happens-starts, begun-starts, frame-passes}
-use Rattle.ec_world.specs.declared.event.Event.{Event}
-use Rattle.ec_world.specs.declared.event.Event.TheVariants.{StartNext, Set, Begin, Pass, Lose, Return, Close, Serve, AppPut, AppGet, Fault, Reset as ResetSlave}
-use Rattle.ec_world.specs.Plain.{filled, may_pass, may_return}
-use Rattle.ec_world.specs.World.{WorldState, Flight, no_slave, slave_of, flight_at, flight_progress, flights_progress, is_up, awaits, phase_awaits, phase_ready, is_slave, can_happen, resumed, ready_with, ByStart, Sends, Passes, Returns, StartReturns, GivesUp, Closes, Happens, with_slave}
-use Rattle.ec_slave.specs.Interface.{AreWhole}
-use Rattle.ec_world.specs.Whole.{flags_after}
-use Rattle.ec_world.specs.Rising.{IsInSlot, SlotsHold, seen_of, Rising}
-use Rattle.ec_slave.proofs.StayWhole.{stay_whole}
-use Rattle.ec_slave.proofs.SwitchedOn.{on_whole}
-use Rattle.ec_world.proofs.Lists.{get_or-set_default, none_some, some_same}
 
 -- ---- slots
 
@@ -54,16 +14,6 @@ all-none [] k e = refl
 all-none (None ∷ os) zero e = refl
 all-none (None ∷ os) (suc k) e = all-none os k (omega (arith, e))
 all-none (Some x ∷ os) k e = absurd (omega (arith, e, nones-few os))
-
-filled-none : {X : Type 0} (os : List (Option X)) → filled [] os ≡ os
-filled-none [] = refl
-filled-none (o ∷ os) = refl
-
-filled-length : {X : Type 0} (xs : List X) (os : List (Option X)) → length (filled xs os) ≡ length os
-filled-length xs [] = refl
-filled-length [] (o ∷ os) = refl
-filled-length (x ∷ xs) (None ∷ os) = ap (λ (n : ℕ). suc n) (filled-length xs os)
-filled-length (x ∷ xs) (Some y ∷ os) = ap (λ (n : ℕ). suc n) (filled-length (x ∷ xs) os)
 
 -- one frame goes into the first of free slots
 pub record FilledOne {X : Type 0} (x : X) (os : List (Option X)) : Type 0 where
@@ -114,21 +64,44 @@ module _ (flags : List Bool) (w : WorldState) (r : Rising flags w) where
   here : (k : ℕ) → is_slave w k ≡ true → k < length w.start.plan
   here k e = let l = ltb-true k (length w.slaves) e in omega (arith, l, r.starts.slaves.slaves)
 
-  -- one slave becomes t, and its flag b
-  changed : (k : ℕ) (t : SlaveState) (b : Bool) (g : Option ℕ) → AreWhole t → Starts (ends_of w.plan.slaves) (with_slave_at (seen_of w flags r.slot) k t b)
-      → Rising (set flags k b) (record (with_slave w k t) { got = g })
-  changed k t b g fit starts = record {
+  -- slaves, slots, flags and what was read last change
+  pub settled : (now : List Bool) (slaves : List SlaveState) (slots : List (Option Flight)) (slot : Option Carried) (g : Option ℕ)
+      → Starts (ends_of w.plan.slaves) (record { start = w.start; slaves = slaves; troubles = now; slot = slot }) → SlotsHold slots slot → 0 < length slots
+      → ((i : ℕ) → AreWhole (get_or slaves i no_slave)) → Rising now (record w { slaves = slaves; slots = slots; got = g })
+  settled now slaves slots slot g starts hold some fit = record {
     same_plan = r.same_plan;
-    slot = r.slot;
+    slot = slot;
     starts = starts;
-    slots = r.slots;
-    some_slots = r.some_slots;
-    fit = all-set AreWhole w.slaves k t r.fit fit;
+    slots = hold;
+    some_slots = some;
+    fit = fit;
     master_plan = r.master_plan;
     no_cycle = r.no_cycle;
     master_ready = r.master_ready;
     no_report = r.no_report;
   }
+
+  -- the start-up, the master and the slots change
+  pub restarted : (now : List Bool) (s : StartState) (m : MasterState) (slots : List (Option Flight)) (slot : Option Carried) → s.plan ≡ w.start.plan
+      → Starts (ends_of w.plan.slaves) (record { start = s; slaves = w.slaves; troubles = now; slot = slot }) → SlotsHold slots slot → 0 < length slots
+      → m.plan ≡ w.plan → m.cycle ≡ None → m.is_ready ≡ is_up s → Rising now (record w { start = s; master = m; slots = slots })
+  restarted now s m slots slot same starts hold some plan cycle ready = record {
+    same_plan = same ∙ r.same_plan;
+    slot = slot;
+    starts = starts;
+    slots = hold;
+    some_slots = some;
+    fit = r.fit;
+    master_plan = plan;
+    no_cycle = cycle;
+    master_ready = ready;
+    no_report = r.no_report;
+  }
+
+  -- one slave becomes t, and its flag b
+  changed : (k : ℕ) (t : SlaveState) (b : Bool) (g : Option ℕ) → AreWhole t → Starts (ends_of w.plan.slaves) (with_slave_at (seen_of w flags r.slot) k t b)
+      → Rising (set flags k b) (record (with_slave w k t) { got = g })
+  changed k t b g fit starts = settled (set flags k b) (set w.slaves k t) w.slots r.slot g starts r.slots r.some_slots (all-set AreWhole w.slaves k t r.fit fit)
 
   unflagged : (k : ℕ) (t : SlaveState) (g : Option ℕ) → AreWhole t → Starts (ends_of w.plan.slaves) (with_slave_at (seen_of w flags r.slot) k t (trouble_at flags k))
       → Rising flags (record (with_slave w k t) { got = g })
@@ -165,18 +138,7 @@ module _ (flags : List Bool) (w : WorldState) (r : Rising flags w) where
 
   -- the slots are empty
   with-none : (slots : List (Option Flight)) → 0 < length slots → ((k : ℕ) → get_or slots k None ≡ None) → Starts (ends_of w.plan.slaves) (seen None) → Rising flags (record w { slots = slots })
-  with-none slots l none starts = record {
-    same_plan = r.same_plan;
-    slot = None;
-    starts = starts;
-    slots = none;
-    some_slots = l;
-    fit = r.fit;
-    master_plan = r.master_plan;
-    no_cycle = r.no_cycle;
-    master_ready = r.master_ready;
-    no_report = r.no_report;
-  }
+  with-none slots l none starts = settled flags w r flags w.slaves slots None w.got starts none l r.fit
 
   set-some : (k : ℕ) (o : Option Flight) → 0 < length (set w.slots k o)
   set-some k o = omega (arith, length-set w.slots k o, r.some_slots)
@@ -184,8 +146,7 @@ module _ (flags : List Bool) (w : WorldState) (r : Rising flags w) where
   lose-by : (slot : Option Carried) (k : ℕ) (flight : Flight) → Starts (ends_of w.plan.slaves) (seen slot) → SlotsHold w.slots slot → flight_at w k ≡ Some flight → Rising flags (record w { slots = set w.slots k None })
   lose-by None k flight starts holds e = absurd (none_some flight (sym (holds k) ∙ e))
   lose-by (Some c) k flight starts holds e =
-      let one = the-one w.slots k flight c holds e in
-      subst (λ (n : ℕ). Rising flags (record w { slots = set w.slots n None })) (sym one.place)
+      subst (λ (n : ℕ). Rising flags (record w { slots = set w.slots n None })) (sym (the-one w.slots k flight c holds e).place)
       (with-none (set w.slots 0 None) (set-some 0 None) (emptied w.slots holds.others) (happens-starts (ends_of w.plan.slaves) (seen (Some c)) _ (LosesOne c refl refl) starts))
 
   some-flight : (k : ℕ) → is_some (flight_at w k) ≡ true → (flight : Flight) × (flight_at w k ≡ Some flight)
@@ -217,26 +178,17 @@ module _ (flags : List Bool) (w : WorldState) (r : Rising flags w) where
       = p.passed.slaves load car.spelled ∙ (ap (λ (x : Passed). set w.slaves p.flight.passed x.slave) m ∙ ap (λ (n : ℕ). set w.slaves n (slave_met (slave_of w n) c.datagram)) place) in
       let after : WorldState = record w { slaves = set w.slaves c.passed (slave_met (slave_of w c.passed) c.datagram); slots = set w.slots 0 (Some gone) } in
       let is : w2 ≡ after = p.is ∙ (ap (λ (ss : List SlaveState). record w { slaves = ss; slots = set w.slots k (Some gone) }) moved ∙ ap (λ (n : ℕ). record w { slaves = set w.slaves c.passed (slave_met (slave_of w c.passed) c.datagram); slots = set w.slots n (Some gone) }) one.place) in
-      subst (Rising flags) (sym is) (record {
-        same_plan = r.same_plan;
-        slot = Some next;
-        starts = happens-starts (ends_of w.plan.slaves) (seen (Some c)) _ (PassesOne c refl inside refl) starts;
-        slots = record {
-          flight = gone;
-          first = get_or-set_same w.slots 0 (Some gone) None r.some_slots;
-          others = λ j ne. get_or-set_other w.slots 0 j (Some gone) None ne ∙ holds.others j ne;
-          number = ap (λ (f : Flight). f.number) (sym one.same) ∙ holds.number;
-          part = ap (λ (f : Flight). f.part) (sym one.same) ∙ holds.part;
-          passed = ap (λ (n : ℕ). n + 1) place;
-          carried = own;
-        };
-        some_slots = set-some 0 (Some gone);
-        fit = all-set AreWhole w.slaves c.passed (slave_met (slave_of w c.passed) c.datagram) r.fit ((stay_whole (slave_of w c.passed) (r.fit c.passed)).met c.datagram);
-        master_plan = r.master_plan;
-        no_cycle = r.no_cycle;
-        master_ready = r.master_ready;
-        no_report = r.no_report;
-      })
+      let held : IsInSlot after.slots next = record {
+        flight = gone;
+        first = get_or-set_same w.slots 0 (Some gone) None r.some_slots;
+        others = λ j ne. get_or-set_other w.slots 0 j (Some gone) None ne ∙ holds.others j ne;
+        number = ap (λ (f : Flight). f.number) (sym one.same) ∙ holds.number;
+        part = ap (λ (f : Flight). f.part) (sym one.same) ∙ holds.part;
+        passed = ap (λ (n : ℕ). n + 1) place;
+        carried = own;
+      } in
+      subst (Rising flags) (sym is) (settled flags w r flags after.slaves after.slots (Some next) w.got (happens-starts (ends_of w.plan.slaves) (seen (Some c)) _ (PassesOne c refl inside refl) starts) held (set-some 0 (Some gone))
+      (all-set AreWhole w.slaves c.passed (slave_met (slave_of w c.passed) c.datagram) r.fit ((stay_whole (slave_of w c.passed) (r.fit c.passed)).met c.datagram)))
 
   pass-few : (k : ℕ) → may_pass (length w.slaves) (flights_progress w.slots) (option_map flight_progress (flight_at w k)) ≡ true → (flight : Flight) → flight_at w k ≡ Some flight → flight.passed < length w.slaves
   pass-few k e flight q =
@@ -248,9 +200,6 @@ module _ (flags : List Bool) (w : WorldState) (r : Rising flags w) where
 
 -- ---- a frame comes back
 
-failed-sent : (f : StartError) (n : ℕ) → Failed f ≡ Sent n → ⊥
-failed-sent f n e = cc
-
 -- a start-up that awaits a frame awaits one of some number
 some-number : (s : StartState) → awaits s ≡ true → (number : ℕ) × (s.phase ≡ Sent number)
 some-number s e = go s.phase refl e
@@ -261,64 +210,39 @@ some-number s e = go s.phase refl e
 
 -- the frame that is under way is the one that is awaited
 awaited : (ends : ℕ → Config) (v : Starting) (c : Carried) (number : ℕ) → Starts ends v → v.slot ≡ Some c → v.start.phase ≡ Sent number → v.start.phase ≡ Sent c.number
-awaited ends v c number h full sent = by h.instant
-  where
-    by : Instant ends v → v.start.phase ≡ Sent c.number
-    by (Between b) = absurd (none_some c (sym b.empty ∙ full))
-    by (UnderWay b) = b.sent ∙ ap (λ (x : Carried). Sent x.number) (some_same b.carried c (sym b.full ∙ full))
-    by (Adrift b) = absurd (none_some c (sym b.empty ∙ full))
-    by (Over b) = absurd (failed-sent b.failure number (sym b.failed ∙ sent))
-    by (IsReady b) = absurd (none_some c (sym b.empty ∙ full))
+awaited ends v c number h full sent = elim h.instant [
+  | Between b ↦ absurd (none_some c (sym b.empty ∙ full))
+  | UnderWay b ↦ b.sent ∙ ap (λ (x : Carried). Sent x.number) (some_same b.carried c (sym b.full ∙ full))
+  | Adrift b ↦ absurd (none_some c (sym b.empty ∙ full))
+  | Over b ↦ absurd (cc (sym b.failed ∙ sent))
+  | IsReady b ↦ absurd (none_some c (sym b.empty ∙ full))
+]
 
 -- a frame that isn't awaited strayed from a start-up that failed
 strayed : (ends : ℕ → Config) (v : Starting) (c : Carried) → Starts ends v → v.slot ≡ Some c → awaits v.start ≡ false → (f : StartError) × (v.start.phase ≡ Failed f)
-strayed ends v c h full off = by h.instant
-  where
-    by : Instant ends v → (f : StartError) × (v.start.phase ≡ Failed f)
-    by (Between b) = absurd (none_some c (sym b.empty ∙ full))
-    by (UnderWay b) = absurd (both_ways _ off (ap (λ (p : Phase). phase_awaits p) b.sent))
-    by (Adrift b) = absurd (none_some c (sym b.empty ∙ full))
-    by (Over b) = (b.failure, b.failed)
-    by (IsReady b) = absurd (none_some c (sym b.empty ∙ full))
+strayed ends v c h full off = elim h.instant [
+  | Between b ↦ absurd (none_some c (sym b.empty ∙ full))
+  | UnderWay b ↦ absurd (both_ways _ off (ap (λ (p : Phase). phase_awaits p) b.sent))
+  | Adrift b ↦ absurd (none_some c (sym b.empty ∙ full))
+  | Over b ↦ (b.failure, b.failed)
+  | IsReady b ↦ absurd (none_some c (sym b.empty ∙ full))
+]
 
 module _ (flags : List Bool) (w : WorldState) (r : Rising flags w) (low : is_up w.start ≡ false) where
   -- the master is ready with the start-up
   ready-so : (s : StartState) → (ready_with w.master s).is_ready ≡ is_up s
-  ready-so s = go (is_up s)
-    where
-      go : (b : Bool) → (let m : MasterState = if b then readied w.master s.next else w.master in m.is_ready) ≡ b
-      go true = refl
-      go false = r.master_ready ∙ low
+  ready-so s = elim (is_up s) as (λ b. (let m : MasterState = if b then readied w.master s.next else w.master in m.is_ready) ≡ b) [ true ↦ refl | false ↦ r.master_ready ∙ low ]
 
   ready-plan : (s : StartState) → (ready_with w.master s).plan ≡ w.plan
-  ready-plan s = go (is_up s)
-    where
-      go : (b : Bool) → (let m : MasterState = if b then readied w.master s.next else w.master in m.plan) ≡ w.plan
-      go true = r.master_plan
-      go false = r.master_plan
+  ready-plan s = elim (is_up s) as (λ b. (let m : MasterState = if b then readied w.master s.next else w.master in m.plan) ≡ w.plan) [ true ↦ r.master_plan | false ↦ r.master_plan ]
 
   ready-cycle : (s : StartState) → (ready_with w.master s).cycle ≡ None
-  ready-cycle s = go (is_up s)
-    where
-      go : (b : Bool) → (let m : MasterState = if b then readied w.master s.next else w.master in m.cycle) ≡ None
-      go true = r.no_cycle
-      go false = r.no_cycle
+  ready-cycle s = elim (is_up s) as (λ b. (let m : MasterState = if b then readied w.master s.next else w.master in m.cycle) ≡ None) [ true ↦ r.no_cycle | false ↦ r.no_cycle ]
 
   -- the start-up is another value, and the slots are empty
   with-start-none : (s : StartState) (slots : List (Option Flight)) → s.plan ≡ w.start.plan → 0 < length slots → ((k : ℕ) → get_or slots k None ≡ None)
       → Starts (ends_of w.plan.slaves) (record { start = s; slaves = w.slaves; troubles = flags; slot = None }) → Rising flags (record w { start = s; master = ready_with w.master s; slots = slots })
-  with-start-none s slots same l none starts = record {
-    same_plan = same ∙ r.same_plan;
-    slot = None;
-    starts = starts;
-    slots = none;
-    some_slots = l;
-    fit = r.fit;
-    master_plan = ready-plan s;
-    no_cycle = ready-cycle s;
-    master_ready = ready-so s;
-    no_report = r.no_report;
-  }
+  with-start-none s slots same l none starts = restarted flags w r flags s (ready_with w.master s) slots None same starts none l (ready-plan s) (ready-cycle s) (ready-so s)
 
   return-by : (slot : Option Carried) (k : ℕ) (w2 : WorldState) → Starts (ends_of w.plan.slaves) (seen_of w flags slot) → SlotsHold w.slots slot → awaits w.start ≡ true
       → ((flight : Flight) → flight_at w k ≡ Some flight → flight.passed ≡ length w.slaves) → StartReturns w k w2 → Rising flags w2
@@ -343,8 +267,7 @@ module _ (flags : List Bool) (w : WorldState) (r : Rising flags w) (low : is_up 
             subst (Rising flags) (sym (gone new is))
             (with-start-none new slots (taken-plan w.start c.datagram) there empty (happens-starts ends v _ (ReturnsOne c refl around sent refl) starts))
         | inr foreign ↦
-            let is : w2.start ≡ w.start = p.start.foreign foreign in
-            subst (Rising flags) (sym (gone w.start is))
+            subst (Rising flags) (sym (gone w.start (p.start.foreign foreign)))
             (with-start-none w.start slots refl there empty (happens-starts ends v _ (LosesOne c refl refl) starts))
       ]
 
@@ -385,18 +308,9 @@ module _ (flags : List Bool) (w : WorldState) (r : Rising flags w) (low : is_up 
       let up : GivesUp w w2 = subst (λ (b : Bool). ByStart b (GivesUp w w2) (Closes w w2)) on h in
       let lost : StartState = record w.start { phase = Failed Lost } in
       let is : w2 ≡ record w { start = lost } = up ∙ ap (λ (x : StartState). record w { start = x }) (ap (λ (x : Phase). given_up_by w.start x) number.1) in
-      subst (Rising flags) (sym is) (record {
-        same_plan = r.same_plan;
-        slot = r.slot;
-        starts = happens-starts (ends_of w.plan.slaves) (seen_of w flags r.slot) _ (ClosesOne number.0 number.1 refl) r.starts;
-        slots = r.slots;
-        some_slots = r.some_slots;
-        fit = r.fit;
-        master_plan = r.master_plan;
-        no_cycle = r.no_cycle;
-        master_ready = r.master_ready ∙ low;
-        no_report = r.no_report;
-      })
+      subst (Rising flags) (sym is)
+      (restarted flags w r flags lost w.master w.slots r.slot refl (happens-starts (ends_of w.plan.slaves) (seen_of w flags r.slot) _ (ClosesOne number.0 number.1 refl) r.starts) r.slots r.some_slots r.master_plan r.no_cycle
+      (r.master_ready ∙ low))
 
   -- ---- the next frame is sent
 
@@ -446,38 +360,26 @@ module _ (flags : List Bool) (w : WorldState) (r : Rising flags w) (low : is_up 
       let one = filled-one flight w.slots r.some_slots none in
       let is : w2 ≡ record w { start = sending s; slots = filled (flight ∷ []) w.slots }
       = h.is ∙ ap (λ (x : StartState). record w { start = sending x; slots = filled (flight ∷ []) w.slots }) (sym same) in
-      subst (Rising (flags_sent s flags)) (sym is) (record {
-        same_plan = g.plan ∙ r.same_plan;
-        slot = Some c;
-        starts = happens-starts ends v _ (SendsNext g.idle (second-good load.datagrams s.next (datagram_of (action_of s) s.next) h.spelled.each told) refl) g.starts;
-        slots = record {
-          flight = flight;
-          first = one.first;
-          others = one.others;
-          number = sym g.next;
-          part = refl;
-          passed = refl;
-          carried = record { payload = load; spelled = h.spelled; datagrams = told };
-        };
-        some_slots = omega (arith, filled-length (flight ∷ []) w.slots, r.some_slots);
-        fit = r.fit;
-        master_plan = r.master_plan;
-        no_cycle = r.no_cycle;
-        master_ready = r.master_ready ∙ low;
-        no_report = r.no_report;
-      })
+      let held : IsInSlot (filled (flight ∷ []) w.slots) c = record {
+        flight = flight;
+        first = one.first;
+        others = one.others;
+        number = sym g.next;
+        part = refl;
+        passed = refl;
+        carried = record { payload = load; spelled = h.spelled; datagrams = told };
+      } in
+      subst (Rising (flags_sent s flags)) (sym is) (restarted flags w r (flags_sent s flags) (sending s) w.master (filled (flight ∷ []) w.slots) (Some c) g.plan
+      (happens-starts ends v _ (SendsNext g.idle (second-good load.datagrams s.next (datagram_of (action_of s) s.next) h.spelled.each told) refl) g.starts)
+      held (omega (arith, filled-length (flight ∷ []) w.slots, r.some_slots)) r.master_plan r.no_cycle (r.master_ready ∙ low))
 
   start-rises : (w2 : WorldState) → AreStartable w.plan.slaves → can_happen w StartNext ≡ true → Sends w w2 → Rising (flags_sent (resumed w.start w.start.phase) flags) w2
   start-rises w2 planned can h =
       let a = and_parts (not (is_up w.start)) _ can in
       let b = and_parts (not (awaits w.start)) _ a.1 in
       let none = all-empty (and_parts (nones w.slots == length w.slots) _ b.1).0 in
-      let off : awaits w.start ≡ false = off-from (awaits w.start) b.0 in
+      let off : awaits w.start ≡ false = (elim (awaits w.start) as (λ c. not c ≡ true → c ≡ false) [ true ↦ λ e. absurd (let z : false ≡ true = e in cc) | false ↦ λ e. refl ]) b.0 in
       sends-by (resumed w.start w.start.phase) w2 refl (goes-on w.start.phase refl off planned none) none h
-    where
-      off-from : (c : Bool) → not c ≡ true → c ≡ false
-      off-from true e = absurd (let z : false ≡ true = e in cc)
-      off-from false e = refl
 
   -- ---- any event
 
@@ -490,18 +392,8 @@ module _ (flags : List Bool) (w : WorldState) (r : Rising flags w) (low : is_up 
 
   pub event-rises : (e : Event) (w2 : WorldState) → AreStartable w.plan.slaves → can_happen w e ≡ true → Happens w e w2 → Rising (flags_after w e flags) w2
   event-rises StartNext w2 planned can h = start-rises w2 planned can h
-  event-rises (Set v x) w2 planned can h = subst (Rising flags) (sym h) (record {
-    same_plan = r.same_plan;
-    slot = r.slot;
-    starts = r.starts;
-    slots = r.slots;
-    some_slots = r.some_slots;
-    fit = r.fit;
-    master_plan = r.master_plan;
-    no_cycle = r.no_cycle;
-    master_ready = r.master_ready;
-    no_report = r.no_report;
-  })
+  event-rises (Set v x) w2 planned can h = subst (Rising flags) (sym h)
+      (restarted flags w r flags w.start (variable_set w.master v x) w.slots r.slot refl r.starts r.slots r.some_slots r.master_plan r.no_cycle r.master_ready)
   event-rises Begin w2 planned can h = absurd (no-begin can)
   event-rises (Pass k) w2 planned can h = pass-rises flags w r k w2 can h
   event-rises (Lose k) w2 planned can h = subst (Rising flags) (sym h) (lose-rises flags w r k can)

@@ -1,33 +1,6 @@
 -- No slave gives more than its share, so predicted counters mean that each gave the whole of it.
-use Rattle.std.proofs.Common.{ℕ, zero, suc, ◌<◌, ◌≤◌, ◌≡◌, ◌≢◌, ◌==◌, refl, sym, ◌∙◌, ap, subst, inl, inr, arith, length, List, [], ◌∷◌, map, get_or, Bool, true, false, Some, ◌+◌, ◌++◌, if◌then◌else◌, append-nil, append_assoc, bit_or}
-use Rattle.std.proofs.lemmas.Bool.{cases_eq, eq-eqb, eqb-true, ne_eqb, and_parts, and_from}
-use Rattle.std.proofs.lemmas.List.{length-map, get_or-map, length_push}
-use Rattle.ec_bits.proofs.AnyLaws.{if_true, if_false}
-use Rattle.ec_link.specs.declared.settings.Share.{Share}
-use Rattle.ec_link.specs.Shares.{Gave, counters_of, same_counters, share_in, sum_of, lwr_count, lrd_count, lrw_count, whole_share, nothing_given, predicted}
-use Rattle.ec_link.specs.Meaning.{share_of, no_slave as no_slave_plan, meaning, Meaning, slave_at}
-use Rattle.ec_link.specs.Plan.{PlanState, part_at}
-use Rattle.ec_link.specs.declared.settings.SlavePlan.{SlavePlan}
-use Rattle.ec_cycle.specs.Closing.{KeptPart, is_good, bytes_at}
-use Rattle.ec_world.specs.Plain.{Note, Other, Short, Full, is_full, all_full, PlainSlave, PlainFrame, Working, met_note, with_note, no_plain_slave, giving}
-use Rattle.ec_world.specs.FrameShows.{GaveAs, note_at, KeptShows, DatagramsShow}
-use Rattle.ec_world.proofs.Lists.{same_truth, all_each, each_all}
+use Rattle.ec_world.proofs.Words.{ℕ, zero, suc, ◌<◌, ◌≤◌, ◌≡◌, ◌≢◌, ◌==◌, refl, sym, ◌∙◌, ap, subst, inl, inr, arith, length, List, [], ◌∷◌, map, get_or, Bool, true, false, Some, ◌+◌, ◌++◌, if◌then◌else◌, common_append-nil as append-nil, common_append_assoc as append_assoc, bit_or, cases_eq, eq-eqb, eqb-true, ne_eqb, and_parts, and_from, length-map, list_get_or-map as get_or-map, length_push, if_true, if_false, Share, Gave, counters_of, same_counters, share_in, sum_of, lwr_count, lrd_count, lrw_count, whole_share, nothing_given, predicted, share_of, no_slave_plan, meaning, Meaning, slave_at, PlanState, part_at, SlavePlan, KeptPart, is_good, bytes_at, Note, Other, Short, Full, is_full, all_full, PlainSlave, PlainFrame, Working, met_note, with_note, no_plain_slave, giving, GaveAs, note_at, KeptShows, DatagramsShow, same_truth, all_each, each_all, al_word, Al, status_word, state_number, State, Op, Datagram, SlaveState, inputs_of, passes, passes_ring, cyclic_datagrams, sent_datagrams, no_slave, SlaveShows, slave_left, notes_round, SlavesFrom, RoundTrip, word_past, in_op, CycleLaw}
 use Rattle.ec_world.proofs.Knowing.{share_is}
-use Rattle.ec_regs.specs.Words.{al_word}
-use Rattle.ec_al.specs.Al.{Al, status_word}
-use Rattle.ec_al.specs.States.{state_number}
-use Rattle.ec_al.specs.declared.state.State.{State}
-use Rattle.ec_al.specs.declared.state.State.TheVariants.{Op}
-use Rattle.ec_frame.specs.Datagram.{Datagram}
-use Rattle.ec_slave.specs.State.{SlaveState}
-use Rattle.ec_slave.specs.Exchange.{inputs_of}
-use Rattle.ec_slave.specs.Meeting.{passes}
-use Rattle.ec_ring.specs.Rings.{passes_ring}
-use Rattle.ec_cycle.specs.Frames.{cyclic_datagrams, sent_datagrams}
-use Rattle.ec_world.specs.World.{no_slave}
-use Rattle.ec_world.specs.SlaveShows.{SlaveShows}
-use Rattle.ec_world.specs.Exchanging.{slave_left}
-use Rattle.ec_world.specs.Laws.{notes_round, SlavesFrom, RoundTrip, word_past, in_op, CycleLaw}
 use Rattle.ec_world.proofs.FramePass.{datagrams_pass}
 use Rattle.ec_world.proofs.Fresh.{fresh, fresh_datagrams}
 
@@ -36,9 +9,8 @@ at gs t = get_or gs t nothing_given
 
 pub sums_le : (f : Gave → ℕ) (xs ys : List Gave) → length xs ≡ length ys → ((t : ℕ) → t < length xs → f (at xs t) ≤ f (at ys t)) → sum_of f xs ≤ sum_of f ys
 sums_le f [] [] e h = omega arith
-sums_le f [] (y ∷ ys) e h = absurd (omega arith)
-sums_le f (x ∷ xs) [] e h = absurd (omega arith)
 sums_le f (x ∷ xs) (y ∷ ys) e h = let a = sums_le f xs ys (omega arith) (λ t l. h (suc t) (omega arith)) in let b = h 0 (omega arith) in omega arith
+sums_le f _ _ e h = absurd (omega arith)
 
 -- equal sums of terms of which none is greater: equal terms
 pub sums_tell : (f : Gave → ℕ) (xs ys : List Gave) → length xs ≡ length ys → ((t : ℕ) → t < length xs → f (at xs t) ≤ f (at ys t)) → sum_of f xs ≡ sum_of f ys → (t : ℕ) → t < length xs → f (at xs t) ≡ f (at ys t)
@@ -52,18 +24,14 @@ sums_tell f (x ∷ xs) (y ∷ ys) e h s (suc t) l =
 
 pub same_gave : (xs ys : List Gave) → length xs ≡ length ys → ((t : ℕ) → t < length xs → at xs t ≡ at ys t) → xs ≡ ys
 same_gave [] [] e h = refl
-same_gave [] (y ∷ ys) e h = absurd (omega arith)
-same_gave (x ∷ xs) [] e h = absurd (omega arith)
 same_gave (x ∷ xs) (y ∷ ys) e h = ap (λ z. z ∷ xs) (h 0 (omega arith)) ∙ ap (λ zs. y ∷ zs) (same_gave xs ys (omega arith) (λ t l. h (suc t) (omega arith)))
+same_gave _ _ e h = absurd (omega arith)
 
 -- ---- one slave
 
 pub record WithinShare (g whole : Gave) : Type 0 where
   pub wrote : lwr_count g ≤ lwr_count whole
   pub read : lrd_count g ≤ lrd_count whole
-
-other_short : Other ≢ Short
-other_short e = cc
 
 within_share : (h : Share) (k : ℕ) (n : Note) (g : Gave) → GaveAs h n g → (h.part ≢ k → n ≡ Other) → (h.part ≡ k → n ≢ Other) → WithinShare g (share_in k h)
 within_share h k n g gave elsewhere in_part = elim (cases_eq h.part k) [
@@ -77,12 +45,11 @@ within_share h k n g gave elsewhere in_part = elim (cases_eq h.part k) [
     mine (Full v) x ne = subst (λ (w : Gave). WithinShare w (whole_share h)) (sym x) (record { wrote = omega arith; read = omega arith })
 
 full_note : (h : Share) (k : ℕ) (n : Note) (g : Gave) → GaveAs h n g → (h.part ≢ k → n ≡ Other) → lrw_count g ≡ lrw_count (share_in k h) → is_full n ≡ true
-full_note h k Other g gave elsewhere e = refl
-full_note h k (Full v) g gave elsewhere e = refl
 full_note h k Short g gave elsewhere e = elim (cases_eq h.part k) as (λ _. false ≡ true) [
   | inl q ↦ absurd (let x = gave.less in let y = e ∙ ap lrw_count (if_true (h.part == k) (whole_share h) nothing_given (eq-eqb _ _ q)) in omega arith)
-  | inr ne ↦ absurd (other_short (sym (elsewhere ne)))
+  | inr ne ↦ absurd (cc (sym (elsewhere ne)))
 ]
+full_note h k _ g gave elsewhere e = refl
 
 pub gave_whole : (h : Share) (k : ℕ) (n : Note) (g : Gave) → GaveAs h n g → (h.part ≢ k → n ≡ Other) → (h.part ≡ k → n ≢ Other) → is_full n ≡ true → g ≡ share_in k h
 gave_whole h k n g gave elsewhere in_part full = elim (cases_eq h.part k) [
@@ -155,8 +122,6 @@ round_trip plan f [] [] ds sound all len slaves frame = record {
   frame = subst (λ (ns : List Note). DatagramsShow plan (record f { notes = ns }) ds) (sym (append-nil f.notes)) frame;
   word = λ w e. e;
 }
-round_trip plan f [] (q ∷ qs) ds sound all len slaves frame = absurd (omega arith)
-round_trip plan f (s ∷ ss) [] ds sound all len slaves frame = absurd (omega arith)
 round_trip plan f (s ∷ ss) (q ∷ qs) ds sound all len slaves frame =
     let m = meaning plan in
     let t = length f.notes in
@@ -184,6 +149,7 @@ round_trip plan f (s ∷ ss) (q ∷ qs) ds sound all len slaves frame =
     by_place (suc j) l one more rest =
         let e : length (f.notes ++ (met_note (meaning plan) (length f.notes) f q ∷ [])) + j ≡ length f.notes + suc j = omega (arith, more) in
         rest j (omega arith) ∙ ap (λ k. slave_left (meaning plan) k f (get_or qs j no_plain_slave) (get_or ss j no_slave)) e
+round_trip plan f _ _ ds sound all len slaves frame = absurd (omega arith)
 
 -- ---- slaves in OP
 
@@ -247,8 +213,4 @@ cycle_law plan number k image ss sound fits there len working =
     }
   where
     full : (h : Share) (f : PlainFrame) (s : SlaveState) (t : ℕ) (n : Note) → n ≡ (if h.part == f.part then giving h (in_op s) Working else Other) → is_full n ≡ true
-    full h f s t n e = ap is_full e ∙ go (h.part == f.part)
-      where
-        go : (b : Bool) → is_full (if b then giving h (in_op s) Working else Other) ≡ true
-        go true = refl
-        go false = refl
+    full h f s t n e = ap is_full e ∙ (elim (h.part == f.part) as (λ b. is_full (if b then giving h (in_op s) Working else Other) ≡ true) [ true ↦ refl | false ↦ refl ])

@@ -1,18 +1,9 @@
 -- Frames that go round: as the frame of its part passes a slave in OP, the slave publishes the linked outputs of the image that
 -- the frame was made of, and no other frame changes that.
-use Rattle.std.proofs.Common.{ℕ, ◌<◌, ◌≤◌, ◌≡◌, ◌≢◌, ◌⊎◌, ◌==◌, Bool, true, false, Some, None, refl, sym, ◌∙◌, ap, subst, inl, inr, arith, List, length, get_or, set, if◌then◌else◌, option_map, get_or-set_same, get_or-set_other}
-use Rattle.std.proofs.lemmas.Bool.{cases_Bool, cases_eq, eqb-true, eq-eqb, true≢false}
-use Rattle.std.proofs.lemmas.List.{length_push}
-use Rattle.ec_bits.proofs.AnyLaws.{if_true, if_false}
-use Rattle.ec_link.specs.Meaning.{Meaning, share_of}
-use Rattle.ec_link.specs.Shares.{has_outs}
-use Rattle.ec_world.specs.declared.event.Event.{Event}
-use Rattle.ec_world.specs.declared.event.Event.TheVariants.{Pass, Return, Fault, Reset}
-use Rattle.ec_world.specs.Plain.{Plain, PlainSlave, PlainFrame, Health, Working, step, frame_at, plain_slave, no_plain_slave, met_slave, met_note, taking, with_note, linked_outputs, moved, keeping, may_pass, may_return, all_progress, progress_of}
-use Rattle.ec_world.proofs.Tracing.{guarded_map}
+use Rattle.ec_world.proofs.Words.{ℕ, ◌<◌, ◌≤◌, ◌≡◌, ◌≢◌, ◌⊎◌, ◌==◌, true, false, Some, None, refl, sym, ◌∙◌, ap, subst, inl, inr, arith, List, length, get_or, set, option_map, get_or-set_same, get_or-set_other, cases_Bool, cases_eq, eqb-true, eq-eqb, true≢false, length_push, if_true, if_false, Meaning, share_of, has_outs, Event, Pass, Return, Fault, ResetSlave as Reset, Plain, PlainSlave, PlainFrame, Health, Working, step, frame_at, plain_slave, no_plain_slave, met_slave, met_note, taking, with_note, linked_outputs, moved, keeping, may_pass, all_progress, progress_of, none_some, some_same, within_of}
+use Rattle.ec_world.proofs.Tracing.{guarded_map, all_passed_by}
 use Rattle.ec_world.proofs.Histories.{set_has, health_kept, count_kept}
 use Rattle.ec_world.proofs.Calm.{is_round}
-use Rattle.ec_world.proofs.Lists.{none_some, some_same, within_of}
 
 -- ---- a frame comes back
 
@@ -25,13 +16,7 @@ record Back (p : Plain) (k : ℕ) (q : Plain) : Type 0 where
 came_back : (m : Meaning) (p : Plain) (k : ℕ) (q : Plain) → step m p (Return k) ≡ Some q → Back p k q
 came_back m p k q e =
     let r = guarded_map _ (λ f. record p { cycle = option_map (keeping f) p.cycle; slots = set p.slots k None }) (frame_at p k) q e in
-    record { frame = r.value; there = r.there; is = sym r.is; all = passed (may_return (length p.slaves) (option_map progress_of (frame_at p k))) refl e r.value r.there }
-  where
-    passed : (b : Bool) → may_return (length p.slaves) (option_map progress_of (frame_at p k)) ≡ b
-        → (if b then option_map (λ f. record p { cycle = option_map (keeping f) p.cycle; slots = set p.slots k None }) (frame_at p k) else None) ≡ Some q
-        → (f : PlainFrame) → frame_at p k ≡ Some f → length f.notes ≡ length p.slaves
-    passed true on h f at = eqb-true (length f.notes) (length p.slaves) (sym (ap (λ o. may_return (length p.slaves) (option_map progress_of o)) at) ∙ on)
-    passed false off h f at = absurd (none_some q h)
+    record { frame = r.value; there = r.there; is = sym r.is; all = all_passed_by p k q _ _ refl e r.value r.there }
 
 -- ---- a slave that a frame meets
 
@@ -144,11 +129,8 @@ module _ (m : Meaning) (s : ℕ) (image : List ℕ) (outs : has_outs (share_of m
             | inr ne ↦ inl (record { slot = c.slot; frame = c.frame; there = ap (λ (z : Plain). frame_at z c.slot) x.is ∙ (get_or-set_other p.slots k c.slot None None ne ∙ c.there); own = c.own; before = c.before })
             | inl same ↦ absurd (
                 let one : c.frame ≡ x.frame = some_same c.frame x.frame (sym c.there ∙ (ap (λ (n : ℕ). frame_at p n) same ∙ x.there)) in
-                let few = c.before in
-                let l = h.here in
-                let all = x.all in
                 let size = ap (λ (y : PlainFrame). length y.notes) one in
-                omega (arith, few, l, size, all))
+                omega (arith, c.before, h.here, size, x.all))
           ]
         ];
       }

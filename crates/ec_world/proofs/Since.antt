@@ -1,14 +1,7 @@
 -- Each frame on its way, and each open cycle, goes back to the event that began it.
-use Rattle.std.proofs.Common.{ℕ, ◌≡◌, Option, Some, None, refl, sym, ◌∙◌, ap, subst, List, [], ◌∷◌, ◌++◌, unwrap_or}
-use Rattle.std.proofs.lemmas.List.{append_assoc}
-use Rattle.ec_link.specs.Meaning.{Meaning}
-use Rattle.ec_world.specs.declared.event.Event.{Event}
-use Rattle.ec_world.specs.declared.event.Event.TheVariants.{Begin}
-use Rattle.ec_world.specs.Plain.{Plain, PlainFrame, Cycle, step, run, frame_at}
-use Rattle.ec_world.specs.Promises.{IsBegun, HasNoFrame}
+use Rattle.ec_world.proofs.Words.{ℕ, ◌≡◌, Option, Some, None, refl, sym, ◌∙◌, ap, subst, List, [], ◌∷◌, ◌++◌, unwrap_or, append_assoc, Meaning, Event, Begin, Plain, PlainFrame, Cycle, step, run, frame_at, IsBegun, HasNoFrame, none_some}
 use Rattle.ec_world.proofs.Tracing.{Leaves, leaves}
 use Rattle.ec_world.proofs.Histories.{run_tells, run_joins, keeping_number, frames_left, cycle_left}
-use Rattle.ec_world.proofs.Lists.{none_some}
 
 -- the cycle with this number was begun on the way
 pub record BeganAt (m : Meaning) (first : Plain) (done : List Event) (number : ℕ) : Type 0 where

@@ -1,14 +1,7 @@
 -- Of each part of a cycle there is at most one frame: in its slot, kept, or lost.
-use Rattle.std.proofs.Common.{ℕ, zero, suc, ◌+◌, ◌<◌, ◌≤◌, ◌≡◌, ◌≢◌, ◌==◌, ◌&&◌, Bool, true, false, Option, Some, None, refl, sym, ◌∙◌, ap, subst, arith, List, [], ◌∷◌, length, map, get_or, set, is_none, if◌then◌else◌, slice_get, get_or-set_other, length-set}
-use Rattle.std.proofs.lemmas.Bool.{and_parts, eqb-true}
-use Rattle.std.proofs.lemmas.List.{length-map}
-use Rattle.ec_link.specs.Meaning.{Meaning}
-use Rattle.ec_world.specs.declared.event.Event.{Event}
-use Rattle.ec_world.specs.Plain.{Plain, PlainFrame, Note, Cycle, step, frame_at, plain_slave, keeping, filled, new_frames, with_note, met_note}
-use Rattle.ec_world.specs.Promises.{IsBegun}
+use Rattle.ec_world.proofs.Words.{ℕ, zero, suc, ◌+◌, ◌<◌, ◌≤◌, ◌≡◌, ◌≢◌, ◌==◌, ◌&&◌, Bool, true, false, Option, Some, None, refl, sym, ◌∙◌, ap, subst, arith, List, [], ◌∷◌, length, map, get_or, set, is_none, if◌then◌else◌, slice_get, get_or-set_other, and_parts, eqb-true, length-map, Meaning, Event, Plain, PlainFrame, Note, Cycle, step, frame_at, plain_slave, keeping, filled, new_frames, with_note, met_note, IsBegun, none_some, some_same, cycle_begun}
 use Rattle.ec_world.proofs.Tracing.{mapped, guarded, Leaves, Stays, Begins, Moves, Loses, Returns, Closes, leaves}
-use Rattle.ec_world.proofs.Histories.{begun_below, filled_has, new_one, keeping_number}
-use Rattle.ec_world.proofs.Lists.{none_some, some_same}
+use Rattle.ec_world.proofs.Histories.{begun_below, filled_has, new_one, keeping_number, keeping_length}
 
 -- ---- slots
 
@@ -96,13 +89,6 @@ pub record Single (m : Meaning) (number : ℕ) (p : Plain) : Type 0 where
   pub missing : (c : Cycle) → p.cycle ≡ Some c → c.number ≡ number → (i : ℕ) (f : PlainFrame) → frame_at p i ≡ Some f → f.number ≡ number → get_or c.kept f.part None ≡ None
 
 -- a frame that comes back leaves the other parts
-keeping_size : (g : PlainFrame) (c : Cycle) → length (keeping g c).kept ≡ length c.kept
-keeping_size g c = go ((g.number == c.number) && is_none (get_or c.kept g.part None))
-  where
-    go : (b : Bool) → length (if b then record c { kept = set c.kept g.part (Some g.notes) } else c).kept ≡ length c.kept
-    go true = length-set c.kept g.part (Some g.notes)
-    go false = refl
-
 keeping_other : (g : PlainFrame) (c : Cycle) (n : ℕ) → (g.number ≡ c.number → n ≡ g.part → ⊥) → get_or (keeping g c).kept n None ≡ get_or c.kept n None
 keeping_other g c n ne = go ((g.number == c.number) && is_none (get_or c.kept g.part None)) refl
   where
@@ -111,20 +97,26 @@ keeping_other g c n ne = go ((g.number == c.number) && is_none (get_or c.kept g.
     go true on = get_or-set_other c.kept g.part n (Some g.notes) None (ne (eqb-true _ _ (and_parts (g.number == c.number) _ on).0))
     go false off = refl
 
+-- each frame was there before, with its number and its part, and the cycle is the same
+single_kept : (m : Meaning) (number : ℕ) (p q : Plain) → Single m number p → p.next ≤ q.next → p.cycle ≡ q.cycle → ((i : ℕ) (f : PlainFrame) → frame_at q i ≡ Some f → WasIn p.slots i f) → Single m number q
+single_kept m number p q c next cycle was = record {
+  past = omega (arith, c.past, next);
+  inside = λ i f at num. let r = was i f at in subst (λ (n : ℕ). n < length m.parts) r.part_is (c.inside i r.frame r.there (r.number_is ∙ num));
+  once = λ i k f y ef ey nf ny same.
+      let a = was i f ef in
+      let b = was k y ey in
+      c.once i k a.frame b.frame a.there b.there (a.number_is ∙ nf) (b.number_is ∙ ny) (a.part_is ∙ (same ∙ sym b.part_is));
+  size = λ d at. c.size d (cycle ∙ at);
+  missing = λ d at mine i f here num.
+      let r = was i f here in
+      subst (λ (n : ℕ). get_or d.kept n None ≡ None) r.part_is (c.missing d (cycle ∙ at) mine i r.frame r.there (r.number_is ∙ num));
+}
+
 pub single_step : (m : Meaning) (number : ℕ) (p : Plain) (e : Event) (q : Plain) → step m p e ≡ Some q → Single m number p → Single m number q
 single_step m number p e q h c = by (leaves m p e q h)
   where
     by : Leaves m p e q → Single m number q
-    by (Stays slots next cycle) = record {
-      past = let x = c.past in omega (arith, x, next);
-      inside = λ i f at. c.inside i f (in_slot i ∙ at);
-      once = λ i j f g ef eg. c.once i j f g (in_slot i ∙ ef) (in_slot j ∙ eg);
-      size = λ d is. c.size d (sym cycle ∙ is);
-      missing = λ d is own i f at. c.missing d (sym cycle ∙ is) own i f (in_slot i ∙ at);
-    }
-      where
-        in_slot : (i : ℕ) → frame_at p i ≡ frame_at q i
-        in_slot i = ap (λ os. get_or os i None) (sym slots)
+    by (Stays slots next cycle) = single_kept m number p q c (omega (arith, next)) (sym cycle) (λ i f at. record { frame = f; there = ap (λ os. get_or os i None) (sym slots) ∙ at; number_is = refl; part_is = refl })
     by (Closes slots next cycle) = record {
       past = let x = c.past in omega (arith, x, next);
       inside = λ i f at. c.inside i f (in_slot i ∙ at);
@@ -150,41 +142,17 @@ single_step m number p e q h c = by (leaves m p e q h)
 
         later : (d : Cycle) → q.cycle ≡ Some d → d.number ≡ number → ⊥
         later d is own = let n = ap (λ (x : Cycle). x.number) (some_same _ d (sym cycle ∙ is)) in let x = c.past in omega (arith, x, n, own)
-    by (Moves j g own there held is) = record {
-      past = let x = c.past in let next = ap (λ (z : Plain). z.next) is in omega (arith, x, next);
-      inside = λ i f at num. let r = was i f at in subst (λ (n : ℕ). n < length m.parts) r.part_is (c.inside i r.frame r.there (r.number_is ∙ num));
-      once = λ i k f y ef ey nf ny same.
-          let a = was i f ef in
-          let b = was k y ey in
-          c.once i k a.frame b.frame a.there b.there (a.number_is ∙ nf) (b.number_is ∙ ny) (a.part_is ∙ (same ∙ sym b.part_is));
-      size = λ d at. c.size d (sym (ap (λ (z : Plain). z.cycle) is) ∙ at);
-      missing = λ d at mine i f here num.
-          let r = was i f here in
-          subst (λ (n : ℕ). get_or d.kept n None ≡ None) r.part_is (c.missing d (sym (ap (λ (z : Plain). z.cycle) is) ∙ at) mine i r.frame r.there (r.number_is ∙ num));
-    }
-      where
-        moved_on : PlainFrame
-        moved_on = with_note g (met_note m (length g.notes) g (plain_slave p (length g.notes)))
-
-        was : (i : ℕ) (f : PlainFrame) → frame_at q i ≡ Some f → WasIn p.slots i f
-        was i f at = was_in p.slots j g moved_on there refl refl i f (ap (λ (z : Plain). frame_at z i) (sym is) ∙ at)
-    by (Loses j own is) = record {
-      past = let x = c.past in let next = ap (λ (z : Plain). z.next) is in omega (arith, x, next);
-      inside = λ i f at. c.inside i f (was i f at).0;
-      once = λ i k f g ef eg. c.once i k f g (was i f ef).0 (was k g eg).0;
-      size = λ d at. c.size d (sym (ap (λ (z : Plain). z.cycle) is) ∙ at);
-      missing = λ d at mine i f here. c.missing d (sym (ap (λ (z : Plain). z.cycle) is) ∙ at) mine i f (was i f here).0;
-    }
-      where
-        was : (i : ℕ) (f : PlainFrame) → frame_at q i ≡ Some f → (frame_at p i ≡ Some f) × (i ≢ j)
-        was i f at = left_there p.slots j i f (ap (λ (z : Plain). frame_at z i) (sym is) ∙ at)
+    by (Moves j g own there held is) = single_kept m number p q c (let next = ap (λ (z : Plain). z.next) is in omega (arith, next)) (sym (ap (λ (z : Plain). z.cycle) is))
+        (λ i f at. was_in p.slots j g (with_note g (met_note m (length g.notes) g (plain_slave p (length g.notes)))) there refl refl i f (ap (λ (z : Plain). frame_at z i) (sym is) ∙ at))
+    by (Loses j own is) = single_kept m number p q c (let next = ap (λ (z : Plain). z.next) is in omega (arith, next)) (sym (ap (λ (z : Plain). z.cycle) is))
+        (λ i f at. record { frame = f; there = (left_there p.slots j i f (ap (λ (z : Plain). frame_at z i) (sym is) ∙ at)).0; number_is = refl; part_is = refl })
     by (Returns j g there is all) = record {
       past = let x = c.past in let next = ap (λ (z : Plain). z.next) is in omega (arith, x, next);
       inside = λ i f at. c.inside i f (was i f at).0;
       once = λ i k f y ef ey. c.once i k f y (was i f ef).0 (was k y ey).0;
       size = λ d at mine.
           let r = mapped (keeping g) p.cycle d (sym (ap (λ (z : Plain). z.cycle) is) ∙ at) in
-          ap (λ (x : Cycle). length x.kept) (sym r.is) ∙ (keeping_size g r.value ∙ c.size r.value r.there (same_number d r.value r.is mine));
+          ap (λ (x : Cycle). length x.kept) (sym r.is) ∙ (keeping_length g r.value ∙ c.size r.value r.there (same_number d r.value r.is mine));
       missing = λ d at mine i f here num.
           let r = mapped (keeping g) p.cycle d (sym (ap (λ (z : Plain). z.cycle) is) ∙ at) in
           let x = was i f here in
@@ -221,9 +189,5 @@ single_begun m p begun b = record {
     old : IsForeign p.next p.slots
     old i f at own = let x = begun_below m p begun b i f at in omega (arith, x, own)
 
-    is : record p {
-      next = p.next + 1;
-      cycle = Some (record { number = p.next; kept = map (λ v. None) m.parts });
-      slots = filled (new_frames p.next p.outputs 0 m.parts) p.slots;
-    } ≡ begun
+    is : cycle_begun m p ≡ begun
     is = guarded _ _ begun b.begins

@@ -1,14 +1,5 @@
 -- The image of the inputs keeps its length, and there are as many slots as before, in every run of every world.
-use Rattle.std.proofs.Common.{ℕ, suc, ◌≡◌, Bool, true, false, Option, Some, None, refl, ◌∙◌, ap, inl, inr, List, [], ◌∷◌, length, length-set, if◌then◌else◌}
-use Rattle.std.proofs.lemmas.Bool.{cases_eq}
-use Rattle.ec_bits.proofs.BitLaws.{length-overlay}
-use Rattle.ec_start.specs.Running.{StartState}
-use Rattle.ec_cycle.specs.Master.{MasterState, IsTaken, readied}
-use Rattle.ec_world.specs.declared.event.Event.{Event}
-use Rattle.ec_world.specs.declared.event.Event.TheVariants.{StartNext, Begin, Pass, Lose, Return, Close, AppPut, AppGet}
-use Rattle.ec_world.specs.Plain.{filled}
-use Rattle.ec_world.specs.World.{WorldState, awaits, is_up, ready_with, Happens, IsStep, ByStart, StartReturns, Returns, GivesUp, Closes}
-use Rattle.ec_world.specs.Laws.{IsRun}
+use Rattle.ec_world.proofs.Words.{ℕ, ◌≡◌, Bool, true, false, None, refl, ◌∙◌, ap, inl, inr, List, [], ◌∷◌, length, length-set, if◌then◌else◌, cases_eq, length-overlay, StartState, MasterState, IsTaken, readied, Event, StartNext, Begin, Pass, Lose, Return, Close, AppPut, AppGet, WorldState, awaits, is_up, ready_with, Happens, IsStep, ByStart, StartReturns, Returns, GivesUp, Closes, IsRun, filled-length}
 
 -- as many bytes as before
 abbrev pub Same : WorldState → WorldState → Type 0
@@ -18,11 +9,7 @@ by_master : (old new : WorldState) (m : MasterState) → new.master ≡ m → le
 by_master old new m e h = ap (λ (x : MasterState). length x.inputs) e ∙ h
 
 readied_same : (m : MasterState) (s : StartState) → length (ready_with m s).inputs ≡ length m.inputs
-readied_same m s = go (is_up s)
-  where
-    go : (b : Bool) → length (if b then readied m s.next else m).inputs ≡ length m.inputs
-    go true = refl
-    go false = refl
+readied_same m s = elim (is_up s) as (λ b. length (if b then readied m s.next else m).inputs ≡ length m.inputs) [ true ↦ refl | false ↦ refl ]
 
 -- Whether it was an answer can't be told here, but both ways the length is the same, and lengths can be told apart.
 taken_same : (m : MasterState) (payload : List ℕ) (is_kept : Bool) (n : MasterState) → IsTaken m payload is_kept n → length n.inputs ≡ length m.inputs
@@ -59,12 +46,6 @@ run_same old (e ∷ es) new made h = run_same h.0 es new h.2 h.4 ∙ step_same o
 
 -- ---- slots
 
-pub length_filled : {X : Type 0} (fs : List X) (os : List (Option X)) → length (filled fs os) ≡ length os
-length_filled fs [] = refl
-length_filled [] (o ∷ os) = refl
-length_filled (f ∷ fs) (None ∷ os) = ap (λ (n : ℕ). suc n) (length_filled fs os)
-length_filled (f ∷ fs) (Some g ∷ os) = ap (λ (n : ℕ). suc n) (length_filled (f ∷ fs) os)
-
 abbrev AsMany : WorldState → WorldState → Type 0
 AsMany old new = length new.slots ≡ length old.slots
 
@@ -77,8 +58,8 @@ close_many true old new h = ap (λ (w : WorldState). length w.slots) h
 close_many false old new h = ap (λ (w : WorldState). length w.slots) h.is
 
 event_many : (old : WorldState) (e : Event) (new : WorldState) → Happens old e new → AsMany old new
-event_many old StartNext new h = ap (λ (w : WorldState). length w.slots) h.is ∙ length_filled _ old.slots
-event_many old Begin new h = ap (λ (w : WorldState). length w.slots) h.is ∙ length_filled _ old.slots
+event_many old StartNext new h = ap (λ (w : WorldState). length w.slots) h.is ∙ filled-length _ old.slots
+event_many old Begin new h = ap (λ (w : WorldState). length w.slots) h.is ∙ filled-length _ old.slots
 event_many old (Pass k) new h = ap (λ (w : WorldState). length w.slots) h.is ∙ length-set old.slots k _
 event_many old (Lose k) new h = ap (λ (w : WorldState). length w.slots) h ∙ length-set old.slots k None
 event_many old (Return k) new h = return_many (awaits old.start) old k new h

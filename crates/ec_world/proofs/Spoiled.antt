@@ -1,53 +1,18 @@
 -- What the headline names as a cause does keep a unit from being taken.
-use Rattle.std.proofs.Common.{ℕ, ◌+◌, ◌<◌, ◌≡◌, Bool, true, false, Some, None, refl, sym, ◌∙◌, ap, subst, inl, inr, arith, List, [], ◌∷◌, ◌++◌, length, is_some, if◌then◌else◌, get_or-set_same, unwrap_or, zero, suc, ◌==◌, Option, get_or, set, option_map}
-use Rattle.std.proofs.lemmas.Bool.{cases_Bool, and_from, lt-ltb, eq-eqb, true≢false}
-use Rattle.ec_device.specs.declared.slave_type.Identity.{Identity}
-use Rattle.ec_al.specs.declared.state.State.TheVariants.{SafeOp, Op}
+use Rattle.ec_world.proofs.Words.{ℕ, ◌+◌, ◌<◌, ◌≡◌, Bool, true, false, Some, None, refl, sym, ◌∙◌, ap, subst, inl, inr, arith, List, [], ◌∷◌, ◌++◌, length, is_some, if◌then◌else◌, get_or-set_same, unwrap_or, zero, suc, ◌==◌, Option, get_or, set, option_map, cases_Bool, and_from, lt-ltb, eq-eqb, true≢false, Identity, SafeOp, Op, if_true, faults, SlaveState, faulted, Contents, Share, unit_of_part as unit_of_plain, has_outs, Meaning, meaning, share_of, slave_at as settings_of, PlanState, plan_of, plan_sound, Event, Begin, Lose, Close, Fault, Pass, Return, ResetSlave, Progress, Faulted, Cycle, unit_full, step, run, plain_slave, with_slot, Plain, PlainSlave, PlainFrame, Health, Working, Reset, Full, frame_at, no_plain_slave, moved, keeping, new_frames, met_slave, taking, may_pass, may_return, all_progress, progress_of, linked_outputs, WorldState, slave_of, no_slave, flight_at, is_up, is_slave, with_slave, IsStep, PromisesIsQuiet as IsQuiet, is_of_unit, holds_of_unit, unit_of_slave, IsNoted, IsNotedAt, disturbs, unit_of, headline_unit_of_part as unit_of_part, output_bits, IsInOp, variable_bit, input_bit, ShowsLinked, IsSpoiled, LossLaw, EarlyLaw, ShortLaw, cycle_of, Rests, IsExchanged, UndisturbedLaw, list_all, length-map, bit, Buffer, publishing, outputs_shown, inputs_of, In, PartPlan, image_from, IsLinked, IsUsable, IsAs, IsRun, none_some}
 use Rattle.ec_al.specs.Al as al
-use Rattle.ec_bits.proofs.AnyLaws.{if_true}
-use Rattle.ec_slave.proofs.Meetings.{faults}
-use Rattle.ec_slave.specs.State.{SlaveState}
-use Rattle.ec_slave.specs.Faulting.{faulted}
-use Rattle.ec_table.specs.Contents.{Contents}
-use Rattle.ec_link.specs.declared.settings.Share.{Share}
-use Rattle.ec_link.specs.Shares.{unit_of_part as unit_of_plain, has_outs}
-use Rattle.ec_link.specs.Meaning.{Meaning, meaning, share_of, slave_at as settings_of}
-use Rattle.ec_link.specs.Plan.{PlanState, plan_of}
-use Rattle.ec_link.proofs.Soundness.{plan_sound}
-use Rattle.ec_world.specs.declared.event.Event.{Event}
-use Rattle.ec_world.specs.declared.event.Event.TheVariants.{Begin, Lose, Close, Fault, Pass, Return, Reset as ResetSlave}
-use Rattle.ec_world.specs.declared.progress.Progress.{Progress}
-use Rattle.ec_world.specs.Plain.{Faulted, Cycle, unit_full, step, run, plain_slave, with_slot, Plain, PlainSlave, PlainFrame, Health, Working, Reset, Full, frame_at, no_plain_slave, moved, keeping, new_frames, met_slave, taking, may_pass, may_return, all_progress, progress_of, linked_outputs}
-use Rattle.ec_world.specs.World.{WorldState, slave_of, no_slave, flight_at, is_up, is_slave, with_slave, IsStep}
-use Rattle.ec_world.specs.Promises.{IsQuiet, is_of_unit, holds_of_unit, unit_of_slave, IsNoted, IsNotedAt, disturbs}
-use Rattle.ec_world.specs.Headline.{unit_of, unit_of_part, output_bits, IsInOp, variable_bit, input_bit, ShowsLinked}
-use Rattle.ec_world.specs.Undisturbed.{IsSpoiled, LossLaw, EarlyLaw, ShortLaw, cycle_of, Rests, IsExchanged, UndisturbedLaw}
 use Rattle.ec_world.proofs.Knowing.{share_is}
 use Rattle.ec_world.proofs.StepLaws.{runs_join}
 use Rattle.ec_world.proofs.Disturbed.{in_parts, quiet_law}
-use Rattle.ec_world.proofs.Headlines.{safe_faulted, outs_are, op_works, ShownAs, shown_as, shows_linked}
+use Rattle.ec_world.proofs.Headlines.{health_is, outs_are, op_works, ShownAs, shown_as, shows_linked}
 use Rattle.ec_world.proofs.HeadlineInputs.{part_unit, slave_unit, short_works, inputs_held, BitIn, bit_in}
 use Rattle.ec_world.proofs.AtRest.{Comes, comes_of, IsFree, free_of, Beginning, beginning, is_begun, rounds, going, AtClose, at_close, told_of, FrameOf, frame_of, left_over, get_nones}
-use Rattle.std.specs.List.{list_all}
-use Rattle.std.proofs.lemmas.List.{length-map}
-use Rattle.ec_bits.specs.Bits.{bit}
-use Rattle.ec_sync.specs.Buffer.{Buffer, publishing}
-use Rattle.ec_slave.specs.Application.{outputs_shown}
-use Rattle.ec_slave.specs.Exchange.{inputs_of}
-use Rattle.ec_table.specs.declared.rows.Direction.TheVariants.{In}
-use Rattle.ec_link.specs.declared.plan.PartPlan.{PartPlan}
-use Rattle.ec_link.specs.Image.{image_from}
-use Rattle.ec_link.specs.LinkRuns.{IsLinked}
-use Rattle.ec_link.specs.Usable.{IsUsable}
-use Rattle.ec_world.specs.SlaveShows.{IsAs}
-use Rattle.ec_world.specs.Laws.{IsRun}
 use Rattle.ec_world.proofs.Tracing.{guarded_map}
 use Rattle.ec_world.proofs.Histories.{run_keeps, filled_has, new_one, health_kept}
 use Rattle.ec_world.proofs.Published.{published_law}
 use Rattle.ec_world.proofs.Quiet.{taken_law}
 use Rattle.ec_world.proofs.Calm.{Slots, get_mapped, is_round, rounds_round, round_there}
 use Rattle.ec_world.proofs.RoundsPublish.{Publishes, publishes_from, publishes_step, published_at}
-use Rattle.ec_world.proofs.Lists.{none_some}
 
 -- a unit of which a close says more than is so
 not_full : (t : Contents) (w : WorldState) (b : Beginning t w) (mid : List Event) (c : Cycle) (u : ℕ) → (run (meaning w.plan) b.begun mid).plain.cycle ≡ Some c → c.number ≡ b.p.next
@@ -194,7 +159,7 @@ short_law t ids w r s l some v made run_on = record {
     outs = ap (λ (z : Share). z.outs) (share_is x.plan s) ∙ (ap (λ (z : PlanState). (settings_of z s).share.outs) b.w_plan ∙ outs_are t (plan_sound t r.new.sound r.new.accepted) s in_t)
 
     health : (plain_slave b.p s).health ≡ Faulted
-    health = safe_faulted s (settings_of x.plan s) (slave_of x s) (plain_slave b.p s) (plain_slave b.p s).health (b.shown.slaves s in_x)
+    health = health_is s (settings_of x.plan s) (slave_of x s) (plain_slave b.p s) (plain_slave b.p s).health Faulted (b.shown.slaves s in_x)
         (ap (λ (z : SlaveState). z.al.state) slave_is ∙ fallen (slave_of w s) in_op)
 
     unit : unit_of_slave m s ≡ unit_of t s

@@ -1,34 +1,11 @@
 -- One event, and runs of events.
-use Rattle.std.proofs.Common.{ℕ, ◌<◌, ◌≡◌, ◌&&◌, ◌||◌, not, Bool, true, false, Option, Some, None, refl, sym, ◌∙◌, ap, subst, inl, inr, length, is_some, if◌then◌else◌, unwrap_or, ◌+◌, ◌++◌, arith, List, [], ◌∷◌}
-use Rattle.std.proofs.lemmas.Bool.{cases_Bool, cases_lt, both_ways, and_parts, and_left}
-use Rattle.ec_link.proofs.Listed.{listed}
-use Rattle.ec_bits.proofs.AnyLaws.{if_true}
+use Rattle.ec_world.proofs.Words.{ℕ, ◌<◌, ◌≡◌, ◌&&◌, ◌||◌, not, Bool, true, false, Option, Some, None, refl, sym, ◌∙◌, ap, subst, inl, inr, length, is_some, if◌then◌else◌, unwrap_or, ◌+◌, ◌++◌, arith, List, [], ◌∷◌, cases_Bool, cases_lt, both_ways, and_parts, and_left, listed, if_true, power_on, slave_at, meaning, IsUsable, Event, StartNext, Set, Begin, Pass, Lose, Return, Close, Serve, AppPut, AppGet, Fault, ResetSlave, Plain, PlainSlave, step, plain_slave, is_working, failing, restarting, at_slave, run, WorldState, awaits, ByStart, Returns, Closes, can_start, can_happen, Happens, is_slave, slave_of, StartReturns, GivesUp, with_slave, IsStep, is_up, ready_with, resumed, served, faulted, Shows, StepsShow, IsRun, RunsShow, RunsJoin, PlanState, SlavePlan, Phase, Failed, StartState, asked, begun, IsStartTaken, plans_stay, MasterState, readied, master_plan, AreOfPlan, IsAnswered, IsTakenIn, IsHandedIn}
 use Rattle.ec_al.specs.Al as al
-use Rattle.ec_slave.specs.State.{power_on}
-use Rattle.ec_link.specs.Meaning.{slave_at, meaning}
-use Rattle.ec_link.specs.Usable.{IsUsable}
-use Rattle.ec_world.specs.declared.event.Event.{Event}
-use Rattle.ec_world.specs.declared.event.Event.TheVariants.{StartNext, Set, Begin, Pass, Lose, Return, Close, Serve, AppPut, AppGet, Fault, Reset as ResetSlave}
-use Rattle.ec_world.specs.Plain.{Plain, PlainSlave, step, plain_slave, is_working, failing, restarting, at_slave, run}
 use Rattle.ec_world.specs.Plain as plain
-use Rattle.ec_world.specs.World.{WorldState, awaits, ByStart, Returns, Closes, can_start, can_happen, Happens, is_slave, slave_of, StartReturns, GivesUp, with_slave, IsStep, is_up, ready_with, resumed}
-use Rattle.ec_slave.specs.Serving.{served}
-use Rattle.ec_slave.specs.Faulting.{faulted}
-use Rattle.ec_world.specs.Shows.{Shows}
-use Rattle.ec_world.specs.Laws.{StepsShow, IsRun, RunsShow, RunsJoin}
 use Rattle.ec_world.proofs.FrameSteps.{lose_can, lose_shows, pass_made, pass_shows}
 use Rattle.ec_world.proofs.MasterSteps.{set_can, set_shows, begin_can, begin_shows, close_can, close_shows}
 use Rattle.ec_world.proofs.ReturnStep.{return_made, return_shows}
 use Rattle.ec_world.proofs.AppSteps.{slave_changed, at_there, at_none, is_there, is_gone, both_let, here_of, serve_shows, reset_shows, fault_let, fault_as, put_can, put_shows_both, get_can, get_shows_both}
-use Rattle.ec_link.specs.Plan.{PlanState}
-use Rattle.ec_link.specs.declared.settings.SlavePlan.{SlavePlan}
-use Rattle.ec_start.specs.declared.phase.Phase.{Phase}
-use Rattle.ec_start.specs.declared.phase.Phase.TheVariants.{Failed}
-use Rattle.ec_start.specs.Running.{StartState, asked, begun, IsStartTaken}
-use Rattle.ec_start.proofs.LawLemmas.{plans_stay}
-use Rattle.ec_cycle.specs.Master.{MasterState, readied}
-use Rattle.ec_cycle.proofs.Matches.{taken_plan as master_plan}
-use Rattle.ec_world.specs.Held.{AreOfPlan, IsAnswered, IsTakenIn, IsHandedIn}
 
 same_plan : (old : WorldState) (event : Event) (new : WorldState) → awaits old.start ≡ false → can_start old ≡ false → can_happen old event ≡ true → Happens old event new → new.plan ≡ old.plan
 same_plan old StartNext new a e c h = absurd (both_ways _ e c)
@@ -80,11 +57,7 @@ no_start : (w : WorldState) (p : Plain) → Shows w p → can_start w ≡ false
 no_start w p s = and_left _ _ (ap not s.started)
 
 close_let : (w : WorldState) (p : Plain) → Shows w p → (is_some w.master.cycle || awaits w.start) ≡ is_some w.master.cycle
-close_let w p s = ap (λ b. is_some w.master.cycle || b) s.no_start ∙ or_false (is_some w.master.cycle)
-  where
-    or_false : (b : Bool) → (b || false) ≡ b
-    or_false true = refl
-    or_false false = refl
+close_let w p s = ap (λ b. is_some w.master.cycle || b) s.no_start ∙ (elim (is_some w.master.cycle) as (λ b. (b || false) ≡ b) [ true ↦ refl | false ↦ refl ])
 
 pub event_can : (w : WorldState) (p : Plain) (e : Event) → IsUsable w.plan → Shows w p → can_happen w e ≡ is_some (step (meaning w.plan) p e)
 event_can w p StartNext sound s = no_start w p s
@@ -170,9 +143,8 @@ run_more old [] mid made e new one h step =
     let z : made + (if one then 1 else 0) ≡ (if one then 1 else 0) + 0 = let y = h.1 in omega arith in
     (new, one, 0, subst (λ (w : WorldState). IsStep w e new one) h.0 step, (refl, refl), z)
 run_more old (d ∷ events) mid made e new one h step =
-    let rest = run_more h.0 events mid h.2 e new one h.4 step in
     let z : made + (if one then 1 else 0) ≡ (if h.1 then 1 else 0) + (h.2 + (if one then 1 else 0)) = let y = h.5 in omega arith in
-    (h.0, h.1, h.2 + (if one then 1 else 0), h.3, rest, z)
+    (h.0, h.1, h.2 + (if one then 1 else 0), h.3, run_more h.0 events mid h.2 e new one h.4 step, z)
 
 pub runs_join : RunsJoin
 runs_join old [] mid made second new more h g =
@@ -196,11 +168,7 @@ pub taken_plan : (s t : StartState) (payload : List ℕ) (is_kept : Bool) → Is
 taken_plan s t payload is_kept h = (plans_stay s).take_keeps payload is_kept t h
 
 ready_plan : (m : MasterState) (s : StartState) → (ready_with m s).plan ≡ m.plan
-ready_plan m s = go (is_up s)
-  where
-    go : (b : Bool) → (let n : MasterState = if b then readied m s.next else m in n.plan) ≡ m.plan
-    go true = refl
-    go false = refl
+ready_plan m s = elim (is_up s) as (λ b. (let n : MasterState = if b then readied m s.next else m in n.plan) ≡ m.plan) [ true ↦ refl | false ↦ refl ]
 
 -- whoever a payload is handed in to
 pub handed_plans : (plan : PlanState) (s t : StartState) (m n : MasterState) (payload : List ℕ) → AreOfPlan plan s m → IsHandedIn s m payload t n → AreOfPlan plan t n

@@ -1,37 +1,6 @@
 -- Steps of a world, from what the calls of its parts say.
-use Rattle.std.proofs.Common.{ℕ, ◌<◌, ◌≡◌, ◌==◌, ◌&&◌, not, Bool, true, false, Option, Some, None, refl, sym, ◌∙◌, ap, subst, arith, List, [], ◌∷◌, length, set, is_some, slice_get, option_map, unwrap_or, nat_lt, if◌then◌else◌}
-use Rattle.std.specs.Prelude.{IsTrue, ◌↔◌}
-use Rattle.std.specs.List.{list_all}
-use Rattle.std.proofs.lemmas.Bool.{lt-ltb, ltb-true, ne_eqb, and_parts}
-use Rattle.std.proofs.lemmas.List.{set-get_or}
-use Rattle.std.proofs.lemmas.Option.{slice_get-get_or, get_or_from_slice_get}
+use Rattle.ec_world.proofs.Words.{ℕ, ◌<◌, ◌≡◌, ◌==◌, ◌&&◌, not, Bool, true, false, Option, Some, None, refl, sym, ◌∙◌, ap, subst, arith, List, [], ◌∷◌, length, set, is_some, slice_get, option_map, unwrap_or, nat_lt, if◌then◌else◌, IsTrue, ◌↔◌, list_all, lt-ltb, ltb-true, ne_eqb, and_parts, set-get_or, slice_get-get_or, get_or_from_slice_get, State, Init, PreOp, SafeOp, Op, Got, faults, SlaveState, input_put, output_got, output_taken, faulted, PlanState, IsFrame, Datagram, bare_payload, frame_of, StartState, IsStartTaken, action_of, begun, asked, asked_by, next_frame, next_frame_by, sending, last_number, NumbersSpent, Phase, Idle, Sent, Ready, Failed, Send, Ended, ReportState, nones, MasterState, IsTaken, StartNext, Pass, Return, AppPut, AppGet, Fault, Progress, may_pass, may_return, lets_by, filled, IsAnswered, IsTakenIn, IsHandedIn, ByStart, StartReturns, Returns, can_start, awaits, is_up, phase_awaits, phase_ready, ready_with, resumed, WorldState, Flight, IsStep, no_slave, slave_of, with_slave, flight_at, flight_progress, flights_progress, HavePassed, some_same}
 use Rattle.ec_al.specs.Al as al
-use Rattle.ec_al.specs.declared.state.State.{State}
-use Rattle.ec_al.specs.declared.state.State.TheVariants.{Init, PreOp, SafeOp, Op}
-use Rattle.ec_sync.specs.Buffer.{Got}
-use Rattle.ec_slave.proofs.Meetings.{faults}
-use Rattle.ec_slave.specs.State.{SlaveState}
-use Rattle.ec_slave.specs.Application.{input_put, output_got, output_taken}
-use Rattle.ec_slave.specs.Faulting.{faulted}
-use Rattle.ec_link.specs.Plan.{PlanState}
-use Rattle.ec_frame.specs.Frame.{IsFrame}
-use Rattle.ec_frame.specs.Datagram.{Datagram}
-use Rattle.ec_frame.specs.Building.{bare_payload}
-use Rattle.ec_start.specs.Actions.{frame_of}
-use Rattle.ec_start.specs.Running.{StartState, IsStartTaken, action_of, begun, asked, asked_by, next_frame, next_frame_by, sending, last_number}
-use Rattle.ec_start.specs.declared.error.StartError.TheVariants.{NumbersSpent}
-use Rattle.ec_start.specs.declared.phase.Phase.{Phase}
-use Rattle.ec_start.specs.declared.phase.Phase.TheVariants.{Idle, Sent, Ready, Failed}
-use Rattle.ec_start.specs.declared.phase.NextFrame.TheVariants.{Send, Ended}
-use Rattle.ec_cycle.specs.Closing.{ReportState, nones}
-use Rattle.ec_cycle.specs.Master.{MasterState, IsTaken}
-use Rattle.ec_world.specs.declared.event.Event.TheVariants.{StartNext, Pass, Return, AppPut, AppGet, Fault}
-use Rattle.ec_world.specs.declared.progress.Progress.{Progress}
-use Rattle.ec_world.specs.Plain.{may_pass, may_return, lets_by, filled}
-use Rattle.ec_world.specs.Held.{IsAnswered, IsTakenIn, IsHandedIn}
-use Rattle.ec_world.specs.World.{ByStart, StartReturns, Returns, can_start, awaits, is_up, phase_awaits, phase_ready, ready_with, resumed, WorldState, Flight, IsStep, no_slave, slave_of, with_slave, flight_at, flight_progress, flights_progress}
-use Rattle.ec_world.specs.Slots.{HavePassed}
-use Rattle.ec_world.proofs.Lists.{some_same}
 
 -- ---- a slave's own events
 
@@ -240,10 +209,9 @@ to-send w s can is =
     let up = and_parts (not (is_up w.start)) (not (awaits w.start) && ((nones w.slots == length w.slots) && nat_lt w.start.next last_number)) can in
     let waits = and_parts (not (awaits w.start)) ((nones w.slots == length w.slots) && nat_lt w.start.next last_number) up.1 in
     let room = and_parts (nones w.slots == length w.slots) (nat_lt w.start.next last_number) waits.1 in
-    let few : w.start.next < last_number = ltb-true w.start.next last_number room.1 in
     let g = goes w.start w.start.phase refl (is-not (is_up w.start) up.0) (is-not (awaits w.start) waits.0) in
     let number : s.next ≡ w.start.next = ap (λ (x : StartState). x.next) is ∙ g.number in
-    (ap (λ (x : StartState). x.phase) is ∙ g.idle, number, omega (arith, few, number))
+    (ap (λ (x : StartState). x.phase) is ∙ g.idle, number, omega (arith, ltb-true w.start.next last_number room.1, number))
 
 pub next-sends : (w : WorldState) (s : StartState) → can_start w ≡ true → s ≡ resumed w.start w.start.phase → next_frame s ≡ Send
 next-sends w s can is = let h = to-send w s can is in (left s h.0 h.2).1

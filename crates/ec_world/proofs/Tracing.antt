@@ -1,18 +1,6 @@
 -- What each event of the plain machine leaves of frames, of the open cycle and of slaves.
-use Rattle.std.proofs.Common.{ℕ, ◌+◌, ◌-◌, ◌^◌, ◌<◌, ◌≤◌, ◌≡◌, ◌==◌, ◌&&◌, not, Bool, true, false, Option, Some, None, refl, sym, ◌∙◌, ap, subst, length, map, set, is_none, if◌then◌else◌, option_map, option_and_then, nat_lt, nat_le, slice_get}
-use Rattle.std.proofs.lemmas.Bool.{and_parts, leb-true, ltb-true, eqb-true}
-use Rattle.std.proofs.lemmas.Option.{slice_get_within, get_or_from_slice_get}
-use Rattle.ec_link.specs.declared.image.Variable.{Variable}
-use Rattle.ec_link.specs.Meaning.{Meaning, share_of}
-use Rattle.ec_link.specs.Shares.{has_outs}
-use Rattle.ec_bits.specs.Bits.{with_number}
-use Rattle.ec_sync.specs.Buffer.{publishing, app_written, app_read}
-use Rattle.ec_cycle.specs.Closing.{nones}
-use Rattle.ec_world.specs.declared.event.Event.{Event}
-use Rattle.ec_world.specs.declared.event.Event.TheVariants.{StartNext, Set, Begin, Pass, Lose, Return, Close, Serve, AppPut, AppGet, Fault, Reset as ResetSlave}
-use Rattle.ec_world.specs.Plain.{Plain, PlainSlave, PlainFrame, step, frame_at, setting, moved, keeping, closing, filled, new_frames, is_working, is_reset, got_byte, failing, restarting, plain_slave, no_plain_slave, linked_outputs, may_pass, may_return, all_progress, progress_of, met_slave, taking, Health, Working, Faulted, Reset}
+use Rattle.ec_world.proofs.Words.{ℕ, ◌+◌, ◌-◌, ◌^◌, ◌<◌, ◌≤◌, ◌≡◌, ◌==◌, ◌&&◌, not, Bool, true, false, Option, Some, None, refl, sym, ◌∙◌, ap, subst, length, map, set, is_none, if◌then◌else◌, option_map, option_and_then, nat_lt, nat_le, slice_get, and_parts, leb-true, ltb-true, eqb-true, slice_get_within, get_or_from_slice_get, Variable, Meaning, share_of, has_outs, with_number, publishing, app_written, app_read, nones, Event, StartNext, Set, Begin, Pass, Lose, Return, Close, Serve, AppPut, AppGet, Fault, ResetSlave, Plain, PlainSlave, PlainFrame, step, frame_at, setting, moved, keeping, closing, filled, new_frames, is_working, is_reset, got_byte, failing, restarting, plain_slave, no_plain_slave, linked_outputs, may_pass, may_return, all_progress, progress_of, met_slave, taking, Health, Working, Faulted, Reset, none_some, some_same, cycle_begun}
 use Rattle.ec_world.specs.Plain as plain
-use Rattle.ec_world.proofs.Lists.{none_some, some_same}
 
 pub guarded : {X : Type 0} (b : Bool) (x q : X) → (if b then Some x else None) ≡ Some q → x ≡ q
 guarded true x q e = some_same x q e
@@ -58,15 +46,17 @@ set_leaves : (m : Meaning) (p : Plain) (v x : ℕ) (o : Option Variable) (q : Pl
 set_leaves m p v x None q e = absurd (none_some q e)
 set_leaves m p v x (Some w) q e = stays_by m p (Set v x) q (record p { outputs = with_number p.outputs w.from w.bits x }) (guarded _ _ q e) refl refl refl
 
+-- a frame that comes back passed all slaves
+pub all_passed_by : (p : Plain) (k : ℕ) (q : Plain) (o : Option Plain) (b : Bool) → may_return (length p.slaves) (option_map progress_of (frame_at p k)) ≡ b → (if b then o else None) ≡ Some q
+    → (f : PlainFrame) → frame_at p k ≡ Some f → length f.notes ≡ length p.slaves
+all_passed_by p k q o true on h f at = eqb-true (length f.notes) (length p.slaves) (sym (ap (λ o. may_return (length p.slaves) (option_map progress_of o)) at) ∙ on)
+all_passed_by p k q o false off h f at = absurd (none_some q h)
+
 pub leaves : (m : Meaning) (p : Plain) (e : Event) (q : Plain) → step m p e ≡ Some q → Leaves m p e q
 leaves m p StartNext q e = absurd (none_some q e)
 leaves m p (Set v x) q e = set_leaves m p v x (slice_get m.variables v) q e
 leaves m p Begin q e =
-    let r : Plain = record p {
-      next = p.next + 1;
-      cycle = Some (record { number = p.next; kept = map (λ u. None) m.parts });
-      slots = filled (new_frames p.next p.outputs 0 m.parts) p.slots;
-    } in
+    let r : Plain = cycle_begun m p in
     subst (λ (x : Plain). Leaves m p Begin x) (guarded _ r q e) (Begins refl refl refl refl refl (room _ refl e))
   where
     room : (b : Bool) → (is_none p.cycle && (nat_le (length m.parts) (nones p.slots) && nat_lt p.next (2 ^ 64 - 1))) ≡ b
@@ -85,13 +75,7 @@ leaves m p (Pass k) q e =
 leaves m p (Lose k) q e = Loses k refl (sym (guarded _ _ q e))
 leaves m p (Return k) q e =
     let r = guarded_map _ (λ f. record p { cycle = option_map (keeping f) p.cycle; slots = set p.slots k None }) (frame_at p k) q e in
-    Returns k r.value r.there (sym r.is) (passed (may_return (length p.slaves) (option_map progress_of (frame_at p k))) refl e r.value r.there)
-  where
-    passed : (b : Bool) → may_return (length p.slaves) (option_map progress_of (frame_at p k)) ≡ b
-        → (if b then option_map (λ f. record p { cycle = option_map (keeping f) p.cycle; slots = set p.slots k None }) (frame_at p k) else None) ≡ Some q
-        → (f : PlainFrame) → frame_at p k ≡ Some f → length f.notes ≡ length p.slaves
-    passed true on h f at = eqb-true (length f.notes) (length p.slaves) (sym (ap (λ o. may_return (length p.slaves) (option_map progress_of o)) at) ∙ on)
-    passed false off h f at = absurd (none_some q h)
+    Returns k r.value r.there (sym r.is) (all_passed_by p k q _ _ refl e r.value r.there)
 leaves m p Close q e = let r = mapped (closing m p) p.cycle q e in subst (λ (x : Plain). Leaves m p Close x) r.is (Closes refl refl refl)
 leaves m p (Serve s) q e = let r = chained (λ x. Some p) (slice_get p.slaves s) q e in stays_by m p (Serve s) q p (some_same p q r.is) refl refl refl
 leaves m p (AppPut s i x) q e =
@@ -119,25 +103,19 @@ pub data Treats (m : Meaning) (p : Plain) (e : Event) (q : Plain) : Type 0 where
   Resets : (t : ℕ) (y : PlainSlave) → e ≡ ResetSlave t → q.slaves ≡ set p.slaves t y → y.health ≡ Reset → Treats m p e q
 
 taking_health : (m : Meaning) (s : ℕ) (f : PlainFrame) (q : PlainSlave) (h : Health) → (taking m s f q h).health ≡ q.health
-taking_health m s f q Faulted = refl
-taking_health m s f q Reset = refl
 taking_health m s f q Working = by (has_outs (share_of m s))
   where
     by : (b : Bool) → (if b then record q { outputs = publishing q.outputs (linked_outputs m s f.snapshot) } else q).health ≡ q.health
     by true = refl
     by false = refl
+taking_health m s f q _ = refl
 
 met_health : (m : Meaning) (s : ℕ) (f : PlainFrame) (q : PlainSlave) → (met_slave m s f q).health ≡ q.health
-met_health m s f q = by ((share_of m s).part == f.part)
-  where
-    by : (b : Bool) → (if b then taking m s f q q.health else q).health ≡ q.health
-    by true = taking_health m s f q q.health
-    by false = refl
+met_health m s f q = elim ((share_of m s).part == f.part) as (λ b. (if b then taking m s f q q.health else q).health ≡ q.health) [ true ↦ taking_health m s f q q.health | false ↦ refl ]
 
 is_in_op : (h : Health) → is_working h ≡ true → h ≡ Working
 is_in_op Working e = refl
-is_in_op Faulted e = absurd (let z : false ≡ true = e in cc)
-is_in_op Reset e = absurd (let z : false ≡ true = e in cc)
+is_in_op _ e = absurd (let z : false ≡ true = e in cc)
 
 set_treats : (m : Meaning) (p : Plain) (v x : ℕ) (o : Option Variable) (q : Plain) → setting p x o ≡ Some q → q.slaves ≡ p.slaves
 set_treats m p v x None q e = absurd (none_some q e)

@@ -1,29 +1,14 @@
 -- A slave that is not in OP any more had a fault or a reset, and no start-up began since.
-use Rattle.std.proofs.Common.{ℕ, ◌+◌, ◌≡◌, ◌≢◌, ◌⊎◌, ◌&&◌, Bool, true, false, Option, Some, None, refl, sym, ◌∙◌, ap, subst, inl, inr, List, [], ◌∷◌, ◌++◌, is_some, unwrap_or}
-use Rattle.std.proofs.lemmas.List.{append_assoc}
-use Rattle.ec_link.specs.Meaning.{Meaning, meaning}
-use Rattle.ec_link.specs.Plan.{PlanState}
-use Rattle.ec_link.specs.Usable.{IsUsable}
-use Rattle.ec_world.specs.declared.event.Event.{Event}
-use Rattle.ec_world.specs.declared.event.Event.TheVariants.{StartNext, Fault, Reset as ResetSlave}
-use Rattle.ec_world.specs.Plain.{Plain, Health, Working, Faulted, Reset, step, run, plain_slave}
-use Rattle.ec_world.specs.World.{WorldState, IsStep}
-use Rattle.ec_world.specs.Shows.{Shows}
-use Rattle.ec_world.specs.Laws.{IsRun, StepShows}
-use Rattle.ec_world.specs.Headline.{HadTrouble, IsRunWithoutStart, begins_start}
+use Rattle.ec_world.proofs.Words.{ℕ, ◌+◌, ◌≡◌, ◌≢◌, ◌⊎◌, ◌&&◌, Bool, true, false, Option, Some, None, refl, sym, ◌∙◌, ap, subst, inl, inr, List, [], ◌∷◌, ◌++◌, is_some, unwrap_or, append_assoc, Meaning, meaning, PlanState, IsUsable, Event, StartNext, Fault, ResetSlave, Plain, Health, Working, Faulted, Reset, step, run, plain_slave, WorldState, IsStep, Shows, IsRun, StepShows, HadTrouble, IsRunWithoutStart, begins_start}
 use Rattle.ec_world.proofs.Histories.{Rests, HasFailed, HasRestarted, became}
 use Rattle.ec_world.proofs.StepLaws.{runs_join, steps_show}
 use Rattle.ec_world.proofs.Origins.{more}
 
 -- ---- a Ready world begins no start-up
 
-and_false : (b : Bool) → (b && false) ≡ false
-and_false true = refl
-and_false false = refl
-
 none_begins : (m : Meaning) (p : Plain) (w : WorldState) (b : Bool) (e : Event) → b ≡ is_some (step m p e) → (b && begins_start w e) ≡ false
 none_begins m p w b StartNext h = ap (λ (x : Bool). x && begins_start w StartNext) h
-none_begins m p w b _ h = and_false b
+none_begins m p w b _ h = elim b as (λ b. (b && false) ≡ false) [ true ↦ refl | false ↦ refl ]
 
 pub without_start : (es : List Event) (old new : WorldState) (made : ℕ) (p : Plain) → IsUsable old.plan → Shows old p → IsRun old es new made → IsRunWithoutStart old es new
 without_start [] old new made p sound s h = h.0

@@ -1,9 +1,5 @@
 -- The events of a script's `ready` are turns.
-use Rattle.std.proofs.Common.{ℕ, zero, suc, ◌+◌, ◌≡◌, Bool, true, false, refl, sym, ◌∙◌, ap, subst, arith, List, [], ◌∷◌, ◌++◌, get_or, set, replicate}
-use Rattle.std.proofs.lemmas.List.{length-replicate, append-nil}
-use Rattle.ec_world.specs.declared.event.Event.{Event}
-use Rattle.ec_world.specs.declared.event.Event.TheVariants.{Pass, Return}
-use Rattle.ec_world.specs.NewWorld.{IsRest, Passes, Returns, Serves, Ends, servings, TurnLaw}
+use Rattle.ec_world.proofs.Words.{ℕ, zero, suc, ◌+◌, ◌≡◌, Bool, true, false, refl, sym, ◌∙◌, ap, subst, arith, List, [], ◌∷◌, ◌++◌, get_or, set, replicate, length-replicate, append-nil, Event, Pass, Return, IsRest, NewWorldPasses as Passes, NewWorldReturns as Returns, Serves, Ends, servings, TurnLaw}
 
 -- marks: some slaves have served, the others were passed
 push_mark : (b : Bool) (j : ℕ) (xs : List Bool) → replicate j b ++ (b ∷ xs) ≡ replicate (suc j) b ++ xs
@@ -21,8 +17,7 @@ mark_set (suc j) xs = ap (λ (bs : List Bool). true ∷ bs) (mark_set j xs)
 passes_rest : (n k j : ℕ) (es : List Event) → j + k ≡ n → IsRest n (replicate n false) false es → IsRest n (replicate j false) false (replicate k (Pass 0) ++ es)
 passes_rest n zero j es e h = let z : n ≡ j = omega (arith, e) in subst (λ (i : ℕ). IsRest n (replicate i false) false es) z h
 passes_rest n (suc k) j es e h =
-    let long = length-replicate {A = Bool} j false in
-    Passes (replicate j false) (replicate k (Pass 0) ++ es) (omega (arith, long, e))
+    Passes (replicate j false) (replicate k (Pass 0) ++ es) (omega (arith, length-replicate {A = Bool} j false, e))
     (subst (λ (bs : List Bool). IsRest n bs false (replicate k (Pass 0) ++ es)) (sym (push_mark false j [] ∙ append-nil (replicate (suc j) false))) (passes_rest n k (suc j) es (omega (arith, e)) h))
 
 serves_rest : (n k j : ℕ) (es : List Event) → j + k ≡ n → IsRest n (replicate n true) false es → IsRest n (replicate j true ++ replicate k false) false (servings j k ++ es)

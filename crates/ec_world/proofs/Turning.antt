@@ -1,28 +1,5 @@
 -- The events of a frame of a start-up: it is sent, it passes a slave, it comes back.
-use Rattle.std.proofs.Common.{ℕ, zero, suc, ◌+◌, ◌<◌, ◌≡◌, ◌==◌, nat_lt, Bool, true, false, Option, Some, None, refl, sym, ◌∙◌, ap, subst, arith, List, [], ◌∷◌, ◌++◌, length, get_or, set, replicate, option_map}
-use Rattle.std.proofs.lemmas.Bool.{eq-eqb, lt-ltb, le-ltb}
-use Rattle.std.specs.List.{list_all, AllByRecursion}
-use Rattle.std.proofs.lemmas.List.{length-map}
-use Rattle.ec_frame.specs.Datagram.{Datagram, IsDatagram}
-use Rattle.ec_frame.specs.Frame.{Payload, with_datagrams}
-use Rattle.ec_frame.specs.Building.{bare_payload}
-use Rattle.ec_slave.specs.State.{SlaveState}
-use Rattle.ec_slave.specs.Meeting.{passes, Passed, slave_met, datagram_met}
-use Rattle.ec_slave.specs.Serving.{served}
-use Rattle.ec_cycle.specs.Closing.{nones}
-use Rattle.ec_cycle.specs.Master.{cycle_limit}
-use Rattle.ec_start.specs.Actions.{numbered, frame_of, datagram_of}
-use Rattle.ec_start.specs.Running.{StartState, action_of, sending, taken, IsStartAnswer, second}
-use Rattle.ec_bringup.specs.Undisturbed.{all_passed, all_met, Rising, turned, IsRound}
-use Rattle.ec_bringup.proofs.Rounds.{round}
-use Rattle.ec_bringup.specs.Starting.{Carried}
-use Rattle.ec_bringup.specs.Slots.{IsCarried}
-use Rattle.ec_bringup.proofs.Theorem.{frame-passes}
-use Rattle.ec_world.specs.declared.event.Event.TheVariants.{StartNext, Pass, Return}
-use Rattle.ec_world.specs.declared.progress.Progress.{Progress}
-use Rattle.ec_world.specs.Plain.{filled, may_pass, may_return, lets_by, is_older}
-use Rattle.ec_world.specs.World.{WorldState, Flight, no_slave, slave_of, flight_at, flight_progress, flights_progress, can_happen, awaits, resumed, is_up, ready_with, ByStart, Sends, Passes, Returns, StartReturns, IsStep}
-use Rattle.ec_world.proofs.Lists.{some_same}
+use Rattle.ec_world.proofs.Words.{ℕ, zero, suc, ◌+◌, ◌<◌, ◌≡◌, ◌==◌, nat_lt, Bool, true, false, Option, Some, None, refl, sym, ◌∙◌, ap, subst, arith, List, [], ◌∷◌, ◌++◌, length, get_or, set, replicate, option_map, eq-eqb, lt-ltb, le-ltb, list_all, AllByRecursion, length-map, Datagram, IsDatagram, Payload, with_datagrams, bare_payload, SlaveState, passes, Passed, slave_met, datagram_met, served, nones, cycle_limit, numbered, frame_of, datagram_of, StartState, action_of, sending, taken, IsStartAnswer, second, all_passed, all_met, BringupRising as Rising, turned, IsRound, round, Carried, IsCarried, frame-passes, StartNext, Pass, Return, Progress, filled, may_pass, may_return, lets_by, is_older, WorldState, Flight, no_slave, slave_of, flight_at, flight_progress, flights_progress, can_happen, awaits, resumed, is_up, ready_with, ByStart, Sends, Passes, Returns, StartReturns, IsStep, some_same, length-append}
 
 -- ---- lists
 
@@ -34,14 +11,9 @@ set-end : (pre : List SlaveState) (s t : SlaveState) (ss : List SlaveState) → 
 set-end [] s t ss = refl
 set-end (p ∷ pre) s t ss = ap (λ (xs : List SlaveState). p ∷ xs) (set-end pre s t ss)
 
-length-both : (pre ss : List SlaveState) → length (pre ++ ss) ≡ length pre + length ss
-length-both [] ss = omega arith
-length-both (p ∷ pre) ss = let e = length-both pre ss in omega (arith, e)
-
 inside : (pre : List SlaveState) (s : SlaveState) (ss : List SlaveState) → nat_lt (length pre) (length (pre ++ (s ∷ ss))) ≡ true
 inside pre s ss =
-    let e = length-both pre (s ∷ ss) in
-    let lt : length pre < length (pre ++ (s ∷ ss)) = omega (arith, e) in
+    let lt : length pre < length (pre ++ (s ∷ ss)) = omega (arith, length-append pre (s ∷ ss)) in
     lt-ltb (length pre) (length (pre ++ (s ∷ ss))) lt
 
 pub push-one : (pre : List SlaveState) (s : SlaveState) (ss : List SlaveState) → pre ++ (s ∷ ss) ≡ (pre ++ (s ∷ [])) ++ ss
@@ -155,10 +127,7 @@ pub send-one : (n : ℕ) (w u : WorldState) (one : Bool) (s : StartState) → Se
 send-one n w u one s sends e step =
     let free : (nones w.slots == length w.slots) ≡ true
     = ap (λ (os : List (Option Flight)). nones os == length os) e ∙ eq-eqb (nones (replicate {A = Option Flight} (suc n) None)) (length (replicate {A = Option Flight} (suc n) None)) (nones-all (suc n)) in
-    let low : nat_lt w.start.next cycle_limit ≡ true = lt-ltb w.start.next cycle_limit sends.few in
-    let down = sends.not_up in
-    let quiet = sends.none_awaited in
-    let can : can_happen w StartNext ≡ true = rw (down, quiet, free, low) refl in
+    let can : can_happen w StartNext ≡ true = rw (sends.not_up, sends.none_awaited, free, lt-ltb w.start.next cycle_limit sends.few) refl in
     let p : Sends w u = step.happens (step.can ∙ can) in
     let f : Flight = record { bytes = p.bytes; number = w.start.next; part = 0; passed = 0 } in
     let load : Payload = bare_payload (frame_of (action_of (resumed w.start w.start.phase)) w.start.next) in

@@ -1,26 +1,6 @@
 -- Turns of a start-up that nothing disturbs, in any order of the slaves' firmware steps behind the frame.
-use Rattle.std.proofs.Common.{ℕ, zero, suc, ◌+◌, ◌<◌, ◌≡◌, nat_lt, Bool, true, false, if◌then◌else◌, None, refl, sym, ◌∙◌, ap, subst, arith, List, [], ◌∷◌, ◌++◌, length, get_or, set, map, replicate, length-set, ◌-◌, ◌≤◌, cond, take, Option, Some, is_none, option_map, position}
-use Rattle.std.proofs.lemmas.Bool.{lt-ltb, true≢false, le-ltb, ltb-true, ltb-false}
-use Rattle.std.proofs.lemmas.List.{length-replicate}
-use Rattle.ec_frame.specs.Datagram.{Datagram, IsDatagram}
-use Rattle.ec_slave.specs.State.{SlaveState}
-use Rattle.ec_slave.specs.Meeting.{slave_met, datagram_met}
-use Rattle.ec_slave.specs.Serving.{served}
-use Rattle.ec_cycle.specs.Master.{MasterState}
-use Rattle.ec_start.specs.Actions.{datagram_of}
-use Rattle.ec_start.specs.Running.{StartState, action_of, sending, taken}
-use Rattle.ec_bringup.specs.Starting.{Carried}
-use Rattle.ec_bringup.specs.Undisturbed.{all_passed, all_met, Rising, turned}
-use Rattle.ec_world.specs.declared.event.Event.{Event}
-use Rattle.ec_world.specs.declared.event.Event.TheVariants.{StartNext, Pass, Return, Serve}
-use Rattle.ec_world.specs.World.{WorldState, no_slave, slave_of, ready_with, IsStep, with_slave, can_happen, Flight, flight_progress, flights_progress}
-use Rattle.ec_world.specs.Laws.{IsRun}
-use Rattle.ec_world.specs.NewWorld.{IsRest, Passes, Returns, Serves, Ends, IsTurn, rising_of}
+use Rattle.ec_world.proofs.Words.{ℕ, zero, suc, ◌+◌, ◌<◌, ◌≡◌, nat_lt, Bool, true, false, if◌then◌else◌, None, refl, sym, ◌∙◌, ap, subst, arith, List, [], ◌∷◌, ◌++◌, length, get_or, set, map, replicate, length-set, ◌-◌, ◌≤◌, cond, take, Option, Some, is_none, option_map, position, lt-ltb, true≢false, le-ltb, ltb-true, ltb-false, length-replicate, Datagram, IsDatagram, SlaveState, slave_met, datagram_met, served, MasterState, datagram_of, StartState, action_of, sending, taken, Carried, all_passed, all_met, BringupRising as Rising, turned, Event, StartNext, Pass, Return, Serve, WorldState, no_slave, slave_of, ready_with, IsStep, with_slave, can_happen, Flight, flight_progress, flights_progress, IsRun, IsRest, NewWorldPasses as Passes, NewWorldReturns as Returns, Serves, Ends, IsTurn, rising_of, count_by, fold, position_or_len, Progress, nones, AreInUse, way_behind, length-append}
 use Rattle.ec_world.proofs.Turning.{InSlot, one-past, send-one, return-one, Sending, rising-by, push-one, length-push}
-use Rattle.std.specs.List.{count_by, fold, position_or_len}
-use Rattle.ec_world.specs.declared.progress.Progress.{Progress}
-use Rattle.ec_cycle.specs.Closing.{nones}
-use Rattle.ec_world.specs.Slots.{AreInUse, way_behind}
 use Rattle.ec_world.proofs.Filling.{nones_counted}
 
 -- ---- the slaves that the frame has passed: those that are marked have served since
@@ -32,15 +12,13 @@ mixed (b ∷ bs) (s ∷ ss) = (if b then served s else s) ∷ mixed bs ss
 
 mixed_length : (bs : List Bool) (ss : List SlaveState) → length bs ≡ length ss → length (mixed bs ss) ≡ length ss
 mixed_length [] [] e = refl
-mixed_length [] (s ∷ ss) e = absurd (omega (arith, e))
-mixed_length (b ∷ bs) [] e = absurd (omega (arith, e))
 mixed_length (b ∷ bs) (s ∷ ss) e = ap (λ (n : ℕ). suc n) (mixed_length bs ss (omega (arith, e)))
+mixed_length _ _ e = absurd (omega (arith, e))
 
 mixed_push : (bs : List Bool) (ss : List SlaveState) (s : SlaveState) → length bs ≡ length ss → mixed (bs ++ (false ∷ [])) (ss ++ (s ∷ [])) ≡ mixed bs ss ++ (s ∷ [])
 mixed_push [] [] s e = refl
-mixed_push [] (x ∷ ss) s e = absurd (omega (arith, e))
-mixed_push (b ∷ bs) [] s e = absurd (omega (arith, e))
 mixed_push (b ∷ bs) (x ∷ ss) s e = ap (λ (xs : List SlaveState). (if b then served x else x) ∷ xs) (mixed_push bs ss s (omega (arith, e)))
+mixed_push _ _ s e = absurd (omega (arith, e))
 
 mixed_all : (ss : List SlaveState) → mixed (replicate (length ss) true) ss ≡ map served ss
 mixed_all [] = refl
@@ -59,10 +37,6 @@ mixed_set (false ∷ bs) (x ∷ ss) tail zero e h = refl
 mixed_set (true ∷ bs) (x ∷ ss) tail zero e h = absurd (true≢false h)
 mixed_set (b ∷ bs) (x ∷ ss) tail (suc s) e h = ap (λ (xs : List SlaveState). (if b then served x else x) ∷ xs) (mixed_set bs ss tail s (omega (arith, e)) h)
 
-length_both : (xs ys : List SlaveState) → length (xs ++ ys) ≡ length xs + length ys
-length_both [] ys = omega arith
-length_both (x ∷ xs) ys = let e = length_both xs ys in omega (arith, e)
-
 -- ---- events as far as they can be made
 
 abbrev pub Onward : Bool → Type 0 → Type 0 → Type 0
@@ -74,7 +48,7 @@ abbrev pub Goes : List Event → WorldState → WorldState → Bool → Type 0
 Goes [] old new all = (new ≡ old) × (all ≡ true)
 Goes (e ∷ es) old new all = (mid : WorldState) × (one : Bool) × IsStep old e mid one × Onward one (Goes es mid new all) ((new ≡ mid) × (all ≡ false))
 
-onward : {X : Type 0} (Y : Type 0) (one : Bool) → one ≡ true → Onward one X Y → X
+pub onward : {X : Type 0} (Y : Type 0) (one : Bool) → one ≡ true → Onward one X Y → X
 onward Y true e h = h
 onward Y false e h = absurd (true≢false (sym e))
 
@@ -103,10 +77,7 @@ record OneServed (m : WorldState) (s : ℕ) (u : WorldState) (one : Bool) : Type
 one_served : (m : WorldState) (s : ℕ) (u : WorldState) (one : Bool) (marks : List Bool) (pre tail : List SlaveState) → length marks ≡ length pre → get_or marks s true ≡ false
     → m.slaves ≡ mixed marks pre ++ tail → IsStep m (Serve s) u one → OneServed m s u one
 one_served m s u one marks pre tail many free slaves step =
-    let below = marked_below marks s free in
-    let long = mixed_length marks pre many in
-    let both = length_both (mixed marks pre) tail in
-    let inside : s < length (mixed marks pre ++ tail) = omega (arith, below, long, both, many) in
+    let inside : s < length (mixed marks pre ++ tail) = omega (arith, marked_below marks s free, mixed_length marks pre many, length-append (mixed marks pre) tail, many) in
     let can : can_happen m (Serve s) ≡ true = ap (λ (xs : List SlaveState). nat_lt s (length xs)) slaves ∙ lt-ltb s (length (mixed marks pre ++ tail)) inside in
     record { made = step.can ∙ can; is = step.happens (step.can ∙ can) }
 
@@ -157,8 +128,6 @@ next e es m v all h made = onward ((v ≡ h.0) × (all ≡ false)) h.1 made h.3
 
 back_goes : (n : ℕ) (w : WorldState) (s : StartState) (m v : WorldState) (marks : List Bool) (back : Bool) (pre : List SlaveState) (es : List Event) (all : Bool)
     → IsRest (length w.slaves) marks back es → back ≡ true → Back n w s m marks pre → Goes es m v all → (all ≡ true) × HasTurned n w s v
-back_goes n w s m v marks back pre es all (Passes ms xs l rest) e b h = absurd (true≢false (sym e))
-back_goes n w s m v marks back pre es all (Returns ms xs l rest) e b h = absurd (true≢false (sym e))
 back_goes n w s m v marks back pre es all (Serves ms bk k xs free rest) e b h =
     let o = one_served m k h.0 h.1 marks pre [] b.marked free b.slaves h.2 in
     back_goes n w s h.0 v (set marks k true) back pre xs all rest e (record {
@@ -182,6 +151,7 @@ back_goes n w s m v marks back pre es all (Ends ms served_all) e b h =
         master = ap (λ (x : WorldState). x.master) h.0 ∙ (b.master ∙ ap (λ (x : WorldState). ready_with w.master x.start) (sym h.0));
       },
     )
+back_goes n w s m v marks back pre es all _ e b h = absurd (true≢false (sym e))
 
 -- the frame comes back, past no slave more
 comes_back : (n : ℕ) (w : WorldState) (s : StartState) (m u : WorldState) (one : Bool) (marks : List Bool) (pre tail : List SlaveState) (d : Datagram) → length marks ≡ length w.slaves
@@ -333,17 +303,14 @@ behind_in_use f far xs us h =
 -- ---- the lowest free one
 
 place_first : (k : ℕ) (xs : List Slot) → k ≤ length xs → ((i : ℕ) → k ≤ i → get_or xs i None ≡ None) → position_or_len (λ o. is_none o) xs ≡ position_or_len (λ o. is_none o) (take k xs)
-place_first zero [] le free = refl
-place_first zero (None ∷ xs) le free = refl
 place_first zero (Some f ∷ xs) le free = absurd (let e : Some f ≡ None = free 0 (omega arith) in cc)
 place_first (suc k) [] le free = absurd (omega arith)
-place_first (suc k) (None ∷ xs) le free = refl
 place_first (suc k) (Some f ∷ xs) le free = ap (λ (n : ℕ). 1 + n) (place_first k xs (omega arith) (λ i l. free (suc i) (omega arith)))
+place_first _ _ le free = refl
 
 place_most : (xs : List Slot) → position_or_len (λ o. is_none o) xs ≤ length xs
-place_most [] = omega arith
-place_most (None ∷ xs) = omega arith
 place_most (Some f ∷ xs) = omega (arith, place_most xs)
+place_most _ = omega arith
 
 at_place : (q n : ℕ) → q < n → cond (nat_lt q n) (Some q) None ≡ Some q
 at_place q n l = ap (λ (b : Bool). cond b (Some q) None) (lt-ltb q n l)

@@ -1,15 +1,5 @@
 -- How far a frame may go behind older ones, and that this stays while frames move.
-use Rattle.std.proofs.Common.{ℕ, zero, suc, ◌+◌, ◌≤◌, ◌<◌, ◌≡◌, ◌⊎◌, ◌&&◌, Bool, true, false, nat_lt, min, List, [], ◌∷◌, get_or, length, set, Option, Some, None, option_map, if◌then◌else◌, refl, sym, ◌∙◌, ap, subst, inl, inr, arith}
-use Rattle.std.proofs.Math.ListN.{get_or-map}
-use Rattle.std.proofs.lemmas.Bool.{lt-ltb, le-ltb, cases_lt}
-use Rattle.std.proofs.lemmas.List.{length-set}
-use Rattle.std.specs.List.{fold, list_all}
-use Rattle.ec_slave.specs.State.{SlaveState}
-use Rattle.ec_world.specs.declared.progress.Progress.{Progress}
-use Rattle.ec_world.specs.Plain.{is_older, lets_by}
-use Rattle.ec_world.specs.World.{Flight, flight_progress, flights_progress}
-use Rattle.ec_world.specs.Slots.{AreFreeFrom, HasPassed, HasWay, no_end, way_behind}
-use Rattle.ec_world.proofs.Lists.{some_same}
+use Rattle.ec_world.proofs.Words.{ℕ, zero, suc, ◌+◌, ◌≤◌, ◌<◌, ◌≡◌, ◌⊎◌, ◌&&◌, Bool, true, false, nat_lt, min, List, [], ◌∷◌, get_or, length, set, Option, Some, None, option_map, if◌then◌else◌, refl, sym, ◌∙◌, ap, subst, inl, inr, arith, get_or-map, lt-ltb, le-ltb, cases_lt, list_length-set as length-set, fold, list_all, SlaveState, Progress, is_older, lets_by, Flight, flight_progress, flights_progress, AreFreeFrom, HasPassed, HasWay, no_end, way_behind, some_same}
 
 -- ---- what is behind all of some frames
 
@@ -22,17 +12,13 @@ lt_min n a b = elim (cases_lt n a) [
   | inr l ↦ le-ltb n (min a b) (omega arith) ∙ sym (ap (λ (x : Bool). x && nat_lt n b) (le-ltb n a l))
 ]
 
-and_true : (b : Bool) → b ≡ (b && true)
-and_true true = refl
-and_true false = refl
-
 and_assoc : (a b c : Bool) → ((a && b) && c) ≡ (a && (b && c))
 and_assoc true b c = refl
 and_assoc false b c = refl
 
 -- a frame may pass a slave that is before its way's end and that every older frame has passed
 way_lets : (f : Progress) (os : List (Option Progress)) (far : ℕ) → nat_lt f.passed (fold (way_behind f) far os) ≡ (nat_lt f.passed far && list_all (lets_by f) os)
-way_lets f [] far = and_true (nat_lt f.passed far)
+way_lets f [] far = elim (nat_lt f.passed far) as (λ b. b ≡ (b && true)) [ true ↦ refl | false ↦ refl ]
 way_lets f (None ∷ os) far = way_lets f os far
 way_lets f (Some g ∷ os) far = by (is_older g f) (λ n. way_lets f os n)
   where
@@ -48,11 +34,7 @@ way_open f os l = way_lets f os no_end ∙ ap (λ (x : Bool). x && list_all (let
 
 nearer : (f : Progress) (far : ℕ) (o : Option Progress) → way_behind f far o ≤ far
 nearer f far None = omega arith
-nearer f far (Some g) = by (is_older g f)
-  where
-    by : (b : Bool) → (if b then min far g.passed else far) ≤ far
-    by true = omega arith
-    by false = omega arith
+nearer f far (Some g) = elim (is_older g f) as (λ b. (if b then min far g.passed else far) ≤ far) [ true ↦ omega arith | false ↦ omega arith ]
 
 way_most : (f : Progress) (os : List (Option Progress)) (far : ℕ) → fold (way_behind f) far os ≤ far
 way_most f [] far = omega arith

@@ -1,43 +1,8 @@
 -- From a new world to the plain machine.
-use Rattle.std.proofs.Common.{ℕ, zero, suc, ◌+◌, ◌<◌, ◌≤◌, ◌≡◌, Bool, true, false, Option, None, refl, sym, ◌∙◌, ap, subst, inl, inr, arith, if◌then◌else◌, List, [], ◌∷◌, length, get_or, replicate, Some, set, unwrap_or}
-use Rattle.std.proofs.lemmas.Bool.{cases_Bool, both_ways}
-use Rattle.std.proofs.lemmas.List.{length-replicate}
-use Rattle.ec_device.specs.declared.slave_type.Identity.{Identity}
-use Rattle.ec_device.specs.Types.{plain_kind, device_identity}
-use Rattle.ec_link.specs.declared.settings.SlavePlan.{SlavePlan}
-use Rattle.ec_link.specs.Plan.{PlanState, plan_of}
-use Rattle.ec_link.proofs.Soundness.{plan_sound}
-use Rattle.ec_link.proofs.UsableLaws.{plan_usable}
-use Rattle.ec_bringup.proofs.CompleteLaws.{are-plans}
-use Rattle.ec_link.specs.Usable.{IsUsable}
-use Rattle.ec_start.specs.Running.{begun}
-use Rattle.ec_bringup.specs.SwitchedOn.{switched_on}
-use Rattle.ec_bringup.specs.Standing.{IsOfKind}
-use Rattle.ec_bringup.proofs.Resets.{power_on_is}
-use Rattle.ec_bringup.specs.Starting.{AreSlaves, kind_at, Carried}
-use Rattle.ec_bringup.specs.Instants.{Starts}
-use Rattle.ec_bringup.specs.Runs.{AreStartable, ends_of}
-use Rattle.ec_bringup.proofs.Theorem.{begun-starts}
-use Rattle.ec_world.specs.declared.event.Event.{Event}
-use Rattle.ec_world.specs.World.{WorldState, Flight, no_slave, is_up, IsStep, awaits, slave_of, ByStart, Passes, Returns, StartReturns, GivesUp, Closes, Happens}
-use Rattle.ec_world.specs.Laws.{IsRun}
-use Rattle.ec_slave.specs.Interface.{AreWhole}
-use Rattle.ec_world.specs.Whole.{flags_after, plain_of, IsReadyWorld, slot_count, new_world, HasStarted, Told, NotYet, Started, WholeLaw, CompiledLaw}
-use Rattle.ec_world.specs.Rising.{seen_of, Rising, SlotsHold}
-use Rattle.ec_slave.proofs.SwitchedOn.{on_whole}
+use Rattle.ec_world.proofs.Words.{ℕ, zero, suc, ◌+◌, ◌<◌, ◌≤◌, ◌≡◌, Bool, true, false, Option, None, refl, sym, ◌∙◌, ap, subst, inl, inr, arith, if◌then◌else◌, List, [], ◌∷◌, length, get_or, replicate, Some, set, unwrap_or, cases_Bool, both_ways, length-replicate, Identity, plain_kind, device_identity, SlavePlan, PlanState, plan_of, plan_sound, plan_usable, are-plans, IsUsable, begun, bringup_switched_on as switched_on, IsOfKind, power_on_is, AreSlaves, kind_at, Carried, Starts, AreStartable, ends_of, begun-starts, Event, WorldState, Flight, no_slave, is_up, IsStep, awaits, slave_of, ByStart, Passes, Returns, StartReturns, GivesUp, Closes, Happens, IsRun, AreWhole, flags_after, plain_of, IsReadyWorld, slot_count, new_world, HasStarted, Told, NotYet, Started, WholeLaw, CompiledLaw, seen_of, Rising, SlotsHold, on_whole, SlaveState, passes, output_taken, Got, IsCarried, plan_at, IsGenuine, AreGenuine, stays, stay, StartNext, Set, Begin, Pass, Lose, Return, Close, Serve, AppPut, AppGet, Fault, ResetSlave as Reset, none_some, none_free}
 use Rattle.ec_world.proofs.RisingSteps.{event-rises, event-plan, the-one}
 use Rattle.ec_world.proofs.Readies.{ready-world}
 use Rattle.ec_world.proofs.StepLaws.{runs_show}
-use Rattle.ec_slave.specs.State.{SlaveState}
-use Rattle.ec_slave.specs.Meeting.{passes}
-use Rattle.ec_slave.specs.Application.{output_taken}
-use Rattle.ec_sync.specs.Buffer.{Got}
-use Rattle.ec_bringup.specs.Slots.{IsCarried}
-use Rattle.ec_bringup.specs.Undisturbed.{plan_at}
-use Rattle.ec_bringup.specs.Devices.{IsGenuine, AreGenuine}
-use Rattle.ec_bringup.proofs.Genuine.{stays, stay}
-use Rattle.ec_world.specs.declared.event.Event.TheVariants.{StartNext, Set, Begin, Pass, Lose, Return, Close, Serve, AppPut, AppGet, Fault, Reset}
-use Rattle.ec_world.proofs.Lists.{none_some}
 
 -- ---- a new world
 
@@ -57,11 +22,6 @@ on-fit [] is k = on_whole plain_kind (device_identity plain_kind.device 0)
 on-fit (p ∷ ps) [] k = on_whole plain_kind (device_identity plain_kind.device 0)
 on-fit (p ∷ ps) (i ∷ is) zero = on_whole p.kind i
 on-fit (p ∷ ps) (i ∷ is) (suc k) = on-fit ps is k
-
-none-yet : (n k : ℕ) → (let o : Option Flight = None in get_or (replicate n o) k o) ≡ None
-none-yet zero k = refl
-none-yet (suc n) zero = refl
-none-yet (suc n) (suc k) = none-yet n k
 
 abbrev no-flags : PlanState → List Bool
 no-flags plan = replicate (length plan.slaves) false
@@ -92,7 +52,7 @@ new-rises plan is sound planned e = record {
   same_plan = new-plan plan is;
   slot = None;
   starts = new-starts plan is planned (new-slaves plan is sound.few_slaves e);
-  slots = none-yet slot_count;
+  slots = none_free slot_count;
   some_slots = omega (arith, length-replicate {A = Option Flight} slot_count None);
   fit = on-fit plan.slaves is;
   master_plan = refl;
@@ -204,8 +164,7 @@ module _ (ps : List SlavePlan) (w : WorldState) (g : AreGenuine ps w.slaves) whe
   passed : (slot : Option Carried) (k : ℕ) (v : WorldState) → SlotsHold w.slots slot → Passes w k v → AreGenuine ps v.slaves
   passed None k v holds p = absurd (none_some p.flight (sym (holds k) ∙ p.there))
   passed (Some c) k v holds p =
-      let it = the-one w.slots k p.flight c holds p.there in
-      let car : IsCarried p.flight.bytes c = subst (λ (f : Flight). IsCarried f.bytes c) it.same holds.carried in
+      let car : IsCarried p.flight.bytes c = subst (λ (f : Flight). IsCarried f.bytes c) (the-one w.slots k p.flight c holds p.there).same holds.carried in
       let s : SlaveState = slave_of w p.flight.passed in
       one v p.flight.passed (passes s car.payload.datagrams).slave (λ q h. (stays q.kind s h).passes car.payload.datagrams) (p.passed.slaves car.payload car.spelled)
 

@@ -1,6 +1,4 @@
-use Rattle.std.proofs.Common.{◌≡◌, ◌<◌, ℕ, Some, get_or, vec_len}
-use Rattle.ec_table.specs.Objects.{identity_of}
-use Rattle.ec_bringup.specs.SwitchedOn.{no_identity}
+use Rattle.ec_bringup.proofs.Words.{◌≡◌, ◌<◌, ℕ, Some, get_or, vec_len, identity_of, no_identity}
 use Rattle.ec_bringup.proofs.switching.identities_of.Given as goal
 
 abbrev pub invariant-loop-slave : goal.invariant-loop-slave

@@ -1,6 +1,4 @@
-use Rattle.std.proofs.Common.{◌∙◌, ap, length, sym, List}
-use Rattle.ec_device.specs.declared.slave_type.Identity.{Identity}
-use Rattle.ec_link.specs.declared.settings.SlavePlan.{SlavePlan}
+use Rattle.ec_bringup.proofs.Words.{◌∙◌, ap, length, sym, List, Identity, SlavePlan}
 use Rattle.ec_bringup.proofs.SwitchedOn.{slaves-of}
 use Rattle.ec_bringup.proofs.switching.slaves_of.Goals as goal
 

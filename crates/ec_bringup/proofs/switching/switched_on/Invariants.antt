@@ -1,5 +1,4 @@
-use Rattle.std.proofs.Common.{◌≡◌, take}
-use Rattle.ec_bringup.specs.SwitchedOn.{switched_on}
+use Rattle.ec_bringup.proofs.Words.{◌≡◌, take, bringup_switched_on as switched_on}
 use Rattle.ec_bringup.proofs.switching.switched_on.Given as goal
 
 abbrev pub invariant-loop-place : goal.invariant-loop-place

@@ -1,8 +1,4 @@
-use Rattle.std.proofs.Common.{◌≡◌, ◌∙◌, arith}
-use Rattle.std.specs.Prelude.{IsTrue}
-use Rattle.std.proofs.lemmas.Bool.{both_ways}
-use Rattle.ec_start.specs.Running.{last_number}
-use Rattle.ec_bringup.specs.BringUp.{rising}
+use Rattle.ec_bringup.proofs.Words.{◌≡◌, ◌∙◌, arith, PreludeIsTrue as IsTrue, both_ways, last_number, rising}
 use Rattle.ec_bringup.proofs.BringUp.{turns-go, turns-end, none-left}
 use Rattle.ec_bringup.proofs.turns.make_turns.Goals as goal
 
@@ -19,9 +15,7 @@ loop-preserved c =
 
 pub returns : goal.returns
 returns c =
-    let low = c.next_number-counter.type_inv in
-    let most = c.loop.auto.counter-end (omega (arith, low)) in
-    let least = c.loop-test.false in
-    let last : c.loop.counter ≡ last_number = omega (arith, most, least) in
+    let most = c.loop.auto.counter-end (omega (arith, c.next_number-counter.type_inv)) in
+    let last : c.loop.counter ≡ last_number = omega (arith, most, c.loop-test.false) in
     turns-end (rising c.args.startup.now c.args.ring.now) c.loop.startup c.turn-2.new.startup c.loop.ring c.turn-2.new.ring c.loop.counter c.loop.invariant
     (none-left c.loop.startup (c.loop.invariant.next_number ∙ last)) c.turn-2.ensures.none c.turn-2.ensures.ring_kept

@@ -1,8 +1,4 @@
-use Rattle.std.proofs.Common.{◌∙◌, ap, sym, slice_set, arith}
-use Rattle.std.proofs.lemmas.List.Edits.{map_over_more}
-use Rattle.std.proofs.lemmas.Option.{get_or_from_slice_get}
-use Rattle.ec_slave.specs.State.{SlaveState}
-use Rattle.ec_slave.specs.Serving.{served}
+use Rattle.ec_bringup.proofs.Words.{◌∙◌, ap, sym, slice_set, arith, map_over_more, get_or_from_slice_get, SlaveState, served}
 use Rattle.ec_bringup.proofs.turns.serve_all.Goals as goal
 
 pub loop-place-preserved : goal.loop-place-preserved

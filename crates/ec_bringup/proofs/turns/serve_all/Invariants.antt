@@ -1,5 +1,4 @@
-use Rattle.std.proofs.Common.{◌≡◌, map, take, drop, ◌++◌, length}
-use Rattle.ec_slave.specs.Serving.{served}
+use Rattle.ec_bringup.proofs.Words.{◌≡◌, map, take, drop, ◌++◌, length, served}
 use Rattle.ec_bringup.proofs.turns.serve_all.Given as goal
 
 -- the slaves before the place have served, the others not yet

@@ -1,5 +1,4 @@
-use Rattle.std.proofs.Common.{◌∙◌}
-use Rattle.ec_start.specs.Running.{is_kept}
+use Rattle.ec_world.proofs.Words.{◌∙◌, is_kept}
 use Rattle.ec_world.proofs.StepLaws.{taken_plan}
 use Rattle.ec_world.proofs.making.answer.Goals as goal
 

@@ -1,7 +1,4 @@
-use Rattle.std.proofs.Common.{◌∙◌, sym, refl}
-use Rattle.ec_start.specs.Running.{is_kept}
-use Rattle.ec_world.specs.World.{awaits}
-use Rattle.ec_world.specs.Held.{IsAnswered, IsTakenIn}
+use Rattle.ec_world.proofs.Words.{◌∙◌, sym, refl, is_kept, awaits, IsAnswered, IsTakenIn}
 use Rattle.ec_world.proofs.Stepping.{by-start, by-master}
 use Rattle.ec_world.proofs.making.hand_in.Goals as goal
 

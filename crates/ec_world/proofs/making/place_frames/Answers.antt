@@ -1,6 +1,4 @@
-use Rattle.std.proofs.Common.{ℕ, ◌<◌, ◌≤◌, ◌∙◌, List, arith, length, subst, sym}
-use Rattle.ec_frame.specs.Frame.{Payload, IsFrame}
-use Rattle.ec_world.specs.Held.{cycle_frames}
+use Rattle.ec_world.proofs.Words.{ℕ, ◌<◌, ◌≤◌, ◌∙◌, List, arith, length, subst, sym, Payload, IsFrame, cycle_frames}
 use Rattle.ec_world.proofs.Filling.{frame-in, placed, all-placed}
 use Rattle.ec_world.proofs.making.place_frames.Goals as goal
 

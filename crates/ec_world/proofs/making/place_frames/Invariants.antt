@@ -1,7 +1,4 @@
-use Rattle.std.proofs.Common.{◌≡◌, drop}
-use Rattle.ec_world.specs.Plain.{filled}
-use Rattle.ec_world.specs.World.{flights_from}
-use Rattle.ec_world.specs.Held.{cycle_frames}
+use Rattle.ec_world.proofs.Words.{◌≡◌, drop, filled, flights_from, cycle_frames}
 use Rattle.ec_world.proofs.making.place_frames.Given as goal
 
 abbrev pub invariant-loop-part : goal.invariant-loop-part

@@ -1,13 +1,4 @@
-use Rattle.std.proofs.Common.{ℕ, ◌+◌, ◌≡◌, ◌≤◌, ◌∙◌, List, Option, Some, ap, arith, drop, length, set, slice_get, subst, sym, option_map}
-use Rattle.std.specs.List.{refill}
-use Rattle.std.proofs.lemmas.List.{take-append-le, take_all}
-use Rattle.ec_frame.specs.Frame.{Payload, IsFrame, with_datagrams}
-use Rattle.ec_slave.specs.Meeting.{IsPassed, passes}
-use Rattle.ec_slave.specs.State.{SlaveState}
-use Rattle.ec_ring.specs.Rings.{IsPassedAt}
-use Rattle.ec_world.specs.declared.progress.Progress.{Progress}
-use Rattle.ec_world.specs.World.{Flight}
-use Rattle.ec_world.specs.Slots.{HasPassed, HoldsFrame}
+use Rattle.ec_world.proofs.Words.{ℕ, ◌+◌, ◌≡◌, ◌≤◌, ◌∙◌, List, Option, Some, ap, arith, drop, length, set, slice_get, subst, sym, option_map, refill, take-append-le, take_all, Payload, IsFrame, with_datagrams, IsPassed, passes, SlaveState, IsPassedAt, Progress, Flight, HasPassed, HoldsFrame}
 use Rattle.ec_world.proofs.slot.Slot.pass.Goals as goal
 
 -- as many bytes as there were

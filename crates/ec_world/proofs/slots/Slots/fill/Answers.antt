@@ -1,5 +1,4 @@
-use Rattle.std.proofs.Common.{ℕ, ◌∙◌, Option, is_none, List, ap, set, position, sym}
-use Rattle.ec_world.specs.World.{Flight}
+use Rattle.ec_world.proofs.Words.{ℕ, ◌∙◌, Option, is_none, List, ap, set, position, sym, Flight}
 use Rattle.ec_world.proofs.Filling.{filled_in, not_filled}
 use Rattle.ec_world.proofs.slots.Slots.fill.Goals as goal
 

@@ -1,5 +1,4 @@
-use Rattle.std.proofs.Common.{◌<◌, ◌≡◌, ◌∙◌, List, Option, None, get_or, length, subst, sym}
-use Rattle.ec_world.specs.World.{Flight}
+use Rattle.ec_world.proofs.Words.{◌<◌, ◌≡◌, ◌∙◌, List, Option, None, get_or, length, subst, sym, Flight}
 use Rattle.ec_world.proofs.Ways.{free_stays, has_moved, same_default, way_stays}
 use Rattle.ec_world.proofs.slots.Slots.pass.Goals as goal
 

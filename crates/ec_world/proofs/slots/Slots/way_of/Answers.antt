@@ -1,9 +1,4 @@
-use Rattle.std.proofs.Common.{ℕ, ◌≡◌, ◌∙◌, List, Option, Some, None, ap, get_or, nat_lt, option_map, subst, sym}
-use Rattle.std.proofs.lemmas.Bool.{lt-ltb}
-use Rattle.std.specs.List.{fold, list_all}
-use Rattle.ec_world.specs.Plain.{lets_by}
-use Rattle.ec_world.specs.World.{Flight, flight_progress, flights_progress}
-use Rattle.ec_world.specs.Slots.{HasWay, no_end, way_behind}
+use Rattle.ec_world.proofs.Words.{ℕ, ◌≡◌, ◌∙◌, List, Option, Some, None, ap, get_or, nat_lt, option_map, subst, sym, lt-ltb, fold, list_all, lets_by, Flight, flight_progress, flights_progress, HasWay, no_end, way_behind}
 use Rattle.ec_world.proofs.Turns.{behind_in_use}
 use Rattle.ec_world.proofs.Ways.{finds_way, way_open, way_passes}
 use Rattle.ec_world.proofs.slots.Slots.way_of.Goals as goal

@@ -1,9 +1,4 @@
-use Rattle.std.proofs.Common.{◌∙◌, ap, length, sym, List}
-use Rattle.ec_link.specs.declared.settings.SlavePlan.{SlavePlan}
-use Rattle.ec_start.specs.Running.{StartState}
-use Rattle.ec_cycle.specs.Master.{MasterState}
-use Rattle.ec_link.specs.Plan.{PlanState}
-use Rattle.ec_link.proofs.Soundness.{plan_sound}
+use Rattle.ec_world.proofs.Words.{◌∙◌, ap, length, sym, List, SlavePlan, StartState, MasterState, PlanState, plan_sound}
 use Rattle.ec_world.proofs.StepLaws.{begun_plan}
 use Rattle.ec_world.proofs.Newly.{usable-of, few-of}
 use Rattle.ec_world.proofs.world.World.new.Goals as goal

@@ -1,7 +1,4 @@
-use Rattle.std.proofs.Common.{Bool, ℕ, ◌≡◌, ◌∙◌, List, Option, Some, None, ap, get_or, option_map, subst, sym}
-use Rattle.ec_world.specs.Plain.{may_pass}
-use Rattle.ec_world.specs.World.{Flight, flight_progress, flights_progress}
-use Rattle.ec_world.specs.Slots.{HavePassed}
+use Rattle.ec_world.proofs.Words.{Bool, ℕ, ◌≡◌, ◌∙◌, List, Option, Some, None, ap, get_or, option_map, subst, sym, may_pass, Flight, flight_progress, flights_progress, HavePassed}
 use Rattle.ec_world.proofs.Stepping.{world_of, pass-step}
 use Rattle.ec_world.proofs.world.World.pass.Goals as goal
 

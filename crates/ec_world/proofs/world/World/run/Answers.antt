@@ -1,8 +1,4 @@
-use Rattle.std.proofs.Common.{ℕ, ◌≡◌, ◌≤◌, ◌+◌, ◌∷◌, ◌++◌, [], List, sym, subst, arith, take, get_or, if◌then◌else◌, Bool, true, false}
-use Rattle.std.proofs.lemmas.List.{take_more, take_all}
-use Rattle.ec_world.specs.declared.event.Event.{Event}
-use Rattle.ec_world.specs.declared.event.Event.TheVariants.{StartNext}
-use Rattle.ec_world.specs.Laws.{IsRun}
+use Rattle.ec_world.proofs.Words.{ℕ, ◌≡◌, ◌≤◌, ◌+◌, ◌∷◌, ◌++◌, [], List, sym, subst, arith, take, get_or, if◌then◌else◌, Bool, true, false, take_more, take_all, Event, StartNext, IsRun}
 use Rattle.ec_world.proofs.StepLaws.{run_more, runs_show}
 use Rattle.ec_world.proofs.ComingUp.{comes_up}
 use Rattle.ec_world.proofs.Newly.{told-new}

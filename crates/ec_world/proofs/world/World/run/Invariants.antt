@@ -1,5 +1,4 @@
-use Rattle.std.proofs.Common.{◌≤◌, take}
-use Rattle.ec_world.specs.Laws.{IsRun}
+use Rattle.ec_world.proofs.Words.{◌≤◌, take, IsRun}
 use Rattle.ec_world.proofs.world.World.run.Given as goal
 
 abbrev pub invariant-loop-event : goal.invariant-loop-event

@@ -1,10 +1,4 @@
-use Rattle.std.proofs.Common.{◌≡◌, ◌∙◌, ◌∷◌, [], List, ℕ, ap, subst, sym, true}
-use Rattle.ec_frame.specs.Frame.{Payload, IsFrame}
-use Rattle.ec_frame.specs.Building.{bare_payload}
-use Rattle.ec_start.specs.Actions.{frame_of}
-use Rattle.ec_start.specs.Running.{StartState, action_of}
-use Rattle.ec_world.specs.Plain.{filled}
-use Rattle.ec_world.specs.World.{Flight, can_start}
+use Rattle.ec_world.proofs.Words.{◌≡◌, ◌∙◌, ◌∷◌, [], List, ℕ, ap, subst, sym, true, Payload, IsFrame, bare_payload, frame_of, StartState, action_of, filled, Flight, can_start}
 use Rattle.ec_world.proofs.StepLaws.{asked_plan, resumed_plan}
 use Rattle.ec_world.proofs.Stepping.{world_of, next-sends, start-step}
 use Rattle.ec_world.proofs.world.World.start_next.Goals as goal

@@ -1,5 +1,4 @@
-use Rattle.std.proofs.Common.{subst}
-use Rattle.ec_world.specs.World.{IsStep}
+use Rattle.ec_world.proofs.Words.{subst, IsStep}
 use Rattle.ec_world.proofs.HeadlineInputs.{headline_law}
 use Rattle.ec_world.proofs.StepLaws.{steps_show}
 use Rattle.ec_world.proofs.world.World.step.Goals as goal

@@ -1,7 +1,4 @@
-use Rattle.std.proofs.Common.{Bool, ℕ, ◌∙◌, ap, get_or, None, option_map, sym}
-use Rattle.ec_link.specs.Plan.{PlanState}
-use Rattle.ec_world.specs.Plain.{may_return}
-use Rattle.ec_world.specs.World.{flight_progress}
+use Rattle.ec_world.proofs.Words.{Bool, ℕ, ◌∙◌, ap, get_or, None, option_map, sym, PlanState, may_return, flight_progress}
 use Rattle.ec_world.proofs.StepLaws.{handed_plans}
 use Rattle.ec_world.proofs.Stepping.{world_of, return-step}
 use Rattle.ec_world.proofs.world.World.take_back.Goals as goal
