@@ -19,7 +19,10 @@ ghost use Rattle.ec_loop.specs.Stages.{IsCut, LoopsOnSockets};
 
 use arrayvec::ArrayString;
 use ec_bringup::slaves_of_machine;
-use ec_console::{Capture, Explanation, Refusal, close_capture, open_capture, print_text, read_machine, read_text, tell_text};
+use ec_console::{
+    Capture, Explanation, Refusal, close_capture, open_capture, print_text, read_machine,
+    read_text, tell_text,
+};
 use ec_cycle::{Master, Report};
 use ec_link::{Machine, Plan, Variable};
 use ec_ring::Ring;

@@ -10,7 +10,9 @@ ghost use Rattle.ec_segment.specs.Serving.{RunsCardSegment, RunsSegment, ServesS
 use crate::machine::slaves_of_input;
 use arrayvec::ArrayString;
 use ec_card::{CardWire, Patience, Sender};
-use ec_console::{Capture, Explanation, Refusal, close_capture, open_capture, print_text, tell_text};
+use ec_console::{
+    Capture, Explanation, Refusal, close_capture, open_capture, print_text, tell_text,
+};
 use ec_ring::Ring;
 use ec_tap::{CapturedWire, Side};
 use ec_text::push_number;
