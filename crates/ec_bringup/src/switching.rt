@@ -60,7 +60,7 @@ pub fn slaves_of(alloc: Global, table: &Table, plan: &Plan) -> Result<Ring, Allo
     requires plan { plan.now ≡ plan_of table.now }
     ensures { IfOk result (AreSlavesOf table.now) }
 {
-    let _version = table.version();
+    table.is_sound();
     let identities = identities_of(alloc, table)?;
     switched_on(alloc, plan.slaves(), identities.as_slice())
 }

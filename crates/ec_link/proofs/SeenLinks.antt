@@ -3,7 +3,7 @@ use Rattle.std.proofs.Common.{◌≡◌, ℕ, ◌+◌, ◌<◌, ◌≤◌, ◌||
 use Rattle.std.specs.List.{list_any}
 use Rattle.std.proofs.lemmas.Bool.{cases_eq}
 use Rattle.std.proofs.lemmas.Bool.Decides.{nat_tests}
-use Rattle.std.proofs.lemmas.List.{take_more, take_all, map-append, get_or-set_same, get_or-set_other, length-replicate, get_or-replicate}
+use Rattle.std.proofs.lemmas.List.{take_more, take_all, map-append, get_or-set_same, get_or-set_other, get_or-take, length-replicate, length-take-le, get_or-replicate}
 use Rattle.std.proofs.lemmas.List.Folds.{list_any-append}
 use Rattle.std.proofs.lemmas.List.Elements.{filter-append}
 use Rattle.ec_table.specs.declared.rows.LinkRow.{LinkRow}
@@ -77,3 +77,14 @@ pub fresh_at : (n : ℕ) (seen : List VariableUse) (s : VariableUse) → seen �
 fresh_at n seen s e is v d lt = ap (λ (xs : List VariableUse). get_or xs v d) e ∙ get_or-replicate n v s d (omega (arith, ap length e, length-replicate n s)) ∙ is
 
 pub ruleset fresh_seen = (fresh_count, fresh_at)
+
+-- the first of a few in place
+pub few_count : (t : Contents) (n m : ℕ) (room seen : List VariableUse) (s : VariableUse) → room ≡ replicate m s → seen ≡ take n room → n ≤ m → n ≡ length t.variables → length seen ≡ length t.variables
+few_count t n m room seen s e f most is = ap length f ∙ length-take-le n room (omega (arith, ap length e, length-replicate m s)) ∙ is
+
+pub few_at : (n m : ℕ) (room seen : List VariableUse) (s : VariableUse) → room ≡ replicate m s → seen ≡ take n room → n ≤ m → s ≡ nothing_seen → (v : ℕ) (d : VariableUse) → v < length seen → get_or seen v d ≡ nothing_seen
+few_at n m room seen s e f most is v d lt =
+    let size : length seen ≡ n = ap length f ∙ length-take-le n room (omega (arith, ap length e, length-replicate m s)) in
+    ap (λ (xs : List VariableUse). get_or xs v d) (f ∙ ap (take n) e) ∙ get_or-take n (replicate m s) v d (omega arith) ∙ get_or-replicate m v s d (omega arith) ∙ is
+
+pub ruleset fresh_few = (few_count, few_at)

@@ -11,6 +11,7 @@ mod link_runs;
 mod machine;
 mod marks;
 mod objects;
+mod pairs;
 mod plan;
 mod settings;
 mod sizes;

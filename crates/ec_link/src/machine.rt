@@ -103,8 +103,7 @@ impl Machine {
         ensures sound { IsSoundTable self.now }
         ensures accepted { compile_fault self.now ≡ None }
     {
-        // The call is for its clause `sound`.
-        let _version = self.table.version();
+        self.table.is_sound();
         &self.table
     }
 
@@ -116,8 +115,7 @@ impl Machine {
         ensures sound { IsSound self.now (plan_of self.now) }
         ensures usable { IsUsable (plan_of self.now) }
     {
-        // The call is for its clause `sound`, which the laws of a plan need.
-        let _version = self.table.version();
+        self.table.is_sound();
         &self.plan
     }
 }

@@ -51,7 +51,7 @@ impl MachineMaster {
         requires plan { plan ≡ plan_of table }
         ensures { IfOk result (λ m. m ≡ new_machine table) }
     {
-        let _version = table.version();
+        table.is_sound();
         let startup = Startup::new(alloc, &plan, 0)?;
         let master = OwnMaster::new(alloc, plan)?;
         Ok(MachineMaster {

@@ -109,14 +109,18 @@ impl Table {
     }
 
     /// The version of the format.
-    ///
-    /// Its clause `sound` says all that every table keeps: a proof that needs more than the clauses of
-    /// the other calls say calls this one.
     pub fn version(&self) -> Version
         ensures value { result ≡ self.now.version }
         ensures sound { IsSound self.now }
     {
         self.version
+    }
+
+    /// Does nothing. Its contract says what holds of every table.
+    pub fn is_sound(&self)
+        ensures { IsSound self.now }
+    {
+        let _ = &self.types;
     }
 
     /// The types.

@@ -87,7 +87,7 @@ impl<'p> World<'p> {
         requires one_each { length identities.now ≡ length table.now.slaves }
         ensures { IfOk result (IsNew table.now identities.now) }
     {
-        let _version = table.version();
+        table.is_sound();
         let ring = switched_on(alloc, plan.slaves(), identities)?;
         let slots = Slots::new(alloc, SLOTS)?;
         let (start, master) = ends_of(alloc, plan)?;

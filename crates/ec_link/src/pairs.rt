@@ -1,0 +1,49 @@
+//! Whether two of a few runs have a bit in common.
+ghost use Rattle.std.specs.Prelude.{◌≡◌, ◌+◌, nat_lt, ◌&&◌};
+ghost use Rattle.std.specs.List.{list_any};
+ghost use Rattle.ec_link.specs.Faults.{first_at};
+ghost use Rattle.ec_link.specs.LinkRuns.{give_one_bit, linked_twice, runs_meet};
+
+use crate::link_runs::{LinkRun, is_out};
+
+/// The first link run that gives a bit which an earlier one gives, by each pair of them: it takes no memory, and the square
+/// of their number as time.
+pub fn first_of_pairs(link_runs: &[LinkRun]) -> Option<usize>
+    ensures { result ≡ first_at (linked_twice link_runs.now) 0 link_runs.now }
+{
+    for (place, link_run) in link_runs.iter().enumerate() {
+        if gives_again(&link_runs[..place], link_run) {
+            return Some(place);
+        }
+    }
+    None
+}
+
+/// Whether a link run gives a bit that one of the earlier ones gives.
+fn gives_again(earlier: &[LinkRun], link_run: &LinkRun) -> bool
+    ensures { result ≡ list_any (give_one_bit link_run.now) earlier.now }
+{
+    earlier.iter().any(|other| give_one_bit(link_run, other))
+}
+
+/// Whether both give one output object bit, or one input variable bit.
+fn give_one_bit(one: &LinkRun, other: &LinkRun) -> bool
+    ensures { result ≡ give_one_bit one.now other.now }
+{
+    match (is_out(one.direction), is_out(other.direction)) {
+        (true, true) =>
+            one.slave == other.slave
+                && runs_meet(one.object_bit, one.count, other.object_bit, other.count),
+        (false, false) =>
+            one.variable == other.variable
+                && runs_meet(one.variable_bit, one.count, other.variable_bit, other.count),
+        _ => false,
+    }
+}
+
+/// Whether as many bits from one place on and as many from another share one.
+fn runs_meet(from: usize, count: usize, other: usize, other_count: usize) -> bool
+    ensures { result ≡ runs_meet from count other other_count }
+{
+    (from < other || from - other < other_count) && (other < from || other - from < count)
+}
