@@ -31,12 +31,10 @@ fn give_one_bit(one: &LinkRun, other: &LinkRun) -> bool
     ensures { result ≡ give_one_bit one.now other.now }
 {
     match (is_out(one.direction), is_out(other.direction)) {
-        (true, true) =>
-            one.slave == other.slave
-                && runs_meet(one.object_bit, one.count, other.object_bit, other.count),
-        (false, false) =>
-            one.variable == other.variable
-                && runs_meet(one.variable_bit, one.count, other.variable_bit, other.count),
+        (true, true) => one.slave == other.slave
+            && runs_meet(one.object_bit, one.count, other.object_bit, other.count),
+        (false, false) => one.variable == other.variable
+            && runs_meet(one.variable_bit, one.count, other.variable_bit, other.count),
         _ => false,
     }
 }
