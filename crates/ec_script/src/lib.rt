@@ -22,5 +22,6 @@ pub use crate::expectation::Expectation;
 pub use crate::halves::split_script;
 pub use crate::line::{Line, LineAction};
 pub use crate::read::{Reading, read_line, read_script};
-pub use crate::run::{do_act, run_line, watch_act};
+pub use crate::rounds::watch_act;
+pub use crate::run::{do_act, run_line};
 pub use crate::said::{LineOutput, output_text};
