@@ -21,6 +21,7 @@ pub use crate::error::ScriptError;
 pub use crate::expectation::Expectation;
 pub use crate::halves::split_script;
 pub use crate::line::{Line, LineAction};
+pub use crate::met::{all_units, is_failed, is_unit};
 pub use crate::read::{Reading, read_line, read_script};
 pub use crate::rounds::watch_act;
 pub use crate::run::{do_act, run_line};
