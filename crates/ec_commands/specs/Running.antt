@@ -23,7 +23,8 @@ use Rattle.ec_console.specs.Refusals.{line_of, status_of}
 use Rattle.ec_console.specs.Capturing.{EndsWith}
 use Rattle.ec_live.specs.Living.{RunsLive}
 use Rattle.ec_master.specs.Mastering.{RunsMaster}
-use Rattle.ec_segment.specs.Serving.{RunsCardSegment, RunsSegment}
+use Rattle.ec_segment.specs.declared.form.SlaveForm.{SlaveForm}
+use Rattle.ec_segment.specs.Serving.{RunsCardSegment, RunsSegment, slave_form}
 use Rattle.ec_annotate.specs.Annotating.{names_of}
 use Rattle.ec_translate.specs.Remarking.{RunsDecodeWith}
 use Rattle.ec_translate.specs.Translating.{RunsEncode}
@@ -41,18 +42,18 @@ abbrev pub IsQuiet : Stream → Type 0
 IsQuiet told = told.new ≡ told.old
 
 -- `ecat segment` on a port; or on the card whose socket has a descriptor, where one is given, and nothing is told
-abbrev pub RunsSegmentOn : (descriptor : Option ℕ) → (frames port : ℕ) → (full : Bool) → (given : Option (List ℕ)) → (output told : Stream) → Result Unit Refusal → Type 0
-RunsSegmentOn None frames port full given output told ended = RunsSegment frames port full given output.old output.new told.old told.new ended
-RunsSegmentOn (Some descriptor) frames port full given output told ended = RunsCardSegment frames full given output.old output.new ended × IsQuiet told
+abbrev pub RunsSegmentOn : (descriptor : Option ℕ) → (frames port : ℕ) → SlaveForm → (given : Option (List ℕ)) → (output told : Stream) → Result Unit Refusal → Type 0
+RunsSegmentOn None frames port form given output told ended = RunsSegment frames port form given output.old output.new told.old told.new ended
+RunsSegmentOn (Some descriptor) frames port form given output told ended = RunsCardSegment frames form given output.old output.new ended × IsQuiet told
 
 -- nothing is printed or told
 abbrev pub IsStill : (output told : Stream) → Type 0
 IsStill output told = IsQuiet output × IsQuiet told
 
 -- and with a capture, if its file is named
-abbrev pub RunsSegmentAt : (descriptor : Option ℕ) → (frames port : ℕ) → (full : Bool) → (file : Option (List ℕ)) → (given : Option (List ℕ)) → (output told : Stream) → Result Unit Refusal → Type 0
-RunsSegmentAt descriptor frames port full file given output told ended =
-    EndsWith file (RunsSegmentOn descriptor frames port full given output told) (IsStill output told) ended
+abbrev pub RunsSegmentAt : (descriptor : Option ℕ) → (frames port : ℕ) → SlaveForm → (file : Option (List ℕ)) → (given : Option (List ℕ)) → (output told : Stream) → Result Unit Refusal → Type 0
+RunsSegmentAt descriptor frames port form file given output told ended =
+    EndsWith file (RunsSegmentOn descriptor frames port form given output told) (IsStill output told) ended
 
 -- `ecat sim`, whose lines are run as a script, or as they come, and which tells why they say `no`, where it explains
 abbrev pub RunsLines : (live explained : Bool) → (given : Option (List ℕ)) → (output : Stream) → Result Unit Refusal → Type 0
@@ -73,7 +74,7 @@ Runs (SimOf live capture explained) given output told ended = RunsLines live exp
 Runs (LoopOf cycles capture explained) given output told ended =
     EndsWith capture (λ ended. RunsLoop cycles given output.old output.new told.old told.new ended) (IsStill output told) ended
 Runs (SegmentOf frames port descriptor full idle capture explained) given output told ended =
-    RunsSegmentAt descriptor frames port full capture given output told ended
+    RunsSegmentAt descriptor frames port (slave_form full) capture given output told ended
 Runs (MasterOf to descriptor patience capture explained) given output told ended = RunsMasterWith (reasons_of explained) capture given output ended × IsQuiet told
 
 -- what a command leaves alone: one that reads no input leaves it as it is, and one with no simulated application steps

@@ -15,7 +15,9 @@ use ec_console::{Explanation, Refusal, print_text, tell_and_end, tell_explained,
 use ec_live::print_live;
 use ec_loop::{capture_loop, print_loop};
 use ec_master::{Connection, capture_master, print_master};
-use ec_segment::{capture_card_segment, capture_segment, print_card_segment, print_segment};
+use ec_segment::{
+    SlaveForm, capture_card_segment, capture_segment, print_card_segment, print_segment,
+};
 use ec_sim::print_sim;
 use ec_translate::{print_encode, print_payloads};
 use ec_why::Reasons;
@@ -33,8 +35,8 @@ struct SegmentPlace {
     port: u16,
     /// The socket of a card, in the place of the port.
     descriptor: Option<u16>,
-    /// Whether its slaves are full.
-    full: bool,
+    /// How its slaves are shown.
+    form: SlaveForm,
     idle: u32,
 }
 
@@ -208,7 +210,7 @@ fn run_request<H: AllocGlobal + Net + Files + Clock, R: Read, W: Write, F: Write
             let place = SegmentPlace {
                 port,
                 descriptor,
-                full,
+                form: SlaveForm::of(full),
                 idle,
             };
             run_segment(
@@ -265,29 +267,29 @@ fn run_segment<H: AllocGlobal + Net + Files + Clock, R: Read, W: Write, F: Write
     app: &mut dyn App,
     behind: &mut Explanation,
 ) -> Result<(), Refusal>
-    ensures runs { RunsSegmentAt place.descriptor frames place.port place.full (option_map (λ file. file.now) capture.entry)
+    ensures runs { RunsSegmentAt place.descriptor frames place.port place.form (option_map (λ file. file.now) capture.entry)
         (R.remaining input.old) (record { old = W.contents output.old; new = W.contents output.new })
         (record { old = F.contents faults.old; new = F.contents faults.new }) result }
     ensures explains { IsLeft behind.old behind.new }
 {
-    let (port, full, idle) = (place.port, place.full, place.idle);
+    let (port, form, idle) = (place.port, place.form, place.idle);
     match (place.descriptor, capture) {
         (None, None) => {
             print_segment(
-                rt, frames, port, full, idle, input, output, faults, app, behind,
+                rt, frames, port, form, idle, input, output, faults, app, behind,
             )
         }
         (None, Some(file)) => {
             capture_segment(
-                rt, frames, port, full, idle, file, input, output, faults, app, behind,
+                rt, frames, port, form, idle, file, input, output, faults, app, behind,
             )
         }
         (Some(card), None) => {
-            print_card_segment(rt, frames, card, full, idle, input, output, app, behind)
+            print_card_segment(rt, frames, card, form, idle, input, output, app, behind)
         }
         (Some(card), Some(file)) => {
             capture_card_segment(
-                rt, frames, card, full, idle, file, input, output, app, behind,
+                rt, frames, card, form, idle, file, input, output, app, behind,
             )
         }
     }

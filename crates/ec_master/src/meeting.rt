@@ -1,24 +1,11 @@
 //! Whether what a line expects of a master is so.
 ghost use Rattle.std.specs.Prelude.{◌≡◌};
-ghost use Rattle.ec_script.specs.Expecting.{all_units, is_failed, is_unit, of_report};
+ghost use Rattle.ec_script.specs.Expecting.{all_units, is_unit, of_report};
 ghost use Rattle.ec_master.specs.Expecting.{is_met};
 
 use crate::control::Control;
-use ec_cycle::Report;
-use ec_script::Expectation;
-use ec_start::StartError;
+use ec_script::{Expectation, all_units, is_failed, is_unit};
 use ec_text::value_of;
-
-/// Whether a start-up has failed, by the refusal of a number if one is wanted.
-pub(crate) fn is_failed(number: Option<u64>, outcome: Option<Result<(), StartError>>) -> bool
-    ensures { result ≡ is_failed number outcome }
-{
-    match (outcome, number) {
-        (Some(Err(error)), Some(number)) => u64::from(error.number()) == number,
-        (Some(Err(_)), None) => true,
-        _ => false,
-    }
-}
 
 /// Whether what a line expects of a master is so.
 pub(crate) fn is_met(control: &Control<'_>, expected: Expectation) -> bool
@@ -52,22 +39,4 @@ fn are_units(control: &Control<'_>, taken: bool) -> bool
         Some(report) => all_units(taken, report),
         None => false,
     }
-}
-
-/// Whether a sync unit of a report was taken, or was not.
-fn is_unit(number: u64, taken: bool, report: &Report) -> bool
-    ensures { result ≡ is_unit number taken report.now }
-{
-    report
-        .units()
-        .iter()
-        .zip(report.units_taken())
-        .any(|(unit, was)| u64::from(*unit) == number && *was == taken)
-}
-
-/// Whether every sync unit of a report was taken, or each was not.
-fn all_units(taken: bool, report: &Report) -> bool
-    ensures { result ≡ all_units taken report.now }
-{
-    report.units_taken().iter().all(|unit| *unit == taken)
 }

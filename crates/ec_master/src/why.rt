@@ -5,10 +5,10 @@ ghost use Rattle.ec_master.specs.Texts.{is_reasoned};
 
 use crate::answer::{Answer, answer_text};
 use crate::control::Control;
-use crate::meeting::is_failed;
 use crate::order::{Order, Task};
 use ec_console::Refusal;
 use ec_outline::{counted, printable};
+use ec_script::is_failed;
 use ec_start::StartError;
 use ec_table::{Direction, Table};
 use ec_why::{Reasons, misfit_words, reason_line};

@@ -37,7 +37,7 @@ pub fn is_met(world: &World<'_>, expected: Expectation) -> bool
 }
 
 /// Whether a start-up has failed, by the refusal of a number if one is wanted.
-fn is_failed(number: Option<u64>, outcome: Option<Result<(), StartError>>) -> bool
+pub fn is_failed(number: Option<u64>, outcome: Option<Result<(), StartError>>) -> bool
     ensures { result ≡ is_failed number outcome }
 {
     match (outcome, number) {
@@ -45,6 +45,24 @@ fn is_failed(number: Option<u64>, outcome: Option<Result<(), StartError>>) -> bo
         (Some(Err(_)), None) => true,
         _ => false,
     }
+}
+
+/// Whether the sync unit of a number was taken in a cycle, or was not, as `taken` says.
+pub fn is_unit(number: u64, taken: bool, report: &Report) -> bool
+    ensures { result ≡ is_unit number taken report.now }
+{
+    report
+        .units()
+        .iter()
+        .zip(report.units_taken())
+        .any(|(unit, was)| u64::from(*unit) == number && *was == taken)
+}
+
+/// Whether every sync unit was taken in a cycle, or each was not, as `taken` says.
+pub fn all_units(taken: bool, report: &Report) -> bool
+    ensures { result ≡ all_units taken report.now }
+{
+    report.units_taken().iter().all(|unit| *unit == taken)
 }
 
 /// Whether a slave shows an AL status code, if one is wanted.
@@ -85,24 +103,6 @@ fn are_units(world: &World<'_>, taken: bool) -> bool
         Some(report) => all_units(taken, report),
         None => false,
     }
-}
-
-/// Whether a sync unit of a report was taken, or was not.
-fn is_unit(number: u64, taken: bool, report: &Report) -> bool
-    ensures { result ≡ is_unit number taken report.now }
-{
-    report
-        .units()
-        .iter()
-        .zip(report.units_taken())
-        .any(|(unit, was)| u64::from(*unit) == number && *was == taken)
-}
-
-/// Whether every sync unit of a report was taken, or each was not.
-fn all_units(taken: bool, report: &Report) -> bool
-    ensures { result ≡ all_units taken report.now }
-{
-    report.units_taken().iter().all(|unit| *unit == taken)
 }
 
 /// Whether a variable is a value: an input in the process image, an output as slaves publish it.

@@ -1,11 +1,13 @@
-//! Reading a script.
+//! Reading a script: its lines, without their comments, and the words of each.
 ghost use Rattle.std.specs.Prelude.{◌≡◌, IfOk, map};
+ghost use Rattle.std.specs.Str.Lines.{lines};
+ghost use Rattle.ec_script.specs.Words.{uncommented, without_end_blanks, words_of};
 ghost use Rattle.ec_script.specs.Scripts.{Gives, line_of_words, line_on, reading_of, repeated_line, script_of};
 
 use crate::acts::act_of_words;
 use crate::error::ScriptError;
 use crate::line::Line;
-use crate::words::{lines_of, times_of, uncommented, words_of};
+use crate::words::times_of;
 use ec_listed::Listed;
 use ec_table::Table;
 use std::alloc::{AllocError, Global};
@@ -66,6 +68,30 @@ pub fn read_script(alloc: Global, table: &Table, text: &str) -> Result<Listed<Li
     Ok(lines)
 }
 
+/// The lines of a text.
+fn lines_of<'a>(alloc: Global, text: &'a str) -> Result<Vec<&'a str>, AllocError>
+    ensures { IfOk result (λ v. map (λ x. x.now) v.items ≡ lines text.now) }
+{
+    text.lines().collect(alloc)
+}
+
+/// A line without its comment, which is from a `#` on, and the blanks before it.
+fn uncommented(line: &str) -> &str
+    ensures { result.now ≡ uncommented line.now }
+{
+    match line.split_once('#') {
+        Some((before, _)) => without_end_blanks(before),
+        None => line,
+    }
+}
+
+/// A text without the blanks at its end.
+fn without_end_blanks(text: &str) -> &str
+    ensures { result.now ≡ without_end_blanks text.now }
+{
+    text.trim_end_matches(' ')
+}
+
 /// What a text stands for as the line of a number that isn't empty and has no comment.
 fn line_on(
     alloc: Global,
@@ -77,6 +103,13 @@ fn line_on(
 {
     let words = words_of(alloc, text)?;
     Ok(line_of_words(table, number, words.as_slice()))
+}
+
+/// The words of a line, which stand between single blanks.
+fn words_of<'a>(alloc: Global, line: &'a str) -> Result<Vec<&'a str>, AllocError>
+    ensures { IfOk result (λ v. map (λ x. x.now) v.items ≡ words_of line.now) }
+{
+    line.split(' ').collect(alloc)
 }
 
 /// What words stand for as the line of a number.

@@ -1,13 +1,38 @@
-//! Frames that go round: whole cycles and start-ups.
+//! What a line does: an event, or frames that go round, in whole cycles and start-ups.
 ghost use Rattle.std.specs.Prelude.{◌≡◌, [], replicate, if◌then◌else◌};
 ghost use Rattle.ec_world.specs.NewWorld.{servings};
 ghost use Rattle.ec_world.specs.World.{flight_at};
+ghost use Rattle.ec_script.specs.Events.{RunsLine};
+ghost use Rattle.ec_script.specs.Expecting.{is_met};
 ghost use Rattle.ec_script.specs.Seeing.{Sees};
-ghost use Rattle.ec_script.specs.Work.{Makes, MakesAll, Starts, RunsTurn, RunsCycle, last_turn};
+ghost use Rattle.ec_script.specs.Work.{Does, Makes, MakesAll, Starts, RunsTurn, RunsCycle, is_done, last_turn, said_if};
 ghost use Rattle.ec_script.specs.Rounds.{greatest, has_number, round_events, rounds_found};
 
+use crate::expectation::Expectation;
+use crate::inputs::put_input;
+use crate::line::LineAction;
+use crate::met::is_met;
 use crate::said::LineOutput;
 use ec_world::{Event, Watcher, World};
+
+/// Does what a line asks for, as [`do_act`] does; its events are made by a watcher, which may keep what it sees of them.
+#[tactic(auto, using(crate::proofs::Plans::act_keeps, crate::proofs::Running::lines_run, crate::proofs::Seeing::sees_none))]
+pub fn watch_act<S: Watcher>(world: &mut World<'_>, watcher: &mut S, act: LineAction) -> LineOutput
+    ensures does { Does act world.old world.new result }
+    ensures run { RunsLine act world.old world.new (is_done result) }
+    ensures plan { world.new.plan ≡ world.old.plan }
+    ensures seen { Sees S.saw watcher.old world.old world.new watcher.new }
+{
+    match act {
+        LineAction::One(event) => make(world, watcher, event),
+        LineAction::Input(variable, value) => put_input(world, watcher, variable, value),
+        LineAction::Never(_) => LineOutput::No,
+        LineAction::Expect(expected) => expect(world, expected),
+        LineAction::Ready => start_up(world, watcher),
+        LineAction::Cycle => run_cycle(world, watcher),
+        LineAction::Show => LineOutput::Values,
+    }
+}
 
 /// Makes an event, if it can be made, and answers what there is to say of it.
 #[tactic(auto, using(crate::proofs::Seeing::sees_none, crate::proofs::Seeing::sees_made, crate::proofs::Seeing::sees_then))]
@@ -62,6 +87,17 @@ pub fn run_cycle<S: Watcher>(world: &mut World<'_>, watcher: &mut S) -> LineOutp
         return back;
     }
     make(world, watcher, Event::Close)
+}
+
+/// What there is to say where something is expected of a world.
+fn expect(world: &World<'_>, expected: Expectation) -> LineOutput
+    ensures { result ≡ said_if (is_met expected world.now) }
+{
+    if is_met(world, expected) {
+        LineOutput::Nothing
+    } else {
+        LineOutput::Unmet
+    }
 }
 
 /// One frame of a start-up is sent and goes round.

@@ -1,45 +1,21 @@
-//! Running a line over a world.
+//! Running a line over a world that no one watches, and its text.
 ghost use Rattle.std.specs.Prelude.{◌≡◌, ◌++◌, codes, string_bytes};
 ghost use Rattle.std.specs.Result.{IfOk};
 ghost use Rattle.ec_text.specs.PlanText.{newline};
 ghost use Rattle.ec_world.specs.NewWorld.{IsToStart};
 ghost use Rattle.ec_script.specs.declared.line.LineAction.TheVariants.{Ready};
 ghost use Rattle.ec_script.specs.declared.said.LineOutput.{LineOutput};
-ghost use Rattle.ec_script.specs.Work.{Does, is_done, said_if};
-ghost use Rattle.ec_script.specs.Expecting.{is_met};
+ghost use Rattle.ec_script.specs.Work.{Does, is_done};
 ghost use Rattle.ec_script.specs.Events.{RunsLine};
 ghost use Rattle.ec_script.specs.Promised.{IsReadied};
-ghost use Rattle.ec_script.specs.Seeing.{Sees};
 ghost use Rattle.ec_script.specs.Texts.{output_text};
 
-use crate::expectation::Expectation;
-use crate::inputs::put_input;
 use crate::line::{Line, LineAction};
-use crate::met::is_met;
-use crate::rounds::{make, run_cycle, start_up};
+use crate::rounds::watch_act;
 use crate::said::{LineOutput, output_text};
 use ec_table::Table;
-use ec_world::{Unwatched, Watcher, World};
+use ec_world::{Unwatched, World};
 use std::alloc::{AllocError, Global};
-
-/// Does what a line asks for, as [`do_act`] does; its events are made by a watcher, which may keep what it sees of them.
-#[tactic(auto, using(crate::proofs::Plans::act_keeps, crate::proofs::Running::lines_run, crate::proofs::Seeing::sees_none))]
-pub fn watch_act<S: Watcher>(world: &mut World<'_>, watcher: &mut S, act: LineAction) -> LineOutput
-    ensures does { Does act world.old world.new result }
-    ensures run { RunsLine act world.old world.new (is_done result) }
-    ensures plan { world.new.plan ≡ world.old.plan }
-    ensures seen { Sees S.saw watcher.old world.old world.new watcher.new }
-{
-    match act {
-        LineAction::One(event) => make(world, watcher, event),
-        LineAction::Input(variable, value) => put_input(world, watcher, variable, value),
-        LineAction::Never(_) => LineOutput::No,
-        LineAction::Expect(expected) => expect(world, expected),
-        LineAction::Ready => start_up(world, watcher),
-        LineAction::Cycle => run_cycle(world, watcher),
-        LineAction::Show => LineOutput::Values,
-    }
-}
 
 /// Does what a line asks for, up to the first event that can't be made, and answers what there is to say of it. The world is
 /// left as `World::run` of the line's events leaves it. It takes no memory.
@@ -75,15 +51,4 @@ pub fn run_line(
 {
     let said = do_act(world, line.act);
     output_text(alloc, world, table, line.number, said)
-}
-
-/// What there is to say where something is expected of a world.
-fn expect(world: &World<'_>, expected: Expectation) -> LineOutput
-    ensures { result ≡ said_if (is_met expected world.now) }
-{
-    if is_met(world, expected) {
-        LineOutput::Nothing
-    } else {
-        LineOutput::Unmet
-    }
 }

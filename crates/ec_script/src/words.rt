@@ -1,34 +1,8 @@
-//! Lines, words and numbers of a script.
-ghost use Rattle.std.specs.Prelude.{◌≡◌, map, IfOk};
-ghost use Rattle.std.specs.Str.Lines.{lines};
-ghost use Rattle.ec_script.specs.Words.{byte_of, code_of, number_of, times_of, uncommented, without_end_blanks, words_of};
+//! What words of a script write.
+ghost use Rattle.std.specs.Prelude.{◌≡◌};
+ghost use Rattle.ec_script.specs.Words.{byte_of, code_of, number_of, times_of};
 
 use crate::value::hex_of;
-use std::alloc::{AllocError, Global};
-
-/// The lines of a text.
-pub fn lines_of<'a>(alloc: Global, text: &'a str) -> Result<Vec<&'a str>, AllocError>
-    ensures { IfOk result (λ v. map (λ x. x.now) v.items ≡ lines text.now) }
-{
-    text.lines().collect(alloc)
-}
-
-/// A line without its comment, which is from a `#` on, and the blanks before it.
-pub fn uncommented(line: &str) -> &str
-    ensures { result.now ≡ uncommented line.now }
-{
-    match line.split_once('#') {
-        Some((before, _)) => without_end_blanks(before),
-        None => line,
-    }
-}
-
-/// The words of a line, which stand between single blanks.
-pub fn words_of<'a>(alloc: Global, line: &'a str) -> Result<Vec<&'a str>, AllocError>
-    ensures { IfOk result (λ v. map (λ x. x.now) v.items ≡ words_of line.now) }
-{
-    line.split(' ').collect(alloc)
-}
 
 /// The number that a word writes: decimal digits, and no sign.
 pub fn number_of(word: &str) -> Option<u64>
@@ -67,11 +41,4 @@ pub fn times_of(word: &str) -> Option<u32>
         return None;
     }
     Some(times as u32)
-}
-
-/// A text without the blanks at its end.
-fn without_end_blanks(text: &str) -> &str
-    ensures { result.now ≡ without_end_blanks text.now }
-{
-    text.trim_end_matches(' ')
 }

@@ -1,5 +1,5 @@
 -- Slaves of an input, and a segment that is served.
-use Rattle.std.proofs.Common.{◌≡◌, ◌∙◌, ap, inl, inr, ℕ, Bool, true, false, List, Option, refl, sym, subst, Result, Ok, Err, IfOk, IfErr}
+use Rattle.std.proofs.Common.{◌≡◌, ◌∙◌, ap, inl, inr, ℕ, List, Option, refl, sym, subst, Result, Ok, Err, IfOk, IfErr}
 use Rattle.std.specs.Result.{IsErrAnd}
 use Rattle.std.specs.Io.KnownBytes.{Appends}
 use Rattle.ec_slave.specs.State.{SlaveState}
@@ -11,21 +11,23 @@ use Rattle.ec_console.specs.declared.refusal.Refusal.{Refusal}
 use Rattle.ec_console.specs.declared.refusal.Refusal.TheVariants as refusal
 use Rattle.ec_console.specs.Given.{GivesText, IsLinkRefusal, IsTableRefusal}
 use Rattle.ec_console.specs.Printing.{IsTold, Shows}
-use Rattle.ec_table.specs.Contents.{Contents, shown_as}
+use Rattle.ec_table.specs.Contents.{Contents}
 use Rattle.ec_link.specs.Faults.{Fails as LinkFails, compile_fault}
 use Rattle.ec_link.proofs.FacesShown.{faces}
-use Rattle.ec_segment.specs.Serving.{GivesSlaves, HasSlaves, RefusesSegment, RunsCardSegment, RunsSegment, ServesSegment, StatesSlaves, any_inputs, listening_line, served_line}
+use Rattle.ec_segment.specs.declared.form.SlaveForm.{SlaveForm}
+use Rattle.ec_segment.specs.declared.form.SlaveForm.TheVariants.{Full, Plain}
+use Rattle.ec_segment.specs.Serving.{GivesSlaves, HasSlaves, RefusesSegment, RunsCardSegment, RunsSegment, ServesSegment, StatesSlaves, any_inputs, listening_line, served_line, shown_in}
 
 -- ---- slaves
 
-pub if_states : {E : Type 0} (r : Result (List SlaveState) E) (full : Bool) (text : List ℕ) (t u : Contents) → table_of text ≡ Ok t → u ≡ shown_as full t → IfOk r (HasSlaves u) → IfOk r (StatesSlaves full text)
-if_states (Ok slaves) full text t u read shown h = (t, read, subst (λ (x : Contents). HasSlaves x slaves) shown h)
-if_states (Err e) full text t u read shown h = tt
+pub if_states : {E : Type 0} (r : Result (List SlaveState) E) (form : SlaveForm) (text : List ℕ) (t u : Contents) → table_of text ≡ Ok t → u ≡ shown_in form t → IfOk r (HasSlaves u) → IfOk r (StatesSlaves form text)
+if_states (Ok slaves) form text t u read shown h = (t, read, subst (λ (x : Contents). HasSlaves x slaves) shown h)
+if_states (Err e) form text t u read shown h = tt
 
 -- a table shown in full is refused as the table is
-shown_fault : (full : Bool) (t : Contents) → compile_fault (shown_as full t) ≡ compile_fault t
-shown_fault true t = faces.fault t
-shown_fault false t = refl
+shown_fault : (form : SlaveForm) (t : Contents) → compile_fault (shown_in form t) ≡ compile_fault t
+shown_fault Full t = faces.fault t
+shown_fault Plain t = refl
 
 same_refusal : (text : List ℕ) (t u : Contents) (x : Refusal) → table_of text ≡ Ok t → compile_fault u ≡ compile_fault t → IsLinkRefusal u x → IsTableRefusal text x
 same_refusal text t u refusal.Memory read e h = tt
@@ -41,14 +43,14 @@ same_refusal text t u refusal.Output read e h = absurd h
 same_refusal text t u refusal.Input read e h = absurd h
 same_refusal text t u (refusal.Unmet n) read e h = absurd h
 
-pub if_shown_refused : {T : Type 0} (r : Result T Refusal) (full : Bool) (text : List ℕ) (t u : Contents) → table_of text ≡ Ok t → u ≡ shown_as full t → IfErr r (IsLinkRefusal u)
+pub if_shown_refused : {T : Type 0} (r : Result T Refusal) (form : SlaveForm) (text : List ℕ) (t u : Contents) → table_of text ≡ Ok t → u ≡ shown_in form t → IfErr r (IsLinkRefusal u)
     → IfErr r (IsTableRefusal text)
-if_shown_refused (Ok x) full text t u read shown h = tt
-if_shown_refused (Err x) full text t u read shown h = same_refusal text t u x read (ap compile_fault shown ∙ shown_fault full t) h
+if_shown_refused (Ok x) form text t u read shown h = tt
+if_shown_refused (Err x) form text t u read shown h = same_refusal text t u x read (ap compile_fault shown ∙ shown_fault form t) h
 
-pub if_gives : {E : Type 0} (r : Result (List SlaveState) E) (full : Bool) (known : Option (List ℕ)) (text : List ℕ) → GivesText known text → IfOk r (StatesSlaves full text) → IfOk r (GivesSlaves full known)
-if_gives (Ok slaves) full known text gives h = (text, gives, h)
-if_gives (Err e) full known text gives h = tt
+pub if_gives : {E : Type 0} (r : Result (List SlaveState) E) (form : SlaveForm) (known : Option (List ℕ)) (text : List ℕ) → GivesText known text → IfOk r (StatesSlaves form text) → IfOk r (GivesSlaves form known)
+if_gives (Ok slaves) form known text gives h = (text, gives, h)
+if_gives (Err e) form known text gives h = tt
 
 -- ---- what is printed
 
@@ -124,15 +126,15 @@ serves-any (Err (refusal.Unmet n)) frames shows first last before after old new 
 
 -- ---- the whole
 
-pub segment_refused : (r : Result Unit Refusal) (x : Refusal) (frames port : ℕ) (full : Bool) (known old quiet : Option (List ℕ)) → IsErrAnd r (λ e. e ≡ x) → RefusesSegment known x
-    → RunsSegment frames port full known old old quiet quiet r
-segment_refused (Ok done) x frames port full known old quiet is h = absurd is
-segment_refused (Err e) x frames port full known old quiet is h = inr (e, refl, subst (RefusesSegment known) (sym is) h, refl, refl)
+pub segment_refused : (r : Result Unit Refusal) (x : Refusal) (frames port : ℕ) (form : SlaveForm) (known old quiet : Option (List ℕ)) → IsErrAnd r (λ e. e ≡ x) → RefusesSegment known x
+    → RunsSegment frames port form known old old quiet quiet r
+segment_refused (Ok done) x frames port form known old quiet is h = absurd is
+segment_refused (Err e) x frames port form known old quiet is h = inr (e, refl, subst (RefusesSegment known) (sym is) h, refl, refl)
 
-pub segment_served : (r : Result Unit Refusal) (frames port listens : ℕ) (full : Bool) (opened closed : SocketState) (known old new quiet told : Option (List ℕ)) (shows : List ℕ → List ℕ → Type 0) (first last : List SlaveState)
-    → GivesSlaves full known first → IsOpened port opened → listens ≡ opened.port → IsTold (listening_line listens) quiet told
-    → ServesSegment frames shows first last (silent opened.failed) (silent closed.failed) old new r → RunsSegment frames port full known old new quiet told r
-segment_served r frames port listens full opened closed known old new quiet told shows first last slaves socket same line serves = inl (record {
+pub segment_served : (r : Result Unit Refusal) (frames port listens : ℕ) (form : SlaveForm) (opened closed : SocketState) (known old new quiet told : Option (List ℕ)) (shows : List ℕ → List ℕ → Type 0) (first last : List SlaveState)
+    → GivesSlaves form known first → IsOpened port opened → listens ≡ opened.port → IsTold (listening_line listens) quiet told
+    → ServesSegment frames shows first last (silent opened.failed) (silent closed.failed) old new r → RunsSegment frames port form known old new quiet told r
+segment_served r frames port listens form opened closed known old new quiet told shows first last slaves socket same line serves = inl (record {
   opened = opened;
   closed = closed;
   first = first;
@@ -144,14 +146,14 @@ segment_served r frames port listens full opened closed known old new quiet told
 })
 
 -- the same on a card
-pub card_refused : (r : Result Unit Refusal) (x : Refusal) (frames : ℕ) (full : Bool) (known old : Option (List ℕ)) → IsErrAnd r (λ e. e ≡ x) → RefusesSegment known x
-    → RunsCardSegment frames full known old old r
-card_refused (Ok done) x frames full known old is h = absurd is
-card_refused (Err e) x frames full known old is h = inr (e, refl, subst (RefusesSegment known) (sym is) h, refl)
+pub card_refused : (r : Result Unit Refusal) (x : Refusal) (frames : ℕ) (form : SlaveForm) (known old : Option (List ℕ)) → IsErrAnd r (λ e. e ≡ x) → RefusesSegment known x
+    → RunsCardSegment frames form known old old r
+card_refused (Ok done) x frames form known old is h = absurd is
+card_refused (Err e) x frames form known old is h = inr (e, refl, subst (RefusesSegment known) (sym is) h, refl)
 
-pub card_served : (r : Result Unit Refusal) (frames : ℕ) (full : Bool) (opened closed : WireState) (known old new : Option (List ℕ)) (shows : List ℕ → List ℕ → Type 0) (first last : List SlaveState)
-    → GivesSlaves full known first → opened ≡ silent 0 → ServesSegment frames shows first last opened closed old new r → RunsCardSegment frames full known old new r
-card_served r frames full opened closed known old new shows first last slaves fresh serves = inl (record {
+pub card_served : (r : Result Unit Refusal) (frames : ℕ) (form : SlaveForm) (opened closed : WireState) (known old new : Option (List ℕ)) (shows : List ℕ → List ℕ → Type 0) (first last : List SlaveState)
+    → GivesSlaves form known first → opened ≡ silent 0 → ServesSegment frames shows first last opened closed old new r → RunsCardSegment frames form known old new r
+card_served r frames form opened closed known old new shows first last slaves fresh serves = inl (record {
   closed = closed;
   first = first;
   last = last;

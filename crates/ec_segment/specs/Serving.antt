@@ -1,9 +1,9 @@
 -- What `ecat segment` prints and tells (this project's profile).
-use Rattle.std.specs.Prelude.{◌≡◌, ◌⊎◌, ℕ, Bool, List, ◌∷◌, [], ◌++◌, Option, None, Result, Ok, Err, codes}
+use Rattle.std.specs.Prelude.{◌≡◌, ◌⊎◌, ℕ, Bool, true, false, List, ◌∷◌, [], ◌++◌, Option, None, Result, Ok, Err, codes}
 use Rattle.std.specs.Fmt.{decimal}
 use Rattle.std.specs.Io.KnownBytes.{Appends}
 use Rattle.ec_slave.specs.State.{SlaveState}
-use Rattle.ec_table.specs.Contents.{Contents, shown_as}
+use Rattle.ec_table.specs.Contents.{Contents, shown_full}
 use Rattle.ec_table.specs.Reading.{table_of}
 use Rattle.ec_link.specs.Faults.{compile_fault}
 use Rattle.ec_bringup.specs.SwitchedOn.{AreSlavesOf}
@@ -13,6 +13,8 @@ use Rattle.ec_console.specs.declared.refusal.Refusal.{Refusal}
 use Rattle.ec_console.specs.declared.refusal.Refusal.TheVariants.{Output, Socket}
 use Rattle.ec_console.specs.Given.{GivesText, RefusesTable}
 use Rattle.ec_console.specs.Printing.{AppendsPart, IsTold}
+use Rattle.ec_segment.specs.declared.form.SlaveForm.{SlaveForm}
+use Rattle.ec_segment.specs.declared.form.SlaveForm.TheVariants.{Full, Plain}
 
 -- how many payloads were answered, and how many not
 abbrev pub served_line : ℕ → ℕ → List ℕ
@@ -24,17 +26,27 @@ listening_line port = codes "ecat: listening on 127.0.0.1:" ++ decimal port ++ 1
 
 -- ---- slaves
 
+-- the form of slaves that are full or aren't
+abbrev pub slave_form : (full : Bool) → SlaveForm
+slave_form false = Plain
+slave_form true = Full
+
+-- a table whose slaves are shown in a form
+abbrev pub shown_in : SlaveForm → Contents → Contents
+shown_in Plain t = t
+shown_in Full t = shown_full t
+
 -- the slaves of a table that has a plan, just switched on
 abbrev pub HasSlaves : Contents → List SlaveState → Type 0
 HasSlaves t slaves = (compile_fault t ≡ None) × AreSlavesOf t slaves
 
 -- those of the table that a text states
-abbrev pub StatesSlaves : (full : Bool) → List ℕ → List SlaveState → Type 0
-StatesSlaves full text slaves = (t : Contents) × (table_of text ≡ Ok t) × HasSlaves (shown_as full t) slaves
+abbrev pub StatesSlaves : SlaveForm → List ℕ → List SlaveState → Type 0
+StatesSlaves form text slaves = (t : Contents) × (table_of text ≡ Ok t) × HasSlaves (shown_in form t) slaves
 
 -- and of that which the input gives
-abbrev pub GivesSlaves : (full : Bool) → Option (List ℕ) → List SlaveState → Type 0
-GivesSlaves full known slaves = (text : List ℕ) × GivesText known text × StatesSlaves full text slaves
+abbrev pub GivesSlaves : SlaveForm → Option (List ℕ) → List SlaveState → Type 0
+GivesSlaves form known slaves = (text : List ℕ) × GivesText known text × StatesSlaves form text slaves
 
 -- ---- on a wire
 
@@ -61,14 +73,14 @@ ServesSegment frames shows first last before after old new (Err _) = ⊥
 abbrev pub any_inputs : List ℕ → List ℕ → Type 0
 any_inputs outputs inputs = Unit {0}
 
--- A socket on this port, and at it the slaves of the table that the input states, full or as stated, just switched on: it is told that they
+-- A socket on this port, and at it the slaves of the table that the input states, in a form, just switched on: it is told that they
 -- listen there, and then they are served. A socket tells no payload, so what it carried is any.
-pub record ListensOn (frames port : ℕ) (full : Bool) (known old new quiet told : Option (List ℕ)) (ended : Result Unit Refusal) : Type 0 where
+pub record ListensOn (frames port : ℕ) (form : SlaveForm) (known old new quiet told : Option (List ℕ)) (ended : Result Unit Refusal) : Type 0 where
   pub opened : SocketState
   pub closed : SocketState
   pub first : List SlaveState
   pub last : List SlaveState
-  pub slaves : GivesSlaves full known first
+  pub slaves : GivesSlaves form known first
   pub socket : IsOpened port opened
   pub tells : IsTold (listening_line opened.port) quiet told
   pub serves : ServesSegment frames any_inputs first last (silent opened.failed) (silent closed.failed) old new ended
@@ -78,22 +90,22 @@ abbrev pub RefusesSegment : Option (List ℕ) → Refusal → Type 0
 RefusesSegment known refusal = RefusesTable known refusal ⊎ (refusal ≡ Socket)
 
 -- how it ends, by what the input gives, and what the output and the fault stream hold before and after
-abbrev pub RunsSegment : (frames port : ℕ) → (full : Bool) → (known old new quiet told : Option (List ℕ)) → Result Unit Refusal → Type 0
-RunsSegment frames port full known old new quiet told ended =
-    ListensOn frames port full known old new quiet told ended
+abbrev pub RunsSegment : (frames port : ℕ) → SlaveForm → (known old new quiet told : Option (List ℕ)) → Result Unit Refusal → Type 0
+RunsSegment frames port form known old new quiet told ended =
+    ListensOn frames port form known old new quiet told ended
     ⊎ ((refusal : Refusal) × (ended ≡ Err refusal) × RefusesSegment known refusal × (new ≡ old) × (told ≡ quiet))
 
 -- ---- on a card
 
--- A card's socket, and at it the slaves of the table that the input states, just switched on, which are served.
-pub record AnswersOnCard (frames : ℕ) (full : Bool) (known old new : Option (List ℕ)) (ended : Result Unit Refusal) : Type 0 where
+-- A card's socket, and at it the slaves of the table that the input states, in a form, just switched on, which are served.
+pub record AnswersOnCard (frames : ℕ) (form : SlaveForm) (known old new : Option (List ℕ)) (ended : Result Unit Refusal) : Type 0 where
   pub closed : WireState
   pub first : List SlaveState
   pub last : List SlaveState
-  pub slaves : GivesSlaves full known first
+  pub slaves : GivesSlaves form known first
   pub serves : ServesSegment frames any_inputs first last (silent 0) closed old new ended
 
 -- or a fault of the input or its table, or the descriptor is no socket's
-abbrev pub RunsCardSegment : (frames : ℕ) → (full : Bool) → (known old new : Option (List ℕ)) → Result Unit Refusal → Type 0
-RunsCardSegment frames full known old new ended =
-    AnswersOnCard frames full known old new ended ⊎ ((refusal : Refusal) × (ended ≡ Err refusal) × RefusesSegment known refusal × (new ≡ old))
+abbrev pub RunsCardSegment : (frames : ℕ) → SlaveForm → (known old new : Option (List ℕ)) → Result Unit Refusal → Type 0
+RunsCardSegment frames form known old new ended =
+    AnswersOnCard frames form known old new ended ⊎ ((refusal : Refusal) × (ended ≡ Err refusal) × RefusesSegment known refusal × (new ≡ old))

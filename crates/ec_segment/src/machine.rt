@@ -1,10 +1,11 @@
 //! The machine that a link table on the input states.
-ghost use Rattle.std.specs.Prelude.{IfErr, IfOk};
+ghost use Rattle.std.specs.Prelude.{◌≡◌, IfErr, IfOk};
 ghost use Rattle.ec_console.specs.Explaining.{IsLeft};
 ghost use Rattle.ec_console.specs.Given.{IsTableRefusal, RefusesTable};
-ghost use Rattle.ec_segment.specs.Serving.{GivesSlaves, HasSlaves, StatesSlaves};
+ghost use Rattle.ec_segment.specs.Serving.{GivesSlaves, HasSlaves, StatesSlaves, shown_in};
 ghost use Rattle.ec_console.specs.Given.{IsLinkRefusal};
 
+use crate::form::SlaveForm;
 use ec_bringup::slaves_of_machine;
 use ec_console::{Explanation, Refusal, read_text};
 use ec_link::Machine;
@@ -13,36 +14,46 @@ use ec_table::{Table, read_table};
 use std::alloc::Global;
 use std::io::Read;
 
-/// The slaves of the table that the input states, full or as it states them, as they are switched on. A
-/// refusal of the table is explained, where that is wanted.
+/// The slaves of the table that the input states, in a form, as they are switched on. A refusal of the
+/// table is explained, where that is wanted.
 #[tactic(auto, using(crate::proofs::SegmentLemmas::if_gives))]
 pub(crate) fn slaves_of_input<R: Read>(
     alloc: Global,
     input: &mut R,
-    full: bool,
+    form: SlaveForm,
     behind: &mut Explanation,
 ) -> Result<Ring, Refusal>
-    ensures slaves { IfOk result (GivesSlaves full (R.remaining input.old)) }
+    ensures slaves { IfOk result (GivesSlaves form (R.remaining input.old)) }
     ensures refused { IfErr result (RefusesTable (R.remaining input.old)) }
     ensures explains { IsLeft behind.old behind.new }
 {
     let text = read_text(alloc, input)?;
-    let made = slaves_of_text(alloc, text.as_str(), full);
+    let made = slaves_of_text(alloc, text.as_str(), form);
     if let Err(refusal) = &made {
         behind.explain(alloc, text.as_str(), refusal);
     }
     made
 }
 
-/// The slaves of the table that the text states, full or as it states them, as they are switched on.
+/// The slaves of the table that the text states, in a form, as they are switched on.
 #[tactic(auto, using(crate::proofs::SegmentLemmas::if_states))]
-fn slaves_of_text(alloc: Global, text: &str, full: bool) -> Result<Ring, Refusal>
-    ensures slaves { IfOk result (StatesSlaves full text.now) }
+fn slaves_of_text(alloc: Global, text: &str, form: SlaveForm) -> Result<Ring, Refusal>
+    ensures slaves { IfOk result (StatesSlaves form text.now) }
     ensures refused { IfErr result (IsTableRefusal text.now) }
 {
     let mut table = read_table(alloc, text)?;
-    table.show_as(full);
+    show_in(&mut table, form);
     slaves_of_table(alloc, table)
+}
+
+/// Shows the slaves of a table in a form.
+fn show_in(table: &mut Table, form: SlaveForm)
+    ensures { table.new ≡ shown_in form table.old }
+{
+    match form {
+        SlaveForm::Plain => {}
+        SlaveForm::Full => table.show_full(),
+    }
 }
 
 /// The slaves of a table, as they are switched on.

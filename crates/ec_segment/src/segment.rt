@@ -7,6 +7,7 @@ ghost use Rattle.ec_console.specs.Capturing.{EndsCaptured, Finishes};
 ghost use Rattle.ec_console.specs.declared.refusal.Refusal.{Refusal as RefusalValue};
 ghost use Rattle.ec_segment.specs.Serving.{RunsCardSegment, RunsSegment, ServesSegment, listening_line, served_line};
 
+use crate::form::SlaveForm;
 use crate::machine::slaves_of_input;
 use arrayvec::ArrayString;
 use ec_card::{CardWire, Patience, Sender};
@@ -51,8 +52,8 @@ pub fn print_served_segment<W: Wire, O: Write>(
     }
 }
 
-/// Answers payloads on a port of 127.0.0.1, so many in all, as the slaves of the table that the input states, which are `full`
-/// or as it states them, and whose applications are `app`. Once it listens it says so on `faults`; at every end from then on it prints how many payloads were
+/// Answers payloads on a port of 127.0.0.1, so many in all, as the slaves of the table that the input states, in a form, whose
+/// applications are `app`. Once it listens it says so on `faults`; at every end from then on it prints how many payloads were
 /// frames, which were answered, and how many were not. Where no payload comes for `idle` seconds it ends as by a fault of
 /// the socket; with 0 it waits on. A refusal of the table is explained, where that is wanted.
 ///
@@ -64,7 +65,7 @@ pub fn print_segment<H: AllocGlobal + Net + Files + Clock, R: Read, W: Write, F:
     rt: &H,
     frames: u32,
     port: u16,
-    full: bool,
+    form: SlaveForm,
     idle: u32,
     input: &mut R,
     output: &mut W,
@@ -72,12 +73,12 @@ pub fn print_segment<H: AllocGlobal + Net + Files + Clock, R: Read, W: Write, F:
     app: &mut dyn App,
     behind: &mut Explanation,
 ) -> Result<(), Refusal>
-    ensures runs { RunsSegment frames port full (R.remaining input.old) (W.contents output.old) (W.contents output.new)
+    ensures runs { RunsSegment frames port form (R.remaining input.old) (W.contents output.old) (W.contents output.new)
         (F.contents faults.old) (F.contents faults.new) result }
     ensures explains { IsLeft behind.old behind.new }
 {
     serve_port(
-        rt, frames, port, full, idle, &mut None, input, output, faults, app, behind,
+        rt, frames, port, form, idle, &mut None, input, output, faults, app, behind,
     )
 }
 
@@ -92,7 +93,7 @@ pub fn capture_segment<H: AllocGlobal + Net + Files + Clock, R: Read, W: Write, 
     rt: &H,
     frames: u32,
     port: u16,
-    full: bool,
+    form: SlaveForm,
     idle: u32,
     file: &str,
     input: &mut R,
@@ -101,19 +102,19 @@ pub fn capture_segment<H: AllocGlobal + Net + Files + Clock, R: Read, W: Write, 
     app: &mut dyn App,
     behind: &mut Explanation,
 ) -> Result<(), Refusal>
-    ensures runs { EndsCaptured (λ ended. RunsSegment frames port full (R.remaining input.old) (W.contents output.old)
+    ensures runs { EndsCaptured (λ ended. RunsSegment frames port form (R.remaining input.old) (W.contents output.old)
         (W.contents output.new) (F.contents faults.old) (F.contents faults.new) ended)
         ((output.new ≡ output.old) × (faults.new ≡ faults.old)) result }
     ensures explains { IsLeft behind.old behind.new }
 {
     let capture = open_capture(rt, file, "segment")?;
     port_captured(
-        rt, frames, port, full, idle, capture, input, output, faults, app, behind,
+        rt, frames, port, form, idle, capture, input, output, faults, app, behind,
     )
 }
 
 /// Answers Ethernet frames on the card whose raw socket has a descriptor, so many in all, as the slaves of the table that the
-/// input states, whose applications are `app`, with bit 1 of the source set. At every end it prints how many payloads were
+/// input states, in a form, whose applications are `app`, with bit 1 of the source set. At every end it prints how many payloads were
 /// frames, which were answered, and how many were not. Where no payload comes for `idle` seconds it ends as by a fault of the
 /// socket; with 0 it waits on. A refusal of the table is explained, where that is wanted.
 ///
@@ -125,18 +126,18 @@ pub fn print_card_segment<H: AllocGlobal + Files + Clock, R: Read, W: Write>(
     rt: &H,
     frames: u32,
     descriptor: u16,
-    full: bool,
+    form: SlaveForm,
     idle: u32,
     input: &mut R,
     output: &mut W,
     app: &mut dyn App,
     behind: &mut Explanation,
 ) -> Result<(), Refusal>
-    ensures runs { RunsCardSegment frames full (R.remaining input.old) (W.contents output.old) (W.contents output.new) result }
+    ensures runs { RunsCardSegment frames form (R.remaining input.old) (W.contents output.old) (W.contents output.new) result }
     ensures explains { IsLeft behind.old behind.new }
 {
     serve_card(
-        rt, frames, descriptor, full, idle, &mut None, input, output, app, behind,
+        rt, frames, descriptor, form, idle, &mut None, input, output, app, behind,
     )
 }
 
@@ -146,7 +147,7 @@ pub fn capture_card_segment<H: AllocGlobal + Files + Clock, R: Read, W: Write>(
     rt: &H,
     frames: u32,
     descriptor: u16,
-    full: bool,
+    form: SlaveForm,
     idle: u32,
     file: &str,
     input: &mut R,
@@ -154,13 +155,13 @@ pub fn capture_card_segment<H: AllocGlobal + Files + Clock, R: Read, W: Write>(
     app: &mut dyn App,
     behind: &mut Explanation,
 ) -> Result<(), Refusal>
-    ensures runs { EndsCaptured (λ ended. RunsCardSegment frames full (R.remaining input.old) (W.contents output.old)
+    ensures runs { EndsCaptured (λ ended. RunsCardSegment frames form (R.remaining input.old) (W.contents output.old)
         (W.contents output.new) ended) (output.new ≡ output.old) result }
     ensures explains { IsLeft behind.old behind.new }
 {
     let capture = open_capture(rt, file, "segment")?;
     card_captured(
-        rt, frames, descriptor, full, idle, capture, input, output, app, behind,
+        rt, frames, descriptor, form, idle, capture, input, output, app, behind,
     )
 }
 
@@ -211,7 +212,7 @@ fn serve_port<H: AllocGlobal + Net + Files + Clock, R: Read, W: Write, F: Write>
     rt: &H,
     frames: u32,
     port: u16,
-    full: bool,
+    form: SlaveForm,
     idle: u32,
     capture: &mut Capture<H::File>,
     input: &mut R,
@@ -220,11 +221,11 @@ fn serve_port<H: AllocGlobal + Net + Files + Clock, R: Read, W: Write, F: Write>
     app: &mut dyn App,
     behind: &mut Explanation,
 ) -> Result<(), Refusal>
-    ensures runs { RunsSegment frames port full (R.remaining input.old) (W.contents output.old) (W.contents output.new)
+    ensures runs { RunsSegment frames port form (R.remaining input.old) (W.contents output.old) (W.contents output.new)
         (F.contents faults.old) (F.contents faults.new) result }
     ensures explains { IsLeft behind.old behind.new }
 {
-    let mut slaves = slaves_of_input(rt.alloc(), input, full, behind)?;
+    let mut slaves = slaves_of_input(rt.alloc(), input, form, behind)?;
     let wire = UdpWire::bind_idle(rt, port, idle)?;
     tell_listening(wire.port(), faults);
     serve_tapped(rt, &mut slaves, app, wire, frames, capture, output)
@@ -266,7 +267,7 @@ fn port_captured<H: AllocGlobal + Net + Files + Clock, R: Read, W: Write, F: Wri
     rt: &H,
     frames: u32,
     port: u16,
-    full: bool,
+    form: SlaveForm,
     idle: u32,
     capture: Capture<H::File>,
     input: &mut R,
@@ -275,7 +276,7 @@ fn port_captured<H: AllocGlobal + Net + Files + Clock, R: Read, W: Write, F: Wri
     app: &mut dyn App,
     behind: &mut Explanation,
 ) -> Result<(), Refusal>
-    ensures runs { (ended : Result Unit RefusalValue) × RunsSegment frames port full (R.remaining input.old) (W.contents output.old)
+    ensures runs { (ended : Result Unit RefusalValue) × RunsSegment frames port form (R.remaining input.old) (W.contents output.old)
         (W.contents output.new) (F.contents faults.old) (F.contents faults.new) ended × Finishes ended result }
     ensures explains { IsLeft behind.old behind.new }
 {
@@ -284,7 +285,7 @@ fn port_captured<H: AllocGlobal + Net + Files + Clock, R: Read, W: Write, F: Wri
         rt,
         frames,
         port,
-        full,
+        form,
         idle,
         &mut capture,
         input,
@@ -302,7 +303,7 @@ fn serve_card<H: AllocGlobal + Files + Clock, R: Read, W: Write>(
     rt: &H,
     frames: u32,
     descriptor: u16,
-    full: bool,
+    form: SlaveForm,
     idle: u32,
     capture: &mut Capture<H::File>,
     input: &mut R,
@@ -310,10 +311,10 @@ fn serve_card<H: AllocGlobal + Files + Clock, R: Read, W: Write>(
     app: &mut dyn App,
     behind: &mut Explanation,
 ) -> Result<(), Refusal>
-    ensures runs { RunsCardSegment frames full (R.remaining input.old) (W.contents output.old) (W.contents output.new) result }
+    ensures runs { RunsCardSegment frames form (R.remaining input.old) (W.contents output.old) (W.contents output.new) result }
     ensures explains { IsLeft behind.old behind.new }
 {
-    let mut slaves = slaves_of_input(rt.alloc(), input, full, behind)?;
+    let mut slaves = slaves_of_input(rt.alloc(), input, form, behind)?;
     let wire = CardWire::of_descriptor(i32::from(descriptor), Sender::Segment, patience_of(idle))?;
     serve_tapped(rt, &mut slaves, app, wire, frames, capture, output)
 }
@@ -332,7 +333,7 @@ fn card_captured<H: AllocGlobal + Files + Clock, R: Read, W: Write>(
     rt: &H,
     frames: u32,
     descriptor: u16,
-    full: bool,
+    form: SlaveForm,
     idle: u32,
     capture: Capture<H::File>,
     input: &mut R,
@@ -340,7 +341,7 @@ fn card_captured<H: AllocGlobal + Files + Clock, R: Read, W: Write>(
     app: &mut dyn App,
     behind: &mut Explanation,
 ) -> Result<(), Refusal>
-    ensures runs { (ended : Result Unit RefusalValue) × RunsCardSegment frames full (R.remaining input.old) (W.contents output.old)
+    ensures runs { (ended : Result Unit RefusalValue) × RunsCardSegment frames form (R.remaining input.old) (W.contents output.old)
         (W.contents output.new) ended × Finishes ended result }
     ensures explains { IsLeft behind.old behind.new }
 {
@@ -349,7 +350,7 @@ fn card_captured<H: AllocGlobal + Files + Clock, R: Read, W: Write>(
         rt,
         frames,
         descriptor,
-        full,
+        form,
         idle,
         &mut capture,
         input,

@@ -1,10 +1,33 @@
-//! Numbers in decimal, in a line of fixed room. One of 64 bits has at most 20 digits.
-ghost use Rattle.std.specs.Prelude.{◌≡◌, ◌+◌, ◌≤◌, ◌∷◌, ◌++◌};
+//! Numbers in decimal, in a line of fixed room, and working counters. A number of 64 bits has at most 20 digits.
+ghost use Rattle.std.specs.Prelude.{◌≡◌, ◌+◌, ◌≤◌, ◌∷◌, ◌++◌, OnErr, OnOk, string_bytes};
 ghost use Rattle.std.specs.Fmt.{decimal};
 ghost use Rattle.arrayvec.specs.ArrayString.{array_string_len};
+ghost use Rattle.ec_text.specs.PlanText.{counter_text};
 
 use arrayvec::ArrayString;
+use ec_link::{ExpectedCounters, PartPlan};
 use itoa::Buffer;
+use std::alloc::AllocError;
+
+/// As many bytes as working counters of a part may have: two numbers and what stands between them.
+const COUNTER_SIZE: usize = 41;
+
+/// Adds working counters of a part, as `ecat plan` and reports show them.
+///
+/// # Errors
+///
+/// `AllocError` where memory ran out; the text is then as it was.
+pub fn write_counter(
+    text: &mut String,
+    part: &PartPlan,
+    predicted: ExpectedCounters,
+) -> Result<(), AllocError>
+    ensures added { OnOk result
+        (string_bytes text.new ≡ string_bytes text.old ++ counter_text part.now predicted) }
+    ensures kept { OnErr result (string_bytes text.new ≡ string_bytes text.old) }
+{
+    text.push_str(counter_of(part, predicted).as_str())
+}
 
 /// Adds a number.
 pub fn push_number<const N: usize>(line: &mut ArrayString<N>, number: u64)
@@ -24,4 +47,21 @@ pub fn push_value<const N: usize>(line: &mut ArrayString<N>, value: u64)
 {
     line.push_str(" ");
     push_number(line, value);
+}
+
+/// Working counters of a part: the one of its LRW, or `W/R` of its LWR and its LRD, and `0` where it has no byte.
+fn counter_of(part: &PartPlan, predicted: ExpectedCounters) -> ArrayString<COUNTER_SIZE>
+    ensures { result.bytes ≡ counter_text part.now predicted }
+{
+    let mut counter = ArrayString::new();
+    match predicted {
+        ExpectedCounters::Lrw(count) => push_number(&mut counter, count as u64),
+        ExpectedCounters::Split { .. } if part.bytes == 0 => counter.push_str("0"),
+        ExpectedCounters::Split { write, read } => {
+            push_number(&mut counter, write as u64);
+            counter.push_str("/");
+            push_number(&mut counter, read as u64);
+        }
+    }
+    counter
 }

@@ -10,10 +10,10 @@ mod plan;
 mod refusal;
 mod report;
 
-pub use crate::digits::{push_number, push_value};
+pub use crate::digits::{push_number, push_value, write_counter};
 pub use crate::explain::explain_text;
 pub use crate::header::header_text;
 pub use crate::inputs::{input_lines, value_of, write_inputs};
-pub use crate::plan::{plan_text, write_counter};
+pub use crate::plan::plan_text;
 pub use crate::refusal::{Refused, Values, listed, refusal_line, refusal_text};
 pub use crate::report::{write_outcome, write_report};

@@ -1,34 +1,13 @@
 //! The fixed form of a plan.
-ghost use Rattle.std.specs.Prelude.{◌≡◌, ◌++◌, IfOk, OnErr, OnOk, string_bytes};
-ghost use Rattle.ec_text.specs.PlanText.{counter_text, fmmu_line, lines_from, manager_line, part_line, plan_text, planned_part_line, record_line, slave_line, slave_lines, unit_text};
+ghost use Rattle.std.specs.Prelude.{◌≡◌, ◌++◌, IfOk, OnOk, string_bytes};
+ghost use Rattle.ec_text.specs.PlanText.{fmmu_line, lines_from, manager_line, part_line, plan_text, planned_part_line, record_line, slave_line, slave_lines, unit_text};
 
-use crate::digits::push_number;
-use arrayvec::ArrayString;
+use crate::digits::write_counter;
 use ec_link::{ExpectedCounters, PartPlan, Plan, SlavePlan};
 use ec_regs::{FmmuSettings, SyncManagerSettings, encode_fmmu, encode_manager};
 use ec_table::Version;
 use std::alloc::{AllocError, Global};
 use std::fmt::Write as _;
-
-/// As many bytes as working counters of a part may have: two numbers and what stands between them.
-const COUNTER_SIZE: usize = 41;
-
-/// Adds working counters of a part, as `ecat plan` and reports show them.
-///
-/// # Errors
-///
-/// `AllocError` where memory ran out; the text is then as it was.
-pub fn write_counter(
-    text: &mut String,
-    part: &PartPlan,
-    predicted: ExpectedCounters,
-) -> Result<(), AllocError>
-    ensures added { OnOk result
-        (string_bytes text.new ≡ string_bytes text.old ++ counter_text part.now predicted) }
-    ensures kept { OnErr result (string_bytes text.new ≡ string_bytes text.old) }
-{
-    text.push_str(counter_of(part, predicted).as_str())
-}
 
 /// The plan of a table of this version as a text: for each slave a line with its part and how many
 /// output and input bits it has, then its sync managers that are set and its FMMUs that are active,
@@ -42,23 +21,6 @@ pub fn plan_text(alloc: Global, version: Version, plan: &Plan) -> Result<String,
     write_slaves(alloc, &mut text, plan.slaves())?;
     write_parts(&mut text, version, plan)?;
     Ok(text)
-}
-
-/// Working counters of a part: the one of its LRW, or `W/R` of its LWR and its LRD, and `0` where it has no byte.
-fn counter_of(part: &PartPlan, predicted: ExpectedCounters) -> ArrayString<COUNTER_SIZE>
-    ensures { result.bytes ≡ counter_text part.now predicted }
-{
-    let mut counter = ArrayString::new();
-    match predicted {
-        ExpectedCounters::Lrw(count) => push_number(&mut counter, count as u64),
-        ExpectedCounters::Split { .. } if part.bytes == 0 => counter.push_str("0"),
-        ExpectedCounters::Split { write, read } => {
-            push_number(&mut counter, write as u64);
-            counter.push_str("/");
-            push_number(&mut counter, read as u64);
-        }
-    }
-    counter
 }
 
 /// Adds the lines of the slaves.

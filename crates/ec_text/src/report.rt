@@ -3,7 +3,7 @@ ghost use Rattle.std.specs.Prelude.{◌≡◌, ◌++◌, OnOk, None, false, stri
 ghost use Rattle.ec_text.specs.PlanText.{lines_from};
 ghost use Rattle.ec_text.specs.ReportText.{counter_at, kept_text, outcome_text, report_text, taken_text, unit_at, units_text, word_text};
 
-use crate::plan::write_counter;
+use crate::digits::write_counter;
 use ec_cycle::Report;
 use ec_link::{ExpectedCounters, PartPlan};
 use ec_start::StartError;

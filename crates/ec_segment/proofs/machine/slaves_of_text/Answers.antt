@@ -3,4 +3,4 @@ use Rattle.ec_segment.proofs.machine.slaves_of_text.Goals as goal
 
 pub returns-clause-refused : goal.returns-clause-refused
 returns-clause-refused c =
-    if_shown_refused c.slaves_of_table.result c.args.full c.args.text.now c.in_ok-table.table _ c.in_ok-table.ensures c.show_as.ensures c.slaves_of_table.ensures.refused
+    if_shown_refused c.slaves_of_table.result c.args.form c.args.text.now c.in_ok-table.table _ c.in_ok-table.ensures c.show_in.ensures c.slaves_of_table.ensures.refused

@@ -7,5 +7,5 @@ returns-in_err-wire-clause-runs g c = segment_refused _ _ _ _ _ _ _ _ c.from_res
 
 pub returns-clause-runs : goal.returns-clause-runs
 returns-clause-runs g c =
-    segment_served c.serve_tapped.result c.args.frames c.args.port c.port.result c.args.full c.in_ok-wire.wire c.serve_tapped.ensures.0 _ _ _ _ _ _ c.in_ok-slaves.slaves c.serve_tapped.new.slaves
+    segment_served c.serve_tapped.result c.args.frames c.args.port c.port.result c.args.form c.in_ok-wire.wire c.serve_tapped.ensures.0 _ _ _ _ _ _ c.in_ok-slaves.slaves c.serve_tapped.new.slaves
     c.in_ok-slaves.ensures.slaves c.in_ok-wire.ensures c.port.ensures c.tell_listening.ensures c.serve_tapped.ensures.1

@@ -1,6 +1,6 @@
 use Rattle.ec_script.specs.declared.line.LineAction.TheVariants.{Cycle, Input, Ready}
 use Rattle.ec_script.proofs.Plans.{act_keeps}
-use Rattle.ec_script.proofs.run.watch_act.Goals as goal
+use Rattle.ec_script.proofs.rounds.watch_act.Goals as goal
 
 pub returns-in-Ready-clause-plan : goal.returns-in-Ready-clause-plan
 returns-in-Ready-clause-plan g c = act_keeps Ready c.args.world.now c.start_up.new.world c.start_up.result c.start_up.ensures.made

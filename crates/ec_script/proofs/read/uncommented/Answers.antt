@@ -1,6 +1,6 @@
 use Rattle.std.proofs.Common.{◌∙◌}
 use Rattle.ec_script.proofs.Comments.{comment, no_comment}
-use Rattle.ec_script.proofs.words.uncommented.Goals as goal
+use Rattle.ec_script.proofs.read.uncommented.Goals as goal
 
 pub returns-in-Some : goal.returns-in-Some
 returns-in-Some c =
