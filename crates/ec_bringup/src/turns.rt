@@ -22,7 +22,7 @@ use ec_start::{NextFrame, Startup};
 /// action of its script, and then every slave works as planned.
 ///
 /// No frame of the start-up may be outstanding.
-pub fn bring_up(startup: &mut Startup, ring: &mut Ring)
+pub fn bring_up(startup: &mut Startup<'_>, ring: &mut Ring)
     requires { is_sent startup.old.phase ≡ false }
     ensures steps { IsBroughtTo (rising startup.old ring.old) (rising startup.new ring.new) }
     ensures plan { startup.new.plan ≡ startup.old.plan }
@@ -35,7 +35,7 @@ pub fn bring_up(startup: &mut Startup, ring: &mut Ring)
 }
 
 /// Turns until there is no next frame.
-fn make_turns(startup: &mut Startup, ring: &mut Ring)
+fn make_turns(startup: &mut Startup<'_>, ring: &mut Ring)
     requires { is_sent startup.old.phase ≡ false }
     ensures { IsBroughtTo (rising startup.old ring.old) (rising startup.new ring.new) }
 {
@@ -51,7 +51,7 @@ fn make_turns(startup: &mut Startup, ring: &mut Ring)
 
 /// One turn: the next frame is written, passes all slaves, each slave serves once, and the frame is taken back. It answers
 /// whether there was a frame; without one the ring stays as it was.
-fn turn(startup: &mut Startup, ring: &mut Ring, frame: &mut Frame) -> bool
+fn turn(startup: &mut Startup<'_>, ring: &mut Ring, frame: &mut Frame) -> bool
     requires { is_sent startup.old.phase ≡ false }
     ensures answer { IsTrue result ↔ (next_frame startup.old ≡ Send) }
     ensures made { IsTrue result → rising startup.new ring.new ≡ turned (rising startup.old ring.old) }

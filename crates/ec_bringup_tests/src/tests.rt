@@ -41,9 +41,9 @@ fn plan_of(alloc: Global, text: &str) -> Result<Plan, Fail> {
 }
 
 /// A start-up of the three slaves.
-fn startup_of(rt: &(impl AllocGlobal + Abort), plan: &Plan, from: u64) -> Result<Startup, Fail> {
+fn startup_of<'p>(rt: &impl Abort, plan: &'p Plan, from: u64) -> Startup<'p> {
     assert!(rt; Startup::can_start(plan));
-    Ok(Startup::new(rt.alloc(), plan, from)?)
+    Startup::new(plan, from)
 }
 
 /// The slaves of a plan as they are switched on, one for each revision that is told.
@@ -62,7 +62,7 @@ fn ring_of(alloc: Global, plan: &Plan, revisions: &[u32]) -> Result<Ring, Fail> 
 }
 
 /// Brings a ring up by a start-up that hasn't sent a frame yet.
-fn brought_up(startup: &mut Startup, ring: &mut Ring) -> Result<(), Fail> {
+fn brought_up(startup: &mut Startup<'_>, ring: &mut Ring) -> Result<(), Fail> {
     match startup.phase() {
         Phase::Idle => bring_up(startup, ring),
         _ => return Err("a start-up that runs".into()),
@@ -83,7 +83,7 @@ fn all_show(ring: &Ring, status: u8) -> bool {
 /// A start-up brings slaves up, and has sent every frame below this number then.
 fn comes_up(
     rt: &(impl AllocGlobal + Abort),
-    startup: &mut Startup,
+    startup: &mut Startup<'_>,
     ring: &mut Ring,
     next: u64,
 ) -> Result<(), Fail> {
@@ -102,7 +102,7 @@ fn comes_up_anew(
     ring: &mut Ring,
     next: u64,
 ) -> Result<(), Fail> {
-    let mut startup = startup_of(rt, plan, 0)?;
+    let mut startup = startup_of(rt, plan, 0);
     comes_up(rt, &mut startup, ring, next)
 }
 
@@ -121,7 +121,7 @@ fn three_slaves_come_up(rt: HostRuntime) -> Result<(), Fail> {
 }
 
 /// A start-up that failed begins anew.
-fn begin_anew(startup: &mut Startup) -> Result<(), Fail> {
+fn begin_anew(startup: &mut Startup<'_>) -> Result<(), Fail> {
     if !startup.has_failed() {
         return Err("a failure".into());
     }
@@ -132,7 +132,7 @@ fn begin_anew(startup: &mut Startup) -> Result<(), Fail> {
 /// A start-up fails over slaves, has sent every frame below this number then, and begins anew.
 fn fails(
     rt: &(impl AllocGlobal + Abort),
-    startup: &mut Startup,
+    startup: &mut Startup<'_>,
     ring: &mut Ring,
     error: StartError,
     next: u64,
@@ -148,7 +148,7 @@ fn fails(
 /// A start-up of the plan brings up its own slaves, as they are switched on.
 fn right_come_up(
     rt: &(impl AllocGlobal + Abort),
-    startup: &mut Startup,
+    startup: &mut Startup<'_>,
     plan: &Plan,
     next: u64,
 ) -> Result<(), Fail> {
@@ -164,7 +164,7 @@ fn fails_twice(
     error: StartError,
     frames: u8,
 ) -> Result<(), Fail> {
-    let mut startup = startup_of(rt, plan, 0)?;
+    let mut startup = startup_of(rt, plan, 0);
     let each = u64::from(frames);
     fails(rt, &mut startup, wrong, error, each)?;
     fails(rt, &mut startup, wrong, error, 2 * each)?;
@@ -220,7 +220,7 @@ fn another_revision(rt: HostRuntime) -> Result<(), Fail> {
 /// A start-up that has numbers for some frames fails, and begun anew it has no number at all.
 fn fails_spent(
     rt: &(impl AllocGlobal + Abort),
-    startup: &mut Startup,
+    startup: &mut Startup<'_>,
     ring: &mut Ring,
 ) -> Result<(), Fail> {
     fails(rt, startup, ring, StartError::NumbersSpent, u64::MAX)?;
@@ -234,7 +234,7 @@ fn spends_numbers(
     ring: &mut Ring,
     frames: u64,
 ) -> Result<(), Fail> {
-    let mut startup = startup_of(rt, plan, u64::MAX - frames)?;
+    let mut startup = startup_of(rt, plan, u64::MAX - frames);
     fails_spent(rt, &mut startup, ring)
 }
 
@@ -317,7 +317,12 @@ fn serve_all(ring: &mut Ring) {
 }
 
 /// One turn. False where there is no next frame, or it was lost: then the start-up is given up.
-fn turn(startup: &mut Startup, ring: &mut Ring, at: usize, trouble: Trouble) -> Result<bool, Fail> {
+fn turn(
+    startup: &mut Startup<'_>,
+    ring: &mut Ring,
+    at: usize,
+    trouble: Trouble,
+) -> Result<bool, Fail> {
     let mut frame = Frame::new();
     if startup.next(&mut frame) != NextFrame::Send {
         return Ok(false);
@@ -344,7 +349,7 @@ fn met_by(next: u64, number: u64, trouble: Trouble) -> Trouble {
 
 /// Brings the ring up, where one frame meets trouble.
 fn rise_in_trouble(
-    startup: &mut Startup,
+    startup: &mut Startup<'_>,
     ring: &mut Ring,
     number: u64,
     at: usize,
@@ -374,7 +379,7 @@ fn may_end(outcome: Option<Result<(), StartError>>, trouble: Trouble) -> bool {
 }
 
 /// Brings the ring up anew, where the start-up has failed.
-fn restarted(startup: &mut Startup, ring: &mut Ring) -> Result<(), Fail> {
+fn restarted(startup: &mut Startup<'_>, ring: &mut Ring) -> Result<(), Fail> {
     if !startup.has_failed() {
         return Ok(());
     }
@@ -385,7 +390,7 @@ fn restarted(startup: &mut Startup, ring: &mut Ring) -> Result<(), Fail> {
 /// Slaves meet trouble in the frame of a number, and then come up undisturbed. It answers the number behind the last frame.
 fn rises_again(
     rt: &(impl AllocGlobal + Abort),
-    startup: &mut Startup,
+    startup: &mut Startup<'_>,
     ring: &mut Ring,
     number: u64,
     at: usize,
@@ -413,7 +418,7 @@ fn rise_twice(
     at: usize,
     trouble: Trouble,
 ) -> Result<u64, Fail> {
-    let mut startup = startup_of(rt, plan, 0)?;
+    let mut startup = startup_of(rt, plan, 0);
     let mut ring = ring_of(rt.alloc(), plan, &[1; 3])?;
     rises_again(rt, &mut startup, &mut ring, number, at, trouble)
 }
@@ -513,7 +518,7 @@ fn a_reply_does_not_fit(rt: HostRuntime) -> Result<(), Fail> {
 /// No slave serves in a start-up's turns from number 0 on. It ends as too slow, and begins anew.
 fn fails_unserved(
     rt: &(impl AllocGlobal + Abort),
-    startup: &mut Startup,
+    startup: &mut Startup<'_>,
     ring: &mut Ring,
 ) -> Result<(), Fail> {
     rise_in_trouble(startup, ring, 0, 0, Trouble::Unserved)?;
@@ -529,7 +534,7 @@ fn comes_up_once_served(
     plan: &Plan,
     ring: &mut Ring,
 ) -> Result<(), Fail> {
-    let mut startup = startup_of(rt, plan, 0)?;
+    let mut startup = startup_of(rt, plan, 0);
     fails_unserved(rt, &mut startup, ring)?;
     comes_up(rt, &mut startup, ring, 1010 + 75)
 }
@@ -574,7 +579,7 @@ fn another_mapping(rt: HostRuntime) -> Result<(), Fail> {
 
 /// Without slaves the first frame is the whole start-up.
 fn nobody_comes_up(rt: &(impl AllocGlobal + Abort), plan: &Plan) -> Result<(), Fail> {
-    let mut startup = startup_of(rt, plan, 5)?;
+    let mut startup = startup_of(rt, plan, 5);
     let mut ring = Ring::new(Vec::new(rt.alloc()));
     comes_up(rt, &mut startup, &mut ring, 6)
 }

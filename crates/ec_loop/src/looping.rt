@@ -203,24 +203,19 @@ fn started<'p, W: Wire>(
 {
     let plan = machine.plan();
     let mut master = Master::new(alloc, plan)?;
-    bring_up_for(alloc, plan, &mut master, wire)?;
+    bring_up_for(plan, &mut master, wire)?;
     Ok(master)
 }
 
 /// Brings the slaves of a plan up over a wire for a new master of it, which can begin cycles then.
 #[tactic(auto, unfolding(ec_start::specs::Running::begun))]
-fn bring_up_for<W: Wire>(
-    alloc: Global,
-    plan: &Plan,
-    master: &mut Master<'_>,
-    wire: &mut W,
-) -> Result<(), Refusal>
+fn bring_up_for<W: Wire>(plan: &Plan, master: &mut Master<'_>, wire: &mut W) -> Result<(), Refusal>
     requires few { All HasFewAssigned plan.now.slaves }
     requires new { master.old ≡ new_master plan.now }
     ensures up { OnOk result (IsUp plan.now (W.state wire.old) (W.state wire.new) master.new) }
     ensures refused { IfErr result (IsStartRefusal plan.now (W.state wire.old) (W.state wire.new)) }
 {
-    let mut startup = Startup::new(alloc, plan, 0)?;
+    let mut startup = Startup::new(plan, 0);
     bring_up_wire(&mut startup, wire);
     startup.outcome().unwrap()?;
     master.ready(&startup);

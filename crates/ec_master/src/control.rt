@@ -1,5 +1,5 @@
 //! A master over a wire.
-ghost use Rattle.std.specs.Prelude.{◌≡◌, IfOk, MatchOption, None, OnErr, OnOk, Some};
+ghost use Rattle.std.specs.Prelude.{◌≡◌, IfOk, MatchOption, None, Some};
 ghost use Rattle.ec_link.specs.Plan.{plan_of};
 ghost use Rattle.ec_start.specs.Running.{outcome_of};
 ghost use Rattle.ec_script.specs.Expecting.{is_ready};
@@ -23,7 +23,7 @@ use std::marker::Model;
 #[derive(Drop)]
 pub struct Control<'p> {
     plan: &'p Plan,
-    startup: Startup,
+    startup: Startup<'p>,
     master: Master<'p>,
     report: Option<Report>,
 }
@@ -49,11 +49,11 @@ impl<'p> Control<'p> {
         ensures { IfOk result (λ c. c ≡ new_control (plan_of machine.now)) }
     {
         let plan = machine.plan();
-        let startup = Startup::new(alloc, plan, 0)?;
+        let master = Master::new(alloc, plan)?;
         Ok(Control {
             plan,
-            startup,
-            master: Master::new(alloc, plan)?,
+            startup: Startup::new(plan, 0),
+            master,
             report: None,
         })
     }
@@ -93,35 +93,24 @@ impl<'p> Control<'p> {
         is_ready(&self.startup)
     }
 
-    /// Does an order once over a wire, and answers what there is to tell of it. It takes memory for a start-up alone. After a
-    /// fault of the wire nothing has changed but the number of the next cycle.
-    ///
-    /// # Errors
-    ///
-    /// `AllocError` where a start-up found none; nothing is done then, and nothing sent.
-    pub fn obey<W: Wire>(
-        &mut self,
-        alloc: Global,
-        wire: &mut W,
-        order: Order,
-    ) -> Result<Answer, AllocError>
-        ensures does { IfOk result (Does order self.old (W.state wire.old) self.new (W.state wire.new)) }
-        ensures untaken { IfOk result (λ told. told ≡ answer.Fault → self.new ≡ with_number_used self.old) }
-        ensures same { OnErr result (self.new ≡ self.old) }
-        ensures unused { OnErr result (wire.new ≡ wire.old) }
+    /// Does an order once over a wire, and answers what there is to tell of it. It takes no memory. After a fault of the wire
+    /// nothing has changed but the number of the next cycle.
+    pub fn obey<W: Wire>(&mut self, wire: &mut W, order: Order) -> Answer
+        ensures does { Does order self.old (W.state wire.old) self.new (W.state wire.new) result }
+        ensures untaken { result ≡ answer.Fault → self.new ≡ with_number_used self.old }
     {
         match order {
-            Order::Bad => Ok(Answer::Bad),
+            Order::Bad => Answer::Bad,
             Order::Ready => {
-                self.start_up(alloc, wire)?;
-                Ok(Answer::Ended)
+                self.start_up(wire);
+                Answer::Ended
             }
-            Order::Cycle => Ok(self.cycle(wire)),
-            Order::Set(variable, value) => Ok(self.set(variable, value)),
-            Order::Never(_) => Ok(Answer::No),
-            Order::Expect(expected) => Ok(answer_if(is_met(self, expected))),
-            Order::Show => Ok(Answer::Values),
-            Order::Report => Ok(self.last_report()),
+            Order::Cycle => self.cycle(wire),
+            Order::Set(variable, value) => self.set(variable, value),
+            Order::Never(_) => Answer::No,
+            Order::Expect(expected) => answer_if(is_met(self, expected)),
+            Order::Show => Answer::Values,
+            Order::Report => self.last_report(),
         }
     }
 
@@ -165,22 +154,19 @@ impl<'p> Control<'p> {
     }
 
     /// A start-up over a wire, from the beginning.
-    fn start_up<W: Wire>(&mut self, alloc: Global, wire: &mut W) -> Result<(), AllocError>
-        ensures starts { OnOk result (Starts self.old (W.state wire.old) self.new (W.state wire.new)) }
-        ensures same { OnErr result (self.new ≡ self.old) }
-        ensures unused { OnErr result (wire.new ≡ wire.old) }
+    fn start_up<W: Wire>(&mut self, wire: &mut W)
+        ensures { Starts self.old (W.state wire.old) self.new (W.state wire.new) }
     {
         let number = self.startup.next_number().max(self.master.next_number());
-        let mut startup = Startup::new(alloc, self.plan, number)?;
+        let mut startup = Startup::new(self.plan, number);
         bring_up_wire(&mut startup, wire);
         make_ready(&startup, &mut self.master);
         self.startup = startup;
-        Ok(())
     }
 }
 
 /// A start-up is over: where it ended Ready, the master can begin cycles.
-fn make_ready(startup: &Startup, master: &mut Master<'_>)
+fn make_ready(startup: &Startup<'_>, master: &mut Master<'_>)
     requires { startup.now.plan ≡ master.old.plan.slaves }
     ensures { master.new ≡ master_behind startup.now master.old }
 {
@@ -201,7 +187,7 @@ fn answer_if(is_met: bool) -> Answer
 }
 
 /// Whether a start-up ended Ready.
-fn is_ready(startup: &Startup) -> bool
+fn is_ready(startup: &Startup<'_>) -> bool
     ensures { result ≡ is_ready (outcome_of startup.now.phase) }
 {
     match startup.outcome() {

@@ -95,7 +95,7 @@ fn print_once<W: Wire, O: Write>(
         (O.contents output.old) (O.contents output.new)) }
     ensures late { IfErr result IsLate }
 {
-    let answer = control.obey(alloc, wire, task.order)?;
+    let answer = control.obey(wire, task.order);
     let text = told_text(alloc, table, reasons, control, task, answer)?;
     print_text(text.as_bytes(), output)?;
     Ok(answer.is_unmet())

@@ -5,6 +5,7 @@ ghost use Rattle.ec_cycle.specs.Master.{OpenCycle, Begun, IsClosed, begin_refusa
 ghost use Rattle.ec_cycle.specs.declared.error.CycleError.TheVariants.{NotOpen};
 ghost use Rattle.ec_link.specs.Faults.{compile_fault};
 ghost use Rattle.ec_link.specs.Plan.{plan_of};
+ghost use Rattle.ec_start.specs.Apart.{IsOfPlan, rejoined};
 ghost use Rattle.ec_start.specs.Running.{IsStartTaken, asked, given_up, next_frame, outcome_of};
 ghost use Rattle.ec_start.specs.declared.phase.NextFrame.TheVariants.{Send};
 ghost use Rattle.ec_owned.specs.Machines.{IsCyclic, IsGiven, IsNextFrame, IsStarting, new_machine, ready_with, resumed, unit_taken, variable_named};
@@ -13,7 +14,7 @@ use ec_cycle::{CycleError, OwnMaster, Report};
 use ec_frame::Frame;
 use ec_frame::field::MAX_FRAME_LEN;
 use ec_link::Plan;
-use ec_start::{NextFrame, Phase, StartError, Startup, Taken};
+use ec_start::{NextFrame, Phase, StartError, Startup, StartupRest, Taken};
 use ec_table::Table;
 use std::alloc::{AllocError, Global};
 use std::marker::Model;
@@ -23,20 +24,20 @@ use std::marker::Model;
 #[derive(Drop)]
 pub struct MachineMaster {
     table: Table,
-    startup: Startup,
+    startup: StartupRest,
     master: OwnMaster,
     report: Option<Report>,
 }
 
 impl Model for MachineMaster {
-    ghost use Rattle.std.specs.Prelude.{◌≡◌};
+    ghost use Rattle.ec_start.specs.Apart.{IsOfPlan, rejoined};
     ghost use Rattle.ec_owned.specs.Machines.{MachineState};
 
     ghost Value = { MachineState };
 
-    ghost view = { λ m. record { table = m.table; startup = m.startup; master = m.master; report = m.report } };
+    ghost view = { λ m. record { table = m.table; startup = rejoined m.master.plan.slaves m.startup; master = m.master; report = m.report } };
 
-    ghost invariant = { λ m. m.startup.plan ≡ m.master.plan.slaves };
+    ghost invariant = { λ m. IsOfPlan m.master.plan.slaves m.startup };
 }
 
 impl MachineMaster {
@@ -52,7 +53,7 @@ impl MachineMaster {
         ensures { IfOk result (λ m. m ≡ new_machine table) }
     {
         table.is_sound();
-        let startup = Startup::new(alloc, &plan, 0)?;
+        let startup = StartupRest::of(Startup::new(&plan, 0));
         let master = OwnMaster::new(alloc, plan)?;
         Ok(MachineMaster {
             table,
@@ -76,7 +77,10 @@ impl MachineMaster {
         if room.len() < MAX_FRAME_LEN {
             return 0;
         }
-        write_next(&mut self.startup, room)
+        let mut startup = self.startup.with_plan(self.master.plan());
+        let count = write_next(&mut startup, room);
+        self.startup = StartupRest::of(startup);
+        count
     }
 
     /// Takes a payload that came in, and answers whether it was the answer to a frame of the start-up, or of the open cycle.
@@ -94,14 +98,16 @@ impl MachineMaster {
     pub fn outcome(&self) -> Option<Result<(), StartError>>
         ensures { result ≡ outcome_of self.now.startup.phase }
     {
-        self.startup.outcome()
+        self.startup.with_plan(self.master.plan()).outcome()
     }
 
     /// An answer of the start-up is awaited no longer: one that runs ends as lost.
     pub fn give_up(&mut self)
         ensures { self.new ≡ record self.old { startup = given_up self.old.startup } }
     {
-        self.startup.give_up();
+        let mut startup = self.startup.with_plan(self.master.plan());
+        startup.give_up();
+        self.startup = StartupRest::of(startup);
     }
 
     /// Begins a cycle: one frame for each part, of the outputs as they are.
@@ -250,19 +256,22 @@ impl MachineMaster {
     fn take_starting(&mut self, payload: &[u8]) -> bool
         ensures { IsStarting self.old payload.now result self.new }
     {
-        let is_kept = take_start(&mut self.startup, payload);
-        make_ready(&mut self.master, &self.startup);
+        let mut startup = self.startup.with_plan(self.master.plan());
+        let is_kept = take_start(&mut startup, payload);
+        self.startup = StartupRest::of(startup);
+        make_ready(&mut self.master, self.startup);
         is_kept
     }
 }
 
 /// Where a start-up has ended Ready, its master is ready.
-fn make_ready(master: &mut OwnMaster, startup: &Startup)
-    requires { startup.now.plan ≡ master.old.plan.slaves }
-    ensures ready { master.new ≡ ready_with master.old startup.now }
+fn make_ready(master: &mut OwnMaster, startup: StartupRest)
+    requires { IsOfPlan master.old.plan.slaves startup }
+    ensures ready { master.new ≡ ready_with master.old (rejoined master.old.plan.slaves startup) }
     ensures plan { master.new.plan ≡ master.old.plan }
 {
-    match startup.phase() {
+    let phase = startup.with_plan(master.plan()).phase();
+    match phase {
         Phase::Ready => master.ready(startup),
         Phase::Idle | Phase::Sent(_) | Phase::Failed(_) => {}
     }
@@ -270,7 +279,7 @@ fn make_ready(master: &mut OwnMaster, startup: &Startup)
 
 /// Gives a payload to a start-up, and answers whether it was kept.
 #[tactic(auto, using(crate::proofs::Plans::take_plan))]
-fn take_start(startup: &mut Startup, payload: &[u8]) -> bool
+fn take_start(startup: &mut Startup<'_>, payload: &[u8]) -> bool
     ensures taken { IsStartTaken startup.old payload.now result startup.new }
     ensures plan { startup.new.plan ≡ startup.old.plan }
 {
@@ -283,7 +292,7 @@ fn take_start(startup: &mut Startup, payload: &[u8]) -> bool
 /// Writes the next frame of a start-up, which begins anew if it failed, and answers how many bytes it has, or 0 where there is
 /// none.
 #[tactic(auto, using(crate::proofs::Plans::next_plan))]
-fn write_next(startup: &mut Startup, room: &mut [u8]) -> usize
+fn write_next(startup: &mut Startup<'_>, room: &mut [u8]) -> usize
     requires { 1472 ≤ length room.old }
     ensures state { startup.new ≡ asked (resumed startup.old) }
     ensures plan { startup.new.plan ≡ startup.old.plan }
@@ -304,7 +313,7 @@ fn write_next(startup: &mut Startup, room: &mut [u8]) -> usize
 }
 
 /// A start-up that failed begins anew.
-fn resume(startup: &mut Startup)
+fn resume(startup: &mut Startup<'_>)
     ensures { startup.new ≡ resumed startup.old }
 {
     if startup.has_failed() {

@@ -1,5 +1,4 @@
--- A place in the script by stretch, slave and place, and the actions ahead of it. It serves private code and its proofs
--- alone: what the script is stands in Scripts.
+-- A place in the script by stretch, slave and place, and the actions ahead of it. What the script is stands in Scripts.
 use Rattle.std.specs.Prelude.{ℕ, ◌+◌, ◌*◌, ◌-◌, ◌≡◌, ◌≤◌, ◌==◌, ◌&&◌, not, List, [], ◌∷◌, ◌++◌, drop, Bool, true, false, if◌then◌else◌, nat_lt, slice_get, Option, Some, None, option_map}
 use Rattle.ec_al.specs.declared.state.State.TheVariants.{PreOp, SafeOp, Op}
 use Rattle.ec_link.specs.declared.settings.SlavePlan.{SlavePlan}

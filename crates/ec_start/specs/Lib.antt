@@ -16,8 +16,11 @@ pub mod ShownFull
 pub mod Interface
 -- To be believed, too: what an action must be for its own calls.
 pub mod Doable
+-- To be believed, of a start-up whose plan stands apart from it: where it is in the script, what it holds of that, and what it is
+-- with the plan. Whoever makes and keeps a start-up by its calls alone needs none of it.
+pub mod Ahead
+pub mod Held
+pub mod Apart
 -- Private: these serve private code and its proofs alone.
 pub mod Seeking
-pub mod Ahead
 pub mod Answered
-pub mod Held

@@ -15,4 +15,4 @@ mod verdict;
 pub use crate::action::{Action, SdoRequest, Transfer};
 pub use crate::error::StartError;
 pub use crate::phase::{NextFrame, Phase, Taken};
-pub use crate::startup::Startup;
+pub use crate::startup::{Startup, StartupRest};

@@ -1,6 +1,6 @@
 //! A start-up as it runs.
 
-ghost use Rattle.std.specs.Prelude.{◌≡◌, ◌≢◌, ◌++◌, ◌<◌, ◌≤◌, ◌+◌, length, true, false, ◌↔◌, All, IfOk, IsTrue};
+ghost use Rattle.std.specs.Prelude.{◌≡◌, ◌≢◌, ◌++◌, ◌<◌, ◌≤◌, ◌+◌, length, true, false, ◌↔◌, All, IsTrue};
 ghost use Rattle.std.specs.Int.{to_le_bytes, w16, w64};
 ghost use Rattle.ec_bits.specs.Bits.{zeros};
 ghost use Rattle.ec_frame.specs.Building.{bare_payload};
@@ -22,9 +22,11 @@ use crate::verdict::{Verdict, nothing_seen, verdict_on, with_word};
 use ec_device::Device;
 use ec_frame::{Command, Frame, Sent, read_counter, read_data, write_pair};
 use ec_link::{Plan, SlavePlan};
-use ec_listed::Listed;
-use std::alloc::{AllocError, Global};
 use std::marker::Model;
+
+mod rest;
+
+pub use self::rest::StartupRest;
 
 /// So many bytes are enough for the data of each datagram but a mailbox message.
 const SHORT_DATA: usize = 64;
@@ -38,8 +40,8 @@ const MAX_POLLS: u16 = 1000;
 /// A start-up of a segment by init commands (ETG.1000.6, "AL state machine"), one frame at a time: `next` writes a frame, which
 /// is then outstanding until `take` keeps its answer. It ends Ready, with all slaves in OP, or by a failure.
 #[derive(Drop)]
-pub struct Startup {
-    slaves: Listed<SlavePlan>,
+pub struct Startup<'p> {
+    slaves: &'p [SlavePlan],
     next: u64,
     place: usize,
     polls: u16,
@@ -49,14 +51,14 @@ pub struct Startup {
     step: Step,
 }
 
-impl Model for Startup {
+impl<'p> Model for Startup<'p> {
     ghost use Rattle.ec_start.specs.Running.{StartState};
     ghost use Rattle.ec_start.specs.Held.{IsHeld};
 
     ghost Value = { StartState };
 
     ghost view = { λ s. record {
-      plan = s.slaves;
+      plan = s.slaves.now;
       next = s.next;
       place = s.place;
       polls = s.polls;
@@ -64,10 +66,10 @@ impl Model for Startup {
       phase = s.phase;
     } };
 
-    ghost invariant = { λ s. IsHeld s.slaves s.next s.place s.polls s.phase s.step };
+    ghost invariant = { λ s. IsHeld s.slaves.now s.next s.place s.polls s.phase s.step };
 }
 
-impl Startup {
+impl<'p> Startup<'p> {
     /// Whether `new` takes a plan: at most 255 PDOs are assigned in a direction. It takes each that the link compiler makes.
     pub fn can_start(plan: &Plan) -> bool
         ensures { IsTrue result ↔ All HasFewAssigned plan.now.slaves }
@@ -77,26 +79,21 @@ impl Startup {
             .all(|settings| has_few_assigned(settings))
     }
 
-    /// A start-up of a plan whose first frame has this number. It copies what it needs of the plan; no later call takes memory.
-    ///
-    /// # Errors
-    ///
-    /// `AllocError` where there is no memory.
+    /// A start-up of a plan whose first frame has this number. Neither it nor any later call takes memory.
     #[tactic(auto, unfolding(crate::specs::Running::begun))]
-    pub fn new(alloc: Global, plan: &Plan, from_number: u64) -> Result<Startup, AllocError>
+    pub fn new(plan: &'p Plan, from_number: u64) -> Startup<'p>
         requires { All HasFewAssigned plan.now.slaves }
-        ensures { IfOk result (λ s. s ≡ begun plan.now.slaves from_number) }
+        ensures { result ≡ begun plan.now.slaves from_number }
     {
-        let slaves = copied_all(alloc, plan.slaves())?;
-        Ok(Startup {
-            slaves,
+        Startup {
+            slaves: plan.slaves(),
             next: from_number,
             place: 0,
             polls: 0,
             seen: nothing_seen(),
             phase: Phase::Idle,
             step: first_step(),
-        })
+        }
     }
 
     /// Where it stands.
@@ -171,7 +168,7 @@ impl Startup {
         };
         let answer = &payload[span.from..span.to];
         let verdict = verdict_on(
-            self.slaves.as_slice(),
+            self.slaves,
             self.place,
             self.seen,
             &self.step.action,
@@ -252,7 +249,7 @@ impl Startup {
         self.seen = seen;
         let mut cursor = self.step.cursor;
         cursor.place += 1;
-        match cursor.settle(self.slaves.as_slice()) {
+        match cursor.settle(self.slaves) {
             Some(step) => {
                 self.step = step;
                 self.phase = Phase::Idle;
@@ -330,32 +327,6 @@ fn name_of(number: u64) -> [u8; 10]
 {
     let [a, b, c, d, e, f, g, h] = number.to_le_bytes();
     [a, b, c, d, e, f, g, h, 0, 0]
-}
-
-/// A copy of the settings of all slaves.
-fn copied_all(alloc: Global, slaves: &[SlavePlan]) -> Result<Listed<SlavePlan>, AllocError>
-    ensures { IfOk result (λ xs. xs ≡ slaves.now) }
-{
-    let mut all = Listed::new(alloc);
-    for settings in slaves {
-        all.push(copied(alloc, settings)?)?;
-    }
-    Ok(all)
-}
-
-/// A copy of a slave's settings.
-fn copied(alloc: Global, settings: &SlavePlan) -> Result<SlavePlan, AllocError>
-    ensures { IfOk result (λ x. x ≡ settings.now) }
-{
-    Ok(SlavePlan {
-        kind: settings.kind.copied(alloc)?,
-        outputs: Listed::copied(alloc, settings.outputs.as_slice())?,
-        inputs: Listed::copied(alloc, settings.inputs.as_slice())?,
-        managers: settings.managers,
-        fmmus: settings.fmmus,
-        from: settings.from,
-        share: settings.share,
-    })
 }
 
 /// Whether each slot of a slave's assignments has a subindex of one byte.

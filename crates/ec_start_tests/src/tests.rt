@@ -23,11 +23,10 @@ fn plan_of(alloc: Global, text: &str) -> Result<Plan, Fail> {
     Ok(compile(alloc, &table)?)
 }
 
-/// A start-up of the plan of a table.
-fn startup_of(rt: &(impl AllocGlobal + Abort), text: &str, from: u64) -> Result<Startup, Fail> {
-    let plan = plan_of(rt.alloc(), text)?;
-    assert!(rt; Startup::can_start(&plan));
-    Ok(Startup::new(rt.alloc(), &plan, from)?)
+/// A start-up of a plan.
+fn startup_of<'p>(rt: &impl Abort, plan: &'p Plan, from: u64) -> Startup<'p> {
+    assert!(rt; Startup::can_start(plan));
+    Startup::new(plan, from)
 }
 
 /// A step as the table of steps has it.
@@ -76,7 +75,7 @@ fn returned(alloc: Global, sent: &[u8], back: &str, counter: u8) -> Result<Vec<u
 }
 
 /// The next frame of a start-up.
-fn next_of(rt: &(impl AllocGlobal + Abort), startup: &mut Startup) -> Result<Frame, Fail> {
+fn next_of(rt: &(impl AllocGlobal + Abort), startup: &mut Startup<'_>) -> Result<Frame, Fail> {
     let mut frame = Frame::new();
     assert_eq!(rt; startup.next(&mut frame), NextFrame::Send);
     Ok(frame)
@@ -85,7 +84,7 @@ fn next_of(rt: &(impl AllocGlobal + Abort), startup: &mut Startup) -> Result<Fra
 /// Makes the first steps of the start-up of the three slaves, as all is well.
 fn make_steps(
     rt: &(impl AllocGlobal + Abort),
-    startup: &mut Startup,
+    startup: &mut Startup<'_>,
     count: usize,
 ) -> Result<(), Fail> {
     for line in STEPS.lines().take(count) {
@@ -104,7 +103,8 @@ fn end_at(
     back: &str,
     counter: u8,
 ) -> Result<Phase, Fail> {
-    let mut startup = startup_of(rt, THREE_SLAVES, 0)?;
+    let plan = plan_of(rt.alloc(), THREE_SLAVES)?;
+    let mut startup = startup_of(rt, &plan, 0);
     make_steps(rt, &mut startup, step)?;
     let frame = next_of(rt, &mut startup)?;
     let payload = returned(rt.alloc(), frame.as_slice(), back, counter)?;
@@ -113,7 +113,7 @@ fn end_at(
 }
 
 /// The next frame is this one, and there is none behind it before it is back.
-fn assert_sends(rt: &impl Abort, startup: &mut Startup, sent: &[u8], step: usize) {
+fn assert_sends(rt: &impl Abort, startup: &mut Startup<'_>, sent: &[u8], step: usize) {
     let mut frame = Frame::new();
     assert_eq!(rt;
         (startup.outcome(), startup.next(&mut frame)),
@@ -126,7 +126,7 @@ fn assert_sends(rt: &impl Abort, startup: &mut Startup, sent: &[u8], step: usize
 /// A step of the table of steps: its frame is sent, and taken as it comes back.
 fn make_step(
     rt: &(impl AllocGlobal + Abort),
-    startup: &mut Startup,
+    startup: &mut Startup<'_>,
     row: &Row<'_>,
     step: usize,
 ) -> Result<(), Fail> {
@@ -138,7 +138,7 @@ fn make_step(
 }
 
 /// A start-up has ended Ready, and stays so.
-fn assert_ready(rt: &impl Abort, startup: &mut Startup, next: u64) {
+fn assert_ready(rt: &impl Abort, startup: &mut Startup<'_>, next: u64) {
     let mut frame = Frame::new();
     assert_eq!(rt;
         (
@@ -155,7 +155,8 @@ fn assert_ready(rt: &impl Abort, startup: &mut Startup, next: u64) {
 // All frames of the three slaves byte by byte, the exchange of uploads and downloads among them.
 #[test]
 fn three_slaves_get_ready(rt: HostRuntime) -> Result<(), Fail> {
-    let mut startup = startup_of(&rt, THREE_SLAVES, 0)?;
+    let plan = plan_of(rt.alloc(), THREE_SLAVES)?;
+    let mut startup = startup_of(&rt, &plan, 0);
     for (step, line) in STEPS.lines().enumerate() {
         make_step(&rt, &mut startup, &row_of(rt.alloc(), line)?, step)?;
     }
@@ -165,7 +166,8 @@ fn three_slaves_get_ready(rt: HostRuntime) -> Result<(), Fail> {
 
 #[test]
 fn no_slaves_are_ready_at_once(rt: HostRuntime) -> Result<(), Fail> {
-    let mut startup = startup_of(&rt, NO_SLAVES, 5)?;
+    let plan = plan_of(rt.alloc(), NO_SLAVES)?;
+    let mut startup = startup_of(&rt, &plan, 5);
     let frame = next_of(&rt, &mut startup)?;
     assert_eq!(rt; startup.take(frame.as_slice()), Taken::Kept);
     assert_eq!(rt; startup.phase(), Phase::Ready);
@@ -208,7 +210,8 @@ fn no_second_word(rt: HostRuntime) -> Result<(), Fail> {
 // The first read of an SII stays busy: 10 steps, and 1000 polls of step 10.
 #[test]
 fn polls_end(rt: HostRuntime) -> Result<(), Fail> {
-    let mut startup = startup_of(&rt, THREE_SLAVES, 0)?;
+    let plan = plan_of(rt.alloc(), THREE_SLAVES)?;
+    let mut startup = startup_of(&rt, &plan, 0);
     make_steps(&rt, &mut startup, 10)?;
     for _ in 0..1000 {
         assert_eq!(rt; startup.phase(), Phase::Idle);
@@ -296,7 +299,8 @@ fn waits_go_on(rt: HostRuntime) -> Result<(), Fail> {
 // A payload that is no frame, or another: its number, its length, its command, its index. Part and addresses aren't looked at.
 #[test]
 fn foreign_payloads(rt: HostRuntime) -> Result<(), Fail> {
-    let mut startup = startup_of(&rt, THREE_SLAVES, 0)?;
+    let plan = plan_of(rt.alloc(), THREE_SLAVES)?;
+    let mut startup = startup_of(&rt, &plan, 0);
     let first = "24100000000000000a80000000000000000000000000000007000300300102000000010003 00";
     assert_eq!(rt; startup.take(&[]), Taken::Foreign);
     let _ = next_of(&rt, &mut startup)?;
@@ -319,7 +323,7 @@ fn foreign_payloads(rt: HostRuntime) -> Result<(), Fail> {
 /// Gives a start-up the payload of a row, and compares what it takes it for, and where it is then.
 fn expect_taken(
     rt: &(impl AllocGlobal + Abort),
-    startup: &mut Startup,
+    startup: &mut Startup<'_>,
     row: &str,
     taken: Taken,
     phase: Phase,
@@ -345,7 +349,8 @@ fn spaceless(alloc: Global, text: &str) -> Result<String, AllocError> {
 // The last number is no frame's; the one before it is the last frame's.
 #[test]
 fn numbers_are_spent(rt: HostRuntime) -> Result<(), Fail> {
-    let mut startup = startup_of(&rt, THREE_SLAVES, u64::MAX - 1)?;
+    let plan = plan_of(rt.alloc(), THREE_SLAVES)?;
+    let mut startup = startup_of(&rt, &plan, u64::MAX - 1);
     let frame = next_of(&rt, &mut startup)?;
     let payload = returned(rt.alloc(), frame.as_slice(), "0100", 3)?;
     assert_eq!(rt; startup.take(&payload), Taken::Kept);
@@ -358,7 +363,7 @@ fn numbers_are_spent(rt: HostRuntime) -> Result<(), Fail> {
 }
 
 /// A frame that is given up: what comes back of it is foreign.
-fn lose_frame(rt: &(impl AllocGlobal + Abort), startup: &mut Startup) -> Result<(), Fail> {
+fn lose_frame(rt: &(impl AllocGlobal + Abort), startup: &mut Startup<'_>) -> Result<(), Fail> {
     let frame = next_of(rt, startup)?;
     startup.give_up();
     assert_eq!(rt; startup.phase(), Phase::Failed(StartError::Lost));
@@ -369,7 +374,7 @@ fn lose_frame(rt: &(impl AllocGlobal + Abort), startup: &mut Startup) -> Result<
 /// The next frame of a start-up is this.
 fn assert_next(
     rt: &(impl AllocGlobal + Abort),
-    startup: &mut Startup,
+    startup: &mut Startup<'_>,
     wanted: &str,
 ) -> Result<(), Fail> {
     let frame = next_of(rt, startup)?;
@@ -379,7 +384,7 @@ fn assert_next(
 }
 
 /// A start-up that failed begins anew.
-fn begin_anew(startup: &mut Startup) -> Result<(), Fail> {
+fn begin_anew(startup: &mut Startup<'_>) -> Result<(), Fail> {
     if !startup.has_failed() {
         return Err("a failure".into());
     }
@@ -388,7 +393,7 @@ fn begin_anew(startup: &mut Startup) -> Result<(), Fail> {
 }
 
 /// Frame 40 is lost. The start-up begins anew with its first step, in frame 41.
-fn begins_anew(rt: &(impl AllocGlobal + Abort), startup: &mut Startup) -> Result<(), Fail> {
+fn begins_anew(rt: &(impl AllocGlobal + Abort), startup: &mut Startup<'_>) -> Result<(), Fail> {
     make_steps(rt, startup, 40)?;
     lose_frame(rt, startup)?;
     begin_anew(startup)?;
@@ -402,6 +407,7 @@ fn begins_anew(rt: &(impl AllocGlobal + Abort), startup: &mut Startup) -> Result
 #[test]
 fn lost_and_begun_anew(rt: HostRuntime) -> Result<(), Fail> {
     assert_eq!(rt; StartError::Lost.number(), 32);
-    let mut startup = startup_of(&rt, THREE_SLAVES, 0)?;
+    let plan = plan_of(rt.alloc(), THREE_SLAVES)?;
+    let mut startup = startup_of(&rt, &plan, 0);
     begins_anew(&rt, &mut startup)
 }

@@ -18,7 +18,7 @@ const MAX_FOREIGN: usize = 64;
 /// Where the wire carries each frame past all slaves and back, a new start-up ends Ready, and every slave works as planned.
 ///
 /// A start-up whose frame is outstanding ends as lost.
-pub fn bring_up_wire<W: Wire>(startup: &mut Startup, wire: &mut W)
+pub fn bring_up_wire<W: Wire>(startup: &mut Startup<'_>, wire: &mut W)
     ensures leads { IsBroughtUp startup.old (W.state wire.old) startup.new (W.state wire.new) }
     ensures up { ComesUpOver startup.old startup.new (W.state wire.old) (W.state wire.new) }
     ensures ended { is_ended startup.new.phase ≡ true }
@@ -36,7 +36,7 @@ pub fn bring_up_wire<W: Wire>(startup: &mut Startup, wire: &mut W)
 
 /// One turn: the next frame is sent and its answer taken. It answers whether the start-up goes on; one whose frame isn't
 /// answered is given up.
-fn turn<W: Wire>(startup: &mut Startup, wire: &mut W, frame: &mut Frame) -> bool
+fn turn<W: Wire>(startup: &mut Startup<'_>, wire: &mut W, frame: &mut Frame) -> bool
     ensures made { result ≡ true → IsTurn startup.old startup.new (W.state wire.old) (W.state wire.new) }
     ensures ended { result ≡ false → IsBroughtUp startup.old (W.state wire.old) startup.new (W.state wire.new) }
 {
@@ -54,7 +54,7 @@ fn turn<W: Wire>(startup: &mut Startup, wire: &mut W, frame: &mut Frame) -> bool
 }
 
 /// Sends a frame of the start-up and receives until it is answered. It answers whether it was; else the start-up is as it was.
-fn exchange<W: Wire>(startup: &mut Startup, wire: &mut W, frame: &[u8]) -> bool
+fn exchange<W: Wire>(startup: &mut Startup<'_>, wire: &mut W, frame: &[u8]) -> bool
     ensures answered { result ≡ true → IsAnswered startup.old startup.new frame.now (W.state wire.old) (W.state wire.new) }
     ensures unanswered { result ≡ false → IsUnanswered startup.old frame.now (W.state wire.old) (W.state wire.new) }
     ensures kept { result ≡ false → startup.new ≡ startup.old }

@@ -39,7 +39,7 @@ const SLOTS: usize = 64;
 #[derive(Drop)]
 pub struct World<'p> {
     pub(crate) plan: &'p Plan,
-    pub(crate) start: Startup,
+    pub(crate) start: Startup<'p>,
     pub(crate) master: Master<'p>,
     pub(crate) ring: Ring,
     pub(crate) slots: Slots,
@@ -287,13 +287,13 @@ impl<'p> World<'p> {
 }
 
 /// The two ends of a plan's frames: a start-up whose first frame has number 0, and a master whose image is all 0.
-fn ends_of<'p>(alloc: Global, plan: &'p Plan) -> Result<(Startup, Master<'p>), AllocError>
+fn ends_of<'p>(alloc: Global, plan: &'p Plan) -> Result<(Startup<'p>, Master<'p>), AllocError>
     requires few { All HasFewAssigned plan.now.slaves }
     requires usable { IsUsable plan.now }
     ensures start { IfOk result (λ ends. ends.0 ≡ begun plan.now.slaves 0) }
     ensures master { IfOk result (λ ends. ends.1 ≡ new_master plan.now) }
 {
-    let start = Startup::new(alloc, plan, 0)?;
+    let start = Startup::new(plan, 0);
     let master = Master::new(alloc, plan)?;
     Ok((start, master))
 }

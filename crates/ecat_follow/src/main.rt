@@ -128,7 +128,7 @@ fn follow(master: &mut Master<'_>, wire: &mut UdpWire, places: Places, cycles: u
 
 /// Brings the slaves of a plan up over a wire, and makes its master ready.
 fn bring_up(
-    startup: &mut Startup,
+    startup: &mut Startup<'_>,
     master: &mut Master<'_>,
     wire: &mut UdpWire,
 ) -> Result<(), Failure>
@@ -158,7 +158,7 @@ fn run_plan<H: AllocGlobal>(
     if !Startup::can_start(plan) {
         return Err(Failure::StartUp);
     }
-    let mut startup = Startup::new(rt.alloc(), plan, 0)?;
+    let mut startup = Startup::new(plan, 0);
     let mut master = Master::new(rt.alloc(), plan)?;
     bring_up(&mut startup, &mut master, wire)?;
     Ok(follow(&mut master, wire, places, cycles))

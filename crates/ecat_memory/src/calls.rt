@@ -5,13 +5,11 @@ ghost use Rattle.ec_link.specs.Plan.{plan_of};
 ghost use Rattle.ec_link.specs.Usable.{IsUsable};
 
 use crate::table::{SCRIPT, TABLE};
-use ec_bringup::{bring_up, slaves_of};
 use ec_cycle::Master;
 use ec_device::Identity;
 use ec_link::{Plan, compile};
 use ec_script::read_script;
 use ec_slave::Slave;
-use ec_start::{Phase, Startup};
 use ec_table::{Table, read_table};
 use ec_text::plan_text;
 use ec_world::World;
@@ -30,19 +28,17 @@ pub enum Call {
     Compile,
     PlanText,
     NewSlave,
-    NewStartup,
     NewMaster,
     NewWorld,
     ReadScript,
 }
 
 impl Call {
-    pub const ALL: [Call; 8] = [
+    pub const ALL: [Call; 7] = [
         Call::ReadTable,
         Call::Compile,
         Call::PlanText,
         Call::NewSlave,
-        Call::NewStartup,
         Call::NewMaster,
         Call::NewWorld,
         Call::ReadScript,
@@ -55,7 +51,6 @@ impl Call {
             Call::Compile => "compile",
             Call::PlanText => "plan_text",
             Call::NewSlave => "Slave::new",
-            Call::NewStartup => "Startup::new",
             Call::NewMaster => "Master::new",
             Call::NewWorld => "World::new",
             Call::ReadScript => "read_script",
@@ -73,15 +68,13 @@ impl Call {
     }
 
     /// The figure of what it makes: the links of the table, the process bytes of its one part, the bytes of its plan's text, the
-    /// AL status of a slave in INIT, the number behind the frames that bring the slaves up, the variables, the slots for frames,
-    /// and the lines of the script.
+    /// AL status of a slave in INIT, the variables, the slots for frames, and the lines of the script.
     pub fn figure(self) -> usize {
         match self {
             Call::ReadTable => 4,
             Call::Compile => 3,
             Call::PlanText => 411,
             Call::NewSlave => 1,
-            Call::NewStartup => 75,
             Call::NewMaster => 4,
             Call::NewWorld => 64,
             Call::ReadScript => 4,
@@ -120,27 +113,6 @@ fn switched_on(alloc: Global, plan: &Plan) -> Result<Answer, AllocError> {
     Ok(match Slave::new(alloc, kind, identity) {
         Ok(slave) => Ok(slave.byte(0x0130).map_or(0, |byte| usize::from(byte))),
         Err(_) => Err(MEMORY),
-    })
-}
-
-/// A start-up that then brings the slaves up, which takes no memory.
-fn started(alloc: Global, table: &Table, plan: &Plan) -> Result<Answer, AllocError>
-    requires accepted { compile_fault table.now ≡ None }
-    requires plan { plan.now ≡ plan_of table.now }
-{
-    let mut ring = slaves_of(alloc, table, plan)?;
-    if !Startup::can_start(plan) {
-        return Ok(Ok(0));
-    }
-    let Ok(mut startup) = Startup::new(alloc, plan, 0) else {
-        return Ok(Err(MEMORY));
-    };
-    if let Phase::Idle = startup.phase() {
-        bring_up(&mut startup, &mut ring);
-    }
-    Ok(match startup.phase() {
-        Phase::Ready => Ok(usize::try_from(startup.next_number()).unwrap_or(0)),
-        _ => Ok(0),
     })
 }
 
@@ -189,7 +161,6 @@ pub fn attempt(
         Call::Compile => Ok(compiled(alloc, table)),
         Call::PlanText => Ok(written(alloc, table, plan)),
         Call::NewSlave => switched_on(alloc, plan),
-        Call::NewStartup => started(alloc, table, plan),
         Call::NewMaster => Ok(mastered(alloc, plan)),
         Call::NewWorld => Ok(world(alloc, table, plan, identities)),
         Call::ReadScript => Ok(script(alloc, table)),

@@ -42,7 +42,7 @@ impl Ran {
 
 /// Brings up the slaves of a table; none where that fails.
 #[tactic(auto, unfolding(ec_start::specs::Running::begun))]
-fn brought_up(alloc: Global, table: &Table, plan: &Plan) -> Option<(Startup, Ring)>
+fn brought_up<'p>(alloc: Global, table: &Table, plan: &'p Plan) -> Option<(Startup<'p>, Ring)>
     requires accepted { compile_fault table.now ≡ None }
     requires plan { plan.now ≡ plan_of table.now }
     ensures { IfSome result (λ up. up.0.plan ≡ plan.now.slaves) }
@@ -50,7 +50,7 @@ fn brought_up(alloc: Global, table: &Table, plan: &Plan) -> Option<(Startup, Rin
     if !Startup::can_start(plan) {
         return None;
     }
-    let mut startup = Startup::new(alloc, plan, 0).ok()?;
+    let mut startup = Startup::new(plan, 0);
     let mut ring = slaves_of(alloc, table, plan).ok()?;
     bring_up(&mut startup, &mut ring);
     Some((startup, ring))
@@ -146,7 +146,7 @@ fn run_one(
 }
 
 /// A master of a plan whose start-up is ready.
-fn ready_master<'p>(alloc: Global, plan: &'p Plan, startup: &Startup) -> Option<Master<'p>>
+fn ready_master<'p>(alloc: Global, plan: &'p Plan, startup: &Startup<'_>) -> Option<Master<'p>>
     requires usable { IsUsable plan.now }
     requires same { startup.now.plan ≡ plan.now.slaves }
 {

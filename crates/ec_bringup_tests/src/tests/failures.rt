@@ -143,7 +143,7 @@ const MAPPINGS: [Row; 3] = [
 ];
 
 /// Whether a start-up has failed, and its failure is told by this number and these values.
-fn has_failed_by(startup: &Startup, number: u8, values: &[u64]) -> bool {
+fn has_failed_by(startup: &Startup<'_>, number: u8, values: &[u64]) -> bool {
     match startup.outcome() {
         Some(Err(error)) => error.number() == number && error.values().as_slice() == values,
         _ => false,
@@ -153,7 +153,7 @@ fn has_failed_by(startup: &Startup, number: u8, values: &[u64]) -> bool {
 /// A start-up fails over slaves as a row says, and begins anew.
 fn fails_so(
     rt: &(impl AllocGlobal + Abort),
-    startup: &mut Startup,
+    startup: &mut Startup<'_>,
     ring: &mut Ring,
     row: Row,
 ) -> Result<(), Fail> {
@@ -170,7 +170,7 @@ fn fails_so(
 /// A start-up over new slaves fails as a row says. Begun anew over the same slaves, undisturbed, it brings them up by 75 frames
 /// more.
 fn fails_and_comes_up(rt: &(impl AllocGlobal + Abort), plan: &Plan, row: Row) -> Result<(), Fail> {
-    let mut startup = startup_of(rt, plan, 0)?;
+    let mut startup = startup_of(rt, plan, 0);
     let mut ring = ring_of(rt.alloc(), plan, &[1; 3])?;
     fails_so(rt, &mut startup, &mut ring, row)?;
     let next = startup.next_number().saturating_add(75);
@@ -264,7 +264,7 @@ fn exchanged_comes_up(
     ring: &mut Ring,
     other: Other,
 ) -> Result<(), Fail> {
-    let mut startup = startup_of(rt, plan, 0)?;
+    let mut startup = startup_of(rt, plan, 0);
     let frames = u64::from(other.frames);
     fails(rt, &mut startup, ring, other.error, frames)?;
     exchange(rt.alloc(), ring, plan, other.place, other.right)?;

@@ -6,6 +6,7 @@ ghost use Rattle.ec_cycle.specs.Master.{OpenCycle, Begun, IsTaken, IsClosed, new
 ghost use Rattle.ec_cycle.specs.Owned.{FitsPlan, rejoined};
 ghost use Rattle.ec_cycle.specs.declared.error.CycleError.TheVariants.{NotOpen};
 ghost use Rattle.ec_start.specs.declared.phase.Phase.TheVariants.{Ready};
+ghost use Rattle.ec_start.specs.Apart.{IsOfPlan};
 ghost use Rattle.ec_start.specs.Running.{is_kept};
 
 use crate::error::CycleError;
@@ -14,7 +15,7 @@ use crate::master::{Master, can_hold};
 use crate::report::{Report, missing_of};
 use ec_bits::read_bits;
 use ec_link::Plan;
-use ec_start::{Startup, Taken};
+use ec_start::{StartupRest, Taken};
 use ec_table::Direction;
 use std::alloc::{AllocError, Global};
 use std::marker::Model;
@@ -64,17 +65,17 @@ impl OwnMaster {
         &self.plan
     }
 
-    /// Cycles can begin, as by [`Master::ready`].
-    pub fn ready(&mut self, startup: &Startup)
-        requires ready { startup.now.phase ≡ Ready }
-        requires same { startup.now.plan ≡ self.old.plan.slaves }
-        ensures { self.new ≡ readied self.old startup.now.next }
+    /// Cycles can begin, as by [`Master::ready`]: this is what the start-up has beside the plan.
+    pub fn ready(&mut self, startup: StartupRest)
+        requires ready { startup.phase ≡ Ready }
+        requires same { IsOfPlan self.old.plan.slaves startup }
+        ensures { self.new ≡ readied self.old startup.next }
     {
         let Some(rest) = self.rest.take() else {
             unreachable!()
         };
         let mut master = rest.with_plan(&self.plan);
-        master.ready(startup);
+        master.ready(&startup.with_plan(&self.plan));
         self.rest = Some(Rest::of(master));
     }
 

@@ -82,11 +82,15 @@ fn ring_of(alloc: Global, plan: &Plan) -> Result<Ring, AllocError> {
 
 /// A start-up of a plan over its slaves, whose first frame has this number; it has ended.
 #[tactic(auto, unfolding(ec_start::specs::Running::begun))]
-fn ended_startup(rt: &(impl AllocGlobal + Abort), plan: &Plan, number: u64) -> Result<Startup, Fail>
+fn ended_startup<'p>(
+    rt: &(impl AllocGlobal + Abort),
+    plan: &'p Plan,
+    number: u64,
+) -> Result<Startup<'p>, Fail>
     ensures { IfOk result (λ s. s.plan ≡ plan.now.slaves) }
 {
     assert!(rt; Startup::can_start(plan));
-    let mut startup = Startup::new(rt.alloc(), plan, number)?;
+    let mut startup = Startup::new(plan, number);
     let mut ring = ring_of(rt.alloc(), plan)?;
     bring_up(&mut startup, &mut ring);
     Ok(startup)

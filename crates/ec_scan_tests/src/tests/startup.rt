@@ -36,7 +36,7 @@ fn ended(alloc: Global, ring: Ring) -> Result<Option<Result<(), StartError>>, Fa
     if !Startup::can_start(&plan) {
         return Err("a plan that can't be started".into());
     }
-    let mut startup = Startup::new(alloc, &plan, 0)?;
+    let mut startup = Startup::new(&plan, 0);
     let mut wire = MemoryWire::new(alloc, ring, ROOM, u64::MAX)?;
     bring_up_wire(&mut startup, &mut wire);
     Ok(startup.outcome())

@@ -1,5 +1,5 @@
 //! Start-ups of every number of slaves, and the texts of their failures.
-use crate::tests::startup_of;
+use crate::tests::{plan_of, startup_of};
 use ec_device::Device;
 use ec_start::{Phase, StartError};
 use std::alloc::{AllocError, Global};
@@ -28,12 +28,13 @@ fn table_of(alloc: Global, slaves: usize) -> Result<String, AllocError> {
     Ok(text)
 }
 
-// There is memory for a start-up of each number of slaves.
+// Each number of slaves can be started up.
 #[test]
 fn startups_of_all_sizes(rt: HostRuntime) -> Result<(), Fail> {
     for slaves in 1..65 {
         let table = table_of(rt.alloc(), slaves)?;
-        let startup = startup_of(&rt, table.as_str(), 7)?;
+        let plan = plan_of(rt.alloc(), table.as_str())?;
+        let startup = startup_of(&rt, &plan, 7);
         assert_eq!(rt; (startup.phase(), startup.next_number()), (Phase::Idle, 7));
     }
     Ok(())

@@ -88,27 +88,24 @@ pub fn three_slaves(alloc: Global) -> Result<Ring, Fail> {
 
 /// A start-up of a plan whose first frame has this number.
 #[tactic(auto, unfolding(ec_start::specs::Running::begun))]
-pub fn startup_from(alloc: Global, plan: &Plan, number: u64) -> Option<Startup>
+pub fn startup_from(plan: &Plan, number: u64) -> Option<Startup<'_>>
     ensures { IfSome result (λ s. s.plan ≡ plan.now.slaves) }
 {
     if !Startup::can_start(plan) {
         return None;
     }
-    match Startup::new(alloc, plan, number) {
-        Ok(startup) => Some(startup),
-        Err(_) => None,
-    }
+    Some(Startup::new(plan, number))
 }
 
 /// A start-up of a plan.
-pub fn startup_of(alloc: Global, plan: &Plan) -> Option<Startup>
+pub fn startup_of(plan: &Plan) -> Option<Startup<'_>>
     ensures { IfSome result (λ s. s.plan ≡ plan.now.slaves) }
 {
-    startup_from(alloc, plan, 0)
+    startup_from(plan, 0)
 }
 
 /// Brings the slaves up over a wire. Whether they have come up, and the master is ready.
-pub fn are_up<W: Wire>(startup: &mut Startup, wire: &mut W, master: &mut Master<'_>) -> bool
+pub fn are_up<W: Wire>(startup: &mut Startup<'_>, wire: &mut W, master: &mut Master<'_>) -> bool
     requires { startup.old.plan ≡ master.old.plan.slaves }
 {
     bring_up_wire(startup, wire);
@@ -128,7 +125,7 @@ pub fn brought_up_from(
 ) -> Option<Ring>
     requires { master.old.plan ≡ plan.now }
 {
-    let mut startup = startup_from(alloc, plan, number)?;
+    let mut startup = startup_from(plan, number)?;
     let ring = ring_of(alloc, plan).ok()?;
     let mut wire = MemoryWire::new(alloc, ring, 3000, u64::MAX).ok()?;
     if are_up(&mut startup, &mut wire, master) {

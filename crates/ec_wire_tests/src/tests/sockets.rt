@@ -306,7 +306,7 @@ fn loop_to<R: Net>(rt: &R, alloc: Global, plan: &Plan) -> Option<LoopWire<Echo>>
 }
 
 /// Brings the slaves up over a wire, and runs two cycles that send 1 and 2. Whether all went well.
-fn run_two<W: Wire>(startup: &mut Startup, master: &mut Master<'_>, wire: &mut W) -> bool
+fn run_two<W: Wire>(startup: &mut Startup<'_>, master: &mut Master<'_>, wire: &mut W) -> bool
     requires { startup.old.plan ≡ master.old.plan.slaves }
 {
     are_up(startup, wire, master) && run_taken(master, wire, 1) && run_taken(master, wire, 2)
@@ -316,7 +316,7 @@ fn run_two<W: Wire>(startup: &mut Startup, master: &mut Master<'_>, wire: &mut W
 type Seen = (bool, u64, u64, u64);
 
 /// What is seen of two cycles over a wire.
-fn seen_over<W: Wire>(startup: &mut Startup, master: &mut Master<'_>, wire: &mut W) -> Seen
+fn seen_over<W: Wire>(startup: &mut Startup<'_>, master: &mut Master<'_>, wire: &mut W) -> Seen
     requires { startup.old.plan ≡ master.old.plan.slaves }
 {
     let is_well = run_two(startup, master, wire);
@@ -329,7 +329,7 @@ fn seen_of_loop<R: Net>(
     rt: &R,
     alloc: Global,
     plan: &Plan,
-    startup: &mut Startup,
+    startup: &mut Startup<'_>,
     master: &mut Master<'_>,
 ) -> Option<Seen>
     requires { startup.old.plan ≡ master.old.plan.slaves }
@@ -339,7 +339,7 @@ fn seen_of_loop<R: Net>(
 }
 
 /// What a start-up of a plan sees of two cycles over sockets.
-fn seen_by<R: Net>(rt: &R, alloc: Global, plan: &Plan, startup: &mut Startup) -> Option<Seen>
+fn seen_by<R: Net>(rt: &R, alloc: Global, plan: &Plan, startup: &mut Startup<'_>) -> Option<Seen>
     requires usable { IsUsable plan.now }
     requires same { startup.old.plan ≡ plan.now.slaves }
 {
@@ -351,7 +351,7 @@ fn seen_by<R: Net>(rt: &R, alloc: Global, plan: &Plan, startup: &mut Startup) ->
 fn seen_over_sockets<R: Net>(rt: &R, alloc: Global, plan: &Plan) -> Option<Seen>
     requires { IsUsable plan.now }
 {
-    let mut startup = startup_of(alloc, plan)?;
+    let mut startup = startup_of(plan)?;
     seen_by(rt, alloc, plan, &mut startup)
 }
 

@@ -11,7 +11,7 @@ use std::test::Fail;
 type Ended = (Option<Result<(), StartError>>, u64);
 
 /// Runs a start-up over a wire.
-fn run<W: Wire>(startup: &mut Startup, wire: &mut W) -> Ended {
+fn run<W: Wire>(startup: &mut Startup<'_>, wire: &mut W) -> Ended {
     bring_up_wire(startup, wire);
     (startup.outcome(), startup.next_number())
 }
@@ -22,7 +22,12 @@ fn wire_of(alloc: Global, plan: &Plan, call: u64) -> Result<MemoryWire, Fail> {
 }
 
 /// How a start-up of a plan ends over such a wire.
-fn ended_over(alloc: Global, plan: &Plan, startup: &mut Startup, call: u64) -> Result<Ended, Fail> {
+fn ended_over(
+    alloc: Global,
+    plan: &Plan,
+    startup: &mut Startup<'_>,
+    call: u64,
+) -> Result<Ended, Fail> {
     let mut wire = wire_of(alloc, plan, call)?;
     Ok(run(startup, &mut wire))
 }
@@ -30,7 +35,7 @@ fn ended_over(alloc: Global, plan: &Plan, startup: &mut Startup, call: u64) -> R
 /// How a start-up of the three slaves over memory ends whose call of this number is a fault.
 fn ended_by(alloc: Global, call: u64) -> Result<Ended, Fail> {
     let plan = plan_of(alloc, THREE_SLAVES)?;
-    let mut startup = there(startup_of(alloc, &plan))?;
+    let mut startup = there(startup_of(&plan))?;
     ended_over(alloc, &plan, &mut startup, call)
 }
 
@@ -78,13 +83,13 @@ impl Wire for Strange {
 }
 
 /// How a start-up ends over a strange wire, and how many payloads it received.
-fn run_strange(startup: &mut Startup) -> (Ended, u64) {
+fn run_strange(startup: &mut Startup<'_>) -> (Ended, u64) {
     let mut wire = Strange { received: 0 };
     (run(startup, &mut wire), wire.received)
 }
 
 /// A start-up over a strange wire is lost after 64 payloads.
-fn expect_lost(rt: &impl Abort, startup: &mut Startup) {
+fn expect_lost(rt: &impl Abort, startup: &mut Startup<'_>) {
     let (ended, received) = run_strange(startup);
     assert_eq!(rt; ended, (Some(Err(StartError::Lost)), 1));
     assert_eq!(rt; received, 64);
@@ -93,7 +98,7 @@ fn expect_lost(rt: &impl Abort, startup: &mut Startup) {
 #[test]
 fn strange_payloads_end_it(rt: HostRuntime) -> Result<(), Fail> {
     let plan = plan_of(rt.alloc(), THREE_SLAVES)?;
-    let mut startup = there(startup_of(rt.alloc(), &plan))?;
+    let mut startup = there(startup_of(&plan))?;
     expect_lost(&rt, &mut startup);
     Ok(())
 }

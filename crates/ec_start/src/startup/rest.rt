@@ -1,0 +1,71 @@
+//! A start-up without its plan.
+ghost use Rattle.std.specs.Prelude.{◌≡◌};
+ghost use Rattle.ec_start.specs.Apart.{IsOfPlan, rejoined};
+
+use crate::phase::Phase;
+use crate::script::Step;
+use crate::startup::Startup;
+use ec_device::Device;
+use ec_link::Plan;
+
+/// All that a start-up has beside its plan, for those who own the plan and so can't keep what borrows it: they keep this, and
+/// make the start-up of both for the time of a call.
+#[derive(Clone, Copy)]
+pub struct StartupRest {
+    next: u64,
+    place: usize,
+    polls: u16,
+    seen: Device,
+    phase: Phase,
+    step: Step,
+}
+
+impl StartupRest {
+    /// What a start-up has beside its plan.
+    pub fn of(startup: Startup<'_>) -> StartupRest
+        ensures fits { IsOfPlan startup.entry.plan result }
+        ensures same { rejoined startup.entry.plan result ≡ startup.entry }
+    {
+        let Startup {
+            slaves: _,
+            next,
+            place,
+            polls,
+            seen,
+            phase,
+            step,
+        } = startup;
+        StartupRest {
+            next,
+            place,
+            polls,
+            seen,
+            phase,
+            step,
+        }
+    }
+
+    /// The start-up with the plan.
+    pub fn with_plan(self, plan: &Plan) -> Startup<'_>
+        requires { IsOfPlan plan.now.slaves self }
+        ensures { result ≡ rejoined plan.now.slaves self }
+    {
+        let StartupRest {
+            next,
+            place,
+            polls,
+            seen,
+            phase,
+            step,
+        } = self;
+        Startup {
+            slaves: plan.slaves(),
+            next,
+            place,
+            polls,
+            seen,
+            phase,
+            step,
+        }
+    }
+}
