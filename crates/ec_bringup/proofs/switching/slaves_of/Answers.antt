@@ -6,5 +6,5 @@ pub switched_on-requires : goal.switched_on-requires
 switched_on-requires c =
     ap (λ (xs : List Identity). length xs) c.as_slice.ensures.value
     ∙ ((c.in_ok-identities.ensures {u = tt}).one_each
-    ∙ (sym (slaves-of c.args.table.now c.args.plan.now c.version-version.ensures.sound c.requires.accepted c.requires.plan)
+    ∙ (sym (slaves-of c.args.table.now c.args.plan.now c.is_sound.ensures c.requires.accepted c.requires.plan)
     ∙ ap (λ (xs : List SlavePlan). length xs) (sym c.slaves.ensures.value)))
