@@ -1,5 +1,5 @@
 -- What the requests of a start-up leave known of the assignment objects.
-use Rattle.ec_bringup.proofs.Words.{ℕ, zero, suc, ◌+◌, ◌≡◌, ◌==◌, Bool, true, false, not, Option, Some, None, refl, sym, ◌∙◌, ap, subst, arith, List, [], ◌∷◌, ◌++◌, length, take, append_assoc, length-append, flat_map, eq-eqb, ne_eqb, both_ways, length-map, if_true, if_false, Entry, Pdo, Mailbox, SlaveKind, SlaveState, SdoValue, Assignment, assigned, all_assigned, indices, byte_value, word_value, output_assignment, input_assignment, has_some, pdo_at, SlavePlan, SdoRequest, Transfer, Upload, requests, downloads, entries_read, pdo_read, slots_written, assignment_written, Claim, Config, no_claim, claimed, answered, answered_by, talked_over, asked_all, prepared, claim_of, Claims, IsAssigned, IsOfKind, IsStartable}
+use Rattle.ec_bringup.proofs.Words.{ℕ, zero, suc, ◌+◌, ◌≡◌, ◌==◌, Bool, true, false, not, Option, Some, None, refl, sym, ◌∙◌, ap, subst, arith, List, [], ◌∷◌, ◌++◌, length, take, append_assoc, length-append, flat_map, eq-eqb, ne_eqb, both_ways, length-map, if_true, if_false, Entry, Pdo, Mailbox, SlaveKind, SlaveState, SdoValue, Assignment, assigned, all_assigned, indices, byte_value, word_value, output_assignment, input_assignment, has_some, pdo_at, SlavePlan, SdoRequest, Transfer, Upload, requests, downloads, entries_read, pdo_read, slots_written, assignment_written, Claim, Config, no_claim, claimed, answered, answered_by, talked_over, asked_all, prepared, claim_of, Claims, IsAssigned, IsOfKind, IsStartable, append-nil, take_all}
 
 pub talked-append : (c : Config) (rs qs : List SdoRequest) → talked_over c (rs ++ qs) ≡ talked_over (talked_over c rs) qs
 talked-append c [] qs = refl
@@ -55,11 +55,7 @@ other-claim true c subindex v = refl
 other-claim false c subindex v = refl
 
 pub slots-own : (o : Bool) (c : Config) (n : Option ℕ) (S xs : List ℕ) → claim_at o c ≡ record { count = n; slots = S } → claim_at o (talked_over c (slots_written (object_at o) (length S + 1) xs)) ≡ record { count = n; slots = S ++ xs }
-slots-own o c n S [] h = h ∙ ap (λ (x : List ℕ). record { count = n; slots = x }) (sym (append-none S))
-  where
-    append-none : (S : List ℕ) → S ++ [] ≡ S
-    append-none [] = refl
-    append-none (y ∷ S) = ap (λ (x : List ℕ). y ∷ x) (append-none S)
+slots-own o c n S [] h = h ∙ ap (λ (x : List ℕ). record { count = n; slots = x }) (sym (append-nil S))
 slots-own o c n S (x ∷ xs) h =
     let r : SdoRequest = downloads (object_at o) (length S + 1) (word_value x) in
     let e : claim_at o (answered c r) ≡ record { count = n; slots = S ++ x ∷ [] }
@@ -120,10 +116,6 @@ claim-holds xs a h = ap (λ (k : ℕ). take k a.slots) (h.count_is (length xs) r
 
 -- ---- the assignment at the end of the script
 
-take-whole : (xs : List ℕ) → take (length xs) xs ≡ xs
-take-whole [] = refl
-take-whole (x ∷ xs) = ap (λ (ys : List ℕ). x ∷ ys) (take-whole xs)
-
 take-none : (xs : List ℕ) (n : ℕ) → length xs ≡ 0 → take n xs ≡ []
 take-none [] zero e = refl
 take-none [] (suc n) e = refl
@@ -140,7 +132,7 @@ by-some false xs a h c = h refl
 assigned-whole : (xs : List ℕ) (a : Assignment) (ps : List Pdo) → a ≡ all_assigned ps → xs ≡ indices ps → assigned a ≡ xs
 assigned-whole xs a ps e f =
     let l : length (indices ps) ≡ length ps = length-map ps (λ (p : Pdo). p.index) in
-    ap assigned e ∙ (ap (λ (k : ℕ). take k (indices ps)) (sym l) ∙ (take-whole (indices ps) ∙ sym f))
+    ap assigned e ∙ (ap (λ (k : ℕ). take k (indices ps)) (sym l) ∙ (take_all (length (indices ps)) (indices ps) (omega arith) ∙ sym f))
 
 -- the assignment is the plan's, with a mailbox or without
 pub assignment-held : (p : SlavePlan) (o : Option Mailbox) (s : SlaveState) → p.kind.mailbox ≡ o → IsStartable p → IsOfKind p.kind s → IsAssigned (asked_all (prepared p) p o) s

@@ -1,7 +1,8 @@
 -- The broadcasts of a start-up at any slave.
-use Rattle.ec_bringup.proofs.Words.{ℕ, suc, ◌+◌, ◌-◌, ◌*◌, ◌/◌, ◌%◌, ◌<◌, ◌≡◌, Bool, true, false, refl, sym, ◌∙◌, ap, subst, inl, inr, arith, List, [], ◌∷◌, length, slice_index, or_left, or_right, zeros, any_below, if_true, if_false, within_true, within_below, within_above, SlaveKind, is_stored, no_settings, SyncManager, empty_manager, Command, Bwr, Datagram, adp_of, ado_of, Al, requesting, role_of, adp_after, is_reading, is_writing, SlaveState, manager_at, station_of, Window, touches, physical_after, is_configured, window_of, slave_met, datagram_met, control_word, Action, AskInit, ClearFmmus, ClearManagers, ClearStations, datagram_of, Stage, Called, Down, after, HoldsZeros, IsInInit, AreClear, IsDownAt, Stands, IsWriting, Arrives, IsOther, MayRepeat, Met, Wrote, set_by, wrote, unconfigured, OnlyWrites, writes_meet, goes_on}
+use Rattle.ec_bringup.proofs.Words.{ℕ, suc, ◌+◌, ◌-◌, ◌*◌, ◌/◌, ◌%◌, ◌<◌, ◌≡◌, Bool, true, false, refl, sym, ◌∙◌, ap, subst, inl, inr, arith, List, [], ◌∷◌, length, slice_index, or_left, or_right, zeros, any_below, if_true, if_false, within_true, within_below, within_above, SlaveKind, is_stored, no_settings, SyncManager, empty_manager, Command, Bwr, Datagram, adp_of, ado_of, Al, requesting, role_of, adp_after, is_reading, is_writing, SlaveState, manager_at, station_of, Window, touches, physical_after, is_configured, window_of, slave_met, datagram_met, control_word, Action, AskInit, ClearFmmus, ClearManagers, ClearStations, datagram_of, Stage, Called, Down, after, HoldsZeros, IsInInit, AreClear, IsDownAt, Stands, IsWriting, IsOther, MayRepeat, Met, Wrote, set_by, wrote, unconfigured, OnlyWrites, writes_meet, goes_on}
 use Rattle.ec_bringup.proofs.Resets.{get_or-zeros}
 use Rattle.ec_bringup.proofs.Owns.{slave-wrote, window-sent}
+use Rattle.ec_bringup.proofs.Passing.{Owes}
 
 -- ---- a broadcast write
 
@@ -72,8 +73,7 @@ init-called kind i st trouble s h =
       ));
     }
 
-pub pass-ask-init : (kind : SlaveKind) (i : ℕ) (st : Stage) (trouble : Bool) (number : ℕ) (d : Datagram) (s : SlaveState)
-    → Arrives AskInit number i d → Stands kind i st trouble s → Met kind i st trouble AskInit (datagram_met s d) (slave_met s d) × Arrives AskInit number (i + 1) (datagram_met s d)
+pub pass-ask-init : (kind : SlaveKind) (i : ℕ) (st : Stage) (trouble : Bool) (number : ℕ) (d : Datagram) (s : SlaveState) → Owes kind i st trouble AskInit number d s
 pass-ask-init kind i st trouble number d s arrives h =
     pass-broadcast kind i st trouble AskInit number (datagram_of AskInit number) d s init-asked refl (window-sent Bwr 0 0x0120 (0x11 ∷ 0 ∷ []) number) (λ o. o) (λ o. o)
     (λ k. init-called kind i st trouble s k) arrives h
@@ -127,8 +127,7 @@ clear-fmmus kind i f m trouble s h =
     stored-fmmu : (b : ℕ) → b < 64 → is_stored (0x0600 + b) ≡ true
     stored-fmmu b l = or_right _ _ (or_right _ _ (or_left _ _ (within_true 0x0600 64 (0x0600 + b) (omega arith) (omega (arith, l)))))
 
-pub pass-clear-fmmus : (kind : SlaveKind) (i : ℕ) (f m : Bool) (trouble : Bool) (number : ℕ) (d : Datagram) (s : SlaveState)
-    → Arrives ClearFmmus number i d → Stands kind i (Down f m) trouble s → Met kind i (Down f m) trouble ClearFmmus (datagram_met s d) (slave_met s d) × Arrives ClearFmmus number (i + 1) (datagram_met s d)
+pub pass-clear-fmmus : (kind : SlaveKind) (i : ℕ) (f m : Bool) (trouble : Bool) (number : ℕ) (d : Datagram) (s : SlaveState) → Owes kind i (Down f m) trouble ClearFmmus number d s
 pass-clear-fmmus kind i f m trouble number d s arrives h =
     pass-broadcast kind i (Down f m) trouble ClearFmmus number (datagram_of ClearFmmus number) d s fmmus-cleared refl (window-sent Bwr 0 0x0600 (zeros 64) number) (λ o. o) (λ o. o)
     (λ k. clear-fmmus kind i f m trouble s k) arrives h
@@ -162,8 +161,7 @@ clear-managers kind i f m trouble s h =
       });
     }
 
-pub pass-clear-managers : (kind : SlaveKind) (i : ℕ) (f m : Bool) (trouble : Bool) (number : ℕ) (d : Datagram) (s : SlaveState)
-    → Arrives ClearManagers number i d → Stands kind i (Down f m) trouble s → Met kind i (Down f m) trouble ClearManagers (datagram_met s d) (slave_met s d) × Arrives ClearManagers number (i + 1) (datagram_met s d)
+pub pass-clear-managers : (kind : SlaveKind) (i : ℕ) (f m : Bool) (trouble : Bool) (number : ℕ) (d : Datagram) (s : SlaveState) → Owes kind i (Down f m) trouble ClearManagers number d s
 pass-clear-managers kind i f m trouble number d s arrives h =
     pass-broadcast kind i (Down f m) trouble ClearManagers number (datagram_of ClearManagers number) d s managers-cleared refl (window-sent Bwr 0 0x0800 (zeros 32) number) (λ o. o) (λ o. o)
     (λ k. clear-managers kind i f m trouble s k) arrives h
@@ -187,8 +185,7 @@ clear-stations kind i f m trouble s h =
       });
     }
 
-pub pass-clear-stations : (kind : SlaveKind) (i : ℕ) (f m : Bool) (trouble : Bool) (number : ℕ) (d : Datagram) (s : SlaveState)
-    → Arrives ClearStations number i d → Stands kind i (Down f m) trouble s → Met kind i (Down f m) trouble ClearStations (datagram_met s d) (slave_met s d) × Arrives ClearStations number (i + 1) (datagram_met s d)
+pub pass-clear-stations : (kind : SlaveKind) (i : ℕ) (f m : Bool) (trouble : Bool) (number : ℕ) (d : Datagram) (s : SlaveState) → Owes kind i (Down f m) trouble ClearStations number d s
 pass-clear-stations kind i f m trouble number d s arrives h =
     pass-broadcast kind i (Down f m) trouble ClearStations number (datagram_of ClearStations number) d s stations-cleared refl (window-sent Bwr 0 0x0010 (zeros 2) number) (λ o. o) (λ o. o)
     (λ k. clear-stations kind i f m trouble s k) arrives h

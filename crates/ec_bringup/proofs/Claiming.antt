@@ -3,31 +3,22 @@ use Rattle.ec_bringup.proofs.Words.{ℕ, ◌+◌, ◌-◌, ◌*◌, ◌%◌, ◌
 
 -- ---- claims
 
-cons-head : (x y : ℕ) (xs ys : List ℕ) → x ∷ xs ≡ y ∷ ys → x ≡ y
-cons-head x y xs ys e = cc
-
-cons-tail : (x y : ℕ) (xs ys : List ℕ) → x ∷ xs ≡ y ∷ ys → xs ≡ ys
-cons-tail x y xs ys e = cc
-
 take-set : (S xs : List ℕ) (v : ℕ) → take (length S) xs ≡ S → length S < length xs → take (length (S ++ v ∷ [])) (set xs (length S) v) ≡ S ++ v ∷ []
 take-set [] (x ∷ xs) v e l = refl
 take-set (y ∷ S) (x ∷ xs) v e l =
-    ap (λ (n : ℕ). n ∷ take (length (S ++ v ∷ [])) (set xs (length S) v)) (cons-head x y (take (length S) xs) S e)
-    ∙ ap (λ (ns : List ℕ). y ∷ ns) (take-set S xs v (cons-tail x y (take (length S) xs) S e) (omega arith))
+    let more : take (length (S ++ v ∷ [])) (set xs (length S) v) ≡ S ++ v ∷ [] = take-set S xs v (cc e) (omega arith) in
+    cc (e, more)
 take-set _ [] v e l = absurd (omega arith)
 
 claim-moves : (c d : Claim) (a : Assignment) → d ≡ c → Claims c a → Claims d a
 claim-moves c d a e h = subst (λ (x : Claim). Claims x a) (sym e) h
 
-some-is : (x y : ℕ) → (let o : Option ℕ = Some x in o ≡ Some y) → x ≡ y
-some-is x y e = cc
-
 counted-claim : (c : Claim) (a : Assignment) (value : ℕ) → Claims c a → Claims (record { count = Some value; slots = if value == 0 then [] else c.slots }) (record { slots = a.slots; count = value })
 counted-claim c a value h = by (value == 0)
   where
     by : (b : Bool) → Claims (record { count = Some value; slots = if b then [] else c.slots }) (record { slots = a.slots; count = value })
-    by true = record { count_is = λ x e. some-is value x e; slots_are = refl }
-    by false = record { count_is = λ x e. some-is value x e; slots_are = h.slots_are }
+    by true = record { count_is = λ x e. cc; slots_are = refl }
+    by false = record { count_is = λ x e. cc; slots_are = h.slots_are }
 
 slotted-claim : (c : Claim) (a : Assignment) (subindex value : ℕ) → subindex ≢ 0 → subindex ≤ length a.slots → Claims c a → Claims (slot_claimed c subindex value) (record { slots = set a.slots (subindex - 1) value; count = a.count })
 slotted-claim c a subindex value ne l h = elim (cases_eq subindex (length c.slots + 1)) [

@@ -1,5 +1,5 @@
 -- A world that starts up goes on starting up: by the laws of one slave.
-use Rattle.ec_bringup.proofs.Words.{ℕ, ◌+◌, ◌<◌, ◌≤◌, ◌≡◌, ◌≢◌, ◌==◌, Bool, false, refl, sym, ◌∙◌, subst, inl, inr, arith, List, length, drop, set, length-set, get_or-set_same, get_or-set_other, cases_Bool, cases_lt, cases_eq, lt-ltb, le-ltb, drop_more, drop_all, if_true, if_false, SlaveKind, Datagram, IsDatagram, SlaveState, slave_met, datagram_met, meets-keeps, Action, CountSlaves, script, TooSlow, Verdict, Next, Shows, Again, Fails, Device, verdict, StartState, action_of, type_of, advanced, judged, taken, with_shown, Config, Stage, Up, Fits, after, FrameLaw, Leads, AreAhead, AllMet, IsUnderWay, Instant, Between, UnderWay, Adrift, Over, IsReady, Starts, LaterLaw, TakeLaw, SlaveLaw, IsOfKind, Stands, Arrives, MayRepeat, MayEnd, Met, with_passed, with_start, with_slave, Carried, Starting, no_slave, slave_at, trouble_at, kind_at, AreSlaves}
+use Rattle.ec_bringup.proofs.Words.{ℕ, ◌+◌, ◌<◌, ◌≤◌, ◌≡◌, ◌≢◌, ◌==◌, Bool, false, refl, sym, ◌∙◌, subst, inl, inr, arith, List, length, drop, set, length-set, get_or-set_same, get_or-set_other, cases_Bool, cases_lt, cases_eq, lt-ltb, le-ltb, drop_more, drop_all, if_true, if_false, SlaveKind, Datagram, IsDatagram, SlaveState, slave_met, datagram_met, meets-keeps, Action, CountSlaves, script, TooSlow, Verdict, Next, Shows, Again, Fails, Device, verdict, StartState, action_of, type_of, advanced, judged, taken, with_shown, Config, Stage, Up, Fits, after, FrameLaw, Leads, AreAhead, AllMet, IsUnderWay, Instant, Between, UnderWay, Adrift, Over, IsReady, Starts, LaterLaw, TakeLaw, SlaveLaw, IsOfKind, Stands, Arrives, MayRepeat, MayEnd, Met, with_passed, with_start, with_slave, Carried, Starting, no_slave, slave_at, trouble_at, kind_at, AreSlaves, Before}
 
 -- ---- a frame passes a slave
 
@@ -148,6 +148,10 @@ take-starts law ends w h u e = by (verdict (length w.start.plan) w.start.place w
 pub record Keeps (kind : SlaveKind) (before : Bool) (s : SlaveState) (later : Bool) (t : SlaveState) : Type 0 where
   pub slave : IsOfKind kind s → IsOfKind kind t
   pub stands : (i : ℕ) (st : Stage) → Stands kind i st before s → Stands kind i st later t
+
+pub keeps-by : {kind : SlaveKind} {before : Bool} {s : SlaveState} {later : Bool} {t : SlaveState} → ((i : ℕ) (st : Stage) → Stands kind i st before s → Stands kind i st later t)
+    → Keeps kind before s later t
+keeps-by f = record { slave = λ h. (f 0 Before (record { slave = h; at = inl tt })).slave; stands = f }
 
 trouble_one : (P : ℕ → Bool → SlaveState → Type 0) (ts : List Bool) (ss : List SlaveState) (k : ℕ) (b : Bool) (t : SlaveState) (i : ℕ) → k < length ts → k < length ss
     → (i ≡ k → P k b t) → (i ≢ k → P i (trouble_at ts i) (slave_at ss i)) → P i (trouble_at (set ts k b) i) (slave_at (set ss k t) i)

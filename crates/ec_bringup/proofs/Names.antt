@@ -1,6 +1,6 @@
 -- A slave gets its station address.
-use Rattle.ec_bringup.proofs.Words.{ℕ, zero, suc, ◌+◌, ◌-◌, ◌*◌, ◌/◌, ◌%◌, ◌<◌, ◌≡◌, ◌≢◌, Bool, true, false, refl, sym, ◌∙◌, ap, subst, inl, inr, arith, List, [], ◌∷◌, length, slice_index, eq-eqb, both_ways, cases_eq, if_true, if_false, within_above, SlaveKind, no_settings, fmmu_bytes, no_fmmu, SyncManager, Command, Apwr, Datagram, IsDatagram, adp_of, ado_of, with_adp, role_of, is_reading, is_writing, SlaveState, Meeting, manager_at, station_of, Window, physical_after, window_of, meets, slave_met, datagram_met, other_position_passes, settings_at, fmmu_at, NameSlave, station, datagram_of, Stage, Down, Up, fresh, after, Fits, IsClear, HoldsZeros, AreClear, IsDownAt, IsUpAt, Stands, IsWriting, Arrives, Met, Wrote, wrote, unconfigured, OnlyWrites, writes_meet}
-use Rattle.ec_bringup.proofs.Passing.{others-stay, other-met}
+use Rattle.ec_bringup.proofs.Words.{ℕ, suc, ◌+◌, ◌-◌, ◌*◌, ◌/◌, ◌%◌, ◌<◌, ◌≡◌, ◌≢◌, Bool, true, false, refl, sym, ◌∙◌, ap, subst, inl, inr, arith, List, [], ◌∷◌, length, slice_index, eq-eqb, both_ways, cases_eq, if_true, if_false, within_above, SlaveKind, no_settings, fmmu_bytes, no_fmmu, SyncManager, Command, Apwr, Datagram, IsDatagram, adp_of, ado_of, with_adp, role_of, is_reading, is_writing, SlaveState, Meeting, manager_at, station_of, Window, physical_after, window_of, meets, slave_met, datagram_met, other_position_passes, settings_at, fmmu_at, NameSlave, station, datagram_of, Stage, Down, Up, fresh, after, Fits, IsClear, HoldsZeros, AreClear, IsDownAt, IsUpAt, Stands, IsWriting, Arrives, Met, Wrote, wrote, unconfigured, OnlyWrites, writes_meet}
+use Rattle.ec_bringup.proofs.Passing.{others-stay, other-met, Owes}
 use Rattle.ec_bringup.proofs.Resets.{get_or-zeros}
 use Rattle.ec_bringup.proofs.Owns.{slave-wrote, window-sent}
 use Rattle.ec_bringup.proofs.Broadcasts.{down-of, init-wrote, written-on}
@@ -26,18 +26,12 @@ abbrev pub naming : ℕ → Window
 naming i = record { from = 0x0010; bytes = station i % 256 ∷ station i / 256 ∷ [] }
 
 settings-none : (n : ℕ) → settings_at fresh.managers n ≡ no_settings
-settings-none zero = refl
-settings-none (suc zero) = refl
-settings-none (suc (suc zero)) = refl
-settings-none (suc (suc (suc zero))) = refl
 settings-none (suc (suc (suc (suc n)))) = refl
+settings-none _ = refl
 
 fmmu-none : (n : ℕ) → fmmu_at fresh.fmmus n ≡ no_fmmu
-fmmu-none zero = refl
-fmmu-none (suc zero) = refl
-fmmu-none (suc (suc zero)) = refl
-fmmu-none (suc (suc (suc zero))) = refl
 fmmu-none (suc (suc (suc (suc n)))) = refl
+fmmu-none _ = refl
 
 no-bytes : (k : ℕ) → slice_index (fmmu_bytes no_fmmu) k ≡ 0
 no-bytes k = get_or-zeros 16 k
@@ -79,8 +73,7 @@ clear-is P (Down true true) c h = h
 clear-is P _ c h = absurd c
 
 pub pass-name : (kind : SlaveKind) (i t : ℕ) (st : Stage) (trouble : Bool) (number : ℕ) (d : Datagram) (s : SlaveState)
-    → i < 64 → Fits i st (NameSlave t) → IsDatagram d → Arrives (NameSlave t) number i d → Stands kind i st trouble s
-    → Met kind i st trouble (NameSlave t) (datagram_met s d) (slave_met s d) × Arrives (NameSlave t) number (i + 1) (datagram_met s d)
+    → i < 64 → Fits i st (NameSlave t) → IsDatagram d → Owes kind i st trouble (NameSlave t) number d s
 pass-name kind i t st trouble number d s l fits good arrives h = elim (cases_eq t i) [
   | inl e ↦
       let adp : adp_of d ≡ 0 = let a = arrives.adp_is in omega (arith, a, e, l) in

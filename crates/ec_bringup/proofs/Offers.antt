@@ -1,5 +1,5 @@
 -- A slave of the type answers each request of the script as it should: its mapping is the type's, and each download is done.
-use Rattle.ec_bringup.proofs.Words.{ℕ, zero, suc, ◌+◌, ◌-◌, ◌*◌, ◌%◌, ◌^◌, ◌<◌, ◌≤◌, ◌≡◌, ◌≢◌, ◌==◌, not, Bool, true, false, Option, Some, None, Result, refl, sym, ◌∙◌, ap, subst, arith, if◌then◌else◌, List, [], ◌∷◌, ◌++◌, length, map, take, slice_get, slice_set, nat_le, is_some, option_map, All, append_assoc, length-append, flat_map, option_or, eq-eqb, ne_eqb, and_from, or_right, le-leb, slice_get-map, if_true, if_false, Entry, Pdo, SlaveKind, Message, ValueSize, One, Two, SdoValue, AbortCode, Response, Sdo, DownloadRequest, DownloadResponse, UploadRequest, UploadResponse, size_number, answer_of, answer_by, upload_answer, download_answer, reply_to, value_of, Dictionary, Assignment, identity_object, output_assignment, input_assignment, has_some, entry_number, byte_value, word_value, long_value, assignment_values, pdo_values, device_name_object, shown_values, send_room, object_values, pdo_at, bits_assigned, value_or_abort, value_at, uploaded, distinct, takes_value, is_open, transfers_assignment_written as assignment_written, with_value, with_outs, with_ins, written_over, downloaded, good, uploads_expedited, SlavePlan, SdoRequest, requests, uploads, downloads, entries_read, pdo_read, slots_written, assignment_written as assignment_requests, Claim, Config, answered, claimed, talked_over, prepared, Claims, IsNumbered, IsOffered, AreOffered, IsAssignable, IsComplete}
+use Rattle.ec_bringup.proofs.Words.{ℕ, zero, suc, ◌+◌, ◌-◌, ◌*◌, ◌%◌, ◌^◌, ◌<◌, ◌≤◌, ◌≡◌, ◌≢◌, ◌==◌, not, Bool, true, false, Option, Some, None, Result, refl, sym, ◌∙◌, ap, subst, arith, if◌then◌else◌, List, [], ◌∷◌, ◌++◌, length, map, take, slice_get, slice_set, nat_le, is_some, option_map, All, append_assoc, length-append, flat_map, option_or, eq-eqb, ne_eqb, and_from, or_right, le-leb, slice_get-map, if_true, if_false, Entry, Pdo, SlaveKind, Message, ValueSize, One, Two, SdoValue, AbortCode, Response, Sdo, DownloadRequest, DownloadResponse, UploadRequest, UploadResponse, size_number, answer_of, answer_by, upload_answer, download_answer, reply_to, value_of, Dictionary, Assignment, identity_object, output_assignment, input_assignment, has_some, entry_number, byte_value, word_value, long_value, assignment_values, pdo_values, device_name_object, shown_values, send_room, object_values, pdo_at, bits_assigned, value_or_abort, value_at, uploaded, distinct, takes_value, is_open, transfers_assignment_written as assignment_written, with_value, with_outs, with_ins, written_over, downloaded, good, uploads_expedited, SlavePlan, SdoRequest, requests, uploads, downloads, entries_read, pdo_read, slots_written, assignment_written as assignment_requests, Claim, Config, answered, claimed, talked_over, prepared, Claims, IsNumbered, IsOffered, AreOffered, IsAssignable, IsComplete, append-nil}
 use Rattle.ec_bringup.proofs.Assigns.{claim_at, object_at, own-claim}
 use Rattle.ec_bringup.proofs.Messages.{IsWanted, Knows, Answers}
 use Rattle.ec_bringup.proofs.Blessings.{AllAnswers}
@@ -96,24 +96,15 @@ abbrev assigned_at : Bool → Dictionary → Assignment
 assigned_at true d = d.outs
 assigned_at false d = d.ins
 
-download-outs : (d : Dictionary) (sub : ℕ) (v old : SdoValue) (a : Assignment) → has_some d.kind.outputs ≡ true → slice_get (assignment_values d.outs) sub ≡ Some old → (size_number v.size == size_number old.size) ≡ true
-    → assignment_written true d.kind.outputs d.outs sub v.number ≡ good a → downloaded true d output_assignment sub v ≡ good (record d { outs = a })
-unfolding downloaded uploaded object_values
-download-outs d sub v old a some e l w =
-    let u : uploaded d output_assignment sub ≡ good old = ap (λ (b : Bool). value_at (if b then Some (assignment_values d.outs) else None) sub) some ∙ ap value_or_abort e in
-    ap (written_over true d output_assignment sub v) u ∙ (if_false _ _ _ (ap not l) ∙ ap (with_outs d) w)
-
-download-ins : (d : Dictionary) (sub : ℕ) (v old : SdoValue) (a : Assignment) → has_some d.kind.inputs ≡ true → slice_get (assignment_values d.ins) sub ≡ Some old → (size_number v.size == size_number old.size) ≡ true
-    → assignment_written true d.kind.inputs d.ins sub v.number ≡ good a → downloaded true d input_assignment sub v ≡ good (record d { ins = a })
-unfolding downloaded uploaded object_values
-download-ins d sub v old a some e l w =
-    let u : uploaded d input_assignment sub ≡ good old = ap (λ (b : Bool). value_at (if b then Some (assignment_values d.ins) else None) sub) some ∙ ap value_or_abort e in
-    ap (written_over true d input_assignment sub v) u ∙ (if_false _ _ _ (ap not l) ∙ ap (with_ins d) w)
-
 download-at : (o : Bool) (d : Dictionary) (sub : ℕ) (v old : SdoValue) (a : Assignment) → has_some (ps_at o d.kind) ≡ true → slice_get (assignment_values (assigned_at o d)) sub ≡ Some old → (size_number v.size == size_number old.size) ≡ true
     → assignment_written true (ps_at o d.kind) (assigned_at o d) sub v.number ≡ good a → (e : Dictionary) × (downloaded true d (object_at o) sub v ≡ good e)
-download-at true d sub v old a some e l w = (record d { outs = a }, download-outs d sub v old a some e l w)
-download-at false d sub v old a some e l w = (record d { ins = a }, download-ins d sub v old a some e l w)
+unfolding downloaded uploaded object_values
+download-at true d sub v old a some e l w =
+    let u : uploaded d output_assignment sub ≡ good old = ap (λ (b : Bool). value_at (if b then Some (assignment_values d.outs) else None) sub) some ∙ ap value_or_abort e in
+    (record d { outs = a }, ap (written_over true d output_assignment sub v) u ∙ (if_false _ _ _ (ap not l) ∙ ap (with_outs d) w))
+download-at false d sub v old a some e l w =
+    let u : uploaded d input_assignment sub ≡ good old = ap (λ (b : Bool). value_at (if b then Some (assignment_values d.ins) else None) sub) some ∙ ap value_or_abort e in
+    (record d { ins = a }, ap (written_over true d input_assignment sub v) u ∙ (if_false _ _ _ (ap not l) ∙ ap (with_ins d) w))
 
 -- what is known of the one direction
 known-claims : (o : Bool) (kind : SlaveKind) (c : Config) (d : Dictionary) → Knows kind c.outs c.ins d → Claims (claim_at o c) (assigned_at o d)
@@ -191,11 +182,7 @@ count-answers o kind c n xs some e h =
 slots-answer : (o : Bool) (kind : SlaveKind) (c : Config) (S xs : List ℕ) → has_some (ps_at o kind) ≡ true → claim_at o c ≡ record { count = Some 0; slots = S } → AreOffered kind (ps_at o kind) xs → length S + length xs ≤ length (ps_at o kind)
     → AllAnswers kind c (slots_written (object_at o) (length S + 1) xs)
     × (claim_at o (talked_over c (slots_written (object_at o) (length S + 1) xs)) ≡ record { count = Some 0; slots = S ++ xs })
-slots-answer o kind c S [] some e h l = (tt, e ∙ ap (λ (x : List ℕ). record { count = Some 0; slots = x }) (sym (append-none S)))
-  where
-    append-none : (S : List ℕ) → S ++ [] ≡ S
-    append-none [] = refl
-    append-none (y ∷ S) = ap (λ (x : List ℕ). y ∷ x) (append-none S)
+slots-answer o kind c S [] some e h l = (tt, e ∙ ap (λ (x : List ℕ). record { count = Some 0; slots = x }) (sym (append-nil S)))
 slots-answer o kind c S (x ∷ xs) some e h l =
     let r : SdoRequest = downloads (object_at o) (length S + 1) (word_value x) in
     let q : claim_at o (answered c r) ≡ record { count = Some 0; slots = S ++ x ∷ [] }

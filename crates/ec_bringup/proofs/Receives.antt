@@ -1,11 +1,12 @@
 -- A reply is read from a slave's mailbox.
-use Rattle.ec_bringup.proofs.Words.{ℕ, zero, suc, ◌+◌, ◌-◌, ◌/◌, ◌%◌, ◌<◌, ◌≤◌, ◌≡◌, ◌⊎◌, ◌&&◌, not, Bool, true, false, Option, Some, None, refl, sym, ◌∙◌, ap, subst, inl, inr, arith, List, [], ◌∷◌, length, slice_index, is_some, is_none, unwrap_or, from_bool, eq-eqb, cases_Bool, and_from, and_left, and_right, lt-ltb, eqb-true, length-replicate, zeros, any_below, if_true, if_false, within_true, within_below, within_above, any_below_none, any_below_from, SyncManagerSettings, Mailbox, SlaveKind, ram_start, ram_end, is_set, is_mailbox, is_master_written, is_master_read, span, SyncManager, may_read, is_enabled, ring_read, shown, covers, governor, governs, in_first_buffer, Fprd, Datagram, IsDatagram, adp_of, SlaveState, Meeting, manager_at, station_of, reads_under, is_ungoverned, is_read_by, Window, touches, physical_after, physical_manager, physical_managers, may_read_byte, some_byte_read, byte_read, byte_at, ram_byte, retold, window_of, slave_met, datagram_met, message_read, fmmu_bytes, settings_at, fmmu_at, AwaitReply, SdoRequest, station, at, datagram_of, message_verdict, Next, Rise, Config, Stage, Up, Talk, answered, after, CanTell, AreMailboxes, IsOfKind, IsAssigned, Talks, IsUpAt, Rises, Reached, IsGone, HadFault, Stands, Arrives, Met, reads_meet, accesses_leave, managers_accessed, ram_governed, retold_whole}
+use Rattle.ec_bringup.proofs.Words.{ℕ, ◌+◌, ◌-◌, ◌/◌, ◌%◌, ◌<◌, ◌≤◌, ◌≡◌, ◌⊎◌, ◌&&◌, not, Bool, true, false, Option, Some, None, refl, sym, ◌∙◌, ap, subst, inl, inr, arith, List, [], ◌∷◌, length, slice_index, is_some, is_none, unwrap_or, from_bool, and_from, and_left, and_right, lt-ltb, eqb-true, length-replicate, zeros, any_below, if_true, if_false, within_true, within_below, within_above, any_below_none, any_below_from, SyncManagerSettings, Mailbox, SlaveKind, ram_start, ram_end, is_set, is_mailbox, is_master_written, is_master_read, span, SyncManager, may_read, is_enabled, ring_read, shown, covers, governor, governs, in_first_buffer, Fprd, Datagram, IsDatagram, adp_of, SlaveState, Meeting, manager_at, station_of, reads_under, is_ungoverned, is_read_by, Window, touches, physical_after, physical_manager, physical_managers, may_read_byte, some_byte_read, byte_read, byte_at, ram_byte, retold, window_of, slave_met, datagram_met, message_read, fmmu_bytes, settings_at, fmmu_at, AwaitReply, SdoRequest, station, at, datagram_of, message_verdict, Next, Rise, Config, Stage, Up, Talk, answered, after, CanTell, AreMailboxes, IsOfKind, IsAssigned, Talks, IsUpAt, Rises, Reached, IsGone, HadFault, Stands, Met, reads_meet, accesses_leave, managers_accessed, ram_governed, retold_whole, ne_eqb}
 use Rattle.ec_bringup.proofs.Alike.{rises-alike}
 use Rattle.ec_bringup.proofs.Owns.{window-sent, reads-on, gone-passes}
 use Rattle.ec_bringup.proofs.Polls.{own-reads, read-slave, read-bytes}
 use Rattle.ec_bringup.proofs.Sets.{low-top}
-use Rattle.ec_bringup.proofs.Sends.{none-set, four-of, set-lies, list4}
+use Rattle.ec_bringup.proofs.Sends.{none-set, four-of, set-lies, list4, with_mails, mails-settings, mails-locked, mails-mail}
 use Rattle.ec_bringup.proofs.Leading.{SameFrame, answered-frame}
+use Rattle.ec_bringup.proofs.Passing.{ForAwaitReply, Owes, as_one, mine-told}
 
 abbrev pub asking : Mailbox → Window
 asking b = record { from = b.send_start; bytes = zeros b.send_size }
@@ -21,10 +22,7 @@ read-counter s d c e = (reads_meet s d (own-reads s d c e)).counter
 -- ---- who governs the reply
 
 written-not-read : (m : SyncManagerSettings) → is_master_written m ≡ true → is_master_read m ≡ false
-written-not-read m h = elim (cases_Bool (is_master_read m)) [
-  | inr e ↦ e
-  | inl e ↦ absurd (let a = eqb-true (m.control / 4 % 4) 1 h in let b = eqb-true (m.control / 4 % 4) 0 e in omega (arith, a, b))
-]
+written-not-read m h = ne_eqb (m.control / 4 % 4) 0 (λ e. let a = eqb-true (m.control / 4 % 4) 1 h in omega (arith, a, e))
 
 -- what is known of the two mailboxes of a slave
 pub record Boxes (b : Mailbox) (s : SlaveState) : Type 0 where
@@ -142,7 +140,7 @@ unread b s h e = (accesses_leave s (asking b)).read ∙ (ap (λ (ms : List SyncM
 
 -- the reply is read, and the mailbox empty
 abbrev pub emptied : SlaveState → SlaveState
-emptied s = record s { managers = manager_at s.managers 0 ∷ record (manager_at s.managers 1) { mail = None } ∷ manager_at s.managers 2 ∷ manager_at s.managers 3 ∷ [] }
+emptied s = record s { managers = with_mails s.managers (manager_at s.managers 0).mail None }
 
 pub read-out : (b : Mailbox) (s : SlaveState) → Boxes b s → may_read (manager_at s.managers 1) ≡ true → physical_after s true false (asking b) ≡ emptied s
 read-out b s h e = (accesses_leave s (asking b)).read ∙ ap (λ (ms : List SyncManager). record s { managers = ms }) (managers-after b s (record (manager_at s.managers 1) { mail = None }) h
@@ -175,40 +173,20 @@ emptied-slave kind s h = record {
   outs = h.outs;
   ins = h.ins;
   fixed = λ e. let f = h.fixed e in record { outs = f.outs; ins = f.ins };
-  unlocked_in_init = λ e n l. emptied-locked s n l ∙ h.unlocked_in_init e n l;
+  unlocked_in_init = λ e n l. mails-locked s.managers (manager_at s.managers 0).mail None n l ∙ h.unlocked_in_init e n l;
 }
-  where
-    emptied-locked : (s : SlaveState) (n : ℕ) → n < 4 → (manager_at (emptied s).managers n).locked ≡ (manager_at s.managers n).locked
-    emptied-locked s (suc (suc (suc (suc n)))) l = absurd (omega (arith, l))
-    emptied-locked s _ l = refl
-
--- its front, whatever its configuration is called
-emptied-settings : (s : SlaveState) (n : ℕ) → n < 4 → (manager_at (emptied s).managers n).settings ≡ (manager_at s.managers n).settings
-emptied-settings s (suc (suc (suc (suc n)))) l = absurd (omega (arith, l))
-emptied-settings s _ l = refl
-
-emptied-lock : (s : SlaveState) (n : ℕ) → n < 4 → (manager_at (emptied s).managers n).locked ≡ (manager_at s.managers n).locked
-emptied-lock s (suc (suc (suc (suc n)))) l = absurd (omega (arith, l))
-emptied-lock s _ l = refl
-
-emptied-others : (s : SlaveState) (n : ℕ) → 2 ≤ n → n < 4 → (manager_at (emptied s).managers n).mail ≡ (manager_at s.managers n).mail
-emptied-others s zero a l = absurd (omega (arith, a))
-emptied-others s (suc zero) a l = absurd (omega (arith, a))
-emptied-others s (suc (suc zero)) a l = refl
-emptied-others s (suc (suc (suc zero))) a l = refl
-emptied-others s (suc (suc (suc (suc n)))) a l = absurd (omega (arith, l))
 
 emptied-up : (i : ℕ) (c d : Config) (s : SlaveState) → SameFrame c d → (manager_at s.managers 0).mail ≡ None → IsAssigned d s → IsUpAt i c s → IsUpAt i d (emptied s)
 emptied-up i c d s f none done u = record {
   configured = record {
     station_is = u.configured.station_is;
-    settings = λ n l. emptied-settings s n l ∙ (u.configured.settings n l ∙ ap (λ (ms : List SyncManagerSettings). settings_at ms n) (sym f.managers));
+    settings = λ n l. mails-settings s.managers (manager_at s.managers 0).mail None n l ∙ (u.configured.settings n l ∙ ap (λ (ms : List SyncManagerSettings). settings_at ms n) (sym f.managers));
     fmmus = λ n k l m. u.configured.fmmus n k l m ∙ ap (λ fs. slice_index (fmmu_bytes (fmmu_at fs n)) k) (sym f.fmmus);
     idle = λ e. u.configured.idle (sym f.idle ∙ e);
-    no_messages = λ n a l. emptied-others s n a l ∙ u.configured.no_messages n a l;
+    no_messages = λ n a l. mails-mail s.managers (manager_at s.managers 0).mail None n (omega (arith, a)) (λ e. absurd (omega (arith, a, e))) l ∙ u.configured.no_messages n a l;
     outputs = u.configured.outputs;
   };
-  unlocked = λ n l. emptied-lock s n l ∙ u.unlocked n l;
+  unlocked = λ n l. mails-locked s.managers (manager_at s.managers 0).mail None n l ∙ u.unlocked n l;
   rises = subst (λ (r : Rise). Rises r (emptied s)) (sym f.rise) (rises-alike c.rise s (emptied s) refl refl u.rises);
   talks = subst (λ (o : Option Talk). Talks i d o (emptied s)) (sym f.talk) (record {
     no_message = none;
@@ -235,8 +213,7 @@ some-read b s false h e = let n = asking-length b in
     any_below_none (length (asking b).bytes) (λ k. may_read_byte s.managers (touches (asking b)) (b.send_start + k)) (λ k l. readable b s k false h (omega (arith, l, n)) e)
 
 pub pass-await-reply : (kind : SlaveKind) (i : ℕ) (b : Mailbox) (r : SdoRequest) (c : Config) (trouble : Bool) (number : ℕ) (d : Datagram) (s : SlaveState)
-    → i < 64 → CanTell c (AwaitReply i b r) → IsDatagram d → Arrives (AwaitReply i b r) number i d → Stands kind i (Up c) trouble s
-    → Met kind i (Up c) trouble (AwaitReply i b r) (datagram_met s d) (slave_met s d) × Arrives (AwaitReply i b r) number (i + 1) (datagram_met s d)
+    → i < 64 → CanTell c (AwaitReply i b r) → IsDatagram d → Owes kind i (Up c) trouble (AwaitReply i b r) number d s
 pass-await-reply kind i b r c trouble number d s l can good arrives h =
     let e : d ≡ datagram_of (AwaitReply i b r) number = arrives.to_come (omega arith) in
     let cmd : d.command ≡ Fprd = arrives.gone_by.command in
@@ -246,7 +223,7 @@ pass-await-reply kind i b r c trouble number d s l can good arrives h =
     (by h.at cmd adp w z, record { to_come = λ k. absurd (omega (arith, k)); gone_by = reads-on Fprd s d (datagram_of (AwaitReply i b r) number) refl arrives.gone_by cmd })
   where
     aft : after i (Up c) (AwaitReply i b r) ≡ Up (answered c r)
-    aft = if_true _ _ _ (eq-eqb i i refl)
+    aft = mine-told (as_one number (ForAwaitReply i b r)) c
 
     read : Found i b r c s → Boxes b s → IsUpAt i c s → d.command ≡ Fprd → adp_of d ≡ station_of s → window_of d ≡ asking b → d.counter ≡ 0 → Met kind i (Up c) trouble (AwaitReply i b r) (datagram_met s d) (slave_met s d)
     read (Nothing empty) bx u cmd e w z =

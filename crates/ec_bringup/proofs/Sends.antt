@@ -1,17 +1,14 @@
 -- A request is put into a slave's mailbox.
-use Rattle.ec_bringup.proofs.Words.{ℕ, zero, suc, ◌+◌, ◌-◌, ◌*◌, ◌/◌, ◌%◌, ◌<◌, ◌≤◌, ◌≡◌, ◌==◌, ◌&&◌, ◌||◌, not, Bool, true, false, Option, Some, None, refl, sym, ◌∙◌, ap, subst, inl, inr, arith, List, [], ◌∷◌, length, slice_index, is_none, nat_lt, nat_le, length-append, eq-eqb, cases_Bool, and_parts, and_from, and_left, and_right, eqb-true, leb-true, length-replicate, zeros, any_below, if_true, if_false, within_true, within_below, any_below_from, SyncManagerSettings, Mailbox, SlaveKind, ram_start, ram_end, no_settings, is_set, is_mailbox, is_buffered, is_master_written, is_master_read, span, manager_bytes, SyncManager, may_write, is_enabled, ring_written, covers, Fpwr, Apwr, Fprd, Brd, Bwr, Datagram, IsDatagram, Al, SlaveState, manager_at, is_ungoverned, is_written_by, Window, touches, is_configured, physical_value, physical_manager, physical_managers, physical_after, slave_met, datagram_met, writes_by_byte, length-message, settings_at, SendRequest, CountSlaves, AskInit, AwaitInit, ClearFmmus, ClearManagers, ClearStations, NameSlave, AskWord, AwaitWord, SetManager, SetFmmu, AskState, AwaitState, AwaitReply, SdoRequest, station, filled, request_bytes, request_message, sent, datagram_of, word_place, Config, Up, Talk, CanTell, AreMailboxes, IsRequest, HoldsZeros, IsOfKind, IsSilent, Talks, IsUpAt, IsTop, Stands, Arrives, Met, accesses_leave, managers_accessed, whole_values, unconfigured, Command, fmmu_bytes, state_number, read_command, Action, IsReachable}
+use Rattle.ec_bringup.proofs.Words.{ℕ, zero, suc, ◌+◌, ◌-◌, ◌*◌, ◌/◌, ◌%◌, ◌<◌, ◌≤◌, ◌≡◌, ◌==◌, ◌&&◌, ◌||◌, not, Bool, true, false, Option, Some, None, refl, sym, ◌∙◌, ap, subst, inl, inr, arith, List, [], ◌∷◌, length, slice_index, is_none, nat_lt, nat_le, length-append, and_parts, and_from, and_left, and_right, eqb-true, leb-true, length-replicate, zeros, any_below, if_true, if_false, within_true, within_below, any_below_from, SyncManagerSettings, Mailbox, SlaveKind, ram_start, ram_end, no_settings, is_set, is_mailbox, is_buffered, is_master_written, is_master_read, span, manager_bytes, SyncManager, may_write, is_enabled, ring_written, covers, Fpwr, Apwr, Fprd, Brd, Bwr, Datagram, IsDatagram, Al, SlaveState, manager_at, is_ungoverned, is_written_by, Window, touches, is_configured, physical_value, physical_manager, physical_managers, physical_after, writes_by_byte, length-message, settings_at, SendRequest, CountSlaves, AskInit, AwaitInit, ClearFmmus, ClearManagers, ClearStations, NameSlave, AskWord, AwaitWord, SetManager, SetFmmu, AskState, AwaitState, AwaitReply, SdoRequest, station, filled, request_bytes, request_message, sent, datagram_of, word_place, Config, Up, Talk, CanTell, AreMailboxes, IsRequest, HoldsZeros, IsOfKind, IsSilent, Talks, IsUpAt, IsTop, accesses_leave, managers_accessed, whole_values, unconfigured, Command, fmmu_bytes, state_number, read_command, Action, IsReachable, ne_eqb}
 use Rattle.ec_bringup.proofs.Alike.{claims-alike, rises-alike, kind-kept}
-use Rattle.ec_bringup.proofs.Passing.{one-send}
+use Rattle.ec_bringup.proofs.Passing.{ForSend, Owes, as_one}
 use Rattle.ec_bringup.proofs.Owns.{window-sent, pass-own}
 use Rattle.ec_bringup.proofs.Sets.{aside-busy, low-top}
 
 -- ---- one manager
 
 written-not-read : (m : SyncManagerSettings) → is_master_read m ≡ true → is_master_written m ≡ false
-written-not-read m h = elim (cases_Bool (is_master_written m)) [
-  | inr e ↦ e
-  | inl e ↦ absurd (let a = eqb-true (m.control / 4 % 4) 0 h in let b = eqb-true (m.control / 4 % 4) 1 e in omega (arith, a, b))
-]
+written-not-read m h = ne_eqb (m.control / 4 % 4) 1 (λ e. let a = eqb-true (m.control / 4 % 4) 0 h in omega (arith, a, e))
 
 pub unset-write : (m : SyncManager) → is_set m.settings ≡ false → may_write m ≡ false
 unset-write m e = and_left _ _ (and_left _ _ e)
@@ -30,8 +27,7 @@ met-written lower w n m u e = (managers_accessed lower w n m).written u ∙ if_t
 -- ---- four managers
 
 pub list4 : (a b c d x y z v : SyncManager) → a ≡ x → b ≡ y → c ≡ z → d ≡ v → a ∷ b ∷ c ∷ d ∷ [] ≡ x ∷ y ∷ z ∷ v ∷ []
-list4 a b c d x y z v p q r s =
-    ap (λ (k : SyncManager). k ∷ b ∷ c ∷ d ∷ []) p ∙ (ap (λ (k : SyncManager). x ∷ k ∷ c ∷ d ∷ []) q ∙ (ap (λ (k : SyncManager). x ∷ y ∷ k ∷ d ∷ []) r ∙ ap (λ (k : SyncManager). x ∷ y ∷ z ∷ k ∷ []) s))
+list4 a b c d x y z v p q r s = cc
 
 pub four-of : (ms : List SyncManager) → length ms ≡ 4 → ms ≡ manager_at ms 0 ∷ manager_at ms 1 ∷ manager_at ms 2 ∷ manager_at ms 3 ∷ []
 four-of (a ∷ b ∷ c ∷ d ∷ []) e = refl
@@ -112,21 +108,24 @@ pub record Delivered (b : Mailbox) (counter : ℕ) (r : SdoRequest) (s t : Slave
   pub outs : t.outs ≡ s.outs
   pub ins : t.ins ≡ s.ins
 
-abbrev with_message : List SyncManager → List ℕ → List SyncManager
-with_message ms x = record (manager_at ms 0) { mail = Some x } ∷ manager_at ms 1 ∷ manager_at ms 2 ∷ manager_at ms 3 ∷ []
+-- the first two managers with these messages
+abbrev pub with_mails : List SyncManager → Option (List ℕ) → Option (List ℕ) → List SyncManager
+with_mails ms x y = record (manager_at ms 0) { mail = x } ∷ record (manager_at ms 1) { mail = y } ∷ manager_at ms 2 ∷ manager_at ms 3 ∷ []
 
-mailbox_message-settings : (ms : List SyncManager) (x : List ℕ) (n : ℕ) → n < 4 → (manager_at (with_message ms x) n).settings ≡ (manager_at ms n).settings
-mailbox_message-settings ms x (suc (suc (suc (suc n)))) l = absurd (omega (arith, l))
-mailbox_message-settings ms x _ l = refl
+pub mails-settings : (ms : List SyncManager) (x y : Option (List ℕ)) (n : ℕ) → n < 4 → (manager_at (with_mails ms x y) n).settings ≡ (manager_at ms n).settings
+mails-settings ms x y (suc (suc (suc (suc n)))) l = absurd (omega (arith, l))
+mails-settings ms x y _ l = refl
 
-mailbox_message-locked : (ms : List SyncManager) (x : List ℕ) (n : ℕ) → n < 4 → (manager_at (with_message ms x) n).locked ≡ (manager_at ms n).locked
-mailbox_message-locked ms x (suc (suc (suc (suc n)))) l = absurd (omega (arith, l))
-mailbox_message-locked ms x _ l = refl
+pub mails-locked : (ms : List SyncManager) (x y : Option (List ℕ)) (n : ℕ) → n < 4 → (manager_at (with_mails ms x y) n).locked ≡ (manager_at ms n).locked
+mails-locked ms x y (suc (suc (suc (suc n)))) l = absurd (omega (arith, l))
+mails-locked ms x y _ l = refl
 
-mailbox_message-mail : (ms : List SyncManager) (x : List ℕ) (n : ℕ) → 1 ≤ n → n < 4 → (manager_at (with_message ms x) n).mail ≡ (manager_at ms n).mail
-mailbox_message-mail ms x zero a l = absurd (omega (arith, a))
-mailbox_message-mail ms x (suc (suc (suc (suc n)))) a l = absurd (omega (arith, l))
-mailbox_message-mail ms x _ a l = refl
+-- the second one's kept, or not asked for
+pub mails-mail : (ms : List SyncManager) (x y : Option (List ℕ)) (n : ℕ) → 1 ≤ n → (n ≡ 1 → y ≡ (manager_at ms 1).mail) → n < 4 → (manager_at (with_mails ms x y) n).mail ≡ (manager_at ms n).mail
+mails-mail ms x y zero a e l = absurd (omega (arith, a))
+mails-mail ms x y (suc zero) a e l = e refl
+mails-mail ms x y (suc (suc (suc (suc n)))) a e l = absurd (omega (arith, l))
+mails-mail ms x y _ a e l = refl
 
 pub delivered : (i counter : ℕ) (c : Config) (b : Mailbox) (r : SdoRequest) (s : SlaveState) → length s.managers ≡ 4 → AreMailboxes b c.managers → IsUpAt i c s → (manager_at s.managers 0).mail ≡ None
     → Delivered b counter r s (physical_after s false true (sending b counter r))
@@ -142,9 +141,9 @@ delivered i counter c b r s four h u none =
       memory = λ a l k. ((writes_by_byte s.managers (sending b counter r) s.memory).1 a k).untouched (within_below b.receive_start (length (sending b counter r).bytes) a (omega (arith, ram, rs, l)));
       count = ap length e;
       mailbox_message = ap (λ (ms : List SyncManager). (manager_at ms 0).mail) e;
-      settings = λ n l. ap (λ (ms : List SyncManager). (manager_at ms n).settings) e ∙ mailbox_message-settings s.managers x n l;
-      locked = λ n l. ap (λ (ms : List SyncManager). (manager_at ms n).locked) e ∙ mailbox_message-locked s.managers x n l;
-      mail = λ n a l. ap (λ (ms : List SyncManager). (manager_at ms n).mail) e ∙ mailbox_message-mail s.managers x n a l;
+      settings = λ n l. ap (λ (ms : List SyncManager). (manager_at ms n).settings) e ∙ mails-settings s.managers (Some x) (manager_at s.managers 1).mail n l;
+      locked = λ n l. ap (λ (ms : List SyncManager). (manager_at ms n).locked) e ∙ mails-locked s.managers (Some x) (manager_at s.managers 1).mail n l;
+      mail = λ n a l. ap (λ (ms : List SyncManager). (manager_at ms n).mail) e ∙ mails-mail s.managers (Some x) (manager_at s.managers 1).mail n a (λ _. refl) l;
       outputs = ap (λ (ms : List SyncManager). manager_at ms 2) e;
       al = if_false _ _ _ (within_below b.receive_start (length (sending b counter r).bytes) 0x0120 (omega (arith, ram, rs)));
       busy = aside-busy (sending b counter r) s.sii (omega (arith, ram, rs));
@@ -186,15 +185,14 @@ delivered-up i counter c b r s t room none boxes q low h u =
     }
 
 pub pass-send : (kind : SlaveKind) (i counter : ℕ) (b : Mailbox) (r : SdoRequest) (c : Config) (trouble : Bool) (number : ℕ) (d : Datagram) (s : SlaveState)
-    → i < 64 → CanTell c (SendRequest i counter b r) → IsDatagram d → Arrives (SendRequest i counter b r) number i d → Stands kind i (Up c) trouble s
-    → Met kind i (Up c) trouble (SendRequest i counter b r) (datagram_met s d) (slave_met s d) × Arrives (SendRequest i counter b r) number (i + 1) (datagram_met s d)
+    → i < 64 → CanTell c (SendRequest i counter b r) → IsDatagram d → Owes kind i (Up c) trouble (SendRequest i counter b r) number d s
 pass-send kind i counter b r c trouble number d s l can good arrives h =
     let low = can.0 in let none = can.1 in let boxes = can.2 in let q = can.3 in
     let lies = set-lies (settings_at c.managers 0) boxes.receive_set in
     let silent = λ (u : IsUpAt i c s). subst (λ (o : Option Talk). Talks i c o s) none u.talks in
-    pass-own kind i c trouble (SendRequest i counter b r) number d s (sending b counter r) (one-send i counter b r number) l refl
+    pass-own kind i c trouble (SendRequest i counter b r) number d s (sending b counter r) (as_one number (ForSend i counter b r)) l refl
     (window-sent Fpwr (station i) b.receive_start (filled b.receive_size (request_bytes counter r)) number) (let a = lies.1 in omega (arith, a, boxes.receive_start))
-    (if_true _ _ _ (eq-eqb i i refl)) (λ o. o) (λ o. o refl) (low-top c.rise low)
+    (λ o. o) (low-top c.rise low)
     (λ k u. delivered-slave kind b counter r s (physical_after s false true (sending b counter r)) (delivered i counter c b r s k.four boxes u (silent u).no_message) k)
     (λ k u. delivered-up i counter c b r s (physical_after s false true (sending b counter r)) k.room none boxes q (low-top c.rise low) (delivered i counter c b r s k.four boxes u (silent u).no_message) u)
     good arrives h

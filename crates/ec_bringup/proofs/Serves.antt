@@ -1,7 +1,7 @@
 -- A firmware step of a slave that stands at a stage: the AL request, and the SII read.
-use Rattle.ec_bringup.proofs.Words.{ℕ, zero, suc, ◌<◌, ◌≡◌, ◌⊎◌, ◌&&◌, not, Bool, true, false, refl, sym, ◌∙◌, ap, subst, inl, inr, arith, List, [], ◌∷◌, length, map, set, if◌then◌else◌, length-set, get_or-set_same, get_or-set_other, slice_index, Result, Ok, Err, both_ways, cases_Bool, and_left, and_right, cases_eq, length-map, if_false, SlaveKind, SyncManager, no_manager, zeros_published, State, Init, PreOp, SafeOp, Op, StatusCode, InvalidMailboxConfiguration, InvalidOutputConfiguration, InvalidInputConfiguration, Checks, state_number, code_number, answer, requested_by, acknowledges, Al, decided, slave_answered as answered, SlaveState, manager_at, control_word, checks_of, unlocked_empty, managers_entered, with_al, request_decided, read_finished, Sii, requests_decided, finished, switched_on, Rise, Stays, Climbs, Config, Stage, Before, Called, Down, Up, IsStepUp, unviewed, IsOfKind, IsInInit, Rises, IsUpAt, IsDownAt, Reached, IsGone, HadFault, Stands}
+use Rattle.ec_bringup.proofs.Words.{ℕ, zero, suc, ◌<◌, ◌≡◌, ◌⊎◌, ◌&&◌, not, Bool, true, false, refl, sym, ◌∙◌, ap, subst, inl, inr, arith, List, [], ◌∷◌, length, map, set, if◌then◌else◌, length-set, get_or-set_same, get_or-set_other, slice_index, Result, Ok, Err, both_ways, cases_Bool, and_left, and_right, cases_eq, length-map, if_false, SlaveKind, SyncManager, no_manager, zeros_published, State, Init, PreOp, SafeOp, Op, StatusCode, InvalidMailboxConfiguration, InvalidOutputConfiguration, InvalidInputConfiguration, Checks, state_number, code_number, answer, requested_by, acknowledges, Al, decided, slave_answered as answered, SlaveState, manager_at, control_word, checks_of, unlocked_empty, managers_entered, with_al, request_decided, read_finished, Sii, requests_decided, finished, switched_on, Rise, Stays, Climbs, Config, Stage, Before, Called, Down, Up, IsStepUp, unviewed, IsOfKind, IsInInit, Rises, IsUpAt, IsDownAt, Reached, HadFault, Stands}
 use Rattle.ec_al.specs.Al as al
-use Rattle.ec_bringup.proofs.Alike.{SameFront, front-refl, SameFronts, fronts-refl, Alike, slave-alike, stands-alike, down-rest, up-rest}
+use Rattle.ec_bringup.proofs.Alike.{SameFront, front-refl, SameFronts, fronts-refl, Alike, slave-alike, stands-alike, stands-by, gone-on, had-fault, down-rest, up-rest}
 
 -- ---- the managers, where a state is entered
 
@@ -31,10 +31,8 @@ NoFall old new = Unit {0}
 
 entered-front : (old new : State) (ms : List SyncManager) → 3 < length ms → NoFall old new → SameFronts ms (managers_entered old new ms)
 entered-front Init Init ms l h = fronts-refl ms
-entered-front PreOp Init ms l h = absurd h
 entered-front PreOp SafeOp ms l h = zeros-front ms l
-entered-front SafeOp Init ms l h = absurd h
-entered-front Op Init ms l h = absurd h
+entered-front _ Init ms l h = absurd h
 entered-front _ _ ms l h = fronts-refl ms
 
 -- INIT entered from another state: all unlocked
@@ -44,22 +42,18 @@ Falls old Init = Unit {0}
 Falls old new = ⊥
 
 pub cases_fall : (old new : State) → NoFall old new ⊎ Falls old new
-cases_fall PreOp Init = inr tt
-cases_fall SafeOp Init = inr tt
-cases_fall Op Init = inr tt
+cases_fall Init _ = inl tt
+cases_fall _ Init = inr tt
 cases_fall _ _ = inl tt
 
 falls-entered : (old new : State) (ms : List SyncManager) → Falls old new → managers_entered old new ms ≡ map unlocked_empty ms
-falls-entered PreOp Init ms h = refl
-falls-entered SafeOp Init ms h = refl
-falls-entered Op Init ms h = refl
+falls-entered Init _ ms h = absurd h
+falls-entered _ Init ms h = refl
 falls-entered _ _ ms h = absurd h
 
 no_fall-init : (old new : State) → NoFall old new → new ≡ Init → old ≡ Init
 no_fall-init Init new h e = refl
-no_fall-init PreOp Init h e = absurd h
-no_fall-init SafeOp Init h e = absurd h
-no_fall-init Op Init h e = absurd h
+no_fall-init _ Init h e = absurd h
 no_fall-init _ _ h e = cc
 
 -- ---- the AL state machine is given another state
@@ -100,9 +94,7 @@ decided-init a checks =
   where
     init : (st : State) → answer st (requested_by 0x0011) checks ≡ Ok Init
     init Init = refl
-    init PreOp = refl
-    init SafeOp = refl
-    init Op = refl
+    init _ = refl
 
 -- a step up without an error is granted or refused
 pub data Climbed (from to : State) (a : Al) : Type 0 where
@@ -149,9 +141,7 @@ no_fall-up _ _ h = absurd h
 
 no_fall-same : (s : State) → NoFall s s
 no_fall-same Init = tt
-no_fall-same PreOp = tt
-no_fall-same SafeOp = tt
-no_fall-same Op = tt
+no_fall-same _ = tt
 
 waits-none : (s : SlaveState) → s.al.requested ≡ false → request_decided s ≡ s
 waits-none s e = (requests_decided s).rests e
@@ -201,9 +191,7 @@ up-decided i c (Stays Init) s e l h u = elim (kept-init s h) [
   | Turned q z ↦ subst (λ (t : SlaveState). IsUpAt i c t) (sym q)
       (up-rest i c s (with_al s al.power_on) (turned-alike s z l) (subst (λ (x : Rise). Rises x (with_al s al.power_on)) (sym e) (in-init s)) u)
 ]
-up-decided i c (Stays PreOp) s e l h u = subst (λ (t : SlaveState). IsUpAt i c t) (sym (waits-none s h.no_request)) u
-up-decided i c (Stays SafeOp) s e l h u = subst (λ (t : SlaveState). IsUpAt i c t) (sym (waits-none s h.no_request)) u
-up-decided i c (Stays Op) s e l h u = subst (λ (t : SlaveState). IsUpAt i c t) (sym (waits-none s h.no_request)) u
+up-decided i c (Stays _) s e l h u = subst (λ (t : SlaveState). IsUpAt i c t) (sym (waits-none s h.no_request)) u
 up-decided i c (Climbs from to) s e l (up, inl h) u =
     let a : Al = al.decided s.al (control_word s) (checks_of s) in
     let d : Climbed from to a = decided-climb s.al from to (control_word s) (checks_of s) up h.state h.no_error h.control_is in
@@ -227,23 +215,11 @@ reached-decided i (Down f m) s l h = elim (kept-init s h.init) [
 ]
 reached-decided i (Up c) s l h = up-decided i c c.rise s refl l h.rises h
 
-gone-waits : (st : Stage) (s : SlaveState) → IsGone st s → s.al.requested ≡ false
-gone-waits (Up c) s h = ap (λ (t : SlaveState). t.al.requested) h ∙ ap (λ (a : Al). a.requested) (switched_on s.kind s.identity).al
-gone-waits _ s h = absurd h
-
-fault-waits : (i : ℕ) (st : Stage) (s : SlaveState) → HadFault i st s → s.al.requested ≡ false
-fault-waits i (Up c) s h = h.faulted.no_request
-fault-waits i _ s h = absurd h
-
 pub stands-decided : (kind : SlaveKind) (i : ℕ) (st : Stage) (trouble : Bool) (s : SlaveState) → Stands kind i st trouble s → Stands kind i st trouble (request_decided s)
-stands-decided kind i st trouble s h = record {
-  slave = slave-decided kind s h.slave;
-  at = elim h.at [
-    | inl r ↦ inl (reached-decided i st s (let e = h.slave.four in omega arith) r)
-    | inr (t, inl g) ↦ inr (t, inl (subst (λ (x : SlaveState). IsGone st x) (sym (waits-none s (gone-waits st s g))) g))
-    | inr (t, inr g) ↦ inr (t, inr (subst (λ (x : SlaveState). HadFault i st x) (sym (waits-none s (fault-waits i st s g))) g))
-  ];
-}
+stands-decided kind i st trouble s h =
+    stands-by kind i st trouble s (request_decided s) (slave-decided kind s h.slave) (reached-decided i st s (let e = h.slave.four in omega arith))
+    (λ g. waits-none s (ap (λ (t : SlaveState). t.al.requested) (gone-on st s g) ∙ ap (λ (a : Al). a.requested) (switched_on s.kind s.identity).al))
+    (λ g. subst (λ (x : SlaveState). HadFault i st x) (sym (waits-none s (had-fault i st s g).1.no_request)) g) h
 
 -- ---- the SII read finished
 
@@ -259,10 +235,6 @@ finished-alike s =
       ins = ap (λ (t : SlaveState). t.ins) f.is;
     }
 
-gone-idle : (st : Stage) (s : SlaveState) → IsGone st s → s.sii.busy ≡ false
-gone-idle (Up c) s h = ap (λ (t : SlaveState). t.sii.busy) h ∙ ap (λ (p : Sii). p.busy) (switched_on s.kind s.identity).sii
-gone-idle _ s h = absurd h
-
 pub stands-finished : (kind : SlaveKind) (i : ℕ) (st : Stage) (trouble : Bool) (s : SlaveState) → Stands kind i st trouble s → Stands kind i st trouble (read_finished s)
 stands-finished kind i st trouble s h =
-    stands-alike kind i st trouble s (read_finished s) (finished-alike s) (ap (λ (t : SlaveState). t.al) (finished s).is) (λ g. (finished s).rests (gone-idle st s g)) h
+    stands-alike kind i st trouble s (read_finished s) (finished-alike s) (ap (λ (t : SlaveState). t.al) (finished s).is) (λ g. (finished s).rests (ap (λ (t : SlaveState). t.sii.busy) (gone-on st s g) ∙ ap (λ (p : Sii). p.busy) (switched_on s.kind s.identity).sii)) h

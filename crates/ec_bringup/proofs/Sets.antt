@@ -1,7 +1,7 @@
 -- Registers that are set at one slave: the SII command, a manager, an FMMU.
-use Rattle.ec_bringup.proofs.Words.{ℕ, suc, ◌+◌, ◌-◌, ◌*◌, ◌/◌, ◌%◌, ◌<◌, ◌≤◌, ◌≡◌, ◌≢◌, Bool, true, false, Option, None, refl, sym, ◌∙◌, ap, subst, inl, inr, arith, if◌then◌else◌, List, length, slice_index, set, get_or-set_same, get_or-set_other, eq-eqb, both_ways, cases_eq, cases_lt, or_left, or_right, within, any_below, if_true, if_false, within_true, within_below, within_above, SyncManagerSettings, FmmuSettings, SlaveKind, ram_start, is_stored, no_settings, manager_bytes, settings_of, fmmu_bytes, no_fmmu, SyncManager, empty_manager, Fpwr, Datagram, IsDatagram, Init, PreOp, Sii, written, byte_for, commanded, addressed, address_written, read_command, SlaveState, manager_at, station_of, Window, physical_after, is_configured, settings_written, slave_met, datagram_met, settings_at, fmmu_at, AskWord, SetManager, SetFmmu, station, word_place, Rise, Stays, Config, Up, Talk, CanTell, IsLow, HoldsZeros, IsConfigured, IsSilent, Talks, IsUpAt, IsTop, Rises, Claims, Stands, Arrives, Met, Wrote, set_by, wrote, unconfigured}
+use Rattle.ec_bringup.proofs.Words.{ℕ, suc, ◌+◌, ◌-◌, ◌*◌, ◌/◌, ◌%◌, ◌<◌, ◌≤◌, ◌≡◌, ◌≢◌, Bool, true, false, Option, None, refl, sym, ◌∙◌, ap, subst, inl, inr, arith, if◌then◌else◌, List, length, slice_index, set, get_or-set_same, get_or-set_other, both_ways, cases_eq, cases_lt, or_left, or_right, within, any_below, if_true, if_false, within_true, within_below, within_above, SyncManagerSettings, FmmuSettings, SlaveKind, ram_start, is_stored, no_settings, manager_bytes, settings_of, fmmu_bytes, no_fmmu, SyncManager, empty_manager, Fpwr, Datagram, IsDatagram, Init, PreOp, Sii, written, byte_for, commanded, addressed, address_written, read_command, SlaveState, manager_at, station_of, Window, physical_after, is_configured, settings_written, settings_at, fmmu_at, AskWord, SetManager, SetFmmu, station, word_place, Rise, Stays, Config, Up, Talk, CanTell, IsLow, HoldsZeros, IsConfigured, IsSilent, Talks, IsUpAt, IsTop, Rises, Claims, Wrote, set_by, wrote, unconfigured}
 use Rattle.ec_bringup.proofs.Alike.{claims-alike, rises-alike, word_of}
-use Rattle.ec_bringup.proofs.Passing.{one-ask-word, one-set-manager, one-set-fmmu}
+use Rattle.ec_bringup.proofs.Passing.{ForAskWord, ForSetManager, ForSetFmmu, Owes, as_one}
 use Rattle.ec_bringup.proofs.Owns.{set-locked, slave-wrote, window-sent, pass-own}
 
 -- ---- what stays where neither the station address nor the AL control word is written
@@ -103,16 +103,15 @@ six : (which : ℕ) → length (read_command (word_place which)) ≡ 6
 six which = refl
 
 pub pass-ask-word : (kind : SlaveKind) (i which : ℕ) (c : Config) (trouble : Bool) (number : ℕ) (d : Datagram) (s : SlaveState)
-    → i < 64 → CanTell c (AskWord i which) → IsDatagram d → Arrives (AskWord i which) number i d → Stands kind i (Up c) trouble s
-    → Met kind i (Up c) trouble (AskWord i which) (datagram_met s d) (slave_met s d) × Arrives (AskWord i which) number (i + 1) (datagram_met s d)
+    → i < 64 → CanTell c (AskWord i which) → IsDatagram d → Owes kind i (Up c) trouble (AskWord i which) number d s
 pass-ask-word kind i which c trouble number d s l can good arrives h =
     let w : Window = reading which in
     let n6 : length (reading which).bytes ≡ 6 = six which in
     let t : SlaveState = physical_after s false true (reading which) in
     let inside : 0x0502 + length (reading which).bytes ≤ ram_start = omega (arith, n6) in
     let k : Wrote (reading which) s (physical_after s false true (reading which)) = wrote s (reading which) inside in
-    pass-own kind i c trouble (AskWord i which) number d s (reading which) (one-ask-word i which number) l refl (window-sent Fpwr (station i) 0x0502 (read_command (word_place which)) number) (omega arith)
-    (if_true _ _ _ (eq-eqb i i refl)) (λ r. r) (λ o. o refl) (low-top c.rise can.0)
+    pass-own kind i c trouble (AskWord i which) number d s (reading which) (as_one number (ForAskWord i which)) l refl (window-sent Fpwr (station i) 0x0502 (read_command (word_place which)) number) (omega arith)
+    (λ r. r) (low-top c.rise can.0)
     (λ q u. slave-wrote kind (reading which) s (physical_after s false true (reading which)) k q)
     (λ q u. set-up i c (record c { idle = false }) s (physical_after s false true (reading which)) (reading which) (record { from = omega arith; registers = inside }) k q.room q.four can.1 can.1 refl refl refl
     (λ n b. same-settings c i (reading which) s (physical_after s false true (reading which)) n k q.four b (unconfigured (reading which) n (inl (omega (arith, n6)))) u.configured)
@@ -150,14 +149,13 @@ set-fmmus n f c i s t k room l there h j b x y = elim (cases_eq j n) [
 ]
 
 pub pass-set-fmmu : (kind : SlaveKind) (i n : ℕ) (f : FmmuSettings) (c : Config) (trouble : Bool) (number : ℕ) (d : Datagram) (s : SlaveState)
-    → i < 64 → CanTell c (SetFmmu i n f) → IsDatagram d → Arrives (SetFmmu i n f) number i d → Stands kind i (Up c) trouble s
-    → Met kind i (Up c) trouble (SetFmmu i n f) (datagram_met s d) (slave_met s d) × Arrives (SetFmmu i n f) number (i + 1) (datagram_met s d)
+    → i < 64 → CanTell c (SetFmmu i n f) → IsDatagram d → Owes kind i (Up c) trouble (SetFmmu i n f) number d s
 pass-set-fmmu kind i n f c trouble number d s l can good arrives h =
     let low = can.0 in let there = can.1 in let four = can.2 in let none = can.3 in
     let b4 : n < 4 = omega (arith, there, four) in
     let k : Wrote (mapping n f) s (physical_after s false true (mapping n f)) = wrote s (mapping n f) (omega (arith, b4)) in
-    pass-own kind i c trouble (SetFmmu i n f) number d s (mapping n f) (one-set-fmmu i n f number) l refl (window-sent Fpwr (station i) (0x0600 + 16 * n) (fmmu_bytes f) number) (omega (arith, b4))
-    (if_true _ _ _ (eq-eqb i i refl)) (λ r. r) (λ o. o refl) (low-top c.rise low)
+    pass-own kind i c trouble (SetFmmu i n f) number d s (mapping n f) (as_one number (ForSetFmmu i n f)) l refl (window-sent Fpwr (station i) (0x0600 + 16 * n) (fmmu_bytes f) number) (omega (arith, b4))
+    (λ r. r) (low-top c.rise low)
     (λ q u. slave-wrote kind (mapping n f) s (physical_after s false true (mapping n f)) k q)
     (λ q u. set-up i c (record c { fmmus = set c.fmmus n f }) s (physical_after s false true (mapping n f)) (mapping n f) (record { from = omega arith; registers = omega (arith, b4) }) k q.room q.four none none refl refl refl
     (λ j x. same-settings c i (mapping n f) s (physical_after s false true (mapping n f)) j k q.four x (unconfigured (mapping n f) j (inl (omega (arith, b4)))) u.configured)
@@ -194,14 +192,13 @@ set-managers n m c i s t k four l there h j x = elim (cases_eq j n) [
 ]
 
 pub pass-set-manager : (kind : SlaveKind) (i n : ℕ) (m : SyncManagerSettings) (c : Config) (trouble : Bool) (number : ℕ) (d : Datagram) (s : SlaveState)
-    → i < 64 → CanTell c (SetManager i n m) → IsDatagram d → Arrives (SetManager i n m) number i d → Stands kind i (Up c) trouble s
-    → Met kind i (Up c) trouble (SetManager i n m) (datagram_met s d) (slave_met s d) × Arrives (SetManager i n m) number (i + 1) (datagram_met s d)
+    → i < 64 → CanTell c (SetManager i n m) → IsDatagram d → Owes kind i (Up c) trouble (SetManager i n m) number d s
 pass-set-manager kind i n m c trouble number d s l can good arrives h =
     let low = can.0 in let there = can.1 in let four = can.2 in let none = can.3 in
     let b4 : n < 4 = omega (arith, there, four) in
     let k : Wrote (managing n m) s (physical_after s false true (managing n m)) = wrote s (managing n m) (omega (arith, b4)) in
-    pass-own kind i c trouble (SetManager i n m) number d s (managing n m) (one-set-manager i n m number) l refl (window-sent Fpwr (station i) (0x0800 + 8 * n) (manager_bytes m) number) (omega (arith, b4))
-    (if_true _ _ _ (eq-eqb i i refl)) (λ r. r) (λ o. o refl) (low-top c.rise low)
+    pass-own kind i c trouble (SetManager i n m) number d s (managing n m) (as_one number (ForSetManager i n m)) l refl (window-sent Fpwr (station i) (0x0800 + 8 * n) (manager_bytes m) number) (omega (arith, b4))
+    (λ r. r) (low-top c.rise low)
     (λ q u. slave-wrote kind (managing n m) s (physical_after s false true (managing n m)) k q)
     (λ q u. set-up i c (record c { managers = set c.managers n m }) s (physical_after s false true (managing n m)) (managing n m) (record { from = omega arith; registers = omega (arith, b4) }) k q.room q.four none none refl refl refl
     (set-managers n m c i s (physical_after s false true (managing n m)) k q.four b4 there u.configured)

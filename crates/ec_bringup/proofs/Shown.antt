@@ -1,5 +1,5 @@
 -- The polls of a start-up at a slave that has what is waited for: one poll ends the wait.
-use Rattle.ec_bringup.proofs.Words.{ℕ, zero, suc, ◌+◌, ◌*◌, ◌%◌, ◌^◌, ◌<◌, ◌≤◌, ◌≡◌, ◌==◌, ◌&&◌, not, Bool, true, false, Some, refl, sym, ◌∙◌, ap, arith, List, length, slice_index, is_some, bit_at, to_le_bytes, w32, from_bool, from_le_bytes-to_le_bytes_4, eq-eqb, and_from, length-replicate, zeros, if_true, if_false, Device, Mailbox, ram_start, Fprd, Datagram, adp_of, State, Init, PreOp, SafeOp, Op, state_number, may_read, SlaveState, station_of, manager_at, Window, byte_at, byte_read, retold, some_byte_read, window_of, datagram_met, message_read, AwaitWord, AwaitState, AwaitReply, SdoRequest, station, sent, datagram_of, Next, Shows, with_word, is_device, word_at, long_at, word_verdict, state_verdict, message_verdict, verdict, shows_itself}
+use Rattle.ec_bringup.proofs.Words.{ℕ, zero, suc, ◌+◌, ◌*◌, ◌%◌, ◌^◌, ◌<◌, ◌≤◌, ◌≡◌, ◌==◌, ◌&&◌, not, Bool, true, false, Some, refl, sym, ◌∙◌, ap, arith, List, length, slice_index, is_some, bit_at, to_le_bytes, w32, from_bool, from_le_bytes-to_le_bytes_4, eq-eqb, and_from, length-replicate, zeros, if_true, if_false, Device, Mailbox, ram_start, Fprd, Datagram, adp_of, State, Init, state_number, may_read, SlaveState, station_of, manager_at, Window, byte_at, byte_read, retold, some_byte_read, window_of, datagram_met, message_read, AwaitWord, AwaitState, AwaitReply, SdoRequest, station, sent, datagram_of, Next, Shows, with_word, is_device, word_at, long_at, word_verdict, state_verdict, message_verdict, verdict, shows_itself}
 use Rattle.ec_bringup.proofs.Owns.{window-sent}
 use Rattle.ec_bringup.proofs.Polls.{read-byte, read-bytes, register-shows}
 use Rattle.ec_bringup.proofs.Receives.{Boxes, asking, read-counter, some-read, raw-read}
@@ -17,15 +17,11 @@ back s i ado n number k e l r b =
 
 good-state : (st : State) → (bit_at (state_number st) 4 == 1) ≡ false
 good-state Init = refl
-good-state PreOp = refl
-good-state SafeOp = refl
-good-state Op = refl
+good-state _ = refl
 
 same-state : (st : State) → (state_number st % 32 == state_number st) ≡ true
 same-state Init = refl
-same-state PreOp = refl
-same-state SafeOp = refl
-same-state Op = refl
+same-state _ = refl
 
 pub state-ends : (i : ℕ) (state : State) (bytes : List ℕ) → slice_index bytes 0 ≡ state_number state → state_verdict i state bytes ≡ Next
 state-ends i state bytes e =
