@@ -54,16 +54,20 @@ pub other-claim : (o : Bool) (c : Config) (subindex : ℕ) (v : SdoValue) → cl
 other-claim true c subindex v = refl
 other-claim false c subindex v = refl
 
+pub slot-own : (o : Bool) (c : Config) (n : Option ℕ) (S : List ℕ) (x : ℕ) → claim_at o c ≡ record { count = n; slots = S }
+    → claim_at o (answered c (downloads (object_at o) (length S + 1) (word_value x))) ≡ record { count = n; slots = S ++ x ∷ [] }
+slot-own o c n S x h =
+    own-claim o c (length S + 1) (word_value x) ∙ (ap (λ (k : Claim). claimed k (length S + 1) x) h
+    ∙ (if_false (length S + 1 == 0) _ _ (ne_eqb (length S + 1) 0 (λ q. omega (arith, q)))
+    ∙ ap (λ (y : List ℕ). record { count = n; slots = y }) (if_true (length S + 1 == length S + 1) (S ++ x ∷ []) [] (eq-eqb (length S + 1) (length S + 1) refl))))
+
 pub slots-own : (o : Bool) (c : Config) (n : Option ℕ) (S xs : List ℕ) → claim_at o c ≡ record { count = n; slots = S } → claim_at o (talked_over c (slots_written (object_at o) (length S + 1) xs)) ≡ record { count = n; slots = S ++ xs }
 slots-own o c n S [] h = h ∙ ap (λ (x : List ℕ). record { count = n; slots = x }) (sym (append-nil S))
 slots-own o c n S (x ∷ xs) h =
     let r : SdoRequest = downloads (object_at o) (length S + 1) (word_value x) in
-    let e : claim_at o (answered c r) ≡ record { count = n; slots = S ++ x ∷ [] }
-    = own-claim o c (length S + 1) (word_value x) ∙ (ap (λ (k : Claim). claimed k (length S + 1) x) h
-    ∙ (if_false (length S + 1 == 0) _ _ (ne_eqb (length S + 1) 0 (λ q. omega (arith, q))) ∙ ap (λ (y : List ℕ). record { count = n; slots = y }) (if_true (length S + 1 == length S + 1) (S ++ x ∷ []) [] (eq-eqb (length S + 1) (length S + 1) refl)))) in
     let l : length (S ++ x ∷ []) + 1 ≡ length S + 1 + 1 = ap (λ (k : ℕ). k + 1) (length-append S (x ∷ [])) in
     subst (λ (k : ℕ). claim_at o (talked_over (answered c r) (slots_written (object_at o) k xs)) ≡ record { count = n; slots = S ++ x ∷ xs }) l
-    (slots-own o (answered c r) n (S ++ x ∷ []) xs e ∙ ap (λ (y : List ℕ). record { count = n; slots = y }) (append_assoc S (x ∷ []) xs))
+    (slots-own o (answered c r) n (S ++ x ∷ []) xs (slot-own o c n S x h) ∙ ap (λ (y : List ℕ). record { count = n; slots = y }) (append_assoc S (x ∷ []) xs))
 
 slots-other : (o : Bool) (c : Config) (k : ℕ) (xs : List ℕ) → claim_at (not o) (talked_over c (slots_written (object_at o) k xs)) ≡ claim_at (not o) c
 slots-other o c k [] = refl

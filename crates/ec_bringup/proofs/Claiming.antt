@@ -1,5 +1,5 @@
 -- A reply that fits says that its request was done.
-use Rattle.ec_bringup.proofs.Words.{ℕ, ◌+◌, ◌-◌, ◌*◌, ◌%◌, ◌^◌, ◌<◌, ◌≤◌, ◌≡◌, ◌≢◌, ◌==◌, ◌&&◌, Bool, true, false, Option, Some, None, Result, Ok, Err, refl, sym, ◌∙◌, ap, subst, inl, inr, arith, if◌then◌else◌, List, [], ◌∷◌, ◌++◌, length, take, set, cases_Bool, cases_eq, eq-eqb, ne_eqb, mod-eq_of_lt, if_true, if_false, Pdo, ValueSize, SdoValue, AbortCode, Message, Service, RequestService, Response, OtherService, Sdo, DownloadRequest, DownloadResponse, UploadRequest, UploadResponse, AbortCommand, Reply, Downloaded as HasDownloaded, Uploaded, Aborted, Unexpected, message_bytes, message_read, message_in, command_of, command_number, size_number, reply_in, reply_by, response_in, abort_in, Assignment, Dictionary, output_assignment, input_assignment, uploaded, written_over, downloaded, Answer, answer_of, answer_by, download_answer, value_of, reads-as-message, command-read, outs-stand, ins-stand, Assigned, Counted, Slotted, EffectsDownloaded as Downloaded, Outputs, Inputs, download-effect, good, SdoRequest, Transfer, Download, Upload, Next, request_command, request_value, message_verdict, reply_verdict, Claim, Config, claimed, slot_claimed, answered, answered_by, IsRequest, IsTransfer, Claims}
+use Rattle.ec_bringup.proofs.Words.{ℕ, ◌+◌, ◌-◌, ◌*◌, ◌%◌, ◌^◌, ◌<◌, ◌≤◌, ◌≡◌, ◌≢◌, ◌==◌, ◌&&◌, Bool, true, false, Option, Some, None, Result, Ok, Err, refl, sym, ◌∙◌, ap, subst, inl, inr, arith, if◌then◌else◌, List, [], ◌∷◌, ◌++◌, length, take, set, cases_Bool, cases_eq, eq-eqb, ne_eqb, mod-eq_of_lt, if_true, if_false, Pdo, ValueSize, SdoValue, AbortCode, Message, Service, RequestService, Response, OtherService, Sdo, DownloadRequest, DownloadResponse, UploadRequest, AbortCommand, Reply, Downloaded as HasDownloaded, Unexpected, message_bytes, message_read, message_in, command_of, command_number, size_number, reply_in, reply_by, response_in, abort_in, Assignment, Dictionary, output_assignment, input_assignment, uploaded, written_over, downloaded, Answer, answer_of, answer_by, download_answer, value_of, reads-as-message, command-read, outs-stand, ins-stand, Assigned, Counted, Slotted, EffectsDownloaded as Downloaded, Outputs, Inputs, download-effect, good, SdoRequest, Transfer, Download, Upload, Next, request_command, request_value, message_verdict, reply_verdict, Claim, Config, claimed, slot_claimed, answered, answered_by, IsRequest, IsTransfer, Claims}
 
 -- ---- claims
 
@@ -50,18 +50,16 @@ reply-done i r w _ e = absurd (cc e)
 
 response-done : (m : Message) (c : Sdo) → response_in m c ≡ HasDownloaded → c ≡ DownloadResponse
 response-done m DownloadResponse e = refl
-response-done m (UploadResponse size) e = absurd (let f : Uploaded (value_of size m.value) ≡ HasDownloaded = e in cc)
-response-done m AbortCommand e = absurd (let f : Aborted m.value ≡ HasDownloaded = e in cc)
-response-done m _ e = absurd (let f : Unexpected ≡ HasDownloaded = e in cc)
+response-done m _ e = absurd (cc e)
 
 abort-done : (m : Message) (c : Sdo) → abort_in m c ≡ HasDownloaded → ⊥
-abort-done m AbortCommand e = let f : Aborted m.value ≡ HasDownloaded = e in cc
-abort-done m _ e = let f : Unexpected ≡ HasDownloaded = e in cc
+abort-done m AbortCommand e = cc e
+abort-done m _ e = cc e
 
 service-done : (m : Message) (s : Service) → reply_by m s ≡ HasDownloaded → m.command ≡ DownloadResponse
 service-done m Response e = response-done m m.command e
 service-done m RequestService e = absurd (abort-done m m.command e)
-service-done m (OtherService n) e = absurd (let f : Unexpected ≡ HasDownloaded = e in cc)
+service-done m (OtherService n) e = absurd (cc e)
 
 done-command : (index subindex : ℕ) (m : Message) → reply_in index subindex m ≡ HasDownloaded → m.command ≡ DownloadResponse
 unfolding reply_in

@@ -243,9 +243,6 @@ each-free : (f : ℕ → SlavePlan → List Action) (n k : ℕ) (ps : List Slave
 each-free f n k [] l r h = λ p. tt
 each-free f n k (q ∷ ps) l r h = free-append n (f k q) (each_slave f (k + 1) ps) (h k q (omega (arith, l)) (r 0 (omega arith))) (each-free f n (k + 1) ps (omega (arith, l)) (λ i b. r (suc i) (omega (arith, b))) h)
 
-named-free : (n t : ℕ) (q : SlavePlan) → t < n → Free n (named t q)
-named-free n t q l = λ p. (tt, l, tt, tt)
-
 identified-free : (n t : ℕ) (q : SlavePlan) → t < n → Free n (identified t q)
 identified-free n t q l =
     λ p. (tt, (l, omega arith), tt, (refl, (l, omega arith), tt, (refl, (l, omega arith), tt, (refl, (l, omega arith), tt, (refl, (l, omega arith), tt, (refl, (l, omega arith), tt, tt))))))
@@ -284,7 +281,7 @@ phases-free ps r =
     let n : ℕ = length ps in
     let k : 0 + length ps ≤ length ps = omega arith in
     free-append (length ps) cleared _ (λ p. (tt, tt, tt, (refl, tt, tt, (tt, tt, tt, (tt, tt, tt, (tt, tt, tt, tt))))))
-    (free-append (length ps) (each_slave named 0 ps) _ (each-free named (length ps) 0 ps k r (λ t q l c. named-free (length ps) t q l))
+    (free-append (length ps) (each_slave named 0 ps) _ (each-free named (length ps) 0 ps k r (λ t q l c p. (tt, l, tt, tt)))
     (free-append (length ps) (each_slave identified 0 ps) _ (each-free identified (length ps) 0 ps k r (λ t q l c. identified-free (length ps) t q l))
     (free-append (length ps) (each_slave (λ i q. mailbox_set i q q.kind.mailbox) 0 ps) _ (each-free (λ i q. mailbox_set i q q.kind.mailbox) (length ps) 0 ps k r (λ t q l c. mailbox-free (length ps) t q q.kind.mailbox l))
     (free-append (length ps) (each_slave (raised PreOp) 0 ps) _ (each-free (raised PreOp) (length ps) 0 ps k r (λ t q l c. raised-free (length ps) t PreOp q l))

@@ -1,6 +1,6 @@
 -- A slave of the type answers each request of the script as it should: its mapping is the type's, and each download is done.
-use Rattle.ec_bringup.proofs.Words.{ℕ, zero, suc, ◌+◌, ◌-◌, ◌*◌, ◌%◌, ◌^◌, ◌<◌, ◌≤◌, ◌≡◌, ◌≢◌, ◌==◌, not, Bool, true, false, Option, Some, None, Result, refl, sym, ◌∙◌, ap, subst, arith, if◌then◌else◌, List, [], ◌∷◌, ◌++◌, length, map, take, slice_get, slice_set, nat_le, is_some, option_map, All, append_assoc, length-append, flat_map, option_or, eq-eqb, ne_eqb, and_from, or_right, le-leb, slice_get-map, if_true, if_false, Entry, Pdo, SlaveKind, Message, ValueSize, One, Two, SdoValue, AbortCode, Response, Sdo, DownloadRequest, DownloadResponse, UploadRequest, UploadResponse, size_number, answer_of, answer_by, upload_answer, download_answer, reply_to, value_of, Dictionary, Assignment, identity_object, output_assignment, input_assignment, has_some, entry_number, byte_value, word_value, long_value, assignment_values, pdo_values, device_name_object, shown_values, send_room, object_values, pdo_at, bits_assigned, value_or_abort, value_at, uploaded, distinct, takes_value, is_open, transfers_assignment_written as assignment_written, with_value, with_outs, with_ins, written_over, downloaded, good, uploads_expedited, SlavePlan, SdoRequest, requests, uploads, downloads, entries_read, pdo_read, slots_written, assignment_written as assignment_requests, Claim, Config, answered, claimed, talked_over, prepared, Claims, IsNumbered, IsOffered, AreOffered, IsAssignable, IsComplete, append-nil}
-use Rattle.ec_bringup.proofs.Assigns.{claim_at, object_at, own-claim}
+use Rattle.ec_bringup.proofs.Words.{ℕ, zero, suc, ◌+◌, ◌-◌, ◌*◌, ◌%◌, ◌^◌, ◌<◌, ◌≤◌, ◌≡◌, ◌≢◌, ◌==◌, not, Bool, true, false, Option, Some, None, Result, refl, sym, ◌∙◌, ap, subst, arith, if◌then◌else◌, List, [], ◌∷◌, ◌++◌, length, map, take, slice_get, slice_set, nat_le, is_some, option_map, All, length-append, flat_map, option_or, eq-eqb, ne_eqb, and_from, or_right, le-leb, slice_get-map, if_false, Entry, Pdo, SlaveKind, Message, ValueSize, One, Two, SdoValue, AbortCode, Response, Sdo, DownloadRequest, DownloadResponse, UploadRequest, UploadResponse, size_number, answer_of, answer_by, upload_answer, download_answer, reply_to, value_of, Dictionary, Assignment, identity_object, output_assignment, input_assignment, has_some, entry_number, byte_value, word_value, long_value, assignment_values, pdo_values, device_name_object, shown_values, send_room, object_values, pdo_at, bits_assigned, value_or_abort, value_at, uploaded, distinct, takes_value, is_open, transfers_assignment_written as assignment_written, with_value, with_outs, with_ins, written_over, downloaded, good, uploads_expedited, SlavePlan, SdoRequest, requests, uploads, downloads, entries_read, pdo_read, slots_written, assignment_written as assignment_requests, Claim, Config, answered, talked_over, prepared, Claims, IsNumbered, IsOffered, AreOffered, IsAssignable, IsComplete}
+use Rattle.ec_bringup.proofs.Assigns.{claim_at, object_at, own-claim, slot-own, slots-own}
 use Rattle.ec_bringup.proofs.Messages.{IsWanted, Knows, Answers}
 use Rattle.ec_bringup.proofs.Blessings.{AllAnswers}
 
@@ -181,23 +181,13 @@ count-answers o kind c n xs some e h =
 
 slots-answer : (o : Bool) (kind : SlaveKind) (c : Config) (S xs : List ℕ) → has_some (ps_at o kind) ≡ true → claim_at o c ≡ record { count = Some 0; slots = S } → AreOffered kind (ps_at o kind) xs → length S + length xs ≤ length (ps_at o kind)
     → AllAnswers kind c (slots_written (object_at o) (length S + 1) xs)
-    × (claim_at o (talked_over c (slots_written (object_at o) (length S + 1) xs)) ≡ record { count = Some 0; slots = S ++ xs })
-slots-answer o kind c S [] some e h l = (tt, e ∙ ap (λ (x : List ℕ). record { count = Some 0; slots = x }) (sym (append-nil S)))
+slots-answer o kind c S [] some e h l = tt
 slots-answer o kind c S (x ∷ xs) some e h l =
     let r : SdoRequest = downloads (object_at o) (length S + 1) (word_value x) in
-    let q : claim_at o (answered c r) ≡ record { count = Some 0; slots = S ++ x ∷ [] }
-    = own-claim o c (length S + 1) (word_value x) ∙ (ap (λ (k : Claim). claimed k (length S + 1) x) e
-    ∙ (if_false (length S + 1 == 0) _ _ (ne_eqb (length S + 1) 0 (λ z. omega (arith, z)))
-    ∙ ap (λ (y : List ℕ). record { count = Some 0; slots = y }) (if_true (length S + 1 == length S + 1) (S ++ x ∷ []) [] (eq-eqb (length S + 1) (length S + 1) refl)))) in
-    let m : length (S ++ x ∷ []) ≡ length S + 1 = length-append S (x ∷ []) in
-    let p : length (S ++ x ∷ []) + 1 ≡ length S + 1 + 1 = ap (λ (k : ℕ). k + 1) m in
-    let k = slots-answer o kind (answered c r) (S ++ x ∷ []) xs some q h.1 (omega (arith, l, m)) in (
-      (
-        slot-answers o kind c S x some e h.0 (omega (arith, l)),
-        subst (λ (j : ℕ). AllAnswers kind (answered c r) (slots_written (object_at o) j xs)) p k.0,
-      ),
-      subst (λ (j : ℕ). claim_at o (talked_over (answered c r) (slots_written (object_at o) j xs)) ≡ record { count = Some 0; slots = S ++ x ∷ xs }) p
-          (k.1 ∙ ap (λ (y : List ℕ). record { count = Some 0; slots = y }) (append_assoc S (x ∷ []) xs)),
+    let m : length (S ++ x ∷ []) ≡ length S + 1 = length-append S (x ∷ []) in (
+      slot-answers o kind c S x some e h.0 (omega (arith, l)),
+      subst (λ (j : ℕ). AllAnswers kind (answered c r) (slots_written (object_at o) j xs)) (ap (λ (k : ℕ). k + 1) m)
+          (slots-answer o kind (answered c r) (S ++ x ∷ []) xs some (slot-own o c (Some 0) S x e) h.1 (omega (arith, l, m))),
     )
 
 object-answers : (o : Bool) (kind : SlaveKind) (c : Config) (xs : List ℕ) (b : Bool) → has_some (ps_at o kind) ≡ b → IsAssignable kind (ps_at o kind) xs → AllAnswers kind c (assignment_requests (object_at o) xs b)
@@ -208,8 +198,8 @@ object-answers o kind c (x ∷ xs) true some h =
     let e : claim_at o c1 ≡ record { count = Some 0; slots = [] } = own-claim o c 0 (byte_value 0) in
     let k = slots-answer o kind c1 [] (x ∷ xs) some e h.offered (omega (arith, h.few)) in (
       zero-answers o kind c some,
-      all-append kind c1 (slots_written (object_at o) 1 (x ∷ xs)) (downloads (object_at o) 0 (byte_value (length (x ∷ xs))) ∷ []) k.0
-          (count-answers o kind (talked_over c1 (slots_written (object_at o) 1 (x ∷ xs))) (Some 0) (x ∷ xs) some k.1 h, tt),
+      all-append kind c1 (slots_written (object_at o) 1 (x ∷ xs)) (downloads (object_at o) 0 (byte_value (length (x ∷ xs))) ∷ []) k
+          (count-answers o kind (talked_over c1 (slots_written (object_at o) 1 (x ∷ xs))) (Some 0) (x ∷ xs) some (slots-own o c1 (Some 0) [] (x ∷ xs) e) h, tt),
     )
 
 -- ---- all requests

@@ -1,9 +1,9 @@
 -- The broadcast reads of a start-up at any slave.
-use Rattle.ec_bringup.proofs.Words.{ℕ, ◌+◌, ◌*◌, ◌/◌, ◌%◌, ◌<◌, ◌≤◌, ◌≡◌, Bool, true, false, Some, refl, sym, ◌∙◌, ap, subst, inl, inr, arith, slice_index, ◌≢◌, ◌==◌, if◌then◌else◌, bit_or, from_bool, bit_at, le_or_l, le_or_r, both_ways, cases_eq, eq-eqb, SlaveKind, Datagram, adp_of, ado_of, IsDatagram, State, Init, state_number, SlaveState, Meeting, with_answer, byte_at, retold, meets, slave_met, datagram_met, broadcast_read, CountSlaves, AwaitInit, AskInit, ClearFmmus, ClearManagers, ClearStations, NameSlave, AskWord, AwaitWord, SetManager, SetFmmu, AskState, AwaitState, SendRequest, AwaitReply, datagram_of, Stage, Called, Down, Up, Config, Fits, IsInInit, Reached, Stands, IsBroadcast, ShowsInit, Arrives, MayEnd, MayRepeat, shows_itself, retold_by_place, if_true, if_false, Device, Reply, Downloaded, Uploaded, message_read, reply_of, Action, SdoRequest, Transfer, Download, Upload, Verdict, Next, Again, Fails, StartError, verdict, counted, reply_verdict, word_at, CanTell, FrameLaw, LaterLaw, Lost, TakeLaw, eqb-true, not, size_number, type_of, Shows, long_at, ◌&&◌, is_device, with_word}
+use Rattle.ec_bringup.proofs.Words.{ℕ, ◌+◌, ◌*◌, ◌/◌, ◌%◌, ◌<◌, ◌≤◌, ◌≡◌, Bool, true, false, Some, refl, sym, ◌∙◌, ap, subst, inl, inr, arith, slice_index, ◌≢◌, ◌==◌, if◌then◌else◌, bit_or, from_bool, bit_at, le_or_l, le_or_r, both_ways, cases_eq, eq-eqb, SlaveKind, Datagram, adp_of, ado_of, IsDatagram, State, Init, state_number, SlaveState, Meeting, with_answer, byte_at, retold, meets, slave_met, datagram_met, broadcast_read, CountSlaves, AwaitInit, AskInit, ClearFmmus, ClearManagers, ClearStations, NameSlave, AskWord, AwaitWord, SetManager, SetFmmu, AskState, AwaitState, SendRequest, AwaitReply, datagram_of, Stage, Called, Down, Up, Config, Fits, IsInInit, Reached, Stands, IsBroadcast, ShowsInit, Arrives, MayEnd, MayRepeat, shows_itself, retold_by_place, if_true, if_false, Device, Reply, Downloaded, Uploaded, message_read, reply_of, Action, SdoRequest, Transfer, Download, Upload, Verdict, Next, Again, Fails, StartError, verdict, counted, reply_verdict, word_at, CanTell, FrameLaw, LaterLaw, Lost, TakeLaw, eqb-true, not, size_number, type_of, Shows, long_at, ◌&&◌, is_device, with_word, zeros, [], ◌∷◌}
 use Rattle.ec_bringup.proofs.Passing.{pass-other, later-one, ForAskState, ForAskWord, ForAwaitReply, ForAwaitState, ForAwaitWord, ForSend, ForSetFmmu, ForSetManager, IsFor, Owes, as_one}
 use Rattle.ec_bringup.proofs.Owns.{pass-ask-state}
 use Rattle.ec_bringup.proofs.Polls.{pass-await-state, pass-await-word}
-use Rattle.ec_bringup.proofs.Broadcasts.{pass-ask-init, pass-clear-fmmus, pass-clear-managers, pass-clear-stations}
+use Rattle.ec_bringup.proofs.Broadcasts.{pass-broadcast, init-called, clear-fmmus, clear-managers, clear-stations}
 use Rattle.ec_bringup.proofs.Names.{pass-name}
 use Rattle.ec_bringup.proofs.Sets.{pass-ask-word, pass-set-manager, pass-set-fmmu}
 use Rattle.ec_bringup.proofs.Sends.{pass-send}
@@ -107,11 +107,11 @@ module _ (kind : SlaveKind) (i : ℕ) (trouble : Bool) (number : ℕ) (d : Datag
 
   owes : (st : Stage) (a : Action) → Fits i st a → Owes kind i st trouble a number d s
   owes st CountSlaves f = pass-count kind i st trouble number d s
-  owes st AskInit f = pass-ask-init kind i st trouble number d s
+  owes st AskInit f = pass-broadcast kind i st trouble AskInit number d s 0x0120 (0x11 ∷ 0 ∷ []) refl (λ o. o) (λ o. o) (init-called kind i st trouble s)
   owes Called AwaitInit f = pass-await-init kind i trouble number d s
-  owes (Down x y) ClearFmmus f = pass-clear-fmmus kind i x y trouble number d s
-  owes (Down x y) ClearManagers f = pass-clear-managers kind i x y trouble number d s
-  owes (Down x y) ClearStations f = pass-clear-stations kind i x y trouble number d s
+  owes (Down x y) ClearFmmus f = pass-broadcast kind i (Down x y) trouble ClearFmmus number d s 0x0600 (zeros 64) refl (λ o. o) (λ o. o) (clear-fmmus kind i x y trouble s)
+  owes (Down x y) ClearManagers f = pass-broadcast kind i (Down x y) trouble ClearManagers number d s 0x0800 (zeros 32) refl (λ o. o) (λ o. o) (clear-managers kind i x y trouble s)
+  owes (Down x y) ClearStations f = pass-broadcast kind i (Down x y) trouble ClearStations number d s 0x0010 (zeros 2) refl (λ o. o) (λ o. o) (clear-stations kind i x y trouble s)
   owes st (NameSlave t) f = pass-name kind i t st trouble number d s l f good
   owes st (AskWord t n) f = by-one t st (λ x. AskWord x n) (λ x. ForAskWord x n) (λ c can. pass-ask-word kind i n c trouble number d s l can good) f
   owes st (AwaitWord t n) f = by-one t st (λ x. AwaitWord x n) (λ x. ForAwaitWord x n) (λ c can. pass-await-word kind i n c trouble number d s l can good) f

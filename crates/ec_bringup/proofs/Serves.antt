@@ -101,24 +101,22 @@ pub data Climbed (from to : State) (a : Al) : Type 0 where
   Granted : a ≡ record { state = to; error = false; code = 0; requested = false } → Climbed from to a
   Refused : (code : ℕ) → a ≡ record { state = from; error = true; code = code; requested = false } → Climbed from to a
 
-pub by_answer : (a : Al) (from to : State) (r : Result State StatusCode) → a.state ≡ from → (r ≡ Ok to) ⊎ ((code : StatusCode) × (r ≡ Err code)) → Climbed from to (answered a r)
+-- what a step up is answered: granted, or refused
+abbrev IsAnswer : State → Result State StatusCode → Type 0
+IsAnswer to r = (r ≡ Ok to) ⊎ ((code : StatusCode) × (r ≡ Err code))
+
+by_answer : (a : Al) (from to : State) (r : Result State StatusCode) → a.state ≡ from → IsAnswer to r → Climbed from to (answered a r)
 by_answer a from to r e (inl g) = subst (λ (x : Result State StatusCode). Climbed from to (answered a x)) (sym g) (Granted refl)
 by_answer a from to r e (inr (code, g)) = subst (λ (x : Result State StatusCode). Climbed from to (answered a x)) (sym g) (Refused (code_number code) (ap (λ (t : State). record { state = t; error = true; code = code_number code; requested = false }) e))
 
--- what a step up is answered
-pub answer-climb : (from to : State) (checks : Checks) → IsStepUp from to
-    → (answer from (requested_by (state_number to)) checks ≡ Ok to) ⊎ ((code : StatusCode) × (answer from (requested_by (state_number to)) checks ≡ Err code))
-answer-climb Init PreOp checks h = mailbox checks.mailbox
-  where
-    mailbox : (b : Bool) → ((if b then Ok PreOp else Err InvalidMailboxConfiguration) ≡ Ok PreOp) ⊎ ((code : StatusCode) × ((if b then Ok PreOp else Err InvalidMailboxConfiguration) ≡ Err code))
-    mailbox true = inl refl
-    mailbox false = inr (InvalidMailboxConfiguration, refl)
-answer-climb PreOp SafeOp checks h = process checks.outputs checks.inputs
-  where
-    process : (b c : Bool) → ((if b then (if c then Ok SafeOp else Err InvalidInputConfiguration) else Err InvalidOutputConfiguration) ≡ Ok SafeOp) ⊎ ((code : StatusCode) × ((if b then (if c then Ok SafeOp else Err InvalidInputConfiguration) else Err InvalidOutputConfiguration) ≡ Err code))
-    process true true = inl refl
-    process true false = inr (InvalidInputConfiguration, refl)
-    process false c = inr (InvalidOutputConfiguration, refl)
+tested : (to : State) (b : Bool) (r : Result State StatusCode) (code : StatusCode) → IsAnswer to r → IsAnswer to (if b then r else Err code)
+tested to true r code h = h
+tested to false r code h = inr (code, refl)
+
+answer-climb : (from to : State) (checks : Checks) → IsStepUp from to → IsAnswer to (answer from (requested_by (state_number to)) checks)
+answer-climb Init PreOp checks h = tested PreOp checks.mailbox (Ok PreOp) InvalidMailboxConfiguration (inl refl)
+answer-climb PreOp SafeOp checks h =
+    tested SafeOp checks.outputs _ InvalidOutputConfiguration (tested SafeOp checks.inputs (Ok SafeOp) InvalidInputConfiguration (inl refl))
 answer-climb SafeOp Op checks h = inl refl
 answer-climb _ _ checks h = absurd h
 
