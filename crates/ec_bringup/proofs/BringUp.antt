@@ -76,12 +76,6 @@ stopped-by s ss Idle e free none = elim (cases_eq s.next last_number) [
 stopped-by s ss (Sent number) e free none = absurd (both_ways true free refl)
 stopped-by s ss _ e free none = Rests (rising s ss) (ap is_ended e)
 
-pub stopped : (s t : StartState) (ss xs : List SlaveState) → is_sent s.phase ≡ false → next_frame s ≢ Send → (next_frame s ≢ Send → t ≡ asked s) → (next_frame s ≢ Send → xs ≡ ss)
-    → IsBroughtTo (rising s ss) (rising t xs)
-stopped s t ss xs free none state kept =
-    subst (λ (x : StartState). IsBroughtTo (rising s ss) (rising x xs)) (sym (state none))
-    (subst (λ (ys : List SlaveState). IsBroughtTo (rising s ss) (rising (asked s) ys)) (sym (kept none)) (stopped-by s ss s.phase refl free none))
-
 -- ---- the numbers
 
 abbrev lost_phase : Phase → Bool
@@ -111,14 +105,11 @@ turned-follows r =
     let d : Datagram = all_passed r.slaves (frame_at r) in
     judged-follows (action_of r.start) d (sending r.start) _ (take-says (length r.start.plan) r.start.place r.start.seen (type_of r.start.plan) (action_of r.start) d)
 
--- where it leads from here, it leads from the beginning
-abbrev pub GoesOn : Rising → Rising → Type 0
-GoesOn r now = (e : Rising) → IsBroughtTo now e → IsBroughtTo r e
-
 -- what the loop keeps: no frame is outstanding, and the number that comes next
 pub record AreTurns (r : Rising) (s : StartState) (ss : List SlaveState) (number : ℕ) : Type 0 where
   pub free : is_sent s.phase ≡ false
-  pub on : GoesOn r (rising s ss)
+  -- where it leads from here, it leads from the beginning
+  pub on : (e : Rising) → IsBroughtTo (rising s ss) e → IsBroughtTo r e
   pub next_number : s.next ≡ number
 
 pub turns-go : (r : Rising) (s t : StartState) (ss xs : List SlaveState) (number : ℕ) → AreTurns r s ss number → next_frame s ≡ Send → rising t xs ≡ turned (rising s ss) → AreTurns r t xs (number + 1)
@@ -136,7 +127,9 @@ none-left s e f = (is-sending s f).left e
 
 pub turns-end : (r : Rising) (s t : StartState) (ss xs : List SlaveState) (number : ℕ) → AreTurns r s ss number → next_frame s ≢ Send → (next_frame s ≢ Send → t ≡ asked s) → (next_frame s ≢ Send → xs ≡ ss)
     → IsBroughtTo r (rising t xs)
-turns-end r s t ss xs number h none state kept = h.on (rising t xs) (stopped s t ss xs h.free none state kept)
+turns-end r s t ss xs number h none state kept =
+    h.on (rising t xs) (subst (λ (x : StartState). IsBroughtTo (rising s ss) (rising x xs)) (sym (state none))
+    (subst (λ (ys : List SlaveState). IsBroughtTo (rising s ss) (rising (asked s) ys)) (sym (kept none)) (stopped-by s ss s.phase refl h.free none)))
 
 -- ---- it isn't given up
 
@@ -150,9 +143,6 @@ not-given-up s t ss xs b e f = both_ways (lost_phase t.phase) (never-lost (risin
 
 -- ---- undisturbed
 
-idle-not : (p : Phase) → p ≡ Idle → is_ended p ≡ true → ⊥
-idle-not p e h = both_ways (is_ended p) (ap is_ended e) h
-
 ready-not : (p : Phase) → p ≡ Ready → p ≡ Idle → ⊥
 ready-not p e h = both_ways (is_ended p) (ap is_ended h) (ap is_ended e)
 
@@ -161,7 +151,7 @@ follow : (r e : Rising) (from n : ℕ) → from + n ≤ last_number → (turns n
 follow _ _ from zero few ready way (Rests r h) = refl
 follow _ _ from zero few ready way (RunsOut r h l) = absurd (ready-not r.start.phase ready h)
 follow _ _ from zero few ready way (Turns r e h l rest) = absurd (ready-not r.start.phase ready h)
-follow _ _ from (suc n) few ready way (Rests r h) = absurd (idle-not r.start.phase (way 0 (omega arith)).idle h)
+follow _ _ from (suc n) few ready way (Rests r h) = absurd (both_ways (is_ended r.start.phase) (ap is_ended (way 0 (omega arith)).idle) h)
 follow _ _ from (suc n) few ready way (RunsOut r h l) =
     let here : r.start.next ≡ from + 0 = (way 0 (omega arith)).next_number in
     absurd (omega (arith, few, here, l))

@@ -1,7 +1,8 @@
 -- The broadcasts of a start-up at any slave.
-use Rattle.ec_bringup.proofs.Words.{ℕ, suc, ◌+◌, ◌-◌, ◌*◌, ◌/◌, ◌%◌, ◌<◌, ◌≡◌, Bool, true, false, refl, sym, ◌∙◌, ap, subst, inl, inr, arith, List, [], ◌∷◌, length, slice_index, or_left, or_right, zeros, any_below, if_true, if_false, within_true, within_below, within_above, SlaveKind, is_stored, no_settings, SyncManager, empty_manager, Command, Bwr, Datagram, adp_of, ado_of, Al, requesting, role_of, adp_after, is_reading, is_writing, SlaveState, manager_at, station_of, Window, touches, physical_after, is_configured, window_of, slave_met, datagram_met, control_word, Action, datagram_of, Stage, Called, Down, after, HoldsZeros, IsInInit, AreClear, IsDownAt, Stands, IsWriting, IsOther, MayRepeat, Met, Wrote, set_by, wrote, unconfigured, OnlyWrites, writes_meet, goes_on, sent, Action, IsOther}
+use Rattle.ec_bringup.proofs.Words.{ℕ, suc, ◌+◌, ◌-◌, ◌*◌, ◌/◌, ◌%◌, ◌<◌, ◌≡◌, Bool, true, false, refl, sym, ◌∙◌, ap, subst, inl, arith, List, [], ◌∷◌, length, slice_index, or_left, or_right, zeros, any_below, if_true, if_false, within_true, within_below, within_above, SlaveKind, is_stored, no_settings, SyncManager, empty_manager, Command, Bwr, Datagram, adp_of, ado_of, Al, requesting, role_of, adp_after, is_reading, is_writing, SlaveState, manager_at, station_of, Window, touches, physical_after, is_configured, window_of, slave_met, datagram_met, control_word, Action, datagram_of, Stage, Called, Down, after, HoldsZeros, IsInInit, AreClear, Stands, IsWriting, IsOther, MayRepeat, Met, Wrote, set_by, wrote, unconfigured, OnlyWrites, writes_meet, goes_on, sent, Action, IsOther}
 use Rattle.ec_bringup.proofs.Resets.{get_or-zeros}
 use Rattle.ec_bringup.proofs.Owns.{slave-wrote, window-sent}
+use Rattle.ec_bringup.proofs.Alike.{reached-low}
 
 -- ---- a broadcast write
 
@@ -76,13 +77,6 @@ init-called kind i st trouble s h =
 
 -- ---- the registers are cleared
 
-pub down-of : (kind : SlaveKind) (i : ℕ) (f m : Bool) (trouble : Bool) (s : SlaveState) → Stands kind i (Down f m) trouble s → IsDownAt f m s
-down-of kind i f m trouble s h = elim h.at [
-  | inl r ↦ r
-  | inr (t, inl g) ↦ absurd g
-  | inr (t, inr g) ↦ absurd g
-]
-
 -- a write that doesn't touch the AL control word leaves a slave in INIT there
 pub init-wrote : (w : Window) (s t : SlaveState) → length s.memory ≡ 0x3000 → touches w 0x0120 ≡ false → touches w 0x0121 ≡ false → Wrote w s t → IsInInit s → IsInInit t
 init-wrote w s t room a b h k =
@@ -108,7 +102,7 @@ fmmus-cleared = record { from = 0x0600; bytes = zeros 64 }
 pub clear-fmmus : (kind : SlaveKind) (i : ℕ) (f m : Bool) (trouble : Bool) (s : SlaveState) → Stands kind i (Down f m) trouble s → Stands kind i (Down true m) trouble (physical_after s false true fmmus-cleared)
 clear-fmmus kind i f m trouble s h =
     let w : Wrote fmmus-cleared s (physical_after s false true fmmus-cleared) = wrote s fmmus-cleared (omega arith) in
-    let k = down-of kind i f m trouble s h in
+    let k = reached-low kind i (Down f m) trouble s (λ u. u) h in
     let room = h.slave.room in
     record {
       slave = slave-wrote kind fmmus-cleared s (physical_after s false true fmmus-cleared) w h.slave;
@@ -136,7 +130,7 @@ cleared-by _ m l = refl
 pub clear-managers : (kind : SlaveKind) (i : ℕ) (f m : Bool) (trouble : Bool) (s : SlaveState) → Stands kind i (Down f m) trouble s → Stands kind i (Down f true) trouble (physical_after s false true managers-cleared)
 clear-managers kind i f m trouble s h =
     let w : Wrote managers-cleared s (physical_after s false true managers-cleared) = wrote s managers-cleared (omega arith) in
-    let k = down-of kind i f m trouble s h in
+    let k = reached-low kind i (Down f m) trouble s (λ u. u) h in
     let room = h.slave.room in
     let four = h.slave.four in
     record {
@@ -160,7 +154,7 @@ stations-cleared = record { from = 0x0010; bytes = zeros 2 }
 pub clear-stations : (kind : SlaveKind) (i : ℕ) (f m : Bool) (trouble : Bool) (s : SlaveState) → Stands kind i (Down f m) trouble s → Stands kind i (Down f m) trouble (physical_after s false true stations-cleared)
 clear-stations kind i f m trouble s h =
     let w : Wrote stations-cleared s (physical_after s false true stations-cleared) = wrote s stations-cleared (omega arith) in
-    let k = down-of kind i f m trouble s h in
+    let k = reached-low kind i (Down f m) trouble s (λ u. u) h in
     let room = h.slave.room in
     record {
       slave = slave-wrote kind stations-cleared s (physical_after s false true stations-cleared) w h.slave;

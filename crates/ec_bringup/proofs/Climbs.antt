@@ -278,7 +278,6 @@ mapped-free n t q l =
 
 pub phases-free : (ps : List SlavePlan) → ((i : ℕ) → i < length ps → CanReach (plan_at ps i).kind.mailbox) → Free (length ps) (phases ps)
 phases-free ps r =
-    let n : ℕ = length ps in
     let k : 0 + length ps ≤ length ps = omega arith in
     free-append (length ps) cleared _ (λ p. (tt, tt, tt, (refl, tt, tt, (tt, tt, tt, (tt, tt, tt, (tt, tt, tt, tt))))))
     (free-append (length ps) (each_slave named 0 ps) _ (each-free named (length ps) 0 ps k r (λ t q l c p. (tt, l, tt, tt)))

@@ -1,7 +1,7 @@
 -- A fault of a slave that stands at a stage, and what its application reads and writes.
 use Rattle.ec_bringup.proofs.Words.{ℕ, ◌<◌, ◌≡◌, ◌≢◌, ◌⊎◌, Bool, true, false, Option, Some, None, refl, sym, ◌∙◌, ap, subst, inl, inr, arith, if◌then◌else◌, List, length, set, unwrap_or, option_map, nat_lt, ◌==◌, length-set, get_or-set_same, get_or-set_other, cases_Bool, cases_eq, both_ways, if_true, if_false, SlaveKind, Buffer, Got, view_next, app_written, app_read, SyncManager, no_manager, may_app_put, may_app_get, app_put, app_got, Init, PreOp, SafeOp, Op, Al, SlaveState, manager_at, is_running, with_manager, input_put, output_got, output_taken, faults, switched_on, faulted, locked_empty, Rise, Stays, Climbs, Config, Stage, Before, Called, Down, Up, Talk, unviewed, HoldsZeros, IsOfKind, Rises, IsSilent, Talks, IsUpAt, Reached, IsGone, IsFaulted, IsTop, HadFault, Stands}
 use Rattle.ec_al.specs.Al as al
-use Rattle.ec_bringup.proofs.Alike.{SameFront, front-refl, SameFronts, Alike, stands-alike, gone-on, had-fault}
+use Rattle.ec_bringup.proofs.Alike.{Alike, stands-alike, gone-on, had-fault, set-front}
 
 -- ---- a fault
 
@@ -113,27 +113,12 @@ fault-stands kind i st trouble s e h = subst (λ (t : SlaveState). Stands kind i
 -- ---- the application
 
 -- a manager whose buffer alone is another, and of the outputs' no more than the view
-buffer-front : (ms : List SyncManager) (n : ℕ) (b : Buffer) → n < length ms → (n ≡ 2 → unviewed b ≡ unviewed (manager_at ms n).buffer) → SameFronts ms (set ms n (record (manager_at ms n) { buffer = b }))
-buffer-front ms n b l same = record {
-  four = length-set ms n _;
-  each = λ k. elim (cases_eq k n) [
-    | inl e ↦ subst (λ (j : ℕ). SameFront (manager_at ms j) (manager_at (set ms n (record (manager_at ms n) { buffer = b })) j)) (sym e)
-        (subst (λ (m : SyncManager). SameFront (manager_at ms n) m) (sym (get_or-set_same ms n (record (manager_at ms n) { buffer = b }) no_manager l)) (record { settings = refl; locked = refl; mail = refl }))
-    | inr ne ↦ subst (λ (m : SyncManager). SameFront (manager_at ms k) m) (sym (get_or-set_other ms n k (record (manager_at ms n) { buffer = b }) no_manager ne)) (front-refl (manager_at ms k))
-  ];
-  outputs = elim (cases_eq 2 n) [
-    | inl e ↦ subst (λ (j : ℕ). unviewed (manager_at (set ms n (record (manager_at ms n) { buffer = b })) j).buffer ≡ unviewed (manager_at ms j).buffer) (sym e)
-        (ap (λ (m : SyncManager). unviewed m.buffer) (get_or-set_same ms n (record (manager_at ms n) { buffer = b }) no_manager l) ∙ same (sym e))
-    | inr ne ↦ ap (λ (m : SyncManager). unviewed m.buffer) (get_or-set_other ms n 2 (record (manager_at ms n) { buffer = b }) no_manager ne)
-  ];
-}
-
 buffer-alike : (s : SlaveState) (n : ℕ) (b : Buffer) → n < length s.managers → (n ≡ 2 → unviewed b ≡ unviewed (manager_at s.managers n).buffer) → Alike s (with_manager s n (record (manager_at s.managers n) { buffer = b }))
 buffer-alike s n b l same = record {
   kind = refl;
   room = refl;
   memory = λ a k. refl;
-  managers = buffer-front s.managers n b l same;
+  managers = set-front s.managers n (record (manager_at s.managers n) { buffer = b }) l (record { settings = refl; locked = refl; mail = refl }) same;
   idle = λ e. e;
   outs = refl;
   ins = refl;

@@ -283,7 +283,8 @@ module _ (B : Config → Action → Type 0) (i : ℕ) (d : SlavePlan) where
       let o : Option Mailbox = p.kind.mailbox in
       let e : (prepared p).managers ≡ h.m0 ∷ h.m1 ∷ no_settings ∷ no_settings ∷ []
       = ap (λ (ms : List SyncManagerSettings). settings_at ms 0 ∷ settings_at ms 1 ∷ no_settings ∷ no_settings ∷ []) h.managers in
-      let none = λ (q : o ≡ None). let n = h.no_mailbox q in ap (λ (m : SyncManagerSettings). m ∷ h.m1 ∷ no_settings ∷ no_settings ∷ []) n.0 ∙ ap (λ (m : SyncManagerSettings). no_settings ∷ m ∷ no_settings ∷ no_settings ∷ []) n.1 in
+      let none : o ≡ None → h.m0 ∷ h.m1 ∷ no_settings ∷ no_settings ∷ [] ≡ no_settings ∷ no_settings ∷ no_settings ∷ no_settings ∷ []
+      = λ q. let n = h.no_mailbox q in cc (n.0, n.1) in
       let c2 : Config = boxed (settings_at p.managers 0) (settings_at p.managers 1) in
       let c4 : Config = asked_all (prepared p) p o in
       let fr : SameFrame (prepared p) c4 = asked-frame p o in

@@ -268,7 +268,6 @@ pub replied : (kind : SlaveKind) (i : ℕ) (c : Config) (k : Talk) (box : Mailbo
     → ((n : ℕ) → n < 4 → (manager_at s.managers n).locked ≡ false) → IsIn PreOp s → s.sii.busy ≡ false → IsSent k c s → Answers kind c.outs c.ins k.request
     → HasReply i k.request k.mailbox.send_size (served s)
 replied kind i c k box s slave boxed u unlocked preop idle h good =
-    let m0 : SyncManager = manager_at s.managers 0 in
     let m1 : SyncManager = manager_at s.managers 1 in
     let four = slave.four in
     let e0 = u.settings 0 (omega arith) in

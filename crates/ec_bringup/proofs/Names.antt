@@ -3,7 +3,8 @@ use Rattle.ec_bringup.proofs.Words.{ℕ, suc, ◌+◌, ◌-◌, ◌*◌, ◌/◌
 use Rattle.ec_bringup.proofs.Passing.{others-stay, other-met, Owes}
 use Rattle.ec_bringup.proofs.Resets.{get_or-zeros}
 use Rattle.ec_bringup.proofs.Owns.{slave-wrote, window-sent}
-use Rattle.ec_bringup.proofs.Broadcasts.{down-of, init-wrote, written-on}
+use Rattle.ec_bringup.proofs.Broadcasts.{init-wrote, written-on}
+use Rattle.ec_bringup.proofs.Alike.{reached-low}
 
 -- ---- the meeting
 
@@ -104,7 +105,7 @@ pass-name kind i t st trouble number d s l fits good arrives h = elim (cases_eq 
     up : Stands kind i (Down true true) trouble s → Stands kind i (Up fresh) trouble (physical_after s false true (naming i))
     up k =
         let w : Wrote (naming i) s (physical_after s false true (naming i)) = wrote s (naming i) (omega arith) in
-        let r : IsDownAt true true s = down-of kind i true true trouble s k in
+        let r : IsDownAt true true s = reached-low kind i (Down true true) trouble s (λ u. u) k in
         record {
           slave = slave-wrote kind (naming i) s (physical_after s false true (naming i)) w k.slave;
           at = inl (named-up i s (physical_after s false true (naming i)) w k.slave.room k.slave.four (k.slave.unlocked_in_init r.init.state) r);

@@ -8,6 +8,7 @@ use Rattle.ec_bringup.proofs.Names.{pass-name}
 use Rattle.ec_bringup.proofs.Sets.{pass-ask-word, pass-set-manager, pass-set-fmmu}
 use Rattle.ec_bringup.proofs.Sends.{pass-send}
 use Rattle.ec_bringup.proofs.Receives.{pass-await-reply}
+use Rattle.ec_bringup.proofs.Alike.{reached-low}
 
 -- the datagram after it
 abbrev pub looked : SlaveState → Datagram → Datagram
@@ -61,13 +62,6 @@ init-shown i s l (inl h) =
     record { state = k.0; no_error = k.1; asked = λ _. h.1 }
 init-shown i s l (inr h) = h
 
-called-of : (kind : SlaveKind) (i : ℕ) (trouble : Bool) (s : SlaveState) → Stands kind i Called trouble s → Reached i Called s
-called-of kind i trouble s h = elim h.at [
-  | inl r ↦ r
-  | inr (t, inl g) ↦ absurd g
-  | inr (t, inr g) ↦ absurd g
-]
-
 pub pass-await-init : (kind : SlaveKind) (i : ℕ) (trouble : Bool) (number : ℕ) (d : Datagram) (s : SlaveState) → Owes kind i Called trouble AwaitInit number d s
 pass-await-init kind i trouble number d s arrives h =
     let q : slave_met s d ≡ s = ap (λ (m : Meeting). m.slave) (look s d number arrives) in (
@@ -77,7 +71,7 @@ pass-await-init kind i trouble number d s arrives h =
         ended = λ m. subst (λ (t : SlaveState). Stands kind i (Down false false) trouble t) (sym q) (record {
           slave = h.slave;
           at = inl (record {
-            init = init-shown i s (shows-more s d number arrives m).1 (called-of kind i trouble s h);
+            init = init-shown i s (shows-more s d number arrives m).1 (reached-low kind i Called trouble s (λ u. u) h);
             fmmus = λ e. absurd (both_ways false refl e);
             managers = λ e. absurd (both_ways false refl e);
           });

@@ -77,44 +77,41 @@ boxes-of i b c s four h u =
 not-first : (b : Mailbox) (s : SlaveState) (a : ℕ) → Boxes b s → b.send_start ≤ a → a < b.send_start + b.send_size → governs (manager_at s.managers 0) a ≡ false
 not-first b s a h l m =
     let m0 = manager_at s.managers 0 in
-    let fs = h.first_start in let fp = h.first_span in
     and_right _ _ (elim h.apart [
-      | inl x ↦ within_above m0.settings.start (span m0.settings) a (omega (arith, x, fs, fp, l))
-      | inr x ↦ within_below m0.settings.start (span m0.settings) a (omega (arith, x, fs, m))
+      | inl x ↦ within_above m0.settings.start (span m0.settings) a (omega (arith, x))
+      | inr x ↦ within_below m0.settings.start (span m0.settings) a (omega (arith, x))
     ])
 
 pub governed : (b : Mailbox) (s : SlaveState) (a : ℕ) → Boxes b s → b.send_start ≤ a → a < b.send_start + b.send_size → governor s.managers a ≡ Some 1
 governed b s a h l m =
     let m0 = manager_at s.managers 0 in let m1 = manager_at s.managers 1 in
-    let st = h.start in let ln = h.len in
     let wide : span m1.settings ≡ m1.settings.length = if_true _ _ _ h.box in
-    let is1 : governs m1 a ≡ true = and_from _ _ h.set (within_true m1.settings.start (span m1.settings) a (omega (arith, st, l)) (omega (arith, st, ln, wide, m))) in
+    let is1 : governs m1 a ≡ true = and_from _ _ h.set (within_true m1.settings.start (span m1.settings) a (omega arith) (omega arith)) in
     ap (λ (ms : List SyncManager). governor ms a) (four-of s.managers h.four) ∙ (if_false _ _ _ (not-first b s a h l m) ∙ if_true _ _ _ is1)
 
 pub covered : (b : Mailbox) (s : SlaveState) → Boxes b s → covers (touches (asking b)) (manager_at s.managers 1) ≡ true
 covered b s h =
-    let st = h.start in let ln = h.len in let some = h.some in let n = asking-length b in
-    and_from _ _ (within_true b.send_start (length (asking b).bytes) (manager_at s.managers 1).settings.start (omega (arith, st)) (omega (arith, st, n, some)))
-    (within_true b.send_start (length (asking b).bytes) ((manager_at s.managers 1).settings.start + (manager_at s.managers 1).settings.length - 1) (omega (arith, st, ln, some)) (omega (arith, st, ln, n, some)))
+    let n = asking-length b in
+    and_from _ _ (within_true b.send_start (length (asking b).bytes) (manager_at s.managers 1).settings.start (omega arith) (omega (arith, n)))
+    (within_true b.send_start (length (asking b).bytes) ((manager_at s.managers 1).settings.start + (manager_at s.managers 1).settings.length - 1) (omega arith) (omega (arith, n)))
 
 -- it has a byte of its own, and that is asked for
 own-byte : (b : Mailbox) (s : SlaveState) → Boxes b s
     → any_below (manager_at s.managers 1).settings.length (λ k. touches (asking b) ((manager_at s.managers 1).settings.start + k) && is_ungoverned (manager_at s.managers 0 ∷ []) ((manager_at s.managers 1).settings.start + k)) ≡ true
 own-byte b s h =
-    let st = h.start in let ln = h.len in let some = h.some in let n = asking-length b in
+    let n = asking-length b in
     let m1 : SyncManager = manager_at s.managers 1 in
-    let free : governs (manager_at s.managers 0) (m1.settings.start + 0) ≡ false = not-first b s (m1.settings.start + 0) h (omega (arith, st)) (omega (arith, st, some)) in
+    let free : governs (manager_at s.managers 0) (m1.settings.start + 0) ≡ false = not-first b s (m1.settings.start + 0) h (omega arith) (omega arith) in
     any_below_from (manager_at s.managers 1).settings.length
-    (λ k. touches (asking b) ((manager_at s.managers 1).settings.start + k) && is_ungoverned (manager_at s.managers 0 ∷ []) ((manager_at s.managers 1).settings.start + k)) 0 (omega (arith, ln, some))
-    (and_from _ _ (within_true b.send_start (length (asking b).bytes) (m1.settings.start + 0) (omega (arith, st)) (omega (arith, st, n, some))) (ap is_none (if_false _ _ _ free)))
+    (λ k. touches (asking b) ((manager_at s.managers 1).settings.start + k) && is_ungoverned (manager_at s.managers 0 ∷ []) ((manager_at s.managers 1).settings.start + k)) 0 (omega arith)
+    (and_from _ _ (within_true b.send_start (length (asking b).bytes) (m1.settings.start + 0) (omega arith) (omega (arith, n))) (ap is_none (if_false _ _ _ free)))
 
 -- a byte of it may be read where the mailbox may
 pub readable : (b : Mailbox) (s : SlaveState) (k : ℕ) (r : Bool) → Boxes b s → k < b.send_size → may_read (manager_at s.managers 1) ≡ r → may_read_byte s.managers (touches (asking b)) (b.send_start + k) ≡ r
 readable b s k r h l e =
-    let low = h.low in let high = h.high in let st = h.start in let ln = h.len in
-    let g = governed b s (b.send_start + k) h (omega arith) (omega (arith, l)) in
-    let f : in_first_buffer (manager_at s.managers 1) (b.send_start + k) ≡ true = lt-ltb _ _ (omega (arith, st, ln, l)) in
-    (ram_governed s (b.send_start + k) (omega (arith, low)) (omega (arith, high, l))).reads (touches (asking b))
+    let g = governed b s (b.send_start + k) h (omega arith) (omega arith) in
+    let f : in_first_buffer (manager_at s.managers 1) (b.send_start + k) ≡ true = lt-ltb _ _ (omega arith) in
+    (ram_governed s (b.send_start + k) (omega arith) (omega arith)).reads (touches (asking b))
     ∙ (ap (λ (o : Option ℕ). reads_under s.managers (touches (asking b)) (b.send_start + k) o) g
     ∙ (ap (λ (x : Bool). x && (covers (touches (asking b)) (manager_at s.managers 1) && may_read (manager_at s.managers 1))) f
     ∙ (ap (λ (x : Bool). x && may_read (manager_at s.managers 1)) (covered b s h) ∙ e)))
@@ -150,11 +147,10 @@ read-out b s h e = (accesses_leave s (asking b)).read ∙ ap (λ (ms : List Sync
 
 shown-at : (b : Mailbox) (s : SlaveState) (raw : List ℕ) (k : ℕ) → Boxes b s → (manager_at s.managers 1).mail ≡ Some raw → k < b.send_size → byte_at s (b.send_start + k) ≡ slice_index raw k
 shown-at b s raw k h e l =
-    let low = h.low in let high = h.high in let st = h.start in
-    let z : b.send_start + k - (manager_at s.managers 1).settings.start ≡ k = omega (arith, st) in
+    let z : b.send_start + k - (manager_at s.managers 1).settings.start ≡ k = omega arith in
     let v : shown (manager_at s.managers 1) ≡ raw = if_true _ _ _ h.box ∙ ap (λ (o : Option (List ℕ)). unwrap_or o []) e in
-    (ram_governed s (b.send_start + k) (omega (arith, low)) (omega (arith, high, l))).shows
-    ∙ (ap (λ (o : Option ℕ). ram_byte s.memory s.managers (b.send_start + k) o) (governed b s (b.send_start + k) h (omega arith) (omega (arith, l)))
+    (ram_governed s (b.send_start + k) (omega arith) (omega arith)).shows
+    ∙ (ap (λ (o : Option ℕ). ram_byte s.memory s.managers (b.send_start + k) o) (governed b s (b.send_start + k) h (omega arith) (omega arith))
     ∙ (ap (λ (x : List ℕ). slice_index x (b.send_start + k - (manager_at s.managers 1).settings.start)) v ∙ ap (λ (x : ℕ). slice_index raw x) z))
 
 pub raw-read : (b : Mailbox) (s : SlaveState) (raw : List ℕ) → Boxes b s → (manager_at s.managers 1).mail ≡ Some raw → length raw ≡ b.send_size → may_read (manager_at s.managers 1) ≡ true

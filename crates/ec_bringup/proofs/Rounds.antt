@@ -24,7 +24,6 @@ shape-stays (s ∷ ss) d good =
 
 pub round : RoundLaw
 round s number ss good =
-    let d : Datagram = datagram_of (action_of s) number in
     let e = frame-all ss number (datagram_of (action_of s) number) in
     record {
       datagrams = e;

@@ -61,7 +61,6 @@ pub sent-managers : (i counter : ℕ) (c : Config) (b : Mailbox) (r : SdoRequest
     → physical_managers [] false true (sending b counter r) 0 s.managers
     ≡ record (manager_at s.managers 0) { mail = Some (sending b counter r).bytes } ∷ manager_at s.managers 1 ∷ manager_at s.managers 2 ∷ manager_at s.managers 3 ∷ []
 sent-managers i counter c b r s four h u none =
-    let w : Window = sending b counter r in
     let m0 = manager_at s.managers 0 in let m1 = manager_at s.managers 1 in let m2 = manager_at s.managers 2 in let m3 = manager_at s.managers 3 in
     let e0 = u.configured.settings 0 (omega arith) in let e1 = u.configured.settings 1 (omega arith) in
     let e2 = u.configured.settings 2 (omega arith) in let e3 = u.configured.settings 3 (omega arith) in
@@ -69,16 +68,14 @@ sent-managers i counter c b r s four h u none =
     let len : m0.settings.length ≡ b.receive_size = ap (λ (x : SyncManagerSettings). x.length) e0 ∙ h.receive_length in
     let long : length (sending b counter r).bytes ≡ b.receive_size = sending-length b counter r h.receive_some in
     let ram = (set-lies (settings_at c.managers 0) h.receive_set).0 in
-    let rs = h.receive_start in
-    let some = h.receive_some in
-    let free : (n : ℕ) → n < 4 → is_configured (sending b counter r) n ≡ false = λ n l. unconfigured (sending b counter r) n (inr (omega (arith, ram, rs, l))) in
-    let cov : covers (touches (sending b counter r)) m0 ≡ true = and_from _ _ (within_true b.receive_start (length (sending b counter r).bytes) m0.settings.start (omega (arith, start)) (omega (arith, start, long, some)))
-    (within_true b.receive_start (length (sending b counter r).bytes) (m0.settings.start + m0.settings.length - 1) (omega (arith, start, len, some)) (omega (arith, start, len, long, some))) in
+    let free : (n : ℕ) → n < 4 → is_configured (sending b counter r) n ≡ false = λ n l. unconfigured (sending b counter r) n (inr (omega (arith, ram, l))) in
+    let cov : covers (touches (sending b counter r)) m0 ≡ true = and_from _ _ (within_true b.receive_start (length (sending b counter r).bytes) m0.settings.start (omega (arith, start)) (omega (arith, start, long)))
+    (within_true b.receive_start (length (sending b counter r).bytes) (m0.settings.start + m0.settings.length - 1) (omega (arith, start, len)) (omega (arith, start, len, long))) in
     let box : is_mailbox m0.settings ≡ true = ap is_mailbox e0 ∙ h.receive_mailbox in
     let may : may_write m0 ≡ true = and_from _ _ (and_from _ _ (ap is_set e0 ∙ h.receive_set) (ap not (u.unlocked 0 (omega arith)))) (and_from _ _ (ap is_master_written e0 ∙ h.receive_written) (if_true _ _ _ box ∙ ap is_none none)) in
-    let touched : touches (sending b counter r) (m0.settings.start + 0) ≡ true = within_true b.receive_start (length (sending b counter r).bytes) (m0.settings.start + 0) (omega (arith, start)) (omega (arith, start, long, some)) in
+    let touched : touches (sending b counter r) (m0.settings.start + 0) ≡ true = within_true b.receive_start (length (sending b counter r).bytes) (m0.settings.start + 0) (omega (arith, start)) (omega (arith, start, long)) in
     let own : any_below m0.settings.length (λ k. touches (sending b counter r) (m0.settings.start + k) && is_ungoverned [] (m0.settings.start + k)) ≡ true
-    = any_below_from m0.settings.length (λ k. touches (sending b counter r) (m0.settings.start + k) && is_ungoverned [] (m0.settings.start + k)) 0 (omega (arith, len, some)) (and_from _ _ touched refl) in
+    = any_below_from m0.settings.length (λ k. touches (sending b counter r) (m0.settings.start + k) && is_ungoverned [] (m0.settings.start + k)) 0 (omega (arith, len)) (and_from _ _ touched refl) in
     let value : physical_value [] (sending b counter r) m0.settings.start m0.settings.length ≡ (sending b counter r).bytes
     = ap (λ (x : ℕ). physical_value [] (sending b counter r) x m0.settings.length) start ∙ (ap (λ (x : ℕ). physical_value [] (sending b counter r) b.receive_start x) (len ∙ sym long) ∙ whole_values (sending b counter r)) in
     let first : physical_manager [] false true (sending b counter r) 0 m0 ≡ record m0 { mail = Some (sending b counter r).bytes }
@@ -130,23 +127,21 @@ mails-mail ms x y _ a e l = refl
 pub delivered : (i counter : ℕ) (c : Config) (b : Mailbox) (r : SdoRequest) (s : SlaveState) → length s.managers ≡ 4 → AreMailboxes b c.managers → IsUpAt i c s → (manager_at s.managers 0).mail ≡ None
     → Delivered b counter r s (physical_after s false true (sending b counter r))
 delivered i counter c b r s four h u none =
-    let w : Window = sending b counter r in
     let x : List ℕ = (sending b counter r).bytes in
     let e = sent-managers i counter c b r s four h u none in
     let ram = (set-lies (settings_at c.managers 0) h.receive_set).0 in
-    let rs = h.receive_start in
     subst (Delivered b counter r s) (sym (accesses_leave s (sending b counter r)).written) (record {
       kind = refl;
       room = (writes_by_byte s.managers (sending b counter r) s.memory).0;
-      memory = λ a l k. ((writes_by_byte s.managers (sending b counter r) s.memory).1 a k).untouched (within_below b.receive_start (length (sending b counter r).bytes) a (omega (arith, ram, rs, l)));
+      memory = λ a l k. ((writes_by_byte s.managers (sending b counter r) s.memory).1 a k).untouched (within_below b.receive_start (length (sending b counter r).bytes) a (omega (arith, ram, l)));
       count = ap length e;
       mailbox_message = ap (λ (ms : List SyncManager). (manager_at ms 0).mail) e;
       settings = λ n l. ap (λ (ms : List SyncManager). (manager_at ms n).settings) e ∙ mails-settings s.managers (Some x) (manager_at s.managers 1).mail n l;
       locked = λ n l. ap (λ (ms : List SyncManager). (manager_at ms n).locked) e ∙ mails-locked s.managers (Some x) (manager_at s.managers 1).mail n l;
       mail = λ n a l. ap (λ (ms : List SyncManager). (manager_at ms n).mail) e ∙ mails-mail s.managers (Some x) (manager_at s.managers 1).mail n a (λ _. refl) l;
       outputs = ap (λ (ms : List SyncManager). manager_at ms 2) e;
-      al = if_false _ _ _ (within_below b.receive_start (length (sending b counter r).bytes) 0x0120 (omega (arith, ram, rs)));
-      busy = aside-busy (sending b counter r) s.sii (omega (arith, ram, rs));
+      al = if_false _ _ _ (within_below b.receive_start (length (sending b counter r).bytes) 0x0120 (omega (arith, ram)));
+      busy = aside-busy (sending b counter r) s.sii (omega (arith, ram));
       outs = refl;
       ins = refl;
     })
@@ -187,14 +182,13 @@ delivered-up i counter c b r s t room none boxes q low h u =
 pub pass-send : (kind : SlaveKind) (i counter : ℕ) (b : Mailbox) (r : SdoRequest) (c : Config) (trouble : Bool) (number : ℕ) (d : Datagram) (s : SlaveState)
     → i < 64 → CanTell c (SendRequest i counter b r) → IsDatagram d → Owes kind i (Up c) trouble (SendRequest i counter b r) number d s
 pass-send kind i counter b r c trouble number d s l can good arrives h =
-    let low = can.0 in let none = can.1 in let boxes = can.2 in let q = can.3 in
-    let lies = set-lies (settings_at c.managers 0) boxes.receive_set in
-    let silent = λ (u : IsUpAt i c s). subst (λ (o : Option Talk). Talks i c o s) none u.talks in
+    let lies = set-lies (settings_at c.managers 0) can.2.receive_set in
+    let silent = λ (u : IsUpAt i c s). subst (λ (o : Option Talk). Talks i c o s) can.1 u.talks in
     pass-own kind i c trouble (SendRequest i counter b r) number d s (sending b counter r) (as_one number (ForSend i counter b r)) l refl
-    (window-sent Fpwr (station i) b.receive_start (filled b.receive_size (request_bytes counter r)) number) (let a = lies.1 in omega (arith, a, boxes.receive_start))
-    (λ o. o) (low-top c.rise low)
-    (λ k u. delivered-slave kind b counter r s (physical_after s false true (sending b counter r)) (delivered i counter c b r s k.four boxes u (silent u).no_message) k)
-    (λ k u. delivered-up i counter c b r s (physical_after s false true (sending b counter r)) k.room none boxes q (low-top c.rise low) (delivered i counter c b r s k.four boxes u (silent u).no_message) u)
+    (window-sent Fpwr (station i) b.receive_start (filled b.receive_size (request_bytes counter r)) number) (let a = lies.1 in omega (arith, a, can.2.receive_start))
+    (λ o. o) (low-top c.rise can.0)
+    (λ k u. delivered-slave kind b counter r s (physical_after s false true (sending b counter r)) (delivered i counter c b r s k.four can.2 u (silent u).no_message) k)
+    (λ k u. delivered-up i counter c b r s (physical_after s false true (sending b counter r)) k.room can.1 can.2 can.3 (low-top c.rise can.0) (delivered i counter c b r s k.four can.2 u (silent u).no_message) u)
     good arrives h
 
 -- ---- the datagrams of a start-up are datagrams: each field fits its bits
@@ -213,14 +207,7 @@ zeros-few : (n : ℕ) → n < 2048 → length (zeros n) < 2048
 zeros-few n l = let e = length-replicate {A = ℕ} n 0 in omega (arith, e, l)
 
 filled-few : (b : Mailbox) (counter : ℕ) (r : SdoRequest) → IsReachable b → length (filled b.receive_size (request_bytes counter r)) < 2048
-filled-few b counter r h =
-    let e = length-append (request_bytes counter r) (zeros (b.receive_size - length (request_bytes counter r))) in
-    let f = length-replicate {A = ℕ} (b.receive_size - length (request_bytes counter r)) 0 in
-    let x = h.receive_few in let y = h.receive_some in
-    omega (arith, length-message (request_message counter r), e, f, x, y)
-
-six : (which : ℕ) → length (read_command (word_place which)) ≡ 6
-six which = refl
+filled-few b counter r h = omega (arith, sending-length b counter r h.receive_some, h.receive_few)
 
 pub datagram-good : (a : Action) (number : ℕ) → IsSendable a → IsDatagram (datagram_of a number)
 datagram-good CountSlaves number h = sent-good Brd 0 0x0130 (zeros 2) number (omega arith) (zeros-few 2 (omega arith))
@@ -230,7 +217,7 @@ datagram-good ClearFmmus number h = sent-good Bwr 0 0x0600 (zeros 64) number (om
 datagram-good ClearManagers number h = sent-good Bwr 0 0x0800 (zeros 32) number (omega arith) (zeros-few 32 (omega arith))
 datagram-good ClearStations number h = sent-good Bwr 0 0x0010 (zeros 2) number (omega arith) (zeros-few 2 (omega arith))
 datagram-good (NameSlave t) number h = sent-good Apwr (65536 - t) 0x0010 _ number (omega arith) (omega arith)
-datagram-good (AskWord t which) number h = let e = six which in sent-good Fpwr (station t) 0x0502 (read_command (word_place which)) number (omega arith) (omega (arith, e))
+datagram-good (AskWord t which) number h = let e : length (read_command (word_place which)) ≡ 6 = refl in sent-good Fpwr (station t) 0x0502 (read_command (word_place which)) number (omega arith) (omega (arith, e))
 datagram-good (AwaitWord t which) number h = sent-good Fprd (station t) 0x0502 (zeros 10) number (omega arith) (zeros-few 10 (omega arith))
 datagram-good (SetManager t n m) number h = sent-good Fpwr (station t) (0x0800 + 8 * n) (manager_bytes m) number (let l : n < 4 = h in omega (arith, l)) (omega arith)
 datagram-good (SetFmmu t n f) number h = sent-good Fpwr (station t) (0x0600 + 16 * n) (fmmu_bytes f) number (let l : n < 4 = h in omega (arith, l)) (omega arith)

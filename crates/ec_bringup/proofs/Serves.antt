@@ -1,7 +1,7 @@
 -- A firmware step of a slave that stands at a stage: the AL request, and the SII read.
-use Rattle.ec_bringup.proofs.Words.{ℕ, zero, suc, ◌<◌, ◌≡◌, ◌⊎◌, ◌&&◌, not, Bool, true, false, refl, sym, ◌∙◌, ap, subst, inl, inr, arith, List, [], ◌∷◌, length, map, set, if◌then◌else◌, length-set, get_or-set_same, get_or-set_other, slice_index, Result, Ok, Err, both_ways, cases_Bool, and_left, and_right, cases_eq, length-map, if_false, SlaveKind, SyncManager, no_manager, zeros_published, State, Init, PreOp, SafeOp, Op, StatusCode, InvalidMailboxConfiguration, InvalidOutputConfiguration, InvalidInputConfiguration, Checks, state_number, code_number, answer, requested_by, acknowledges, Al, decided, slave_answered as answered, SlaveState, manager_at, control_word, checks_of, unlocked_empty, managers_entered, with_al, request_decided, read_finished, Sii, requests_decided, finished, switched_on, Rise, Stays, Climbs, Config, Stage, Before, Called, Down, Up, IsStepUp, unviewed, IsOfKind, IsInInit, Rises, IsUpAt, IsDownAt, Reached, HadFault, Stands}
+use Rattle.ec_bringup.proofs.Words.{ℕ, zero, suc, ◌<◌, ◌≡◌, ◌⊎◌, ◌&&◌, not, Bool, true, false, refl, sym, ◌∙◌, ap, subst, inl, inr, arith, List, [], ◌∷◌, length, map, if◌then◌else◌, slice_index, Result, Ok, Err, both_ways, cases_Bool, and_left, and_right, length-map, if_false, SlaveKind, SyncManager, zeros_published, State, Init, PreOp, SafeOp, Op, StatusCode, InvalidMailboxConfiguration, InvalidOutputConfiguration, InvalidInputConfiguration, Checks, state_number, code_number, answer, requested_by, acknowledges, Al, decided, slave_answered as answered, SlaveState, manager_at, control_word, checks_of, unlocked_empty, managers_entered, with_al, request_decided, read_finished, Sii, requests_decided, finished, switched_on, Rise, Stays, Climbs, Config, Stage, Before, Called, Down, Up, IsStepUp, IsOfKind, IsInInit, Rises, IsUpAt, IsDownAt, Reached, HadFault, Stands}
 use Rattle.ec_al.specs.Al as al
-use Rattle.ec_bringup.proofs.Alike.{SameFront, front-refl, SameFronts, fronts-refl, Alike, slave-alike, stands-alike, stands-by, gone-on, had-fault, down-rest, up-rest}
+use Rattle.ec_bringup.proofs.Alike.{SameFronts, fronts-refl, Alike, slave-alike, stands-alike, stands-by, gone-on, had-fault, down-rest, up-rest, set-front}
 
 -- ---- the managers, where a state is entered
 
@@ -9,19 +9,6 @@ map-unlocked : (ms : List SyncManager) (n : ℕ) → (manager_at (map unlocked_e
 map-unlocked [] n = refl
 map-unlocked (m ∷ ms) zero = refl
 map-unlocked (m ∷ ms) (suc n) = map-unlocked ms n
-
--- manager 3 published zeros: all managers are the same from the front
-zeros-front : (ms : List SyncManager) → 3 < length ms → SameFronts ms (set ms 3 (zeros_published (manager_at ms 3)))
-zeros-front ms l = record {
-  four = length-set ms 3 _;
-  each = λ n. elim (cases_eq n 3) [
-    | inl e ↦ subst (λ (k : ℕ). SameFront (manager_at ms k) (manager_at (set ms 3 (zeros_published (manager_at ms 3))) k)) (sym e)
-        (subst (λ (m : SyncManager). SameFront (manager_at ms 3) m) (sym (get_or-set_same ms 3 (zeros_published (manager_at ms 3)) no_manager l))
-        (record { settings = refl; locked = refl; mail = refl }))
-    | inr ne ↦ subst (λ (m : SyncManager). SameFront (manager_at ms n) m) (sym (get_or-set_other ms 3 n (zeros_published (manager_at ms 3)) no_manager ne)) (front-refl (manager_at ms n))
-  ];
-  outputs = ap (λ (m : SyncManager). unviewed m.buffer) (get_or-set_other ms 3 2 (zeros_published (manager_at ms 3)) no_manager (λ q. omega (arith, q)));
-}
 
 -- no state is left for INIT
 abbrev NoFall : State → State → Type 0
@@ -31,7 +18,8 @@ NoFall old new = Unit {0}
 
 entered-front : (old new : State) (ms : List SyncManager) → 3 < length ms → NoFall old new → SameFronts ms (managers_entered old new ms)
 entered-front Init Init ms l h = fronts-refl ms
-entered-front PreOp SafeOp ms l h = zeros-front ms l
+entered-front PreOp SafeOp ms l h =
+    set-front ms 3 (zeros_published (manager_at ms 3)) l (record { settings = refl; locked = refl; mail = refl }) (λ e. absurd (omega (arith, e)))
 entered-front _ Init ms l h = absurd h
 entered-front _ _ ms l h = fronts-refl ms
 

@@ -99,15 +99,10 @@ same-settings c i w s t n k four l e h = ap (λ (m : SyncManager). m.settings) (
 abbrev reading : ℕ → Window
 reading which = record { from = 0x0502; bytes = read_command (word_place which) }
 
-six : (which : ℕ) → length (read_command (word_place which)) ≡ 6
-six which = refl
-
 pub pass-ask-word : (kind : SlaveKind) (i which : ℕ) (c : Config) (trouble : Bool) (number : ℕ) (d : Datagram) (s : SlaveState)
     → i < 64 → CanTell c (AskWord i which) → IsDatagram d → Owes kind i (Up c) trouble (AskWord i which) number d s
 pass-ask-word kind i which c trouble number d s l can good arrives h =
-    let w : Window = reading which in
-    let n6 : length (reading which).bytes ≡ 6 = six which in
-    let t : SlaveState = physical_after s false true (reading which) in
+    let n6 : length (reading which).bytes ≡ 6 = refl in
     let inside : 0x0502 + length (reading which).bytes ≤ ram_start = omega (arith, n6) in
     let k : Wrote (reading which) s (physical_after s false true (reading which)) = wrote s (reading which) inside in
     pass-own kind i c trouble (AskWord i which) number d s (reading which) (as_one number (ForAskWord i which)) l refl (window-sent Fpwr (station i) 0x0502 (read_command (word_place which)) number) (omega arith)
@@ -124,7 +119,7 @@ pass-ask-word kind i which c trouble number d s l can good arrives h =
 abbrev mapping : ℕ → FmmuSettings → Window
 mapping n f = record { from = 0x0600 + 16 * n; bytes = fmmu_bytes f }
 
-fmmu-stored : (n b : ℕ) → n < 4 → b < 16 → is_stored (0x0600 + 16 * n + b) ≡ true
+pub fmmu-stored : (n b : ℕ) → n < 4 → b < 16 → is_stored (0x0600 + 16 * n + b) ≡ true
 fmmu-stored n b l m = or_right _ _ (or_right _ _ (or_left _ _ (within_true 0x0600 64 (0x0600 + 16 * n + b) (omega arith) (omega (arith, l, m)))))
 
 fmmu-taken : (n : ℕ) (f : FmmuSettings) (s t : SlaveState) (b : ℕ) → Wrote (mapping n f) s t → length s.memory ≡ 0x3000 → n < 4 → b < 16 → slice_index t.memory (0x0600 + 16 * n + b) ≡ slice_index (fmmu_bytes f) b
@@ -151,15 +146,14 @@ set-fmmus n f c i s t k room l there h j b x y = elim (cases_eq j n) [
 pub pass-set-fmmu : (kind : SlaveKind) (i n : ℕ) (f : FmmuSettings) (c : Config) (trouble : Bool) (number : ℕ) (d : Datagram) (s : SlaveState)
     → i < 64 → CanTell c (SetFmmu i n f) → IsDatagram d → Owes kind i (Up c) trouble (SetFmmu i n f) number d s
 pass-set-fmmu kind i n f c trouble number d s l can good arrives h =
-    let low = can.0 in let there = can.1 in let four = can.2 in let none = can.3 in
-    let b4 : n < 4 = omega (arith, there, four) in
+    let b4 : n < 4 = omega (arith, can.1, can.2) in
     let k : Wrote (mapping n f) s (physical_after s false true (mapping n f)) = wrote s (mapping n f) (omega (arith, b4)) in
     pass-own kind i c trouble (SetFmmu i n f) number d s (mapping n f) (as_one number (ForSetFmmu i n f)) l refl (window-sent Fpwr (station i) (0x0600 + 16 * n) (fmmu_bytes f) number) (omega (arith, b4))
-    (λ r. r) (low-top c.rise low)
+    (λ r. r) (low-top c.rise can.0)
     (λ q u. slave-wrote kind (mapping n f) s (physical_after s false true (mapping n f)) k q)
-    (λ q u. set-up i c (record c { fmmus = set c.fmmus n f }) s (physical_after s false true (mapping n f)) (mapping n f) (record { from = omega arith; registers = omega (arith, b4) }) k q.room q.four none none refl refl refl
+    (λ q u. set-up i c (record c { fmmus = set c.fmmus n f }) s (physical_after s false true (mapping n f)) (mapping n f) (record { from = omega arith; registers = omega (arith, b4) }) k q.room q.four can.3 can.3 refl refl refl
     (λ j x. same-settings c i (mapping n f) s (physical_after s false true (mapping n f)) j k q.four x (unconfigured (mapping n f) j (inl (omega (arith, b4)))) u.configured)
-    (set-fmmus n f c i s (physical_after s false true (mapping n f)) k q.room b4 there u.configured)
+    (set-fmmus n f c i s (physical_after s false true (mapping n f)) k q.room b4 can.1 u.configured)
     (λ e. ap (λ (p : Sii). p.busy) k.sii ∙ (aside-busy (mapping n f) s.sii (omega arith) ∙ u.configured.idle e)) u)
     good arrives h
 
@@ -194,14 +188,13 @@ set-managers n m c i s t k four l there h j x = elim (cases_eq j n) [
 pub pass-set-manager : (kind : SlaveKind) (i n : ℕ) (m : SyncManagerSettings) (c : Config) (trouble : Bool) (number : ℕ) (d : Datagram) (s : SlaveState)
     → i < 64 → CanTell c (SetManager i n m) → IsDatagram d → Owes kind i (Up c) trouble (SetManager i n m) number d s
 pass-set-manager kind i n m c trouble number d s l can good arrives h =
-    let low = can.0 in let there = can.1 in let four = can.2 in let none = can.3 in
-    let b4 : n < 4 = omega (arith, there, four) in
+    let b4 : n < 4 = omega (arith, can.1, can.2) in
     let k : Wrote (managing n m) s (physical_after s false true (managing n m)) = wrote s (managing n m) (omega (arith, b4)) in
     pass-own kind i c trouble (SetManager i n m) number d s (managing n m) (as_one number (ForSetManager i n m)) l refl (window-sent Fpwr (station i) (0x0800 + 8 * n) (manager_bytes m) number) (omega (arith, b4))
-    (λ r. r) (low-top c.rise low)
+    (λ r. r) (low-top c.rise can.0)
     (λ q u. slave-wrote kind (managing n m) s (physical_after s false true (managing n m)) k q)
-    (λ q u. set-up i c (record c { managers = set c.managers n m }) s (physical_after s false true (managing n m)) (managing n m) (record { from = omega arith; registers = omega (arith, b4) }) k q.room q.four none none refl refl refl
-    (set-managers n m c i s (physical_after s false true (managing n m)) k q.four b4 there u.configured)
+    (λ q u. set-up i c (record c { managers = set c.managers n m }) s (physical_after s false true (managing n m)) (managing n m) (record { from = omega arith; registers = omega (arith, b4) }) k q.room q.four can.3 can.3 refl refl refl
+    (set-managers n m c i s (physical_after s false true (managing n m)) k q.four b4 can.1 u.configured)
     (λ j b x y. k.untouched (0x0600 + 16 * j + b) (let f = q.room in omega (arith, f, x, y)) (within_below (0x0800 + 8 * n) 8 (0x0600 + 16 * j + b) (omega (arith, x, y))) ∙ u.configured.fmmus j b x y)
     (λ e. ap (λ (p : Sii). p.busy) k.sii ∙ (aside-busy (managing n m) s.sii (omega arith) ∙ u.configured.idle e)) u)
     good arrives h
