@@ -114,10 +114,6 @@ requests-claim p =
       ap (λ (c : Config). c.ins) whole ∙ assigned-own false c3 p.inputs (has_some p.kind.inputs) (assigned-other true c2 p.outputs (has_some p.kind.outputs) ∙ i2),
     )
 
--- what such a claim says of a slave
-pub claim-holds : (xs : List ℕ) (a : Assignment) → Claims (claim_of xs true) a → assigned a ≡ xs
-claim-holds xs a h = ap (λ (k : ℕ). take k a.slots) (h.count_is (length xs) refl) ∙ h.slots_are
-
 -- ---- the assignment at the end of the script
 
 take-none : (xs : List ℕ) (n : ℕ) → length xs ≡ 0 → take n xs ≡ []
@@ -129,8 +125,9 @@ none-there : (ps : List Pdo) → has_some ps ≡ false → length ps ≡ 0
 none-there [] e = refl
 none-there (p ∷ ps) e = absurd (both_ways true e refl)
 
+-- what such a claim says of a slave
 by-some : (b : Bool) (xs : List ℕ) (a : Assignment) → (b ≡ false → assigned a ≡ xs) → Claims (claim_of xs b) a → assigned a ≡ xs
-by-some true xs a h c = claim-holds xs a c
+by-some true xs a h c = ap (λ (k : ℕ). take k a.slots) (c.count_is (length xs) refl) ∙ c.slots_are
 by-some false xs a h c = h refl
 
 assigned-whole : (xs : List ℕ) (a : Assignment) (ps : List Pdo) → a ≡ all_assigned ps → xs ≡ indices ps → assigned a ≡ xs

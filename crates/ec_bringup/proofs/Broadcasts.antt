@@ -12,9 +12,6 @@ broadcast-writes s d c = record {
   reads = ap (λ (x : Command). is_reading (role_of x (adp_of d) (station_of s))) c;
 }
 
-pub broadcast-write : (s : SlaveState) (d : Datagram) → d.command ≡ Bwr → slave_met s d ≡ physical_after s false true (window_of d)
-broadcast-write s d c = (writes_meet s d (broadcast-writes s d c)).slave
-
 -- a datagram that is written goes on as it came, with its ADP grown
 pub written-on : (k : Command) (s : SlaveState) (e d : Datagram) (adp : ℕ) → d.command ≡ k → OnlyWrites s d → adp_after k (adp_of d) ≡ (adp_of d + 1) % 65536 → IsWriting e d adp
     → IsWriting e (datagram_met s d) ((adp + 1) % 65536)
@@ -48,7 +45,7 @@ pub pass-broadcast : (kind : SlaveKind) (i : ℕ) (st : Stage) (trouble : Bool) 
 pass-broadcast kind i st trouble a number d s ado bytes e one never step h stands =
     let c : d.command ≡ Bwr = h.command ∙ ap (λ (x : Datagram). x.command) e in
     let win = window-is (datagram_of a number) d (i % 65536) _ h (ap window_of e ∙ window-sent Bwr 0 ado bytes number) in
-    let q : slave_met s d ≡ physical_after s false true (record { from = ado; bytes = bytes }) = broadcast-write s d c ∙ ap (λ (x : Window). physical_after s false true x) win in (
+    let q : slave_met s d ≡ physical_after s false true (record { from = ado; bytes = bytes }) = (writes_meet s d (broadcast-writes s d c)).slave ∙ ap (λ (x : Window). physical_after s false true x) win in (
       record {
         other = λ o. absurd (one o);
         repeated = λ o. absurd (never o);

@@ -3,9 +3,9 @@ use Rattle.ec_bringup.proofs.Words.{ℕ, ◌+◌, ◌-◌, ◌*◌, ◌<◌, ◌
 use Rattle.ec_bringup.proofs.Alike.{rises-alike, word_of, stands-by, gone-on, had-fault}
 use Rattle.ec_bringup.proofs.Serves.{stands-decided, stands-finished}
 use Rattle.ec_bringup.proofs.Claiming.{reply-claims}
-use Rattle.ec_bringup.proofs.Owns.{window-sent}
+use Rattle.ec_bringup.proofs.Owns.{window-sent, own-writes}
 use Rattle.ec_bringup.proofs.Sends.{sending, sending-length, set-lies, four-of}
-use Rattle.ec_bringup.proofs.Polls.{own-write-counts}
+use Rattle.ec_bringup.proofs.Polls.{write-counts}
 use Rattle.ec_bringup.proofs.Shown.{HasReply}
 
 -- ---- a request is answered
@@ -29,9 +29,6 @@ reply_raw s r = padded (manager_at s.managers 1) (bytes_to s r)
 pub record Replies (s : SlaveState) (r : Message) (t : SlaveState) : Type 0 where
   pub kept : KeepsBesideMessages s t
   pub answer : IsAnswered s r t
-
-pub given-replies : (s : SlaveState) (r : Message) → 1 < length s.managers → is_served s ≡ true → request_in s ≡ Some r → 16 ≤ (manager_at s.managers 1).settings.length → Replies s r (message_served s)
-given-replies s r l y e room = record { kept = messages_keep s; answer = requests_answered s r l y e room }
 
 -- ---- a slave that was sent a request
 
@@ -107,7 +104,7 @@ answering i c k s four u h = elim (cases_Bool (is_served s)) [
             let long : 16 ≤ m1.settings.length = subst (λ (x : ℕ). 16 ≤ x) (sym (ap (λ x. x.length) (u.settings 1 (omega arith)) ∙ h.mailboxes.send_length)) h.mailboxes.send_some in
             let fit : request_in s ≡ Some (message_of k)
             = ap (λ (o : Option (List ℕ)). request_for m1 (option_and_then message_read o)) l ∙ (ap (request_for m1) (mailbox_message-read k) ∙ if_true _ _ _ (ap not (le-ltb m1.settings.length message_length long))) in
-            Replied (given-replies s (message_of k) (omega arith) y fit long)
+            Replied (record { kept = messages_keep s; answer = requests_answered s (message_of k) (omega arith) y fit long })
       ]
 ]
 
@@ -185,7 +182,8 @@ request-goes s i counter c b r number e l four h u none =
     let front : in_first_buffer (manager_at s.managers 0) (b.receive_start + 0) ≡ true = lt-ltb _ _ (omega (arith, start, len, some)) in
     let under : writes_under s.managers (touches (sending b counter r)) (b.receive_start + 0) (governor s.managers (b.receive_start + 0)) ≡ true
     = ap (λ (o : Option ℕ). writes_under s.managers (touches (sending b counter r)) (b.receive_start + 0) o) gov ∙ and_from _ _ front (and_from _ _ cov may) in
-    own-write-counts s (datagram_of (SendRequest i counter b r) number) (sending b counter r) 0 refl (let a : (station i % 65536 + 65536 * b.receive_start) % 65536 ≡ station_of s = omega (arith, e, l) in a)
+    write-counts s (datagram_of (SendRequest i counter b r) number) (sending b counter r) 0
+    (own-writes s (datagram_of (SendRequest i counter b r) number) refl (let a : (station i % 65536 + 65536 * b.receive_start) % 65536 ≡ station_of s = omega (arith, e, l) in a))
     (window-sent Fpwr (station i) b.receive_start (filled b.receive_size (request_bytes counter r)) number) (omega (arith, long, some))
     ((ram_governed s (b.receive_start + 0) (omega (arith, low, start)) (omega (arith, high, start, wide, len, some))).writes s.sii.busy (touches (sending b counter r)) ∙ under)
 
@@ -287,7 +285,7 @@ replied kind i c k box s slave boxed u unlocked preop idle h good =
     let still : request_decided s ≡ s = (requests_decided s).rests preop.no_request in
     let quiet : read_finished (request_decided s) ≡ s = ap read_finished still ∙ (finished s).rests idle in
     let all : served s ≡ message_served s = three_parts s ∙ ap message_served quiet in
-    let rep : Replies s (message_of k) (message_served s) = given-replies s (message_of k) (omega (arith, four)) (and_from _ _ has (and_from _ _ takes (ap is_some l))) fit long in
+    let rep : Replies s (message_of k) (message_served s) = record { kept = messages_keep s; answer = requests_answered s (message_of k) (omega (arith, four)) (and_from _ _ has (and_from _ _ takes (ap is_some l))) fit long } in
     let wanted : IsWanted k.request (answer_to s (message_of k)).reply
     = subst (λ (x : Bool). IsWanted k.request (answer_of x (dictionary_of s) (message_of k) (reply_counter s.replies)).reply) (sym (ap is_preop preop.state_is))
     (good (dictionary_of s) (message_of k) (reply_counter s.replies)

@@ -15,12 +15,6 @@ position-writes s d c e = record {
   reads = ap (λ (x : Command). is_reading (role_of x (adp_of d) (station_of s))) c ∙ ap is_reading (if_true _ _ _ (eq-eqb _ _ e));
 }
 
-position-write : (s : SlaveState) (d : Datagram) → d.command ≡ Apwr → adp_of d ≡ 0 → slave_met s d ≡ physical_after s false true (window_of d)
-position-write s d c e = (writes_meet s d (position-writes s d c e)).slave
-
-position-on : (s : SlaveState) (e d : Datagram) (adp : ℕ) → d.command ≡ Apwr → adp_of d ≡ 0 → IsWriting e d adp → IsWriting e (datagram_met s d) ((adp + 1) % 65536)
-position-on s e d adp c z h = written-on Apwr s e d adp c (position-writes s d c z) refl h
-
 -- ---- at its position
 
 abbrev pub naming : ℕ → Window
@@ -34,9 +28,6 @@ fmmu-none : (n : ℕ) → fmmu_at fresh.fmmus n ≡ no_fmmu
 fmmu-none (suc (suc (suc (suc n)))) = refl
 fmmu-none _ = refl
 
-no-bytes : (k : ℕ) → slice_index (fmmu_bytes no_fmmu) k ≡ 0
-no-bytes k = get_or-zeros 16 k
-
 named-up : (i : ℕ) (s t : SlaveState) → Wrote (naming i) s t → length s.memory ≡ 0x3000 → length s.managers ≡ 4 → ((n : ℕ) → n < 4 → (manager_at s.managers n).locked ≡ false) → IsDownAt true true s → IsUpAt i fresh t
 named-up i s t h room four unlocked k =
     let clear : AreClear s = k.managers refl in
@@ -48,7 +39,7 @@ named-up i s t h room four unlocked k =
             ∙ (ap (λ (x : ℕ). station i % 256 + 256 * x) (h.taken 0x0011 (omega (arith, room)) (omega arith) refl refl refl) ∙ whole (station i));
         settings = λ n l. ap (λ (m : SyncManager). m.settings) (same n l) ∙ (clear.settings n l ∙ sym (settings-none n));
         fmmus = λ n b l m. h.untouched (0x0600 + 16 * n + b) (omega (arith, room, l, m)) (within_above 0x0010 2 (0x0600 + 16 * n + b) (omega arith))
-            ∙ (subst (λ (x : ℕ). slice_index s.memory x ≡ 0) (adds n b) (k.fmmus refl (16 * n + b) (omega (arith, l, m))) ∙ sym (ap (λ f. slice_index (fmmu_bytes f) b) (fmmu-none n) ∙ no-bytes b));
+            ∙ (subst (λ (x : ℕ). slice_index s.memory x ≡ 0) (adds n b) (k.fmmus refl (16 * n + b) (omega (arith, l, m))) ∙ sym (ap (λ f. slice_index (fmmu_bytes f) b) (fmmu-none n) ∙ get_or-zeros 16 b));
         idle = λ e. absurd (both_ways false refl e);
         no_messages = λ n a l. ap (λ (m : SyncManager). m.mail) (same n l) ∙ clear.no_messages n l;
         outputs = subst HoldsZeros (sym (same 2 (omega arith))) clear.outputs;
@@ -81,14 +72,14 @@ pass-name kind i t st trouble number d s l fits good arrives h = elim (cases_eq 
       let next : ((65536 - t + i) % 65536 + 1) % 65536 ≡ (65536 - t + (i + 1)) % 65536 = omega (arith, e, l) in
       let win : window_of d ≡ naming t = ap (λ (x : ℕ). record { from = x; bytes = d.data_bytes }) arrives.ado
       ∙ (ap (λ (x : List ℕ). record { from = ado_of (datagram_of (NameSlave t) number); bytes = x }) arrives.bytes ∙ window-sent Apwr (65536 - t) 0x0010 (station t % 256 ∷ station t / 256 ∷ []) number) in
-      let q : slave_met s d ≡ physical_after s false true (naming i) = position-write s d arrives.command adp ∙ (ap (λ (x : Window). physical_after s false true x) win ∙ ap (λ (x : ℕ). physical_after s false true (naming x)) e) in (
+      let q : slave_met s d ≡ physical_after s false true (naming i) = (writes_meet s d (position-writes s d arrives.command adp)).slave ∙ (ap (λ (x : Window). physical_after s false true x) win ∙ ap (λ (x : ℕ). physical_after s false true (naming x)) e) in (
         record {
           other = λ o. absurd (o e);
           repeated = λ o. absurd o;
           ended = λ _. subst (λ (x : SlaveState). Stands kind i (after i st (NameSlave t)) trouble x) (sym q) (subst (λ (x : Stage). Stands kind i x trouble (physical_after s false true (naming i))) (sym (if_true _ _ _ (eq-eqb t i e)))
               (up (clear-is (λ x. Stands kind i x trouble s → Stands kind i (Down true true) trouble s) st (fits.1 e) (λ z. z) h)));
         },
-        subst (λ (x : ℕ). IsWriting (datagram_of (NameSlave t) number) (datagram_met s d) x) next (position-on s (datagram_of (NameSlave t) number) d ((65536 - t + i) % 65536) arrives.command adp arrives),
+        subst (λ (x : ℕ). IsWriting (datagram_of (NameSlave t) number) (datagram_met s d) x) next (written-on Apwr s (datagram_of (NameSlave t) number) d ((65536 - t + i) % 65536) arrives.command (position-writes s d arrives.command adp) refl arrives),
       )
   | inr ne ↦
       let lt = fits.0 in

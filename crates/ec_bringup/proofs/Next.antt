@@ -120,12 +120,6 @@ asks-now s t to q =
     let w = wrote s (asked-window to) (omega arith) in
     ap (λ (x : SlaveState). x.al.requested) q ∙ ap (λ (x : Al). x.requested) (w.al ∙ if_true (touches (asked-window to) 0x0120) (requesting s.al) s.al refl)
 
--- what is held at a stage without a message
-holds-of : (kind : SlaveKind) (i : ℕ) (c : Config) (s : SlaveState) → c.talk ≡ None → IsOfKind kind s → IsUpAt i c s → Holds kind c s
-holds-of kind i c s none h u =
-    let silent : IsSilent c s = subst (λ (o : Option Talk). Talks i c o s) none u.talks in
-    record { slave = h; settings = u.configured.settings; unlocked = u.unlocked; outs = silent.assigned.outs; ins = silent.assigned.ins }
-
 risen : (kind : SlaveKind) (i : ℕ) (c : Config) (r : Rise) (to : State) (t : SlaveState) → CanClimb r to → Grants kind c to → Holds kind c t → t.al.requested ≡ true → Rises (climbing r to) t → IsThere to (served t)
 risen kind i c (Climbs from other) to t can g h asks rises = absurd can
 risen kind i c (Stays from) to t can g h asks (up, inl q) = granted t from to up q (g t h)
@@ -140,8 +134,10 @@ next-state kind i to c number d s t l h arrives m stood =
     let can = h.fits.2 refl in
     let q : t ≡ physical_after s false true (asked-window to)
     = own-slave s t i 0x0120 (state_number to ∷ 0 ∷ []) number d u.configured.station_is l (arrives.to_come (omega arith)) m in
-    let held = holds-of kind i (record c { rise = climbing c.rise to }) t can.0 stood.slave v in
-    risen kind i c c.rise to t can.1 (h.bless (ForAskState i to)) (record { slave = held.slave; settings = held.settings; unlocked = held.unlocked; outs = held.outs; ins = held.ins })
+    -- no message is on its way
+    let silent : IsSilent (record c { rise = climbing c.rise to }) t = subst (λ (o : Option Talk). Talks i (record c { rise = climbing c.rise to }) o t) can.0 v.talks in
+    risen kind i c c.rise to t can.1 (h.bless (ForAskState i to))
+    (record { slave = stood.slave; settings = v.configured.settings; unlocked = v.unlocked; outs = silent.assigned.outs; ins = silent.assigned.ins })
     (asks-now s t to q) v.rises
 
 -- ---- a reply

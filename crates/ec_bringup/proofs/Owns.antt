@@ -1,5 +1,5 @@
 -- What a slave becomes by a datagram that writes registers.
-use Rattle.ec_bringup.proofs.Words.{ℕ, ◌≡◌, Bool, true, false, refl, sym, ◌∙◌, ap, arith, if◌then◌else◌, length, ◌+◌, ◌*◌, ◌/◌, ◌%◌, ◌<◌, ◌≤◌, ◌⊎◌, Option, None, subst, inl, inr, List, [], ◌∷◌, slice_index, SlaveKind, SyncManager, empty_manager, State, Al, requesting, SlaveState, manager_at, Meeting, station_of, power_on, Window, touches, is_configured, settings_written, physical_after, Wrote, set_by, OnlyWrites, IsOfKind, HoldsZeros, IsConfigured, Rises, IsSilent, Talks, IsUpAt, IsTop, Stands, eq-eqb, if_true, if_false, within_below, within_above, Command, Fpwr, Datagram, IsDatagram, adp_of, ado_of, Init, Op, state_number, Sii, written, role_of, adp_after, is_reading, is_writing, window_of, meets, slave_met, datagram_met, other_station_passes, control_word, Action, AskState, station, at, sent, Rise, Stays, Climbs, Config, Stage, Up, Talk, told, climbing, CanTell, CanClimb, writes_meet, goes_on, Untouched, ReadsOn, Arrives, MayRepeat, wrote, unconfigured, Fprd, Fprw}
+use Rattle.ec_bringup.proofs.Words.{ℕ, ◌≡◌, Bool, true, false, refl, sym, ◌∙◌, ap, arith, if◌then◌else◌, length, ◌+◌, ◌*◌, ◌/◌, ◌%◌, ◌<◌, ◌≤◌, ◌⊎◌, Option, None, subst, inl, inr, List, [], ◌∷◌, slice_index, SlaveKind, SyncManager, empty_manager, State, Al, requesting, SlaveState, manager_at, Meeting, station_of, power_on, Window, touches, is_configured, settings_written, physical_after, Wrote, set_by, OnlyWrites, IsOfKind, HoldsZeros, IsConfigured, Rises, IsSilent, Talks, IsUpAt, IsTop, Stands, eq-eqb, if_true, if_false, within_below, within_above, Command, Fpwr, Datagram, IsDatagram, adp_of, ado_of, Init, Op, state_number, Sii, written, role_of, adp_after, is_reading, is_writing, window_of, meets, slave_met, datagram_met, other_station_passes, control_word, Action, AskState, station, sent, Rise, Stays, Climbs, Config, Stage, Up, Talk, told, climbing, CanTell, CanClimb, writes_meet, goes_on, Untouched, ReadsOn, Arrives, MayRepeat, wrote, unconfigured, Fprd, Fprw}
 use Rattle.ec_bringup.proofs.Alike.{claims-alike, kind-kept}
 use Rattle.ec_bringup.proofs.Passing.{IsOne, ForAskState, station-zero, Owes, as_one, mine-told}
 
@@ -65,7 +65,7 @@ pass-own kind i c trouble a number d s w one l cm win ado never low keeps up goo
     let u : Untouched i i one.e d = one.arrives i d arrives in
     let e : d ≡ one.e = u.to_come (omega arith) in
     let cmd : d.command ≡ Fpwr = u.gone_by.command ∙ cm in
-    let adp : adp_of d ≡ station i = let x = u.gone_by.address in let y = one.address in omega (arith, x, y, at, ado) in
+    let adp : adp_of d ≡ station i = let x = u.gone_by.address in let y = one.address in omega (arith, x, y, ado) in
     let on : Arrives a number (i + 1) (datagram_met s d) = one.arrived (i + 1) (datagram_met s d) (record { to_come = λ k. absurd (omega arith); gone_by = reads-on Fpwr s d one.e refl u.gone_by cmd }) in (
       record {
         other = λ o. absurd (one.other i o refl);

@@ -1,5 +1,5 @@
 -- A frame of a start-up past all slaves: where each stands, and what comes back.
-use Rattle.ec_bringup.proofs.Words.{ℕ, suc, ◌+◌, ◌-◌, ◌*◌, ◌/◌, ◌%◌, ◌<◌, ◌≤◌, ◌≡◌, ◌≢◌, Bool, true, false, refl, ◌∙◌, ap, subst, inl, inr, arith, List, [], ◌∷◌, length, slice_index, ◌^◌, ◌==◌, Option, None, sym, if◌then◌else◌, bit_or, from_bool, cases_eq, or_left, eq-eqb, zeros, Device, SlaveKind, ram_start, is_stored, Apwr, Bwr, Datagram, IsDatagram, adp_of, State, Init, state_number, SiiImage, SlaveState, Meeting, Window, byte_at, window_of, meets, slave_met, datagram_met, meets-keeps, other_position_passes, Action, CountSlaves, AskInit, AwaitInit, ClearFmmus, ClearManagers, ClearStations, NameSlave, AskWord, AwaitWord, SetManager, SetFmmu, AskState, AwaitState, SendRequest, AwaitReply, station, datagram_of, Stage, after, Up, Config, Talk, Stands, IsUpAt, IsSilent, Talks, Arrives, Met, IsBroadcast, IsWriting, Untouched, IsSpelled, all_passed, all_met, served, settles, inside_kept, shows_itself, if_true, Verdict, Next, Shows, verdict, CanTell, sent, word_at}
+use Rattle.ec_bringup.proofs.Words.{ℕ, suc, ◌+◌, ◌-◌, ◌*◌, ◌/◌, ◌%◌, ◌<◌, ◌≤◌, ◌≡◌, ◌≢◌, Bool, true, false, refl, ◌∙◌, ap, subst, inl, inr, arith, List, [], ◌∷◌, length, slice_index, ◌^◌, ◌==◌, Option, sym, if◌then◌else◌, bit_or, from_bool, cases_eq, or_left, eq-eqb, zeros, Device, SlaveKind, ram_start, is_stored, Apwr, Bwr, Datagram, IsDatagram, adp_of, State, Init, state_number, SiiImage, SlaveState, Meeting, Window, byte_at, window_of, meets, slave_met, datagram_met, meets-keeps, other_position_passes, Action, CountSlaves, AskInit, AwaitInit, ClearFmmus, ClearManagers, ClearStations, NameSlave, AskWord, AwaitWord, SetManager, SetFmmu, AskState, AwaitState, SendRequest, AwaitReply, station, datagram_of, Stage, after, Up, Config, Talk, Stands, IsUpAt, Talks, Arrives, Met, IsBroadcast, IsWriting, Untouched, IsSpelled, all_passed, all_met, served, settles, inside_kept, shows_itself, if_true, Verdict, Next, Shows, verdict, CanTell, sent, word_at}
 use Rattle.ec_bringup.proofs.Passing.{IsOne, one-passes, ForAskState, ForAskWord, ForAwaitReply, ForAwaitState, ForAwaitWord, ForSend, ForSetFmmu, ForSetManager, IsFor, as_one}
 use Rattle.ec_bringup.proofs.PassLaws.{pass-law, later-law, look, look-byte}
 use Rattle.ec_bringup.proofs.Polls.{write-counts, register-writes}
@@ -223,9 +223,6 @@ sets-out a number = sent-out _ (datagram_of a number)
 right : (seen n : ℕ) (v w : Verdict) → seen ≡ n → (if seen == n then v else w) ≡ v
 right seen n v w e = if_true _ _ _ (eq-eqb seen n e)
 
-silent-of : (i : ℕ) (c : Config) (s : SlaveState) → c.talk ≡ None → IsUpAt i c s → IsSilent c s
-silent-of i c s none u = subst (λ (o : Option Talk). Talks i c o s) none u.talks
-
 module _ (kinds : ℕ → SlaveKind) (stages : ℕ → Stage) (number step : ℕ) (seen : Device) (types : ℕ → Device) (s : SlaveState) (ss : List SlaveState) where
   -- as the slave that it is for made it
   one-ends : (a : Action) (t : ℕ) (is : IsFor t a) → t < length (s ∷ ss) → Ahead kinds stages number a 0 (s ∷ ss) (datagram_of a number)
@@ -269,7 +266,7 @@ module _ (kinds : ℕ → SlaveKind) (stages : ℕ → Stage) (number step : ℕ
       one-ends _ t (ForAwaitState t to) inside h (λ c x l k u can. await-state-ends (length (s ∷ ss)) step seen types x t to number u.configured.station_is l (k.sure refl))
   comes-back (SendRequest t n b r) same big inside told h =
       one-ends _ t (ForSend t n b r) inside h
-      (λ c x l k u can. right _ 1 _ _ (request-goes x t n c b r number u.configured.station_is l k.stands.slave.four can.2 u (silent-of t c x can.1 u).no_message))
+      (λ c x l k u can. right _ 1 _ _ (request-goes x t n c b r number u.configured.station_is l k.stands.slave.four can.2 u (subst (λ (o : Option Talk). Talks t c o x) can.1 u.talks).no_message))
   comes-back (AwaitReply t b r) same big inside told h =
       one-ends _ t (ForAwaitReply t b r) inside h
       (λ c x l k u can. await-reply-ends (length (s ∷ ss)) step seen types x t b r number u.configured.station_is l (boxes-of t b c x k.stands.slave.four can.2 u) (k.sure refl))

@@ -37,7 +37,7 @@ pass-poll kind i c trouble a number d s w one l cm win ado registers up faulted 
     let u : Untouched i i one.e d = one.arrives i d arrives in
     let e : d ≡ one.e = u.to_come (omega arith) in
     let cmd : d.command ≡ Fprd = u.gone_by.command ∙ cm in
-    let adp : adp_of d ≡ station i = let x = u.gone_by.address in let y = one.address in omega (arith, x, y, at, ado) in
+    let adp : adp_of d ≡ station i = let x = u.gone_by.address in let y = one.address in omega (arith, x, y, ado) in
     let at_w : window_of d ≡ w = ap window_of e ∙ win in
     (by h.at cmd adp at_w, one.arrived (i + 1) (datagram_met s d) (record { to_come = λ k. absurd (omega arith); gone_by = reads-on Fprd s d one.e refl u.gone_by cmd }))
   where
@@ -183,18 +183,14 @@ write-counts s d w k h win l m =
     (writes_meet s d h).counter
     ∙ (ap (λ (x : Window). (d.counter + from_bool (is_written s x)) % 65536) win ∙ ap (λ (b : Bool). (d.counter + from_bool b) % 65536) (or_left _ _ (any_below_from (length w.bytes) (λ j. may_write_byte s.managers s.sii.busy (touches w) (w.from + j)) k l m)))
 
--- the slave that is meant counts
-pub own-write-counts : (s : SlaveState) (d : Datagram) (w : Window) (k : ℕ) → d.command ≡ Fpwr → adp_of d ≡ station_of s → window_of d ≡ w → k < length w.bytes
-    → may_write_byte s.managers s.sii.busy (touches w) (w.from + k) ≡ true → (datagram_met s d).counter ≡ (d.counter + 1) % 65536
-own-write-counts s d w k c e win l h = write-counts s d w k (own-writes s d c e) win l h
-
 -- ---- the datagrams of a start-up, as they were sent
 
 -- a stored register is written
 pub register-goes : (s : SlaveState) (i ado : ℕ) (bytes : List ℕ) (number k : ℕ) → station_of s ≡ station i → i < 64 → k < length bytes → ado + k < ram_start → takes_writes s.sii.busy (ado + k) ≡ true
     → (datagram_met s (sent Fpwr (station i) ado bytes number)).counter ≡ 1
 register-goes s i ado bytes number k e l b r h =
-    own-write-counts s (sent Fpwr (station i) ado bytes number) (record { from = ado; bytes = bytes }) k refl (let a : (station i % 65536 + 65536 * ado) % 65536 ≡ station_of s = omega (arith, e, l) in a)
+    write-counts s (sent Fpwr (station i) ado bytes number) (record { from = ado; bytes = bytes }) k
+    (own-writes s (sent Fpwr (station i) ado bytes number) refl (let a : (station i % 65536 + 65536 * ado) % 65536 ≡ station_of s = omega (arith, e, l) in a))
     (window-sent Fpwr (station i) ado bytes number) b (register-writes s (record { from = ado; bytes = bytes }) k r h)
 
 pub register-shows : (s : SlaveState) (i ado : ℕ) (bytes : List ℕ) (number k : ℕ) → station_of s ≡ station i → i < 64 → k < length bytes → ado + k < ram_start

@@ -1,5 +1,5 @@
 -- A reply is read from a slave's mailbox.
-use Rattle.ec_bringup.proofs.Words.{ℕ, ◌+◌, ◌-◌, ◌/◌, ◌%◌, ◌<◌, ◌≤◌, ◌≡◌, ◌⊎◌, ◌&&◌, not, Bool, true, false, Option, Some, None, refl, sym, ◌∙◌, ap, subst, inl, inr, arith, List, [], ◌∷◌, length, slice_index, is_some, is_none, unwrap_or, from_bool, and_from, and_left, and_right, lt-ltb, eqb-true, length-replicate, zeros, any_below, if_true, if_false, within_true, within_below, within_above, any_below_none, any_below_from, SyncManagerSettings, Mailbox, SlaveKind, ram_start, ram_end, is_set, is_mailbox, is_master_written, is_master_read, span, SyncManager, may_read, is_enabled, ring_read, shown, covers, governor, governs, in_first_buffer, Fprd, Datagram, IsDatagram, adp_of, SlaveState, Meeting, manager_at, station_of, reads_under, is_ungoverned, is_read_by, Window, touches, physical_after, physical_manager, physical_managers, may_read_byte, some_byte_read, byte_read, byte_at, ram_byte, retold, window_of, slave_met, datagram_met, message_read, fmmu_bytes, settings_at, fmmu_at, AwaitReply, SdoRequest, station, at, datagram_of, message_verdict, Next, Rise, Config, Stage, Up, Talk, answered, after, CanTell, AreMailboxes, IsOfKind, IsAssigned, Talks, IsUpAt, Rises, Reached, IsGone, HadFault, Stands, Met, reads_meet, accesses_leave, managers_accessed, ram_governed, retold_whole, ne_eqb}
+use Rattle.ec_bringup.proofs.Words.{ℕ, ◌+◌, ◌-◌, ◌/◌, ◌%◌, ◌<◌, ◌≤◌, ◌≡◌, ◌⊎◌, ◌&&◌, not, Bool, true, false, Option, Some, None, refl, sym, ◌∙◌, ap, subst, inl, inr, arith, List, [], ◌∷◌, length, slice_index, is_some, is_none, unwrap_or, from_bool, and_from, and_left, and_right, lt-ltb, eqb-true, length-replicate, zeros, any_below, if_true, if_false, within_true, within_below, within_above, any_below_none, any_below_from, SyncManagerSettings, Mailbox, SlaveKind, ram_start, ram_end, is_set, is_mailbox, is_master_written, is_master_read, span, SyncManager, may_read, is_enabled, ring_read, shown, covers, governor, governs, in_first_buffer, Fprd, Datagram, IsDatagram, adp_of, SlaveState, Meeting, manager_at, station_of, reads_under, is_ungoverned, is_read_by, Window, touches, physical_after, physical_manager, physical_managers, may_read_byte, some_byte_read, byte_read, byte_at, ram_byte, retold, window_of, slave_met, datagram_met, message_read, fmmu_bytes, settings_at, fmmu_at, AwaitReply, SdoRequest, station, datagram_of, message_verdict, Next, Rise, Config, Stage, Up, Talk, answered, after, CanTell, AreMailboxes, IsOfKind, IsAssigned, Talks, IsUpAt, Rises, Reached, IsGone, HadFault, Stands, Met, reads_meet, accesses_leave, managers_accessed, ram_governed, retold_whole, ne_eqb}
 use Rattle.ec_bringup.proofs.Alike.{rises-alike}
 use Rattle.ec_bringup.proofs.Owns.{window-sent, reads-on, gone-passes}
 use Rattle.ec_bringup.proofs.Polls.{own-reads, read-slave, read-bytes}
@@ -213,7 +213,7 @@ pub pass-await-reply : (kind : SlaveKind) (i : ℕ) (b : Mailbox) (r : SdoReques
 pass-await-reply kind i b r c trouble number d s l can good arrives h =
     let e : d ≡ datagram_of (AwaitReply i b r) number = arrives.to_come (omega arith) in
     let cmd : d.command ≡ Fprd = arrives.gone_by.command in
-    let adp : adp_of d ≡ station i = let x = arrives.gone_by.address in omega (arith, x, at, l) in
+    let adp : adp_of d ≡ station i = let x = arrives.gone_by.address in omega (arith, x, l) in
     let w : window_of d ≡ asking b = ap window_of e ∙ window-sent Fprd (station i) b.send_start (zeros b.send_size) number in
     let z : d.counter ≡ 0 = ap (λ (x : Datagram). x.counter) e in
     (by h.at cmd adp w z, record { to_come = λ k. absurd (omega (arith, k)); gone_by = reads-on Fprd s d (datagram_of (AwaitReply i b r) number) refl arrives.gone_by cmd })

@@ -21,9 +21,6 @@ aside-word : (w : Window) (s t : SlaveState) → Aside w → Wrote w s t → len
 aside-word w s t h k room =
     ap (λ (x : ℕ). x + 256 * slice_index t.memory 0x0121) (aside-below w s t 0x0120 h k room (omega arith)) ∙ ap (λ (x : ℕ). slice_index s.memory 0x0120 + 256 * x) (aside-below w s t 0x0121 h k room (omega arith))
 
-aside-al : (w : Window) (s t : SlaveState) → Aside w → Wrote w s t → t.al ≡ s.al
-aside-al w s t h k = let f = h.from in k.al ∙ if_false _ _ _ (within_below w.from (length w.bytes) 0x0120 (omega (arith, f)))
-
 pub aside-busy : (w : Window) (p : Sii) → 0x0508 ≤ w.from → (written p w.from w.bytes).busy ≡ p.busy
 unfolding written
 aside-busy w p l = by p.busy refl
@@ -79,7 +76,7 @@ set-up i c d s t w h k room four none free eo ei er settings fmmus idle u =
         outputs = subst HoldsZeros (sym (k.managers 2 (omega (arith, four)))) (set-zeros w 2 (manager_at s.managers 2) u.configured.outputs);
       };
       unlocked = λ n l. ap (λ (m : SyncManager). m.locked) (k.managers n (omega (arith, four, l))) ∙ (set-locked w n (manager_at s.managers n) ∙ u.unlocked n l);
-      rises = subst (λ (r : Rise). Rises r t) (sym er) (rises-alike c.rise s t (aside-word w s t h k room) (aside-al w s t h k) u.rises);
+      rises = subst (λ (r : Rise). Rises r t) (sym er) (rises-alike c.rise s t (aside-word w s t h k room) (k.al ∙ if_false _ _ _ (within_below w.from (length w.bytes) 0x0120 (omega (arith, h.from)))) u.rises);
       talks = subst (λ (o : Option Talk). Talks i d o t) (sym free)
           (quiet-messages c d s t eo ei (λ n l e. mail n (omega (arith, l)) e) k.outs k.ins silent);
       quiet = λ _. free;

@@ -1,5 +1,5 @@
 -- The polls of a start-up at a slave that has what is waited for: one poll ends the wait.
-use Rattle.ec_bringup.proofs.Words.{ℕ, zero, suc, ◌+◌, ◌*◌, ◌%◌, ◌^◌, ◌<◌, ◌≤◌, ◌≡◌, ◌==◌, ◌&&◌, not, Bool, true, false, Some, refl, sym, ◌∙◌, ap, arith, List, length, slice_index, is_some, bit_at, to_le_bytes, w32, from_bool, from_le_bytes-to_le_bytes_4, eq-eqb, and_from, length-replicate, zeros, if_true, if_false, Device, Mailbox, ram_start, Fprd, adp_of, State, Init, state_number, may_read, SlaveState, station_of, manager_at, Window, byte_at, byte_read, retold, some_byte_read, window_of, datagram_met, message_read, AwaitWord, AwaitState, AwaitReply, SdoRequest, station, sent, datagram_of, Next, Shows, with_word, is_device, word_at, long_at, word_verdict, state_verdict, message_verdict, verdict, shows_itself}
+use Rattle.ec_bringup.proofs.Words.{ℕ, zero, suc, ◌+◌, ◌*◌, ◌%◌, ◌^◌, ◌<◌, ◌≤◌, ◌≡◌, ◌==◌, ◌&&◌, not, Bool, true, false, Some, refl, sym, ◌∙◌, ap, arith, List, length, slice_index, is_some, bit_at, to_le_bytes, w32, from_bool, from_le_bytes-to_le_bytes_4, eq-eqb, and_from, length-replicate, zeros, if_true, if_false, Device, Mailbox, ram_start, Fprd, adp_of, State, Init, state_number, may_read, SlaveState, station_of, manager_at, Window, byte_at, byte_read, retold, some_byte_read, window_of, datagram_met, message_read, AwaitWord, AwaitState, AwaitReply, SdoRequest, station, sent, datagram_of, Next, Shows, with_word, is_device, word_at, long_at, word_verdict, message_verdict, verdict, shows_itself}
 use Rattle.ec_bringup.proofs.Owns.{window-sent}
 use Rattle.ec_bringup.proofs.Polls.{read-byte, read-bytes, register-shows}
 use Rattle.ec_bringup.proofs.Receives.{Boxes, asking, read-counter, some-read, raw-read}
@@ -23,30 +23,23 @@ same-state : (st : State) → (state_number st % 32 == state_number st) ≡ true
 same-state Init = refl
 same-state _ = refl
 
-pub state-ends : (i : ℕ) (state : State) (bytes : List ℕ) → slice_index bytes 0 ≡ state_number state → state_verdict i state bytes ≡ Next
-state-ends i state bytes e =
-    if_false _ _ _ (ap (λ (x : ℕ). bit_at x 4 == 1) e ∙ good-state state) ∙ if_true _ _ _ (ap (λ (x : ℕ). x % 32 == state_number state) e ∙ same-state state)
-
 pub await-state-ends : (n step : ℕ) (seen : Device) (types : ℕ → Device) (s : SlaveState) (i : ℕ) (state : State) (number : ℕ) → station_of s ≡ station i → i < 64 → IsThere state s
     → verdict n step seen types (AwaitState i state) (datagram_met s (datagram_of (AwaitState i state) number)) ≡ Next
 await-state-ends n step seen types s i state number e l h =
     let b : slice_index (datagram_met s (datagram_of (AwaitState i state) number)).data_bytes 0 ≡ state_number state
     = back s i 0x0130 6 number 0 e l (omega arith) (omega arith) ∙ ((shows_itself s).status ∙ (ap (λ (x : State). state_number x + 16 * from_bool s.al.error) h.state_is ∙ (ap (λ (x : Bool). state_number state + 16 * from_bool x) h.no_error ∙ more (state_number state)))) in
     if_true _ _ _ (eq-eqb _ 1 (register-shows s i 0x0130 (zeros 6) number 0 e l (omega arith) (omega arith)))
-    ∙ state-ends i state (datagram_met s (datagram_of (AwaitState i state) number)).data_bytes b
+    ∙ (if_false _ _ _ (ap (λ (x : ℕ). bit_at x 4 == 1) b ∙ good-state state) ∙ if_true _ _ _ (ap (λ (x : ℕ). x % 32 == state_number state) b ∙ same-state state))
   where
     more : (n : ℕ) → n + 16 * 0 ≡ n
     more n = omega arith
 
 -- ---- a word
 
-spells : (n : ℕ) → n < 2 ^ 32 → slice_index (to_le_bytes w32 n) 0 + 256 * slice_index (to_le_bytes w32 n) 1 + 65536 * slice_index (to_le_bytes w32 n) 2 + 16777216 * slice_index (to_le_bytes w32 n) 3 ≡ n
-spells n l = let e = from_le_bytes-to_le_bytes_4 n l in omega (arith, e)
-
 long-spells : (bytes : List ℕ) (n : ℕ) → n < 2 ^ 32 → ((j : ℕ) → j < 4 → slice_index bytes (6 + j) ≡ slice_index (to_le_bytes w32 n) j) → long_at bytes 6 ≡ n
 long-spells bytes n l h =
     let a = h 0 (omega arith) in let b = h 1 (omega arith) in let c = h 2 (omega arith) in let d = h 3 (omega arith) in
-    omega (arith, a, b, c, d, spells n l)
+    omega (arith, a, b, c, d, from_le_bytes-to_le_bytes_4 n l)
 
 -- the words that this slave has shown before are the type's
 abbrev pub Tells : Device → Device → ℕ → Type 0

@@ -1,9 +1,6 @@
 -- A type within its limits offers each PDO that an index names: no PDO of the other direction, and no other object, hides it.
 use Rattle.ec_bringup.proofs.Words.{ℕ, suc, ◌≡◌, ◌≢◌, ◌==◌, Option, Some, refl, sym, ◌∙◌, ap, subst, inl, inr, arith, List, [], ◌∷◌, ◌++◌, All, cases_Bool, eqb-true, ne_eqb, if_true, if_false, Pdo, SlaveKind, IsPdo, IsWithinLimits, first_output_index, first_input_index, pdo_at, IsNumbered, IsOffered, ArePdos, ◌≤◌}
 
-all-tail : (P : Pdo → Type 0) (q : Pdo) (ps : List Pdo) → All P (q ∷ ps) → All P ps
-all-tail P q ps h = λ k d l. h (suc k) d (omega (arith, l))
-
 -- what is found has the index and the property of all
 pub record Found (P : Pdo → Type 0) (x : ℕ) (p : Pdo) : Type 0 where
   pub index_is : p.index ≡ x
@@ -18,7 +15,7 @@ found P (q ∷ ps) x p h e = elim (cases_Bool (q.index == x)) [
   | inl y ↦
       let z : q ≡ p = some-is q p (sym (if_true _ _ _ y) ∙ e) in
       record { index_is = ap (λ (r : Pdo). r.index) (sym z) ∙ eqb-true q.index x y; good = subst P z (h 0 q (omega arith)) }
-  | inr n ↦ found P ps x p (all-tail P q ps h) (sym (if_false _ _ _ n) ∙ e)
+  | inr n ↦ found P ps x p (λ k d l. h (suc k) d (omega (arith, l))) (sym (if_false _ _ _ n) ∙ e)
 ]
 
 -- in the first of two lists, and in the second where the first has no such index
@@ -31,7 +28,7 @@ found-first (q ∷ ps) qs x p e = elim (cases_Bool (q.index == x)) [
 
 found-second : (P : Pdo → Type 0) (ps qs : List Pdo) (x : ℕ) → All P ps → ((p : Pdo) → P p → p.index ≢ x) → pdo_at (ps ++ qs) x ≡ pdo_at qs x
 found-second P [] qs x h ne = refl
-found-second P (q ∷ ps) qs x h ne = if_false _ _ _ (ne_eqb q.index x (ne q (h 0 q (omega arith)))) ∙ found-second P ps qs x (all-tail P q ps h) ne
+found-second P (q ∷ ps) qs x h ne = if_false _ _ _ (ne_eqb q.index x (ne q (h 0 q (omega arith)))) ∙ found-second P ps qs x (λ k d l. h (suc k) d (omega (arith, l))) ne
 
 offers : (kind : SlaveKind) (first x : ℕ) (ps : List Pdo) (p : Pdo) → first_output_index ≤ first → first ≤ first_input_index → ArePdos first ps → All (λ (q : Pdo). All IsNumbered q.entries) ps
     → pdo_at ps x ≡ Some p → pdo_at (kind.outputs ++ kind.inputs) x ≡ Some p → IsOffered kind ps x
