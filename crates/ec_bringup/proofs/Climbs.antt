@@ -1,5 +1,5 @@
 -- From one frame to the next, and from the first to the last: an undisturbed start-up goes on as its script says.
-use Rattle.ec_bringup.proofs.Words.{ℕ, zero, suc, ◌+◌, ◌^◌, ◌<◌, ◌≤◌, ◌≡◌, true, false, refl, sym, ◌∙◌, ap, subst, arith, List, [], ◌∷◌, length, map, drop, get_or, nat_lt, ◌==◌, Bool, Option, Some, None, if◌then◌else◌, ◌++◌, lt-ltb, le-ltb, length-map, if_true, if_false, Device, SlaveKind, Datagram, IsDatagram, SlaveState, datagram_met, served, SlavePlan, Action, CountSlaves, AskWord, AwaitWord, SetManager, AwaitReply, datagram_of, script, named, identified, mailbox_set, raised, exchanged, talked, fmmu_set, mapped, each_slave, cleared, phases, requests, with_word, verdict, StartState, action_of, type_of, sending, advanced, with_shown, judged, Idle, Ready, Stage, Up, Config, after, Stands, MayEnd, all_passed, all_met, Rising, turned, plan_at, rising, TurnsTo, AppliedStays as Stays, Turns, Mailbox, State, PreOp, SafeOp, Op, settings_at, fmmu_at, SdoRequest, IsReachable, CanReach, IsOnItsWay}
+use Rattle.ec_bringup.proofs.Words.{ℕ, zero, suc, ◌+◌, ◌^◌, ◌<◌, ◌≤◌, ◌≡◌, true, false, refl, sym, ◌∙◌, ap, subst, arith, List, [], ◌∷◌, length, map, drop, get_or, nat_lt, ◌==◌, Bool, Option, Some, None, if◌then◌else◌, ◌++◌, lt-ltb, le-ltb, length-map, if_true, if_false, Device, SlaveKind, Datagram, IsDatagram, SlaveState, datagram_met, served, SlavePlan, Action, CountSlaves, AskWord, AwaitWord, SetManager, AwaitReply, datagram_of, script, named, identified, mailbox_set, raised, exchanged, talked, fmmu_set, mapped, each_slave, cleared, phases, requests, with_word, verdict, StartState, action_of, type_of, sending, advanced, with_shown, judged, Idle, Ready, Stage, Up, Config, after, Stands, MayEnd, all_passed, all_met, Rising, turned, plan_at, rising, TurnsTo, AppliedStays as Stays, Turns, Mailbox, State, PreOp, SafeOp, Op, settings_at, fmmu_at, SdoRequest, IsReachable, CanReach, IsOnItsWay, settles}
 use Rattle.ec_bringup.proofs.PassLaws.{take-law}
 use Rattle.ec_bringup.proofs.Messages.{stands-served}
 use Rattle.ec_bringup.proofs.Sends.{IsSendable, datagram-good}
@@ -7,7 +7,7 @@ use Rattle.ec_bringup.proofs.Commands.{word_of}
 use Rattle.ec_bringup.proofs.Shown.{Tells}
 use Rattle.ec_bringup.proofs.Leading.{Walks}
 use Rattle.ec_bringup.proofs.Next.{Prior, Prompted, Bears}
-use Rattle.ec_bringup.proofs.Passed.{Each, Ahead, After, pass-all, spelled-served, wanted, IsInside, Told, sets-out, comes-back}
+use Rattle.ec_bringup.proofs.Passed.{Each, Ahead, After, pass-all, spelled-on, wanted, IsInside, Told, sets-out, comes-back}
 use Rattle.ec_bringup.proofs.Applying.{Stood, stood-applied, each-applied, applied-length}
 
 -- each behind the one before it
@@ -170,7 +170,7 @@ module _ (ps : List SlavePlan) (kinds : ℕ → SlaveKind) (ends : ℕ → Confi
             (all_met r.slaves d) (omega (arith, size))
             (λ i t l k. record {
               stands = stands-served (kinds i) i (after i (stages i) a) false t (k.met.ended done);
-              spelled = spelled-served (kinds i).device t k.spelled;
+              spelled = spelled-on (kinds i).device t (served t) (settles t).image k.spelled;
               sure = k.sure (k.met.ended done);
             }) all);
         count = length-map (all_met r.slaves (datagram_of (action_of r.start) number)) served ∙ (all-met-length r.slaves (datagram_of (action_of r.start) number) ∙ h.count);

@@ -27,9 +27,6 @@ mail_two ms n l h = elim (cases_eq n 2) [
 abbrev with_fault : SlaveState → SlaveState
 with_fault s = record s { al = al.faulted s.al; managers = set s.managers 2 (locked_empty (manager_at s.managers 2)) }
 
-faulted-is : (s : SlaveState) → s.al.state ≡ Op → faulted s ≡ with_fault s
-faulted-is s e = (faults s).in_op (ap al.is_operational e)
-
 al-is : (a : Al) → a.state ≡ Op → al.faulted a ≡ record { state = SafeOp; error = true; code = 1; requested = a.requested }
 al-is a e = if_true _ _ _ (ap al.is_operational e)
 
@@ -101,7 +98,7 @@ gone-state : (st : Stage) (s : SlaveState) → IsGone st s → s.al.state ≡ In
 gone-state st s h = ap (λ (t : SlaveState). t.al.state) (gone-on st s h) ∙ ap (λ (a : Al). a.state) (switched_on s.kind s.identity).al
 
 pub fault-stands : (kind : SlaveKind) (i : ℕ) (st : Stage) (trouble : Bool) (s : SlaveState) → s.al.state ≡ Op → Stands kind i st trouble s → Stands kind i st true (faulted s)
-fault-stands kind i st trouble s e h = subst (λ (t : SlaveState). Stands kind i st true t) (sym (faulted-is s e)) (record {
+fault-stands kind i st trouble s e h = subst (λ (t : SlaveState). Stands kind i st true t) (sym ((faults s).in_op (ap al.is_operational e))) (record {
   slave = fault-slave kind s e h.slave;
   at = elim h.at [
     | inl r ↦ fault-reached i st s e (let f = h.slave.four in omega arith) r

@@ -1,5 +1,5 @@
 -- The broadcast reads of a start-up at any slave.
-use Rattle.ec_bringup.proofs.Words.{ℕ, ◌+◌, ◌*◌, ◌/◌, ◌%◌, ◌<◌, ◌≤◌, ◌≡◌, Bool, true, false, Some, refl, sym, ◌∙◌, ap, subst, inl, inr, arith, slice_index, ◌≢◌, ◌==◌, if◌then◌else◌, bit_or, from_bool, bit_at, le_or_l, le_or_r, both_ways, cases_eq, eq-eqb, SlaveKind, Datagram, adp_of, ado_of, IsDatagram, State, Init, state_number, SlaveState, Meeting, with_answer, byte_at, retold, meets, slave_met, datagram_met, broadcast_read, CountSlaves, AwaitInit, AskInit, ClearFmmus, ClearManagers, ClearStations, NameSlave, AskWord, AwaitWord, SetManager, SetFmmu, AskState, AwaitState, SendRequest, AwaitReply, datagram_of, Stage, Called, Down, Up, Config, Fits, IsInInit, Reached, Stands, IsBroadcast, ShowsInit, Arrives, MayEnd, MayRepeat, shows_itself, retold_by_place, if_true, if_false, Device, Reply, Downloaded, Uploaded, message_read, reply_of, Action, SdoRequest, Transfer, Download, Upload, Verdict, Next, Again, Fails, StartError, verdict, counted, reply_verdict, word_at, CanTell, FrameLaw, LaterLaw, Lost, TakeLaw, eqb-true, not, size_number, type_of, Shows, long_at, ◌&&◌, is_device, with_word, zeros, [], ◌∷◌}
+use Rattle.ec_bringup.proofs.Words.{ℕ, ◌+◌, ◌*◌, ◌/◌, ◌%◌, ◌<◌, ◌≤◌, ◌≡◌, Bool, true, false, Some, refl, sym, ◌∙◌, ap, subst, inl, inr, arith, slice_index, ◌≢◌, ◌==◌, if◌then◌else◌, bit_or, from_bool, bit_at, le_or_l, le_or_r, both_ways, cases_eq, eq-eqb, SlaveKind, Datagram, adp_of, ado_of, IsDatagram, State, Init, state_number, SlaveState, Meeting, with_answer, byte_at, retold, meets, slave_met, datagram_met, broadcast_read, CountSlaves, AwaitInit, AskInit, ClearFmmus, ClearManagers, ClearStations, NameSlave, AskWord, AwaitWord, SetManager, SetFmmu, AskState, AwaitState, SendRequest, AwaitReply, datagram_of, Stage, Called, Down, Up, Config, Fits, IsInInit, Reached, Stands, IsBroadcast, ShowsInit, MayEnd, MayRepeat, shows_itself, retold_by_place, if_true, if_false, Device, Reply, Downloaded, Uploaded, message_read, reply_of, Action, SdoRequest, Transfer, Download, Upload, Verdict, Next, Again, Fails, StartError, verdict, counted, reply_verdict, word_at, CanTell, FrameLaw, LaterLaw, Lost, TakeLaw, eqb-true, not, size_number, type_of, Shows, long_at, ◌&&◌, is_device, with_word, zeros, [], ◌∷◌}
 use Rattle.ec_bringup.proofs.Passing.{pass-other, later-one, ForAskState, ForAskWord, ForAwaitReply, ForAwaitState, ForAwaitWord, ForSend, ForSetFmmu, ForSetManager, IsFor, Owes, as_one}
 use Rattle.ec_bringup.proofs.Owns.{pass-ask-state}
 use Rattle.ec_bringup.proofs.Polls.{pass-await-state, pass-await-word}
@@ -43,6 +43,7 @@ low-state : (st : State) (e : Bool) → state_number st + 16 * from_bool e ≤ 1
 low-state Init false l = (refl, refl)
 low-state _ _ l = absurd (omega (arith, l))
 
+-- a slave that a datagram passes later doesn't make it better
 shows-more : (s : SlaveState) (d : Datagram) (number : ℕ) → IsBroadcast (datagram_of AwaitInit number) d → ShowsInit (datagram_met s d) → ShowsInit d × (byte_at s 0x0130 ≤ 1)
 shows-more s d number h k =
     let a : bit_or (slice_index d.data_bytes 0) (byte_at s 0x0130) ≤ 1 = subst (λ (x : ℕ). x ≤ 1) (look-byte s d number 0 h (omega arith)) k.low in
@@ -51,10 +52,6 @@ shows-more s d number h k =
     let y = le_or_r (slice_index d.data_bytes 0) (byte_at s 0x0130) in
     let z = le_or_l (slice_index d.data_bytes 1) (byte_at s 0x0131) in
     (record { low = omega (arith, a, x); high = omega (arith, b, z) }, omega (arith, a, y))
-
--- a slave that a datagram passes later doesn't make it better
-pub later-await-init : (s : SlaveState) (d : Datagram) (number j : ℕ) → Arrives AwaitInit number j d → MayEnd AwaitInit (datagram_met s d) → MayEnd AwaitInit d
-later-await-init s d number j h k = (shows-more s d number h k).0
 
 init-shown : (i : ℕ) (s : SlaveState) → byte_at s 0x0130 ≤ 1 → Reached i Called s → IsInInit s
 init-shown i s l (inl h) =
@@ -123,7 +120,7 @@ pass-law kind i st trouble a number d s l good f r h = owes kind i trouble numbe
 -- ---- a slave that was passed, when the frame passes a later one
 
 pub later-law : LaterLaw
-later-law kind i st trouble other j at had AwaitInit number d s t l b f good r h m = record { other = m.other; repeated = λ o. m.repeated tt; ended = λ o. m.ended (later-await-init t d number j r o) }
+later-law kind i st trouble other j at had AwaitInit number d s t l b f good r h m = record { other = m.other; repeated = λ o. m.repeated tt; ended = λ o. m.ended (shows-more t d number r o).0 }
 later-law kind i st trouble other j at had (AskWord x n) number d s t l b f good r h m = later-one (as_one number (ForAskWord x n)) l b f good r h m
 later-law kind i st trouble other j at had (AwaitWord x n) number d s t l b f good r h m = later-one (as_one number (ForAwaitWord x n)) l b f good r h m
 later-law kind i st trouble other j at had (SetManager x n y) number d s t l b f good r h m = later-one (as_one number (ForSetManager x n y)) l b f good r h m
@@ -153,9 +150,6 @@ by-test P false x y h k = k refl
 counted-says : (a : Action) (d : Datagram) (n step : ℕ) (v : Verdict) → (d.counter ≡ n → Says a d v) → Says a d (counted d.counter n step v)
 counted-says a d n step v h = by-test (Says a d) (d.counter == n) v _ (λ e. h (eqb-true _ _ e)) (λ e. refl)
 
-init-ends : (d : Datagram) → word_at d.data_bytes 0 ≡ 1 → MayEnd AwaitInit d
-init-ends d e = record { low = omega (arith, e); high = omega (arith, e) }
-
 -- a message ends, or fails
 reply-says : (a : Action) (d : Datagram) (i : ℕ) (r : SdoRequest) (x : Transfer) (p : Reply) → (reply_verdict i r x p ≡ Next → MayEnd a d) → Says a d (reply_verdict i r x p)
 reply-says a d i r (Download w) Downloaded h = h refl
@@ -169,7 +163,8 @@ take-says n step s types CountSlaves d = by-test (Says CountSlaves d) (d.counter
 take-says n step s types AskInit d = counted-says AskInit d n step Next (λ e. tt)
 take-says n step s types AwaitInit d =
     counted-says AwaitInit d n step _
-    (λ c. by-test (Says AwaitInit d) (word_at d.data_bytes 0 == 1) Next Again (λ e. init-ends d (eqb-true _ _ e)) (λ e. tt))
+    (λ c. by-test (Says AwaitInit d) (word_at d.data_bytes 0 == 1) Next Again
+    (λ e. let w = eqb-true (word_at d.data_bytes 0) 1 e in record { low = omega (arith, w); high = omega (arith, w) }) (λ e. tt))
 take-says n step s types ClearFmmus d = counted-says ClearFmmus d n step Next (λ e. tt)
 take-says n step s types ClearManagers d = counted-says ClearManagers d n step Next (λ e. tt)
 take-says n step s types ClearStations d = counted-says ClearStations d n step Next (λ e. tt)

@@ -1,5 +1,5 @@
 -- A frame of a start-up past all slaves: where each stands, and what comes back.
-use Rattle.ec_bringup.proofs.Words.{ℕ, suc, ◌+◌, ◌-◌, ◌*◌, ◌/◌, ◌%◌, ◌<◌, ◌≤◌, ◌≡◌, ◌≢◌, Bool, true, false, refl, ◌∙◌, ap, subst, inl, inr, arith, List, [], ◌∷◌, length, slice_index, ◌^◌, ◌==◌, Option, sym, if◌then◌else◌, bit_or, from_bool, cases_eq, or_left, eq-eqb, zeros, Device, SlaveKind, ram_start, is_stored, Apwr, Bwr, Datagram, IsDatagram, adp_of, State, Init, state_number, SiiImage, SlaveState, Meeting, Window, byte_at, window_of, meets, slave_met, datagram_met, meets-keeps, other_position_passes, Action, CountSlaves, AskInit, AwaitInit, ClearFmmus, ClearManagers, ClearStations, NameSlave, AskWord, AwaitWord, SetManager, SetFmmu, AskState, AwaitState, SendRequest, AwaitReply, station, datagram_of, Stage, after, Up, Config, Talk, Stands, IsUpAt, Talks, Arrives, Met, IsBroadcast, IsWriting, Untouched, IsSpelled, all_passed, all_met, served, settles, inside_kept, shows_itself, if_true, Verdict, Next, Shows, verdict, CanTell, sent, word_at}
+use Rattle.ec_bringup.proofs.Words.{ℕ, suc, ◌+◌, ◌-◌, ◌*◌, ◌/◌, ◌%◌, ◌<◌, ◌≤◌, ◌≡◌, ◌≢◌, Bool, true, false, refl, ◌∙◌, ap, subst, inl, inr, arith, List, [], ◌∷◌, length, slice_index, ◌^◌, ◌==◌, Option, sym, if◌then◌else◌, bit_or, from_bool, cases_eq, or_left, eq-eqb, zeros, Device, SlaveKind, ram_start, is_stored, Apwr, Bwr, Datagram, IsDatagram, adp_of, State, Init, state_number, SiiImage, SlaveState, Meeting, Window, byte_at, window_of, meets, slave_met, datagram_met, meets-keeps, other_position_passes, Action, CountSlaves, AskInit, AwaitInit, ClearFmmus, ClearManagers, ClearStations, NameSlave, AskWord, AwaitWord, SetManager, SetFmmu, AskState, AwaitState, SendRequest, AwaitReply, station, datagram_of, Stage, after, Up, Config, Talk, Stands, IsUpAt, Talks, Arrives, Met, IsBroadcast, IsWriting, IsSpelled, all_passed, all_met, served, inside_kept, shows_itself, if_true, Verdict, Next, Shows, verdict, CanTell, sent, word_at}
 use Rattle.ec_bringup.proofs.Passing.{IsOne, one-passes, ForAskState, ForAskWord, ForAwaitReply, ForAwaitState, ForAwaitWord, ForSend, ForSetFmmu, ForSetManager, IsFor, as_one}
 use Rattle.ec_bringup.proofs.PassLaws.{pass-law, later-law, look, look-byte}
 use Rattle.ec_bringup.proofs.Polls.{write-counts, register-writes}
@@ -19,15 +19,12 @@ Each P j (s ∷ ss) = P j s × Each P (j + 1) ss
 
 -- ---- the image of the SII stays
 
-spelled-on : (t : Device) (s r : SlaveState) → r.sii.image ≡ s.sii.image → IsSpelled t s → IsSpelled t r
+pub spelled-on : (t : Device) (s r : SlaveState) → r.sii.image ≡ s.sii.image → IsSpelled t s → IsSpelled t r
 spelled-on t s r e h = record {
   vendor = ap (λ (i : SiiImage). i.identity.vendor) e ∙ h.vendor;
   product = ap (λ (i : SiiImage). i.identity.product) e ∙ h.product;
   revision = ap (λ (i : SiiImage). i.identity.revision) e ∙ h.revision;
 }
-
-pub spelled-served : (t : Device) (s : SlaveState) → IsSpelled t s → IsSpelled t (served s)
-spelled-served t s h = spelled-on t s (served s) (settles s).image h
 
 -- ---- where each slave stands
 
@@ -43,12 +40,6 @@ pub record Ahead (kinds : ℕ → SlaveKind) (stages : ℕ → Stage) (number : 
   pub good : IsDatagram d
   pub arrives : Arrives a number j d
   pub priors : Each (λ i s. Prior (kinds i) i (stages i) a s) j ss
-
--- a broadcast write of registers that are stored
-write-step : (s : SlaveState) (e d : Datagram) (i : ℕ) (w : Window) → e.command ≡ Bwr → window_of e ≡ w → 0 < length w.bytes → w.from + 0 < ram_start → is_stored (w.from + 0) ≡ true → IsWriting e d (i % 65536)
-    → (datagram_met s d).counter ≡ (d.counter + 1) % 65536
-write-step s e d i w c win some low stored h =
-    write-counts s d w 0 (broadcast-writes s d (h.command ∙ c)) (window-is e d (i % 65536) w h win) some (register-writes s w 0 low (or_left _ _ stored))
 
 look-step : (s : SlaveState) (d : Datagram) (number : ℕ) → IsBroadcast (datagram_of AwaitInit number) d → (datagram_met s d).counter ≡ (d.counter + 1) % 65536
 look-step s d number h = ap (λ (m : Meeting). m.datagram.counter) (look s d number h)
@@ -116,11 +107,14 @@ module _ (kinds : ℕ → SlaveKind) (stages : ℕ → Stage) (number : ℕ) whe
       → Ahead kinds stages number a 0 ss (datagram_of a number) → (all_passed ss (datagram_of a number)).counter ≡ length ss
   all-count a ss z each h = let k = counter-all a 0 ss (datagram_of a number) each (omega (arith, h.few, z)) h in omega (arith, k, z)
 
+  -- a write of registers that are stored
   write-count : (a : Action) (ado : ℕ) (bytes : List ℕ) (ss : List SlaveState) → datagram_of a number ≡ sent Bwr 0 ado bytes number → ((i : ℕ) (x : Datagram) → Arrives a number i x → IsWriting (datagram_of a number) x (i % 65536))
       → 0 < length bytes → ado + 0 < ram_start → is_stored (ado + 0) ≡ true → Ahead kinds stages number a 0 ss (datagram_of a number) → (all_passed ss (datagram_of a number)).counter ≡ length ss
   write-count a ado bytes ss e is some low stored h =
+      let w : Window = record { from = ado; bytes = bytes } in
       all-count a ss (ap (λ (x : Datagram). x.counter) e)
-      (λ i s x q. write-step s (datagram_of a number) x i _ (ap (λ (x : Datagram). x.command) e) (ap window_of e ∙ window-sent Bwr 0 ado bytes number) some low stored (is i x q)) h
+      (λ i s x q. write-counts s x w 0 (broadcast-writes s x ((is i x q).command ∙ ap (λ (y : Datagram). y.command) e))
+      (window-is (datagram_of a number) x (i % 65536) w (is i x q) (ap window_of e ∙ window-sent Bwr 0 ado bytes number)) some (register-writes s w 0 low (or_left _ _ stored))) h
 
   -- all show INIT, where one slave at least does
   init-all : (j : ℕ) (s : SlaveState) (ss : List SlaveState) (d : Datagram) → slice_index d.data_bytes 0 ≤ 1 → slice_index d.data_bytes 1 ≡ 0 → Ahead kinds stages number AwaitInit j (s ∷ ss) d
@@ -201,9 +195,6 @@ Told types seen (AwaitWord t which) = Tells (types t) seen which
 Told types seen _ = Unit {0}
 
 -- the frame as it is sent comes to the first slave
-sent-out : (t : ℕ) (e : Datagram) → Untouched t 0 e e
-sent-out t e = record { to_come = λ l. refl; gone_by = record { command = refl; address = refl } }
-
 pub sets-out : (a : Action) (number : ℕ) → Arrives a number 0 (datagram_of a number)
 sets-out CountSlaves number = record { command = refl; ado = refl; data_length = refl }
 sets-out AwaitInit number = record { command = refl; ado = refl; data_length = refl }
@@ -217,7 +208,7 @@ sets-out (NameSlave t) number = record {
   bytes = refl;
   adp_is = let e : ((65536 - t) % 65536 + 65536 * 0x0010) % 65536 ≡ (65536 - t + 0) % 65536 = omega arith in e;
 }
-sets-out a number = sent-out _ (datagram_of a number)
+sets-out a number = record { to_come = λ l. refl; gone_by = record { command = refl; address = refl } }
 
 -- a counter that is right
 right : (seen n : ℕ) (v w : Verdict) → seen ≡ n → (if seen == n then v else w) ≡ v

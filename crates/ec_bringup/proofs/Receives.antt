@@ -1,5 +1,5 @@
 -- A reply is read from a slave's mailbox.
-use Rattle.ec_bringup.proofs.Words.{ℕ, ◌+◌, ◌-◌, ◌/◌, ◌%◌, ◌<◌, ◌≤◌, ◌≡◌, ◌⊎◌, ◌&&◌, not, Bool, true, false, Option, Some, None, refl, sym, ◌∙◌, ap, subst, inl, inr, arith, List, [], ◌∷◌, length, slice_index, is_some, is_none, unwrap_or, from_bool, and_from, and_left, and_right, lt-ltb, eqb-true, length-replicate, zeros, any_below, if_true, if_false, within_true, within_below, within_above, any_below_none, any_below_from, SyncManagerSettings, Mailbox, SlaveKind, ram_start, ram_end, is_set, is_mailbox, is_master_written, is_master_read, span, SyncManager, may_read, is_enabled, ring_read, shown, covers, governor, governs, in_first_buffer, Fprd, Datagram, IsDatagram, adp_of, SlaveState, Meeting, manager_at, station_of, reads_under, is_ungoverned, is_read_by, Window, touches, physical_after, physical_manager, physical_managers, may_read_byte, some_byte_read, byte_read, byte_at, ram_byte, retold, window_of, slave_met, datagram_met, message_read, fmmu_bytes, settings_at, fmmu_at, AwaitReply, SdoRequest, station, datagram_of, message_verdict, Next, Rise, Config, Stage, Up, Talk, answered, after, CanTell, AreMailboxes, IsOfKind, IsAssigned, Talks, IsUpAt, Rises, Reached, IsGone, HadFault, Stands, Met, reads_meet, accesses_leave, managers_accessed, ram_governed, retold_whole, ne_eqb}
+use Rattle.ec_bringup.proofs.Words.{ℕ, ◌+◌, ◌-◌, ◌/◌, ◌%◌, ◌<◌, ◌≤◌, ◌≡◌, ◌⊎◌, ◌&&◌, not, Bool, true, false, Option, Some, None, refl, sym, ◌∙◌, ap, subst, inl, inr, arith, List, [], ◌∷◌, length, slice_index, is_some, is_none, unwrap_or, from_bool, and_from, and_left, and_right, lt-ltb, eqb-true, length-replicate, zeros, any_below, if_true, if_false, within_true, within_below, within_above, any_below_none, any_below_from, SyncManagerSettings, Mailbox, SlaveKind, ram_start, ram_end, is_set, is_mailbox, is_master_written, is_master_read, span, SyncManager, may_read, is_enabled, shown, covers, governor, governs, in_first_buffer, Fprd, Datagram, IsDatagram, adp_of, SlaveState, Meeting, manager_at, station_of, reads_under, is_ungoverned, Window, touches, physical_after, physical_manager, physical_managers, may_read_byte, some_byte_read, byte_read, byte_at, ram_byte, retold, window_of, slave_met, datagram_met, message_read, fmmu_bytes, settings_at, fmmu_at, AwaitReply, SdoRequest, station, datagram_of, message_verdict, Next, Rise, Config, Stage, Up, Talk, answered, after, CanTell, AreMailboxes, IsOfKind, IsAssigned, Talks, IsUpAt, Rises, Reached, IsGone, HadFault, Stands, Met, reads_meet, accesses_leave, managers_accessed, ram_governed, retold_whole, ne_eqb}
 use Rattle.ec_bringup.proofs.Alike.{rises-alike}
 use Rattle.ec_bringup.proofs.Owns.{window-sent, reads-on, gone-passes}
 use Rattle.ec_bringup.proofs.Polls.{own-reads, read-slave, read-bytes}
@@ -121,9 +121,6 @@ readable b s k r h l e =
 met-kept : (lower : List SyncManager) (w : Window) (n : ℕ) (m : SyncManager) → may_read m ≡ false → physical_manager lower true false w n m ≡ m
 met-kept lower w n m e = (managers_accessed lower w n m).read ∙ if_false _ _ _ (and_left (may_read m) _ e)
 
-met-read : (lower : List SyncManager) (w : Window) (n : ℕ) (m : SyncManager) → is_read_by (touches w) (is_ungoverned lower) m ≡ true → physical_manager lower true false w n m ≡ ring_read m
-met-read lower w n m e = (managers_accessed lower w n m).read ∙ if_true _ _ _ e
-
 managers-after : (b : Mailbox) (s : SlaveState) (x : SyncManager) → Boxes b s → physical_manager (manager_at s.managers 0 ∷ []) true false (asking b) 1 (manager_at s.managers 1) ≡ x
     → physical_managers [] true false (asking b) 0 s.managers ≡ manager_at s.managers 0 ∷ x ∷ manager_at s.managers 2 ∷ manager_at s.managers 3 ∷ []
 managers-after b s x h e =
@@ -141,7 +138,7 @@ emptied s = record s { managers = with_mails s.managers (manager_at s.managers 0
 
 pub read-out : (b : Mailbox) (s : SlaveState) → Boxes b s → may_read (manager_at s.managers 1) ≡ true → physical_after s true false (asking b) ≡ emptied s
 read-out b s h e = (accesses_leave s (asking b)).read ∙ ap (λ (ms : List SyncManager). record s { managers = ms }) (managers-after b s (record (manager_at s.managers 1) { mail = None }) h
-    (met-read (manager_at s.managers 0 ∷ []) (asking b) 1 (manager_at s.managers 1) (and_from _ _ e (and_from _ _ (covered b s h) (own-byte b s h))) ∙ if_true _ _ _ h.box))
+    ((managers_accessed (manager_at s.managers 0 ∷ []) (asking b) 1 (manager_at s.managers 1)).read ∙ (if_true _ _ _ (and_from _ _ e (and_from _ _ (covered b s h) (own-byte b s h))) ∙ if_true _ _ _ h.box)))
 
 -- ---- the data
 

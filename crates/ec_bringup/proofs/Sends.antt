@@ -1,5 +1,5 @@
 -- A request is put into a slave's mailbox.
-use Rattle.ec_bringup.proofs.Words.{ℕ, zero, suc, ◌+◌, ◌-◌, ◌*◌, ◌/◌, ◌%◌, ◌<◌, ◌≤◌, ◌≡◌, ◌==◌, ◌&&◌, ◌||◌, not, Bool, true, false, Option, Some, None, refl, sym, ◌∙◌, ap, subst, inl, inr, arith, List, [], ◌∷◌, length, slice_index, is_none, nat_lt, nat_le, length-append, and_parts, and_from, and_left, and_right, eqb-true, leb-true, length-replicate, zeros, any_below, if_true, if_false, within_true, within_below, any_below_from, SyncManagerSettings, Mailbox, SlaveKind, ram_start, ram_end, no_settings, is_set, is_mailbox, is_buffered, is_master_written, is_master_read, span, manager_bytes, SyncManager, may_write, is_enabled, ring_written, covers, Fpwr, Apwr, Fprd, Brd, Bwr, Datagram, IsDatagram, Al, SlaveState, manager_at, is_ungoverned, is_written_by, Window, touches, is_configured, physical_value, physical_manager, physical_managers, physical_after, writes_by_byte, length-message, settings_at, SendRequest, CountSlaves, AskInit, AwaitInit, ClearFmmus, ClearManagers, ClearStations, NameSlave, AskWord, AwaitWord, SetManager, SetFmmu, AskState, AwaitState, AwaitReply, SdoRequest, station, filled, request_bytes, request_message, sent, datagram_of, word_place, Config, Up, Talk, CanTell, AreMailboxes, IsRequest, HoldsZeros, IsOfKind, IsSilent, Talks, IsUpAt, IsTop, accesses_leave, managers_accessed, whole_values, unconfigured, Command, fmmu_bytes, state_number, read_command, Action, IsReachable, ne_eqb}
+use Rattle.ec_bringup.proofs.Words.{ℕ, zero, suc, ◌+◌, ◌-◌, ◌*◌, ◌/◌, ◌%◌, ◌<◌, ◌≤◌, ◌≡◌, ◌==◌, ◌&&◌, ◌||◌, not, Bool, true, false, Option, Some, None, refl, sym, ◌∙◌, ap, subst, inl, inr, arith, List, [], ◌∷◌, length, slice_index, is_none, nat_lt, nat_le, length-append, and_parts, and_from, and_left, and_right, eqb-true, leb-true, length-replicate, zeros, any_below, if_true, if_false, within_true, within_below, any_below_from, SyncManagerSettings, Mailbox, SlaveKind, ram_start, ram_end, no_settings, is_set, is_mailbox, is_buffered, is_master_written, is_master_read, span, manager_bytes, SyncManager, may_write, is_enabled, ring_written, covers, Fpwr, Apwr, Fprd, Brd, Bwr, Datagram, IsDatagram, Al, SlaveState, manager_at, is_ungoverned, Window, touches, is_configured, physical_value, physical_manager, physical_managers, physical_after, writes_by_byte, length-message, settings_at, SendRequest, CountSlaves, AskInit, AwaitInit, ClearFmmus, ClearManagers, ClearStations, NameSlave, AskWord, AwaitWord, SetManager, SetFmmu, AskState, AwaitState, AwaitReply, SdoRequest, station, filled, request_bytes, request_message, sent, datagram_of, word_place, Config, Up, Talk, CanTell, AreMailboxes, IsRequest, HoldsZeros, IsOfKind, IsSilent, Talks, IsUpAt, IsTop, accesses_leave, managers_accessed, whole_values, unconfigured, Command, fmmu_bytes, state_number, read_command, Action, IsReachable, ne_eqb}
 use Rattle.ec_bringup.proofs.Alike.{claims-alike, rises-alike, kind-kept}
 use Rattle.ec_bringup.proofs.Passing.{ForSend, Owes, as_one}
 use Rattle.ec_bringup.proofs.Owns.{window-sent, pass-own}
@@ -21,9 +21,6 @@ none-set m e = ap is_set e
 pub met-stays : (lower : List SyncManager) (w : Window) (n : ℕ) (m : SyncManager) → is_configured w n ≡ false → may_write m ≡ false → physical_manager lower false true w n m ≡ m
 met-stays lower w n m u e = (managers_accessed lower w n m).written u ∙ if_false _ _ _ (and_left (may_write m) _ e)
 
-met-written : (lower : List SyncManager) (w : Window) (n : ℕ) (m : SyncManager) → is_configured w n ≡ false → is_written_by (touches w) (is_ungoverned lower) m ≡ true → physical_manager lower false true w n m ≡ ring_written m (physical_value lower w m.settings.start m.settings.length)
-met-written lower w n m u e = (managers_accessed lower w n m).written u ∙ if_true _ _ _ e
-
 -- ---- four managers
 
 pub list4 : (a b c d x y z v : SyncManager) → a ≡ x → b ≡ y → c ≡ z → d ≡ v → a ∷ b ∷ c ∷ d ∷ [] ≡ x ∷ y ∷ z ∷ v ∷ []
@@ -36,14 +33,11 @@ four-of _ e = absurd (omega (arith, e))
 abbrev pub sending : Mailbox → ℕ → SdoRequest → Window
 sending b counter r = record { from = b.receive_start; bytes = filled b.receive_size (request_bytes counter r) }
 
-pub request-length : (counter : ℕ) (r : SdoRequest) → length (request_bytes counter r) ≡ 16
-request-length counter r = length-message (request_message counter r)
-
 pub sending-length : (b : Mailbox) (counter : ℕ) (r : SdoRequest) → 16 ≤ b.receive_size → length (sending b counter r).bytes ≡ b.receive_size
 sending-length b counter r l =
     let e = length-append (request_bytes counter r) (zeros (b.receive_size - length (request_bytes counter r))) in
     let f = length-replicate {A = ℕ} (b.receive_size - length (request_bytes counter r)) 0 in
-    omega (arith, request-length counter r, e, f, l)
+    omega (arith, length-message (request_message counter r), e, f, l)
 
 -- a set manager lies in the RAM
 pub set-lies : (m : SyncManagerSettings) → is_set m ≡ true → (ram_start ≤ m.start) × (m.start + span m ≤ ram_end)
@@ -79,7 +73,7 @@ sent-managers i counter c b r s four h u none =
     let value : physical_value [] (sending b counter r) m0.settings.start m0.settings.length ≡ (sending b counter r).bytes
     = ap (λ (x : ℕ). physical_value [] (sending b counter r) x m0.settings.length) start ∙ (ap (λ (x : ℕ). physical_value [] (sending b counter r) b.receive_start x) (len ∙ sym long) ∙ whole_values (sending b counter r)) in
     let first : physical_manager [] false true (sending b counter r) 0 m0 ≡ record m0 { mail = Some (sending b counter r).bytes }
-    = met-written [] (sending b counter r) 0 m0 (free 0 (omega arith)) (and_from _ _ may (and_from _ _ cov own)) ∙ (ap (ring_written m0) value ∙ if_true _ _ _ box) in
+    = (managers_accessed [] (sending b counter r) 0 m0).written (free 0 (omega arith)) ∙ (if_true _ _ _ (and_from _ _ may (and_from _ _ cov own)) ∙ (ap (ring_written m0) value ∙ if_true _ _ _ box)) in
     let no1 : may_write m1 ≡ false = and_right (is_enabled m1) _ (and_left _ _ (written-not-read m1.settings (ap is_master_read e1 ∙ h.send_read))) in
     let no2 : may_write m2 ≡ false = unset-write m2 (none-set m2.settings (e2 ∙ h.no_outputs)) in
     let no3 : may_write m3 ≡ false = unset-write m3 (none-set m3.settings (e3 ∙ h.no_inputs)) in
@@ -206,9 +200,6 @@ sent-good c adp ado bytes number a l = record { index = omega arith; address = o
 zeros-few : (n : ℕ) → n < 2048 → length (zeros n) < 2048
 zeros-few n l = let e = length-replicate {A = ℕ} n 0 in omega (arith, e, l)
 
-filled-few : (b : Mailbox) (counter : ℕ) (r : SdoRequest) → IsReachable b → length (filled b.receive_size (request_bytes counter r)) < 2048
-filled-few b counter r h = omega (arith, sending-length b counter r h.receive_some, h.receive_few)
-
 pub datagram-good : (a : Action) (number : ℕ) → IsSendable a → IsDatagram (datagram_of a number)
 datagram-good CountSlaves number h = sent-good Brd 0 0x0130 (zeros 2) number (omega arith) (zeros-few 2 (omega arith))
 datagram-good AskInit number h = sent-good Bwr 0 0x0120 _ number (omega arith) (omega arith)
@@ -223,5 +214,5 @@ datagram-good (SetManager t n m) number h = sent-good Fpwr (station t) (0x0800 +
 datagram-good (SetFmmu t n f) number h = sent-good Fpwr (station t) (0x0600 + 16 * n) (fmmu_bytes f) number (let l : n < 4 = h in omega (arith, l)) (omega arith)
 datagram-good (AskState t to) number h = sent-good Fpwr (station t) 0x0120 (state_number to ∷ 0 ∷ []) number (omega arith) (omega arith)
 datagram-good (AwaitState t to) number h = sent-good Fprd (station t) 0x0130 (zeros 6) number (omega arith) (zeros-few 6 (omega arith))
-datagram-good (SendRequest t counter b r) number h = sent-good Fpwr (station t) b.receive_start (filled b.receive_size (request_bytes counter r)) number h.receive (filled-few b counter r h)
+datagram-good (SendRequest t counter b r) number h = sent-good Fpwr (station t) b.receive_start (filled b.receive_size (request_bytes counter r)) number h.receive (omega (arith, sending-length b counter r h.receive_some, h.receive_few))
 datagram-good (AwaitReply t b r) number h = sent-good Fprd (station t) b.send_start (zeros b.send_size) number h.send (zeros-few b.send_size (let x = h.send_few in omega (arith, x)))

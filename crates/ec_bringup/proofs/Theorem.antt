@@ -34,9 +34,6 @@ cleared-between ends w h b e = record {
   stand = record { each = λ i l. record { slave = h.each i l; at = inl tt } };
 }
 
-cleared-slaves : (w : Starting) → AreSlaves w → AreSlaves (cleared w)
-cleared-slaves w h = record { slaves = h.slaves; troubles = length-replicate {A = Bool} (length w.start.plan) false; few = h.few; each = h.each }
-
 -- with these flags
 abbrev sent-with : Starting → List Bool → Starting
 sent-with w flags = record {
@@ -68,7 +65,8 @@ sent-starts ends w h good b = elim (cases_Bool (is_beginning w.start)) [
   | inl on ↦
       let place : w.start.place ≡ 0 = eqb-true w.start.place 0 (and_parts (is_idle w.start.phase) (w.start.place == 0) on).1 in
       subst (λ (flags : List Bool). Starts ends (sent-with w flags)) (sym (if_true (is_beginning w.start) (replicate (length w.start.plan) false) w.troubles on))
-      (sent-between ends (cleared w) (cleared-slaves w h) good (cleared-between ends w h b place))
+      (sent-between ends (cleared w) (record { slaves = h.slaves; troubles = length-replicate {A = Bool} (length w.start.plan) false; few = h.few; each = h.each })
+      good (cleared-between ends w h b place))
   | inr off ↦
       subst (λ (flags : List Bool). Starts ends (sent-with w flags)) (sym (if_false (is_beginning w.start) (replicate (length w.start.plan) false) w.troubles off))
       (sent-between ends w h good b)
