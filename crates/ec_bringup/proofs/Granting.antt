@@ -1,10 +1,9 @@
 -- The checks of the AL state machine pass at a slave that was set as the plan says.
-use Rattle.ec_bringup.proofs.Words.{ℕ, ◌/◌, ◌%◌, ◌<◌, ◌≡◌, ◌==◌, ◌&&◌, not, true, false, Option, Some, None, refl, sym, ◌∙◌, ap, subst, inl, inr, arith, List, [], ◌∷◌, take, cases_Bool, eq-eqb, eqb-true, and_from, and_parts, bytes_of_bits, if_true, if_false, SyncManagerSettings, Mailbox, no_settings, is_set, is_mailbox, is_master_written, is_master_read, SlaveKind, PreOp, SafeOp, SyncManager, SlaveState, manager_at, bits_assigned, checks, is_manager, mailbox_check, process_check, SlavePlan, settings_at, prepared, asked_all, AreMailboxes, IsStartable, IsAssigned, IsComplete, carries, requests}
+use Rattle.ec_bringup.proofs.Words.{ℕ, ◌/◌, ◌%◌, ◌<◌, ◌≡◌, ◌==◌, ◌&&◌, not, true, false, Option, Some, None, refl, sym, ◌∙◌, ap, subst, inl, inr, arith, List, [], ◌∷◌, take, cases_Bool, eq-eqb, eqb-true, and_from, and_parts, bytes_of_bits, if_true, if_false, SyncManagerSettings, Mailbox, no_settings, is_set, is_mailbox, is_master_written, is_master_read, SlaveKind, PreOp, SafeOp, SyncManager, SlaveState, manager_at, bits_assigned, checks, is_manager, mailbox_check, process_check, SlavePlan, settings_at, prepared, asked_all, AreMailboxes, IsStartable, IsAssigned, IsComplete, carries, requests, ◌+◌, Action, AskWord, AwaitWord, AskState, SendRequest, SdoRequest, Stays, Config, answered}
 use Rattle.ec_bringup.proofs.Assigns.{assignment-held}
-use Rattle.ec_bringup.proofs.Leading.{Bearing, boxed, mapped_to}
+use Rattle.ec_bringup.proofs.Leading.{Bearing, IsEasy, AllSent, answered-frame, boxed, mapped_to}
 use Rattle.ec_bringup.proofs.Next.{Grants, Bears}
-use Rattle.ec_bringup.proofs.Blessings.{easy-bears, answers-sent}
-use Rattle.ec_bringup.proofs.Offers.{requests-answered}
+use Rattle.ec_bringup.proofs.Offers.{AllAnswers, requests-answered}
 
 -- ---- the mailboxes
 
@@ -68,7 +67,22 @@ safeop-granted p h v s k =
           ∙ process-right (manager_at s.managers 3) (settings_at p.managers 3) (bits_assigned p.kind.inputs p.inputs) p.kind.in_start 0 (k.settings 3 (omega arith)) (k.unlocked 3 (omega arith)) v.in_carried)),
     )
 
--- so the plan gives all that the start-up asks
+-- ---- all that the start-up asks of a plan
+
+easy-bears : (kind : SlaveKind) (c : Config) (a : Action) → IsEasy a → Bears kind c a
+easy-bears kind c (AskWord t which) h = h
+easy-bears kind c (AwaitWord t which) h = h
+easy-bears kind c (AskState t to) h = absurd h
+easy-bears kind c (SendRequest t counter b r) h = absurd h
+easy-bears kind c _ h = tt
+
+answers-sent : (kind : SlaveKind) (i counter : ℕ) (b : Mailbox) (c : Config) (rs : List SdoRequest) → c.rise ≡ Stays PreOp → c.idle ≡ true → kind.mailbox ≡ Some b → AllAnswers kind c rs
+    → AllSent (Bears kind) i counter b c rs
+answers-sent kind i counter b c [] rise idle boxed h = tt
+answers-sent kind i counter b c (r ∷ rs) rise idle boxed h =
+    let a = answered-frame c r r.transfer in
+    (record { rise = rise; idle = idle; box = b; boxed = boxed; good = h.0 }, answers-sent kind i (counter + 1) b (answered c r) rs (a.rise ∙ rise) (a.idle ∙ idle) boxed h.1)
+
 pub bears-all : (i : ℕ) (p : SlavePlan) → IsStartable p → IsComplete p → Bearing (Bears p.kind) i p
 bears-all i p h v = record {
   easy = easy-bears p.kind;

@@ -1,9 +1,9 @@
 -- A slave gets its station address.
-use Rattle.ec_bringup.proofs.Words.{ℕ, suc, ◌+◌, ◌-◌, ◌*◌, ◌/◌, ◌%◌, ◌<◌, ◌≡◌, ◌≢◌, Bool, true, false, refl, sym, ◌∙◌, ap, subst, inl, inr, arith, List, [], ◌∷◌, length, slice_index, eq-eqb, both_ways, cases_eq, if_true, if_false, within_above, SlaveKind, no_settings, fmmu_bytes, no_fmmu, SyncManager, Command, Apwr, Datagram, IsDatagram, adp_of, ado_of, with_adp, role_of, is_reading, is_writing, SlaveState, Meeting, manager_at, station_of, Window, physical_after, window_of, meets, slave_met, datagram_met, other_position_passes, settings_at, fmmu_at, NameSlave, station, datagram_of, Stage, Down, Up, fresh, after, Fits, IsClear, HoldsZeros, AreClear, IsDownAt, IsUpAt, Stands, IsWriting, Arrives, Met, Wrote, wrote, unconfigured, OnlyWrites, writes_meet}
+use Rattle.ec_bringup.proofs.Words.{ℕ, suc, ◌+◌, ◌-◌, ◌*◌, ◌/◌, ◌%◌, ◌<◌, ◌≡◌, ◌≢◌, Bool, true, false, refl, sym, ◌∙◌, ap, subst, inl, inr, arith, [], ◌∷◌, length, slice_index, eq-eqb, both_ways, cases_eq, if_true, if_false, within_above, SlaveKind, no_settings, fmmu_bytes, no_fmmu, SyncManager, Command, Apwr, Datagram, IsDatagram, adp_of, ado_of, with_adp, role_of, is_reading, is_writing, SlaveState, Meeting, manager_at, station_of, Window, physical_after, meets, slave_met, datagram_met, other_position_passes, settings_at, fmmu_at, NameSlave, station, datagram_of, Stage, Down, Up, fresh, after, Fits, IsClear, HoldsZeros, AreClear, IsDownAt, IsUpAt, Stands, IsWriting, Arrives, Met, Wrote, wrote, unconfigured, OnlyWrites, writes_meet}
 use Rattle.ec_bringup.proofs.Passing.{others-stay, other-met, Owes}
 use Rattle.ec_bringup.proofs.Resets.{get_or-zeros}
 use Rattle.ec_bringup.proofs.Owns.{slave-wrote, window-sent}
-use Rattle.ec_bringup.proofs.Broadcasts.{init-wrote, written-on}
+use Rattle.ec_bringup.proofs.Broadcasts.{init-wrote, written-on, window-is}
 use Rattle.ec_bringup.proofs.Alike.{reached-low}
 
 -- ---- the meeting
@@ -70,8 +70,7 @@ pass-name kind i t st trouble number d s l fits good arrives h = elim (cases_eq 
   | inl e ↦
       let adp : adp_of d ≡ 0 = let a = arrives.adp_is in omega (arith, a, e, l) in
       let next : ((65536 - t + i) % 65536 + 1) % 65536 ≡ (65536 - t + (i + 1)) % 65536 = omega (arith, e, l) in
-      let win : window_of d ≡ naming t = ap (λ (x : ℕ). record { from = x; bytes = d.data_bytes }) arrives.ado
-      ∙ (ap (λ (x : List ℕ). record { from = ado_of (datagram_of (NameSlave t) number); bytes = x }) arrives.bytes ∙ window-sent Apwr (65536 - t) 0x0010 (station t % 256 ∷ station t / 256 ∷ []) number) in
+      let win = window-is (datagram_of (NameSlave t) number) d _ (naming t) arrives (window-sent Apwr (65536 - t) 0x0010 (station t % 256 ∷ station t / 256 ∷ []) number) in
       let q : slave_met s d ≡ physical_after s false true (naming i) = (writes_meet s d (position-writes s d arrives.command adp)).slave ∙ (ap (λ (x : Window). physical_after s false true x) win ∙ ap (λ (x : ℕ). physical_after s false true (naming x)) e) in (
         record {
           other = λ o. absurd (o e);

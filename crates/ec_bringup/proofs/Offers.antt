@@ -2,7 +2,6 @@
 use Rattle.ec_bringup.proofs.Words.{ℕ, zero, suc, ◌+◌, ◌-◌, ◌*◌, ◌%◌, ◌^◌, ◌<◌, ◌≤◌, ◌≡◌, ◌≢◌, ◌==◌, not, Bool, true, false, Option, Some, None, Result, refl, sym, ◌∙◌, ap, subst, arith, if◌then◌else◌, List, [], ◌∷◌, ◌++◌, length, map, take, slice_get, slice_set, nat_le, is_some, option_map, All, length-append, flat_map, option_or, eq-eqb, ne_eqb, and_from, or_right, le-leb, slice_get-map, if_false, Entry, Pdo, SlaveKind, Message, ValueSize, One, Two, SdoValue, AbortCode, Response, Sdo, DownloadRequest, DownloadResponse, UploadResponse, size_number, answer_of, answer_by, upload_answer, download_answer, reply_to, value_of, Dictionary, Assignment, identity_object, output_assignment, input_assignment, has_some, entry_number, byte_value, word_value, long_value, assignment_values, pdo_values, device_name_object, shown_values, send_room, object_values, pdo_at, bits_assigned, value_or_abort, value_at, uploaded, distinct, takes_value, is_open, transfers_assignment_written as assignment_written, with_value, with_outs, with_ins, written_over, downloaded, good, uploads_expedited, SlavePlan, SdoRequest, requests, uploads, downloads, entries_read, pdo_read, slots_written, assignment_written as assignment_requests, Claim, Config, answered, talked_over, prepared, Claims, IsNumbered, IsOffered, AreOffered, IsAssignable, IsComplete}
 use Rattle.ec_bringup.proofs.Assigns.{claim_at, object_at, own-claim, slot-own, slots-own}
 use Rattle.ec_bringup.proofs.Messages.{IsWanted, Knows, Answers}
-use Rattle.ec_bringup.proofs.Blessings.{AllAnswers}
 
 -- ---- uploads
 
@@ -14,6 +13,11 @@ AnyAnswers kind (r ∷ rs) = ((o n : Claim) → Answers kind o n r) × AnyAnswer
 any-append : (kind : SlaveKind) (xs bs : List SdoRequest) → AnyAnswers kind xs → AnyAnswers kind bs → AnyAnswers kind (xs ++ bs)
 any-append kind [] bs h k = k
 any-append kind (r ∷ xs) bs h k = (h.0, any-append kind xs bs h.1 k)
+
+-- each request at what is known by the ones before it
+abbrev pub AllAnswers : SlaveKind → Config → List SdoRequest → Type 0
+AllAnswers kind c [] = Unit {0}
+AllAnswers kind c (r ∷ rs) = Answers kind c.outs c.ins r × AllAnswers kind (answered c r) rs
 
 any-all : (kind : SlaveKind) (c : Config) (rs : List SdoRequest) → AnyAnswers kind rs → AllAnswers kind c rs
 any-all kind c [] h = tt
