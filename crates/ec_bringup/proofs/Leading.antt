@@ -87,8 +87,6 @@ module _ (B : Config → Action → Type 0) (i : ℕ) where
         (each-walks f d (k + 1) ps st end (omega (arith, below)) (omega arith) (omega arith) h g (subst (λ (x : ℕ). Walks B i st (f i (get_or (p ∷ ps) x d)) end) z mine))
   ]
 
--- ---- what the script as a whole leaves a slave in
-
 -- ---- the requests
 
 pub record SameFrame (c d : Config) : Type 0 where

@@ -154,8 +154,6 @@ stands-served kind i st trouble s h = subst (λ (t : SlaveState). Stands kind i 
 
 -- ---- a request at its slave in PREOP: it counts 1, and after the firmware step the reply that is wanted lies in manager 1
 
--- ---- it counts
-
 pub request-goes : (s : SlaveState) (i counter : ℕ) (c : Config) (b : Mailbox) (r : SdoRequest) (number : ℕ) → station_of s ≡ station i → i < 64 → length s.managers ≡ 4
     → AreMailboxes b c.managers → IsUpAt i c s → (manager_at s.managers 0).mail ≡ None
     → (datagram_met s (datagram_of (SendRequest i counter b r) number)).counter ≡ 1

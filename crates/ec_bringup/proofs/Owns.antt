@@ -24,8 +24,6 @@ slave-wrote kind w s t a h = kind-kept kind s t a.kind a.room a.count a.outs a.i
 
 -- ---- a datagram of a start-up at the slave that it is for
 
--- ---- the meeting
-
 -- the slave that is meant is told to write
 pub own-writes : (s : SlaveState) (d : Datagram) → d.command ≡ Fpwr → adp_of d ≡ station_of s → OnlyWrites s d
 own-writes s d c e = record {

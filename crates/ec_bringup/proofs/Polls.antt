@@ -169,12 +169,8 @@ pass-await-word kind i which c trouble number d s l can good arrives h =
 
 -- ---- the working counter and the data of a start-up's datagram, at the slave that it is for
 
--- ---- registers
-
 pub register-writes : (s : SlaveState) (w : Window) (k : ℕ) → w.from + k < ram_start → takes_writes s.sii.busy (w.from + k) ≡ true → may_write_byte s.managers s.sii.busy (touches w) (w.from + k) ≡ true
 register-writes s w k l h = (registers_open s.managers (touches w) (w.from + k) l).writes s.sii.busy ∙ h
-
--- ---- the commands
 
 -- a slave that is told to write counts
 pub write-counts : (s : SlaveState) (d : Datagram) (w : Window) (k : ℕ) → OnlyWrites s d → window_of d ≡ w → k < length w.bytes
