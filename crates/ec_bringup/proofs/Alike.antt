@@ -1,5 +1,5 @@
 -- Slaves that differ in nothing that a start-up knows of.
-use Rattle.ec_bringup.proofs.Words.{ℕ, ◌+◌, ◌*◌, ◌<◌, ◌≡◌, Bool, false, Option, Some, None, refl, sym, ◌∙◌, ap, subst, inl, inr, arith, List, length, slice_index, SlaveKind, SyncManagerSettings, emptied_buffer, SyncManager, buffer_length, State, Init, PreOp, SafeOp, Op, Al, SlaveState, manager_at, station_of, Assignment, all_assigned, Rise, Stays, Climbs, Claim, Talk, Config, Stage, Before, Called, Down, Up, answered, IsOfKind, unviewed, HoldsZeros, IsConfigured, IsAssigned, Claims, IsSilent, Talks, IsInInit, IsIn, StaysIn, Rises, IsUpAt, AreClear, IsDownAt, Reached, IsGone, HadFault, Stands}
+use Rattle.ec_bringup.proofs.Words.{ℕ, ◌+◌, ◌*◌, ◌<◌, ◌≡◌, Bool, false, Option, Some, None, refl, sym, ◌∙◌, ap, subst, inl, inr, arith, List, length, slice_index, SlaveKind, SyncManagerSettings, emptied_buffer, SyncManager, buffer_length, State, Init, Al, SlaveState, manager_at, station_of, Assignment, all_assigned, Rise, Stays, Climbs, Claim, Talk, Config, Stage, Before, Called, Down, Up, answered, IsOfKind, unviewed, HoldsZeros, IsConfigured, IsAssigned, Claims, IsSilent, Talks, IsInInit, IsIn, StaysIn, Rises, IsUpAt, AreClear, IsDownAt, Reached, IsGone, HadFault, Stands, IsFaultedAt, power_on, set, length-set, cases_eq, get_or-set_same, get_or-set_other, no_manager, IsUp}
 
 -- the control word in a memory
 abbrev pub word_of : List ℕ → ℕ
@@ -21,6 +21,22 @@ pub record SameFronts (ms ns : List SyncManager) : Type 0 where
 
 pub fronts-refl : (ms : List SyncManager) → SameFronts ms ms
 fronts-refl ms = record { four = refl; each = λ n. front-refl (manager_at ms n); outputs = refl }
+
+-- one is set to another that is the same from the front
+pub set-front : (ms : List SyncManager) (n : ℕ) (m : SyncManager) → n < length ms → SameFront (manager_at ms n) m → (n ≡ 2 → unviewed m.buffer ≡ unviewed (manager_at ms n).buffer) → SameFronts ms (set ms n m)
+set-front ms n m l front same = record {
+  four = length-set ms n m;
+  each = λ k. elim (cases_eq k n) [
+    | inl e ↦ subst (λ (j : ℕ). SameFront (manager_at ms j) (manager_at (set ms n m) j)) (sym e)
+        (subst (λ (x : SyncManager). SameFront (manager_at ms n) x) (sym (get_or-set_same ms n m no_manager l)) front)
+    | inr ne ↦ subst (λ (x : SyncManager). SameFront (manager_at ms k) x) (sym (get_or-set_other ms n k m no_manager ne)) (front-refl (manager_at ms k))
+  ];
+  outputs = elim (cases_eq 2 n) [
+    | inl e ↦ subst (λ (j : ℕ). unviewed (manager_at (set ms n m) j).buffer ≡ unviewed (manager_at ms j).buffer) (sym e)
+        (ap (λ (x : SyncManager). unviewed x.buffer) (get_or-set_same ms n m no_manager l) ∙ same (sym e))
+    | inr ne ↦ ap (λ (x : SyncManager). unviewed x.buffer) (get_or-set_other ms n 2 m no_manager ne)
+  ];
+}
 
 -- all but the AL state machine, the inputs, the view of the outputs, and an SII that becomes idle
 pub record Alike (s t : SlaveState) : Type 0 where
@@ -144,9 +160,7 @@ in-alike state s t e h = record {
 
 stays-alike : (state : State) (s t : SlaveState) → word_of t.memory ≡ word_of s.memory → t.al ≡ s.al → StaysIn state s → StaysIn state t
 stays-alike Init s t a e h = init-alike s t a e h
-stays-alike PreOp s t a e h = in-alike PreOp s t e h
-stays-alike SafeOp s t a e h = in-alike SafeOp s t e h
-stays-alike Op s t a e h = in-alike Op s t e h
+stays-alike state s t a e h = in-alike state s t e h
 
 pub rises-alike : (r : Rise) (s t : SlaveState) → word_of t.memory ≡ word_of s.memory → t.al ≡ s.al → Rises r s → Rises r t
 rises-alike (Stays state) s t a e h = stays-alike state s t a e h
@@ -192,14 +206,38 @@ faulted-alike i (Up c) s t a e h = let k = h.faulted in record {
 }
 faulted-alike i _ s t a e h = absurd h
 
--- what changes a slave that is gone in nothing, and another one in nothing that is known of it
-pub stands-alike : (kind : SlaveKind) (i : ℕ) (st : Stage) (trouble : Bool) (s t : SlaveState)
-    → Alike s t → t.al ≡ s.al → (IsGone st s → t ≡ s) → Stands kind i st trouble s → Stands kind i st trouble t
-stands-alike kind i st trouble s t a e g h = record {
-  slave = slave-alike kind s t a (λ q. ap (λ (x : Al). x.state) (sym e) ∙ q) h.slave;
+-- before it has its station address it is neither gone nor had it a fault
+pub reached-low : (kind : SlaveKind) (i : ℕ) (st : Stage) (trouble : Bool) (s : SlaveState) → (IsUp st → ⊥) → Stands kind i st trouble s → Reached i st s
+reached-low kind i (Up c) trouble s low h = absurd (low tt)
+reached-low kind i st trouble s low h = elim h.at [
+  | inl r ↦ r
+  | inr (t, inl g) ↦ absurd g
+  | inr (t, inr g) ↦ absurd g
+]
+
+-- a slave that is gone is as it was switched on
+pub gone-on : (st : Stage) (s : SlaveState) → IsGone st s → s ≡ power_on s.kind s.identity
+gone-on (Up c) s h = h
+gone-on _ s h = absurd h
+
+pub had-fault : (i : ℕ) (st : Stage) (s : SlaveState) → HadFault i st s → (c : Config) × IsFaultedAt i c s
+had-fault i (Up c) s h = (c, h.faulted)
+had-fault i _ s h = absurd h
+
+-- what changes a slave that is gone in nothing
+pub stands-by : (kind : SlaveKind) (i : ℕ) (st : Stage) (trouble : Bool) (s t : SlaveState) → IsOfKind kind t → (Reached i st s → Reached i st t)
+    → (IsGone st s → t ≡ s) → (HadFault i st s → HadFault i st t) → Stands kind i st trouble s → Stands kind i st trouble t
+stands-by kind i st trouble s t slave reached gone fault h = record {
+  slave = slave;
   at = elim h.at [
-    | inl r ↦ inl (reached-alike i st s t a e r)
-    | inr (f, inl x) ↦ inr (f, inl (subst (λ (y : SlaveState). IsGone st y) (sym (g x)) x))
-    | inr (f, inr x) ↦ inr (f, inr (faulted-alike i st s t a e x))
+    | inl r ↦ inl (reached r)
+    | inr (f, inl x) ↦ inr (f, inl (subst (λ (y : SlaveState). IsGone st y) (sym (gone x)) x))
+    | inr (f, inr x) ↦ inr (f, inr (fault x))
   ];
 }
+
+-- and another one in nothing that is known of it
+pub stands-alike : (kind : SlaveKind) (i : ℕ) (st : Stage) (trouble : Bool) (s t : SlaveState)
+    → Alike s t → t.al ≡ s.al → (IsGone st s → t ≡ s) → Stands kind i st trouble s → Stands kind i st trouble t
+stands-alike kind i st trouble s t a e g h =
+    stands-by kind i st trouble s t (slave-alike kind s t a (λ q. ap (λ (x : Al). x.state) (sym e) ∙ q) h.slave) (reached-alike i st s t a e) g (faulted-alike i st s t a e) h

@@ -1,5 +1,5 @@
 -- What the requests of a start-up leave known of the assignment objects.
-use Rattle.ec_bringup.proofs.Words.{ℕ, zero, suc, ◌+◌, ◌≡◌, ◌==◌, Bool, true, false, not, Option, Some, None, refl, sym, ◌∙◌, ap, subst, arith, List, [], ◌∷◌, ◌++◌, length, take, append_assoc, length-append, flat_map, eq-eqb, ne_eqb, both_ways, length-map, if_true, if_false, Entry, Pdo, Mailbox, SlaveKind, SlaveState, SdoValue, Assignment, assigned, all_assigned, indices, byte_value, word_value, output_assignment, input_assignment, has_some, pdo_at, SlavePlan, SdoRequest, Transfer, Upload, requests, downloads, entries_read, pdo_read, slots_written, assignment_written, Claim, Config, no_claim, claimed, answered, answered_by, talked_over, asked_all, prepared, claim_of, Claims, IsAssigned, IsOfKind, IsStartable}
+use Rattle.ec_bringup.proofs.Words.{ℕ, zero, suc, ◌+◌, ◌≡◌, ◌==◌, Bool, true, false, not, Option, Some, None, refl, sym, ◌∙◌, ap, subst, arith, List, [], ◌∷◌, ◌++◌, length, take, append_assoc, length-append, flat_map, eq-eqb, ne_eqb, both_ways, length-map, if_true, if_false, Entry, Pdo, Mailbox, SlaveKind, SlaveState, SdoValue, Assignment, assigned, all_assigned, indices, byte_value, word_value, output_assignment, input_assignment, has_some, pdo_at, SlavePlan, SdoRequest, Transfer, Upload, requests, downloads, entries_read, pdo_read, slots_written, assignment_written, Claim, Config, no_claim, claimed, answered, answered_by, talked_over, asked_all, prepared, claim_of, Claims, IsAssigned, IsOfKind, IsStartable, append-nil, take_all}
 
 pub talked-append : (c : Config) (rs qs : List SdoRequest) → talked_over c (rs ++ qs) ≡ talked_over (talked_over c rs) qs
 talked-append c [] qs = refl
@@ -54,20 +54,20 @@ pub other-claim : (o : Bool) (c : Config) (subindex : ℕ) (v : SdoValue) → cl
 other-claim true c subindex v = refl
 other-claim false c subindex v = refl
 
+pub slot-own : (o : Bool) (c : Config) (n : Option ℕ) (S : List ℕ) (x : ℕ) → claim_at o c ≡ record { count = n; slots = S }
+    → claim_at o (answered c (downloads (object_at o) (length S + 1) (word_value x))) ≡ record { count = n; slots = S ++ x ∷ [] }
+slot-own o c n S x h =
+    own-claim o c (length S + 1) (word_value x) ∙ (ap (λ (k : Claim). claimed k (length S + 1) x) h
+    ∙ (if_false (length S + 1 == 0) _ _ (ne_eqb (length S + 1) 0 (λ q. omega (arith, q)))
+    ∙ ap (λ (y : List ℕ). record { count = n; slots = y }) (if_true (length S + 1 == length S + 1) (S ++ x ∷ []) [] (eq-eqb (length S + 1) (length S + 1) refl))))
+
 pub slots-own : (o : Bool) (c : Config) (n : Option ℕ) (S xs : List ℕ) → claim_at o c ≡ record { count = n; slots = S } → claim_at o (talked_over c (slots_written (object_at o) (length S + 1) xs)) ≡ record { count = n; slots = S ++ xs }
-slots-own o c n S [] h = h ∙ ap (λ (x : List ℕ). record { count = n; slots = x }) (sym (append-none S))
-  where
-    append-none : (S : List ℕ) → S ++ [] ≡ S
-    append-none [] = refl
-    append-none (y ∷ S) = ap (λ (x : List ℕ). y ∷ x) (append-none S)
+slots-own o c n S [] h = h ∙ ap (λ (x : List ℕ). record { count = n; slots = x }) (sym (append-nil S))
 slots-own o c n S (x ∷ xs) h =
     let r : SdoRequest = downloads (object_at o) (length S + 1) (word_value x) in
-    let e : claim_at o (answered c r) ≡ record { count = n; slots = S ++ x ∷ [] }
-    = own-claim o c (length S + 1) (word_value x) ∙ (ap (λ (k : Claim). claimed k (length S + 1) x) h
-    ∙ (if_false (length S + 1 == 0) _ _ (ne_eqb (length S + 1) 0 (λ q. omega (arith, q))) ∙ ap (λ (y : List ℕ). record { count = n; slots = y }) (if_true (length S + 1 == length S + 1) (S ++ x ∷ []) [] (eq-eqb (length S + 1) (length S + 1) refl)))) in
     let l : length (S ++ x ∷ []) + 1 ≡ length S + 1 + 1 = ap (λ (k : ℕ). k + 1) (length-append S (x ∷ [])) in
     subst (λ (k : ℕ). claim_at o (talked_over (answered c r) (slots_written (object_at o) k xs)) ≡ record { count = n; slots = S ++ x ∷ xs }) l
-    (slots-own o (answered c r) n (S ++ x ∷ []) xs e ∙ ap (λ (y : List ℕ). record { count = n; slots = y }) (append_assoc S (x ∷ []) xs))
+    (slots-own o (answered c r) n (S ++ x ∷ []) xs (slot-own o c n S x h) ∙ ap (λ (y : List ℕ). record { count = n; slots = y }) (append_assoc S (x ∷ []) xs))
 
 slots-other : (o : Bool) (c : Config) (k : ℕ) (xs : List ℕ) → claim_at (not o) (talked_over c (slots_written (object_at o) k xs)) ≡ claim_at (not o) c
 slots-other o c k [] = refl
@@ -114,15 +114,7 @@ requests-claim p =
       ap (λ (c : Config). c.ins) whole ∙ assigned-own false c3 p.inputs (has_some p.kind.inputs) (assigned-other true c2 p.outputs (has_some p.kind.outputs) ∙ i2),
     )
 
--- what such a claim says of a slave
-pub claim-holds : (xs : List ℕ) (a : Assignment) → Claims (claim_of xs true) a → assigned a ≡ xs
-claim-holds xs a h = ap (λ (k : ℕ). take k a.slots) (h.count_is (length xs) refl) ∙ h.slots_are
-
 -- ---- the assignment at the end of the script
-
-take-whole : (xs : List ℕ) → take (length xs) xs ≡ xs
-take-whole [] = refl
-take-whole (x ∷ xs) = ap (λ (ys : List ℕ). x ∷ ys) (take-whole xs)
 
 take-none : (xs : List ℕ) (n : ℕ) → length xs ≡ 0 → take n xs ≡ []
 take-none [] zero e = refl
@@ -133,14 +125,15 @@ none-there : (ps : List Pdo) → has_some ps ≡ false → length ps ≡ 0
 none-there [] e = refl
 none-there (p ∷ ps) e = absurd (both_ways true e refl)
 
+-- what such a claim says of a slave
 by-some : (b : Bool) (xs : List ℕ) (a : Assignment) → (b ≡ false → assigned a ≡ xs) → Claims (claim_of xs b) a → assigned a ≡ xs
-by-some true xs a h c = claim-holds xs a c
+by-some true xs a h c = ap (λ (k : ℕ). take k a.slots) (c.count_is (length xs) refl) ∙ c.slots_are
 by-some false xs a h c = h refl
 
 assigned-whole : (xs : List ℕ) (a : Assignment) (ps : List Pdo) → a ≡ all_assigned ps → xs ≡ indices ps → assigned a ≡ xs
 assigned-whole xs a ps e f =
     let l : length (indices ps) ≡ length ps = length-map ps (λ (p : Pdo). p.index) in
-    ap assigned e ∙ (ap (λ (k : ℕ). take k (indices ps)) (sym l) ∙ (take-whole (indices ps) ∙ sym f))
+    ap assigned e ∙ (ap (λ (k : ℕ). take k (indices ps)) (sym l) ∙ (take_all (length (indices ps)) (indices ps) (omega arith) ∙ sym f))
 
 -- the assignment is the plan's, with a mailbox or without
 pub assignment-held : (p : SlavePlan) (o : Option Mailbox) (s : SlaveState) → p.kind.mailbox ≡ o → IsStartable p → IsOfKind p.kind s → IsAssigned (asked_all (prepared p) p o) s

@@ -1,7 +1,8 @@
 -- The broadcasts of a start-up at any slave.
-use Rattle.ec_bringup.proofs.Words.{ℕ, suc, ◌+◌, ◌-◌, ◌*◌, ◌/◌, ◌%◌, ◌<◌, ◌≡◌, Bool, true, false, refl, sym, ◌∙◌, ap, subst, inl, inr, arith, List, [], ◌∷◌, length, slice_index, or_left, or_right, zeros, any_below, if_true, if_false, within_true, within_below, within_above, SlaveKind, is_stored, no_settings, SyncManager, empty_manager, Command, Bwr, Datagram, adp_of, ado_of, Al, requesting, role_of, adp_after, is_reading, is_writing, SlaveState, manager_at, station_of, Window, touches, physical_after, is_configured, window_of, slave_met, datagram_met, control_word, Action, AskInit, ClearFmmus, ClearManagers, ClearStations, datagram_of, Stage, Called, Down, after, HoldsZeros, IsInInit, AreClear, IsDownAt, Stands, IsWriting, Arrives, IsOther, MayRepeat, Met, Wrote, set_by, wrote, unconfigured, OnlyWrites, writes_meet, goes_on}
+use Rattle.ec_bringup.proofs.Words.{ℕ, suc, ◌+◌, ◌-◌, ◌*◌, ◌/◌, ◌%◌, ◌<◌, ◌≡◌, Bool, true, false, refl, sym, ◌∙◌, ap, subst, inl, arith, List, [], ◌∷◌, length, slice_index, or_left, or_right, zeros, any_below, if_true, if_false, within_true, within_below, within_above, SlaveKind, is_stored, no_settings, SyncManager, empty_manager, Command, Bwr, Datagram, adp_of, ado_of, Al, requesting, role_of, adp_after, is_reading, is_writing, SlaveState, manager_at, station_of, Window, touches, physical_after, is_configured, window_of, slave_met, datagram_met, control_word, Action, datagram_of, Stage, Called, Down, after, HoldsZeros, IsInInit, AreClear, Stands, IsWriting, IsOther, MayRepeat, Met, Wrote, set_by, wrote, unconfigured, OnlyWrites, writes_meet, goes_on, sent, Action, IsOther}
 use Rattle.ec_bringup.proofs.Resets.{get_or-zeros}
 use Rattle.ec_bringup.proofs.Owns.{slave-wrote, window-sent}
+use Rattle.ec_bringup.proofs.Alike.{reached-low}
 
 -- ---- a broadcast write
 
@@ -10,9 +11,6 @@ broadcast-writes s d c = record {
   writes = ap (λ (x : Command). is_writing (role_of x (adp_of d) (station_of s))) c;
   reads = ap (λ (x : Command). is_reading (role_of x (adp_of d) (station_of s))) c;
 }
-
-pub broadcast-write : (s : SlaveState) (d : Datagram) → d.command ≡ Bwr → slave_met s d ≡ physical_after s false true (window_of d)
-broadcast-write s d c = (writes_meet s d (broadcast-writes s d c)).slave
 
 -- a datagram that is written goes on as it came, with its ADP grown
 pub written-on : (k : Command) (s : SlaveState) (e d : Datagram) (adp : ℕ) → d.command ≡ k → OnlyWrites s d → adp_after k (adp_of d) ≡ (adp_of d + 1) % 65536 → IsWriting e d adp
@@ -38,20 +36,22 @@ writing-on s e d j c h =
 pub window-is : (e d : Datagram) (adp : ℕ) (w : Window) → IsWriting e d adp → window_of e ≡ w → window_of d ≡ w
 window-is e d adp w h q = ap (λ (x : ℕ). record { from = x; bytes = d.data_bytes }) h.ado ∙ (ap (λ (x : List ℕ). record { from = ado_of e; bytes = x }) h.bytes ∙ q)
 
--- what each slave owes at such an action
-pub pass-broadcast : (kind : SlaveKind) (i : ℕ) (st : Stage) (trouble : Bool) (a : Action) (number : ℕ) (e d : Datagram) (s : SlaveState) (w : Window)
-    → e.command ≡ Bwr → window_of e ≡ w → (IsOther a i → ⊥) → (MayRepeat a (datagram_met s d) → ⊥)
-    → (Stands kind i st trouble s → Stands kind i (after i st a) trouble (physical_after s false true w))
-    → IsWriting e d (i % 65536) → Stands kind i st trouble s
-    → Met kind i st trouble a (datagram_met s d) (slave_met s d) × IsWriting e (datagram_met s d) ((i + 1) % 65536)
-pass-broadcast kind i st trouble a number e d s w c win one never step h stands =
-    let q : slave_met s d ≡ physical_after s false true w = broadcast-write s d (h.command ∙ c) ∙ ap (λ (x : Window). physical_after s false true x) (window-is e d (i % 65536) w h win) in (
+-- what each slave owes at such an action, of these bytes
+pub pass-broadcast : (kind : SlaveKind) (i : ℕ) (st : Stage) (trouble : Bool) (a : Action) (number : ℕ) (d : Datagram) (s : SlaveState) (ado : ℕ) (bytes : List ℕ)
+    → datagram_of a number ≡ sent Bwr 0 ado bytes number → (IsOther a i → ⊥) → (MayRepeat a (datagram_met s d) → ⊥)
+    → (Stands kind i st trouble s → Stands kind i (after i st a) trouble (physical_after s false true (record { from = ado; bytes = bytes })))
+    → IsWriting (datagram_of a number) d (i % 65536) → Stands kind i st trouble s
+    → Met kind i st trouble a (datagram_met s d) (slave_met s d) × IsWriting (datagram_of a number) (datagram_met s d) ((i + 1) % 65536)
+pass-broadcast kind i st trouble a number d s ado bytes e one never step h stands =
+    let c : d.command ≡ Bwr = h.command ∙ ap (λ (x : Datagram). x.command) e in
+    let win = window-is (datagram_of a number) d (i % 65536) _ h (ap window_of e ∙ window-sent Bwr 0 ado bytes number) in
+    let q : slave_met s d ≡ physical_after s false true (record { from = ado; bytes = bytes }) = (writes_meet s d (broadcast-writes s d c)).slave ∙ ap (λ (x : Window). physical_after s false true x) win in (
       record {
         other = λ o. absurd (one o);
         repeated = λ o. absurd (never o);
         ended = λ _. subst (λ (t : SlaveState). Stands kind i (after i st a) trouble t) (sym q) (step stands);
       },
-      writing-on s e d i (h.command ∙ c) h,
+      writing-on s (datagram_of a number) d i c h,
     )
 
 -- ---- INIT is asked for
@@ -59,7 +59,7 @@ pass-broadcast kind i st trouble a number e d s w c win one never step h stands 
 abbrev pub init-asked : Window
 init-asked = record { from = 0x0120; bytes = 0x11 ∷ 0 ∷ [] }
 
-init-called : (kind : SlaveKind) (i : ℕ) (st : Stage) (trouble : Bool) (s : SlaveState) → Stands kind i st trouble s → Stands kind i Called trouble (physical_after s false true init-asked)
+pub init-called : (kind : SlaveKind) (i : ℕ) (st : Stage) (trouble : Bool) (s : SlaveState) → Stands kind i st trouble s → Stands kind i Called trouble (physical_after s false true init-asked)
 init-called kind i st trouble s h =
     let w : Wrote init-asked s (physical_after s false true init-asked) = wrote s init-asked (omega arith) in
     let room = h.slave.room in
@@ -72,20 +72,7 @@ init-called kind i st trouble s h =
       ));
     }
 
-pub pass-ask-init : (kind : SlaveKind) (i : ℕ) (st : Stage) (trouble : Bool) (number : ℕ) (d : Datagram) (s : SlaveState)
-    → Arrives AskInit number i d → Stands kind i st trouble s → Met kind i st trouble AskInit (datagram_met s d) (slave_met s d) × Arrives AskInit number (i + 1) (datagram_met s d)
-pass-ask-init kind i st trouble number d s arrives h =
-    pass-broadcast kind i st trouble AskInit number (datagram_of AskInit number) d s init-asked refl (window-sent Bwr 0 0x0120 (0x11 ∷ 0 ∷ []) number) (λ o. o) (λ o. o)
-    (λ k. init-called kind i st trouble s k) arrives h
-
 -- ---- the registers are cleared
-
-pub down-of : (kind : SlaveKind) (i : ℕ) (f m : Bool) (trouble : Bool) (s : SlaveState) → Stands kind i (Down f m) trouble s → IsDownAt f m s
-down-of kind i f m trouble s h = elim h.at [
-  | inl r ↦ r
-  | inr (t, inl g) ↦ absurd g
-  | inr (t, inr g) ↦ absurd g
-]
 
 -- a write that doesn't touch the AL control word leaves a slave in INIT there
 pub init-wrote : (w : Window) (s t : SlaveState) → length s.memory ≡ 0x3000 → touches w 0x0120 ≡ false → touches w 0x0121 ≡ false → Wrote w s t → IsInInit s → IsInInit t
@@ -109,10 +96,10 @@ clear-wrote w s t four u h k = record {
 abbrev pub fmmus-cleared : Window
 fmmus-cleared = record { from = 0x0600; bytes = zeros 64 }
 
-clear-fmmus : (kind : SlaveKind) (i : ℕ) (f m : Bool) (trouble : Bool) (s : SlaveState) → Stands kind i (Down f m) trouble s → Stands kind i (Down true m) trouble (physical_after s false true fmmus-cleared)
+pub clear-fmmus : (kind : SlaveKind) (i : ℕ) (f m : Bool) (trouble : Bool) (s : SlaveState) → Stands kind i (Down f m) trouble s → Stands kind i (Down true m) trouble (physical_after s false true fmmus-cleared)
 clear-fmmus kind i f m trouble s h =
     let w : Wrote fmmus-cleared s (physical_after s false true fmmus-cleared) = wrote s fmmus-cleared (omega arith) in
-    let k = down-of kind i f m trouble s h in
+    let k = reached-low kind i (Down f m) trouble s (λ u. u) h in
     let room = h.slave.room in
     record {
       slave = slave-wrote kind fmmus-cleared s (physical_after s false true fmmus-cleared) w h.slave;
@@ -127,12 +114,6 @@ clear-fmmus kind i f m trouble s h =
     stored-fmmu : (b : ℕ) → b < 64 → is_stored (0x0600 + b) ≡ true
     stored-fmmu b l = or_right _ _ (or_right _ _ (or_left _ _ (within_true 0x0600 64 (0x0600 + b) (omega arith) (omega (arith, l)))))
 
-pub pass-clear-fmmus : (kind : SlaveKind) (i : ℕ) (f m : Bool) (trouble : Bool) (number : ℕ) (d : Datagram) (s : SlaveState)
-    → Arrives ClearFmmus number i d → Stands kind i (Down f m) trouble s → Met kind i (Down f m) trouble ClearFmmus (datagram_met s d) (slave_met s d) × Arrives ClearFmmus number (i + 1) (datagram_met s d)
-pass-clear-fmmus kind i f m trouble number d s arrives h =
-    pass-broadcast kind i (Down f m) trouble ClearFmmus number (datagram_of ClearFmmus number) d s fmmus-cleared refl (window-sent Bwr 0 0x0600 (zeros 64) number) (λ o. o) (λ o. o)
-    (λ k. clear-fmmus kind i f m trouble s k) arrives h
-
 -- ---- managers
 
 abbrev pub managers-cleared : Window
@@ -143,10 +124,10 @@ unfolding any_below
 cleared-by (suc (suc (suc (suc n)))) m l = absurd (omega arith)
 cleared-by _ m l = refl
 
-clear-managers : (kind : SlaveKind) (i : ℕ) (f m : Bool) (trouble : Bool) (s : SlaveState) → Stands kind i (Down f m) trouble s → Stands kind i (Down f true) trouble (physical_after s false true managers-cleared)
+pub clear-managers : (kind : SlaveKind) (i : ℕ) (f m : Bool) (trouble : Bool) (s : SlaveState) → Stands kind i (Down f m) trouble s → Stands kind i (Down f true) trouble (physical_after s false true managers-cleared)
 clear-managers kind i f m trouble s h =
     let w : Wrote managers-cleared s (physical_after s false true managers-cleared) = wrote s managers-cleared (omega arith) in
-    let k = down-of kind i f m trouble s h in
+    let k = reached-low kind i (Down f m) trouble s (λ u. u) h in
     let room = h.slave.room in
     let four = h.slave.four in
     record {
@@ -162,21 +143,15 @@ clear-managers kind i f m trouble s h =
       });
     }
 
-pub pass-clear-managers : (kind : SlaveKind) (i : ℕ) (f m : Bool) (trouble : Bool) (number : ℕ) (d : Datagram) (s : SlaveState)
-    → Arrives ClearManagers number i d → Stands kind i (Down f m) trouble s → Met kind i (Down f m) trouble ClearManagers (datagram_met s d) (slave_met s d) × Arrives ClearManagers number (i + 1) (datagram_met s d)
-pass-clear-managers kind i f m trouble number d s arrives h =
-    pass-broadcast kind i (Down f m) trouble ClearManagers number (datagram_of ClearManagers number) d s managers-cleared refl (window-sent Bwr 0 0x0800 (zeros 32) number) (λ o. o) (λ o. o)
-    (λ k. clear-managers kind i f m trouble s k) arrives h
-
 -- ---- station addresses
 
 abbrev pub stations-cleared : Window
 stations-cleared = record { from = 0x0010; bytes = zeros 2 }
 
-clear-stations : (kind : SlaveKind) (i : ℕ) (f m : Bool) (trouble : Bool) (s : SlaveState) → Stands kind i (Down f m) trouble s → Stands kind i (Down f m) trouble (physical_after s false true stations-cleared)
+pub clear-stations : (kind : SlaveKind) (i : ℕ) (f m : Bool) (trouble : Bool) (s : SlaveState) → Stands kind i (Down f m) trouble s → Stands kind i (Down f m) trouble (physical_after s false true stations-cleared)
 clear-stations kind i f m trouble s h =
     let w : Wrote stations-cleared s (physical_after s false true stations-cleared) = wrote s stations-cleared (omega arith) in
-    let k = down-of kind i f m trouble s h in
+    let k = reached-low kind i (Down f m) trouble s (λ u. u) h in
     let room = h.slave.room in
     record {
       slave = slave-wrote kind stations-cleared s (physical_after s false true stations-cleared) w h.slave;
@@ -186,9 +161,3 @@ clear-stations kind i f m trouble s h =
         managers = λ e. clear-wrote stations-cleared s (physical_after s false true stations-cleared) h.slave.four (λ n l. unconfigured stations-cleared n (inl (omega arith))) w (k.managers e);
       });
     }
-
-pub pass-clear-stations : (kind : SlaveKind) (i : ℕ) (f m : Bool) (trouble : Bool) (number : ℕ) (d : Datagram) (s : SlaveState)
-    → Arrives ClearStations number i d → Stands kind i (Down f m) trouble s → Met kind i (Down f m) trouble ClearStations (datagram_met s d) (slave_met s d) × Arrives ClearStations number (i + 1) (datagram_met s d)
-pass-clear-stations kind i f m trouble number d s arrives h =
-    pass-broadcast kind i (Down f m) trouble ClearStations number (datagram_of ClearStations number) d s stations-cleared refl (window-sent Bwr 0 0x0010 (zeros 2) number) (λ o. o) (λ o. o)
-    (λ k. clear-stations kind i f m trouble s k) arrives h

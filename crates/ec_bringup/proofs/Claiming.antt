@@ -1,33 +1,24 @@
 -- A reply that fits says that its request was done.
-use Rattle.ec_bringup.proofs.Words.{ℕ, ◌+◌, ◌-◌, ◌*◌, ◌%◌, ◌^◌, ◌<◌, ◌≤◌, ◌≡◌, ◌≢◌, ◌==◌, ◌&&◌, Bool, true, false, Option, Some, None, Result, Ok, Err, refl, sym, ◌∙◌, ap, subst, inl, inr, arith, if◌then◌else◌, List, [], ◌∷◌, ◌++◌, length, take, set, cases_Bool, cases_eq, eq-eqb, ne_eqb, mod-eq_of_lt, if_true, if_false, Pdo, ValueSize, SdoValue, AbortCode, Message, Service, RequestService, Response, OtherService, Sdo, DownloadRequest, DownloadResponse, UploadRequest, UploadResponse, AbortCommand, Reply, Downloaded as HasDownloaded, Uploaded, Aborted, Unexpected, message_bytes, message_read, message_in, command_of, command_number, size_number, reply_in, reply_by, response_in, abort_in, Assignment, Dictionary, output_assignment, input_assignment, uploaded, written_over, downloaded, Answer, answer_of, answer_by, download_answer, value_of, reads-as-message, command-read, outs-stand, ins-stand, Assigned, Counted, Slotted, EffectsDownloaded as Downloaded, Outputs, Inputs, download-effect, good, SdoRequest, Transfer, Download, Upload, Next, request_command, request_value, message_verdict, reply_verdict, Claim, Config, claimed, slot_claimed, answered, answered_by, IsRequest, IsTransfer, Claims}
+use Rattle.ec_bringup.proofs.Words.{ℕ, ◌+◌, ◌-◌, ◌*◌, ◌%◌, ◌^◌, ◌<◌, ◌≤◌, ◌≡◌, ◌≢◌, ◌==◌, ◌&&◌, Bool, true, false, Option, Some, None, Result, Ok, Err, refl, sym, ◌∙◌, ap, subst, inl, inr, arith, if◌then◌else◌, List, [], ◌∷◌, ◌++◌, length, take, set, cases_Bool, cases_eq, eq-eqb, ne_eqb, mod-eq_of_lt, if_true, if_false, Pdo, ValueSize, SdoValue, AbortCode, Message, Service, RequestService, Response, OtherService, Sdo, DownloadRequest, DownloadResponse, UploadRequest, AbortCommand, Reply, Downloaded as HasDownloaded, Unexpected, message_bytes, message_read, message_in, command_of, command_number, size_number, reply_in, reply_by, response_in, abort_in, Assignment, Dictionary, output_assignment, input_assignment, uploaded, written_over, downloaded, Answer, answer_of, answer_by, download_answer, value_of, reads-as-message, command-read, outs-stand, ins-stand, Assigned, Counted, Slotted, EffectsDownloaded as Downloaded, Outputs, Inputs, download-effect, good, SdoRequest, Transfer, Download, Upload, Next, request_command, request_value, message_verdict, reply_verdict, Claim, Config, claimed, slot_claimed, answered, answered_by, IsRequest, IsTransfer, Claims}
 
 -- ---- claims
-
-cons-head : (x y : ℕ) (xs ys : List ℕ) → x ∷ xs ≡ y ∷ ys → x ≡ y
-cons-head x y xs ys e = cc
-
-cons-tail : (x y : ℕ) (xs ys : List ℕ) → x ∷ xs ≡ y ∷ ys → xs ≡ ys
-cons-tail x y xs ys e = cc
 
 take-set : (S xs : List ℕ) (v : ℕ) → take (length S) xs ≡ S → length S < length xs → take (length (S ++ v ∷ [])) (set xs (length S) v) ≡ S ++ v ∷ []
 take-set [] (x ∷ xs) v e l = refl
 take-set (y ∷ S) (x ∷ xs) v e l =
-    ap (λ (n : ℕ). n ∷ take (length (S ++ v ∷ [])) (set xs (length S) v)) (cons-head x y (take (length S) xs) S e)
-    ∙ ap (λ (ns : List ℕ). y ∷ ns) (take-set S xs v (cons-tail x y (take (length S) xs) S e) (omega arith))
+    let more : take (length (S ++ v ∷ [])) (set xs (length S) v) ≡ S ++ v ∷ [] = take-set S xs v (cc e) (omega arith) in
+    cc (e, more)
 take-set _ [] v e l = absurd (omega arith)
 
 claim-moves : (c d : Claim) (a : Assignment) → d ≡ c → Claims c a → Claims d a
 claim-moves c d a e h = subst (λ (x : Claim). Claims x a) (sym e) h
 
-some-is : (x y : ℕ) → (let o : Option ℕ = Some x in o ≡ Some y) → x ≡ y
-some-is x y e = cc
-
 counted-claim : (c : Claim) (a : Assignment) (value : ℕ) → Claims c a → Claims (record { count = Some value; slots = if value == 0 then [] else c.slots }) (record { slots = a.slots; count = value })
 counted-claim c a value h = by (value == 0)
   where
     by : (b : Bool) → Claims (record { count = Some value; slots = if b then [] else c.slots }) (record { slots = a.slots; count = value })
-    by true = record { count_is = λ x e. some-is value x e; slots_are = refl }
-    by false = record { count_is = λ x e. some-is value x e; slots_are = h.slots_are }
+    by true = record { count_is = λ x e. cc; slots_are = refl }
+    by false = record { count_is = λ x e. cc; slots_are = h.slots_are }
 
 slotted-claim : (c : Claim) (a : Assignment) (subindex value : ℕ) → subindex ≢ 0 → subindex ≤ length a.slots → Claims c a → Claims (slot_claimed c subindex value) (record { slots = set a.slots (subindex - 1) value; count = a.count })
 slotted-claim c a subindex value ne l h = elim (cases_eq subindex (length c.slots + 1)) [
@@ -59,18 +50,16 @@ reply-done i r w _ e = absurd (cc e)
 
 response-done : (m : Message) (c : Sdo) → response_in m c ≡ HasDownloaded → c ≡ DownloadResponse
 response-done m DownloadResponse e = refl
-response-done m (UploadResponse size) e = absurd (let f : Uploaded (value_of size m.value) ≡ HasDownloaded = e in cc)
-response-done m AbortCommand e = absurd (let f : Aborted m.value ≡ HasDownloaded = e in cc)
-response-done m _ e = absurd (let f : Unexpected ≡ HasDownloaded = e in cc)
+response-done m _ e = absurd (cc e)
 
 abort-done : (m : Message) (c : Sdo) → abort_in m c ≡ HasDownloaded → ⊥
-abort-done m AbortCommand e = let f : Aborted m.value ≡ HasDownloaded = e in cc
-abort-done m _ e = let f : Unexpected ≡ HasDownloaded = e in cc
+abort-done m AbortCommand e = cc e
+abort-done m _ e = cc e
 
 service-done : (m : Message) (s : Service) → reply_by m s ≡ HasDownloaded → m.command ≡ DownloadResponse
 service-done m Response e = response-done m m.command e
 service-done m RequestService e = absurd (abort-done m m.command e)
-service-done m (OtherService n) e = absurd (let f : Unexpected ≡ HasDownloaded = e in cc)
+service-done m (OtherService n) e = absurd (cc e)
 
 done-command : (index subindex : ℕ) (m : Message) → reply_in index subindex m ≡ HasDownloaded → m.command ≡ DownloadResponse
 unfolding reply_in

@@ -1,19 +1,14 @@
 -- From one frame to the next, and from the first to the last: an undisturbed start-up goes on as its script says.
-use Rattle.ec_bringup.proofs.Words.{ℕ, zero, suc, ◌+◌, ◌^◌, ◌<◌, ◌≤◌, ◌≡◌, true, false, refl, sym, ◌∙◌, ap, subst, arith, List, [], ◌∷◌, length, map, drop, get_or, nat_lt, ◌==◌, Bool, Option, Some, None, if◌then◌else◌, ◌++◌, lt-ltb, le-ltb, length-map, if_true, if_false, Device, SlaveKind, Datagram, IsDatagram, SlaveState, datagram_met, served, SlavePlan, Action, CountSlaves, AskWord, AwaitWord, SetManager, AwaitReply, datagram_of, script, named, identified, mailbox_set, raised, exchanged, talked, fmmu_set, mapped, each_slave, cleared, phases, requests, with_word, verdict, StartState, action_of, type_of, sending, advanced, with_shown, judged, Idle, Ready, Stage, Up, Config, after, Leads, Stands, MayEnd, all_passed, all_met, Rising, frame_at, turned, plan_at, rising, TurnsTo, AppliedStays as Stays, Turns, Mailbox, State, PreOp, SafeOp, Op, settings_at, fmmu_at, SdoRequest, IsReachable, CanReach}
+use Rattle.ec_bringup.proofs.Words.{ℕ, zero, suc, ◌+◌, ◌^◌, ◌<◌, ◌≤◌, ◌≡◌, true, false, refl, sym, ◌∙◌, ap, subst, arith, List, [], ◌∷◌, length, map, drop, get_or, nat_lt, ◌==◌, Bool, Option, Some, None, if◌then◌else◌, ◌++◌, lt-ltb, le-ltb, length-map, if_true, if_false, Device, SlaveKind, Datagram, IsDatagram, SlaveState, datagram_met, served, SlavePlan, Action, CountSlaves, AskWord, AwaitWord, SetManager, AwaitReply, datagram_of, script, named, identified, mailbox_set, raised, exchanged, talked, fmmu_set, mapped, each_slave, cleared, phases, requests, with_word, verdict, StartState, action_of, type_of, sending, advanced, with_shown, judged, Idle, Ready, Stage, Up, Config, after, Stands, MayEnd, all_passed, all_met, Rising, turned, plan_at, rising, TurnsTo, AppliedStays as Stays, Turns, Mailbox, State, PreOp, SafeOp, Op, settings_at, fmmu_at, SdoRequest, IsReachable, CanReach, IsOnItsWay, settles}
 use Rattle.ec_bringup.proofs.PassLaws.{take-law}
 use Rattle.ec_bringup.proofs.Messages.{stands-served}
 use Rattle.ec_bringup.proofs.Sends.{IsSendable, datagram-good}
 use Rattle.ec_bringup.proofs.Commands.{word_of}
 use Rattle.ec_bringup.proofs.Shown.{Tells}
-use Rattle.ec_bringup.proofs.Next.{Prior, Prompted, Bless}
-use Rattle.ec_bringup.proofs.Passed.{Each, Priors, After, pass-all, spelled-served, wanted, IsInside, Told, sets-out, comes-back}
+use Rattle.ec_bringup.proofs.Leading.{Walks}
+use Rattle.ec_bringup.proofs.Next.{Prior, Prompted, Bears}
+use Rattle.ec_bringup.proofs.Passed.{Each, Ahead, After, pass-all, spelled-on, wanted, IsInside, Told, sets-out, comes-back}
 use Rattle.ec_bringup.proofs.Applying.{Stood, stood-applied, each-applied, applied-length}
-
--- ---- what is asked of the actions ahead
-
-abbrev pub Blessed : SlaveKind → ℕ → Stage → List Action → Type 0
-Blessed kind i st [] = Unit {0}
-Blessed kind i st (a ∷ rest) = Bless kind i st a × Blessed kind i (after i st a) rest
 
 -- each behind the one before it
 abbrev pub Chained : ℕ → Action → List Action → Type 0
@@ -50,12 +45,12 @@ judged-wanted types s (AwaitWord t which) e = ap (λ (x : Action). advanced s (w
 judged-wanted types s _ e = refl
 
 -- a verdict that is wanted ends the action
-ends-by : (n step : ℕ) (seen : Device) (types : ℕ → Device) (a : Action) (d : Datagram) → verdict n step seen types a d ≡ wanted types a → MayEnd a d
-ends-by n step seen types a d e = by a e
+ends-by : (n step : ℕ) (seen : Device) (ps : List SlavePlan) (a : Action) (d : Datagram) → verdict n step seen (type_of ps) a d ≡ wanted (type_of ps) a → MayEnd a d
+ends-by n step seen ps a d e = by a e
   where
-    by : (x : Action) → verdict n step seen types a d ≡ wanted types x → MayEnd a d
-    by (AwaitWord t which) q = (take-law n step seen types a d).1 (word_of (types t) which) q
-    by _ q = (take-law n step seen types a d).0 q
+    by : (x : Action) → verdict n step seen (type_of ps) a d ≡ wanted (type_of ps) x → MayEnd a d
+    by (AwaitWord t which) q = (take-law n step seen ps a d).1 (word_of (type_of ps t) which) q
+    by _ q = (take-law n step seen ps a d).0 q
 
 -- ---- places in the script
 
@@ -113,22 +108,8 @@ pub record IsNow (ps : List SlavePlan) (kinds : ℕ → SlaveKind) (ends : ℕ �
   pub inside : IsInside (length ps) a
   pub sendable : IsSendable a
   pub chained : Chained (length ps) a rest
-  pub leads : (i : ℕ) → i < length ps → Leads i (stages i) (a ∷ rest) (Up (ends i))
-  pub blessed : (i : ℕ) → i < length ps → Blessed (kinds i) i (stages i) (a ∷ rest)
+  pub walks : (i : ℕ) → i < length ps → Walks (Bears (kinds i)) i (stages i) (a ∷ rest) (Up (ends i))
   pub each : Each (λ i s. Stood (kinds i) i (stages i) a s) 0 r.slaves
-
-priors-now : (ps : List SlavePlan) (kinds : ℕ → SlaveKind) (ends : ℕ → Config) (stages : ℕ → Stage) (a : Action) (rest : List Action) (r : Rising) → IsNow ps kinds ends stages a rest r → Priors kinds stages a 0 r.slaves
-priors-now ps kinds ends stages a rest r h =
-    each-bound (λ i s. Stood (kinds i) i (stages i) a s) (λ i s. Prior (kinds i) i (stages i) a s) 0 (length ps) r.slaves (let c = h.count in omega (arith, c))
-    (λ i s l k. record { stands = k.stands; spelled = k.spelled; fits = (h.leads i l).0; bless = (h.blessed i l).0; sure = k.sure }) h.each
-
-back-some : (ps : List SlavePlan) (kinds : ℕ → SlaveKind) (stages : ℕ → Stage) (a : Action) (step number : ℕ) (seen : Device) (ss : List SlaveState) → IsPath ps kinds → length ss ≡ length ps → IsInside (length ps) a → Told (type_of ps) seen a
-    → IsDatagram (datagram_of a number) → Priors kinds stages a 0 ss → verdict (length ps) step seen (type_of ps) a (all_passed ss (datagram_of a number)) ≡ wanted (type_of ps) a
-back-some ps kinds stages a step number seen [] path e inside told good h = absurd (let some = path.some in omega (arith, some, e))
-back-some ps kinds stages a step number seen (s ∷ ss) path e inside told good h =
-    subst (λ (n : ℕ). verdict n step seen (type_of ps) a (all_passed (s ∷ ss) (datagram_of a number)) ≡ wanted (type_of ps) a) e
-    (comes-back step seen (type_of ps) kinds stages number a s ss (let few = path.few in omega (arith, few, e)) (λ t l. path.types t (omega (arith, l, e))) (λ t which l. path.big t which (omega (arith, l, e)))
-    (subst (λ (n : ℕ). IsInside n a) (sym e) inside) told good h)
 
 -- what the frame leads to
 pub record HasTurned (ps : List SlavePlan) (kinds : ℕ → SlaveKind) (stages : ℕ → Stage) (a : Action) (rest : List Action) (r : Rising) : Type 0 where
@@ -139,49 +120,6 @@ pub record HasTurned (ps : List SlavePlan) (kinds : ℕ → SlaveKind) (stages :
 chained-first : (n : ℕ) (a : Action) (rest : List Action) → Chained n a rest → Prompted a (first_of rest)
 chained-first n a [] h = tt
 chained-first n a (b ∷ rest) h = h.0
-
-has-turned : (ps : List SlavePlan) (kinds : ℕ → SlaveKind) (ends : ℕ → Config) (stages : ℕ → Stage) (a : Action) (rest : List Action) (r : Rising) → IsPath ps kinds → IsNow ps kinds ends stages a rest r → HasTurned ps kinds stages a rest r
-has-turned ps kinds ends stages a rest r path h =
-    let number : ℕ = r.start.next in
-    let sp = split-at (script ps) r.start.place a rest h.ahead in
-    let act : action_of r.start ≡ a = ap (λ (q : List SlavePlan). get_action (script q) r.start.place) h.plan_is ∙ sp.here in
-    let good : IsDatagram (datagram_of a number) = datagram-good a number h.sendable in
-    let prior = priors-now ps kinds ends stages a rest r h in
-    let back : verdict (length ps) r.start.place r.start.seen (type_of ps) a (all_passed r.slaves (datagram_of a number)) ≡ wanted (type_of ps) a
-    = back-some ps kinds stages a r.start.place number r.start.seen r.slaves path h.count h.inside h.told good prior in
-    let v : verdict (length r.start.plan) r.start.place r.start.seen (type_of r.start.plan) (action_of r.start) (all_passed r.slaves (datagram_of (action_of r.start) number)) ≡ wanted (type_of ps) a
-    = ap (λ (q : List SlavePlan). verdict (length q) r.start.place r.start.seen (type_of q) (action_of r.start) (all_passed r.slaves (datagram_of (action_of r.start) number))) h.plan_is
-    ∙ (ap (λ (x : Action). verdict (length ps) r.start.place r.start.seen (type_of ps) x (all_passed r.slaves (datagram_of x number))) act ∙ back) in
-    let done : MayEnd a (all_passed r.slaves (datagram_of a number)) = ends-by (length ps) r.start.place r.start.seen (type_of ps) a (all_passed r.slaves (datagram_of a number)) back in
-    let all = pass-all kinds stages a (first_of rest) number 0 r.slaves (datagram_of a number) (let c = h.count in let few = path.few in omega (arith, c, few)) good (chained-first (length ps) a rest h.chained) (sets-out a number) prior in
-    let size : length (all_met r.slaves (datagram_of a number)) ≡ length ps = all-met-length r.slaves (datagram_of a number) ∙ h.count in
-    let next : Each (λ i s. Stood (kinds i) i (after i (stages i) a) (first_of rest) s) 0 (map served (all_met r.slaves (datagram_of a number)))
-    = each-served (λ i t. After (kinds i) i (stages i) a (first_of rest) (all_passed r.slaves (datagram_of a number)) t) (λ i s. Stood (kinds i) i (after i (stages i) a) (first_of rest) s) 0 (length ps)
-    (all_met r.slaves (datagram_of a number)) (omega (arith, size))
-    (λ i t l k. record {
-      stands = stands-served (kinds i) i (after i (stages i) a) false t (k.met.ended done);
-      spelled = spelled-served (kinds i).device t k.spelled;
-      sure = k.sure (k.met.ended done);
-    }) all in
-    record {
-      start = ap (judged (sending r.start)) v ∙ judged-wanted (type_of ps) (sending r.start) a act;
-      each = subst (λ (x : Action). Each (λ i s. Stood (kinds i) i (after i (stages i) a) (first_of rest) s) 0 (map served (all_met r.slaves (datagram_of x number)))) (sym act) next;
-      count = length-map (all_met r.slaves (datagram_of (action_of r.start) number)) served ∙ (all-met-length r.slaves (datagram_of (action_of r.start) number) ∙ h.count);
-    }
-
--- ---- all frames
-
--- an instant before the end: no frame is outstanding, and the next number counts the frames
-pub record IsWaiting (number : ℕ) (r : Rising) : Type 0 where
-  pub idle : r.start.phase ≡ Idle
-  pub numbers : r.start.next ≡ number
-  pub good : IsDatagram (frame_at r)
-
-good-now : (ps : List SlavePlan) (kinds : ℕ → SlaveKind) (ends : ℕ → Config) (stages : ℕ → Stage) (a : Action) (rest : List Action) (r : Rising) → IsNow ps kinds ends stages a rest r → IsDatagram (frame_at r)
-good-now ps kinds ends stages a rest r h =
-    let sp = split-at (script ps) r.start.place a rest h.ahead in
-    let act : action_of r.start ≡ a = ap (λ (q : List SlavePlan). get_action (script q) r.start.place) h.plan_is ∙ sp.here in
-    subst (λ (x : Action). IsDatagram (datagram_of x r.start.next)) (sym act) (datagram-good a r.start.next h.sendable)
 
 pub record HasRisen (n : ℕ) (kinds : ℕ → SlaveKind) (ends : ℕ → Config) (number : ℕ) (r : Rising) : Type 0 where
   pub count : length r.slaves ≡ n
@@ -194,54 +132,98 @@ no-more : (j : ℕ) (a e : Rising) → j ≡ 0 → TurnsTo j a e → e ≡ a
 no-more zero a e z (Stays _) = refl
 no-more (suc j) a e z t = absurd (omega (arith, z))
 
-pub rises : (ps : List SlavePlan) (kinds : ℕ → SlaveKind) (ends : ℕ → Config) (stages : ℕ → Stage) (a : Action) (rest : List Action) (r : Rising) → IsPath ps kinds → IsNow ps kinds ends stages a rest r
-    → (k : ℕ) (e : Rising) → TurnsTo k r e → (k < suc (length rest) → IsWaiting (r.start.next + k) e) × (k ≡ suc (length rest) → HasRisen (length ps) kinds ends (r.start.next + k) e)
-rises ps kinds ends stages a rest r path h zero e (Stays _) =
-    let z : r.start.next ≡ r.start.next + 0 = omega arith in
-    (λ l. record { idle = h.idle; good = good-now ps kinds ends stages a rest r h; numbers = z }, λ q. absurd (omega (arith, q)))
-rises ps kinds ends stages a [] r path h (suc k) e (Turns _ _ _ ss app more) = (
-  λ l. absurd (omega (arith, l)),
-  λ q.
-      let t = has-turned ps kinds ends stages a [] r path h in
-      let size = (split-at (script ps) r.start.place a [] h.ahead).size in
-      let over : nat_lt (r.start.place + 1) (length (script r.start.plan)) ≡ false
-      = ap (λ (x : List SlavePlan). nat_lt (r.start.place + 1) (length (script x))) h.plan_is ∙ le-ltb _ _ (omega (arith, size)) in
-      let count : length ss ≡ length ps = applied-length (turned r).slaves ss app ∙ t.count in
+module _ (ps : List SlavePlan) (kinds : ℕ → SlaveKind) (ends : ℕ → Config) (path : IsPath ps kinds) where
+  action-is : (stages : ℕ → Stage) (a : Action) (rest : List Action) (r : Rising) → IsNow ps kinds ends stages a rest r → action_of r.start ≡ a
+  action-is stages a rest r h = ap (λ (q : List SlavePlan). get_action (script q) r.start.place) h.plan_is ∙ (split-at (script ps) r.start.place a rest h.ahead).here
+
+  back-some : (stages : ℕ → Stage) (a : Action) (step number : ℕ) (seen : Device) (ss : List SlaveState) → length ss ≡ length ps → IsInside (length ps) a → Told (type_of ps) seen a
+      → Ahead kinds stages number a 0 ss (datagram_of a number) → verdict (length ps) step seen (type_of ps) a (all_passed ss (datagram_of a number)) ≡ wanted (type_of ps) a
+  back-some stages a step number seen [] e inside told h = absurd (omega (arith, path.some, e))
+  back-some stages a step number seen (s ∷ ss) e inside told h =
+      subst (λ (n : ℕ). verdict n step seen (type_of ps) a (all_passed (s ∷ ss) (datagram_of a number)) ≡ wanted (type_of ps) a) e
+      (comes-back kinds stages number step seen (type_of ps) s ss a (λ t l. path.types t (omega (arith, l, e))) (λ t which l. path.big t which (omega (arith, l, e)))
+      (subst (λ (n : ℕ). IsInside n a) (sym e) inside) told h)
+
+  has-turned : (stages : ℕ → Stage) (a : Action) (rest : List Action) (r : Rising) → IsNow ps kinds ends stages a rest r → HasTurned ps kinds stages a rest r
+  has-turned stages a rest r h =
+      let number : ℕ = r.start.next in
+      let d : Datagram = datagram_of a number in
+      let act : action_of r.start ≡ a = action-is stages a rest r h in
+      let here : Ahead kinds stages number a 0 r.slaves d = record {
+        few = omega (arith, h.count, path.few);
+        good = datagram-good a number h.sendable;
+        arrives = sets-out a number;
+        priors = each-bound (λ i s. Stood (kinds i) i (stages i) a s) (λ i s. Prior (kinds i) i (stages i) a s) 0 (length ps) r.slaves (omega (arith, h.count))
+            (λ i s l k. record { stands = k.stands; spelled = k.spelled; fits = (h.walks i l).0; bless = (h.walks i l).1; sure = k.sure }) h.each;
+      } in
+      let back = back-some stages a r.start.place number r.start.seen r.slaves h.count h.inside h.told here in
+      let v : verdict (length r.start.plan) r.start.place r.start.seen (type_of r.start.plan) (action_of r.start) (all_passed r.slaves (datagram_of (action_of r.start) number)) ≡ wanted (type_of ps) a
+      = ap (λ (q : List SlavePlan). verdict (length q) r.start.place r.start.seen (type_of q) (action_of r.start) (all_passed r.slaves (datagram_of (action_of r.start) number))) h.plan_is
+      ∙ (ap (λ (x : Action). verdict (length ps) r.start.place r.start.seen (type_of ps) x (all_passed r.slaves (datagram_of x number))) act ∙ back) in
+      let done : MayEnd a (all_passed r.slaves d) = ends-by (length ps) r.start.place r.start.seen ps a (all_passed r.slaves d) back in
+      let all = pass-all kinds stages number a (first_of rest) 0 r.slaves d (chained-first (length ps) a rest h.chained) here in
+      let size : length (all_met r.slaves d) ≡ length ps = all-met-length r.slaves d ∙ h.count in
+      record {
+        start = ap (judged (sending r.start)) v ∙ judged-wanted (type_of ps) (sending r.start) a act;
+        each = subst (λ (x : Action). Each (λ i s. Stood (kinds i) i (after i (stages i) a) (first_of rest) s) 0 (map served (all_met r.slaves (datagram_of x number)))) (sym act)
+            (each-served (λ i t. After (kinds i) i (stages i) a (first_of rest) (all_passed r.slaves d) t) (λ i s. Stood (kinds i) i (after i (stages i) a) (first_of rest) s) 0 (length ps)
+            (all_met r.slaves d) (omega (arith, size))
+            (λ i t l k. record {
+              stands = stands-served (kinds i) i (after i (stages i) a) false t (k.met.ended done);
+              spelled = spelled-on (kinds i).device t (served t) (settles t).image k.spelled;
+              sure = k.sure (k.met.ended done);
+            }) all);
+        count = length-map (all_met r.slaves (datagram_of (action_of r.start) number)) served ∙ (all-met-length r.slaves (datagram_of (action_of r.start) number) ∙ h.count);
+      }
+
+  -- ---- all frames: before the end no frame is outstanding, and the next number counts the frames
+
+  pub rises : (stages : ℕ → Stage) (a : Action) (rest : List Action) (r : Rising) → IsNow ps kinds ends stages a rest r → (k : ℕ) (e : Rising) → TurnsTo k r e
+      → (k < suc (length rest) → IsOnItsWay (r.start.next + k) e) × (k ≡ suc (length rest) → HasRisen (length ps) kinds ends (r.start.next + k) e)
+  rises stages a rest r h zero e (Stays _) =
+      let z : r.start.next ≡ r.start.next + 0 = omega arith in
+      let good = subst (λ (x : Action). IsDatagram (datagram_of x r.start.next)) (sym (action-is stages a rest r h)) (datagram-good a r.start.next h.sendable) in
+      (λ l. record { idle = h.idle; good = good; next_number = z }, λ q. absurd (omega (arith, q)))
+  rises stages a [] r h (suc k) e (Turns _ _ _ ss app more) = (
+    λ l. absurd (omega (arith, l)),
+    λ q.
+        let t = has-turned stages a [] r h in
+        let size = (split-at (script ps) r.start.place a [] h.ahead).size in
+        let over : nat_lt (r.start.place + 1) (length (script r.start.plan)) ≡ false
+        = ap (λ (x : List SlavePlan). nat_lt (r.start.place + 1) (length (script x))) h.plan_is ∙ le-ltb _ _ (omega (arith, size)) in
+        let count : length ss ≡ length ps = applied-length (turned r).slaves ss app ∙ t.count in
+        let n : (turned r).start.next ≡ r.start.next + 1 = ap (λ (s : StartState). s.next) t.start in
+        subst (λ (x : Rising). HasRisen (length ps) kinds ends (r.start.next + suc k) x) (sym (no-more k (rising (turned r).start ss) e (omega (arith, q)) more)) (record {
+          count = count;
+          ready = ap (λ (s : StartState). s.phase) t.start ∙ if_false _ _ _ over;
+          numbers = omega (arith, n, q);
+          each = each-bound (λ i s. Stood (kinds i) i (after i (stages i) a) CountSlaves s) (λ i s. Stands (kinds i) i (Up (ends i)) false s) 0 (length ps) ss (omega (arith, count))
+              (λ i s l k. subst (λ (x : Stage). Stands (kinds i) i x false s) (h.walks i l).2 k.stands)
+              (each-applied (λ i s. Stood (kinds i) i (after i (stages i) a) CountSlaves s) 0 (turned r).slaves ss (λ i s t g q. stood-applied (kinds i) i (after i (stages i) a) CountSlaves s t g q) app t.each);
+        }),
+  )
+  rises stages a (b ∷ rest) r h (suc k) e (Turns _ _ _ ss app more) =
+      let t = has-turned stages a (b ∷ rest) r h in
+      let sp = split-at (script ps) r.start.place a (b ∷ rest) h.ahead in
+      let on : nat_lt (r.start.place + 1) (length (script r.start.plan)) ≡ true
+      = ap (λ (q : List SlavePlan). nat_lt (r.start.place + 1) (length (script q))) h.plan_is ∙ lt-ltb _ _ (omega (arith, sp.size)) in
+      let both = rises (λ i. after i (stages i) a) b rest (rising (turned r).start ss) (record {
+        plan_is = ap (λ (s : StartState). s.plan) t.start ∙ h.plan_is;
+        idle = ap (λ (s : StartState). s.phase) t.start ∙ if_true _ _ _ on;
+        ahead = ap (λ (s : StartState). drop s.place (script ps)) t.start ∙ sp.on;
+        count = applied-length (turned r).slaves ss app ∙ t.count;
+        told = subst (λ (s : StartState). Told (type_of ps) s.seen b) (sym t.start) (told-next (type_of ps) r.start.seen (length ps) a b h.chained.1 h.chained.0 h.told);
+        inside = h.chained.1;
+        sendable = h.chained.2;
+        chained = h.chained.3;
+        walks = λ i l. (h.walks i l).2;
+        each = each-applied (λ i s. Stood (kinds i) i (after i (stages i) a) b s) 0 (turned r).slaves ss (λ i s t g q. stood-applied (kinds i) i (after i (stages i) a) b s t g q) app t.each;
+      }) k e more in
       let n : (turned r).start.next ≡ r.start.next + 1 = ap (λ (s : StartState). s.next) t.start in
-      let m : (turned r).start.next ≡ r.start.next + suc k = omega (arith, n, q) in
-      subst (λ (x : Rising). HasRisen (length ps) kinds ends (r.start.next + suc k) x) (sym (no-more k (rising (turned r).start ss) e (omega (arith, q)) more)) (record {
-        count = count;
-        ready = ap (λ (s : StartState). s.phase) t.start ∙ if_false _ _ _ over;
-        numbers = m;
-        each = each-bound (λ i s. Stood (kinds i) i (after i (stages i) a) CountSlaves s) (λ i s. Stands (kinds i) i (Up (ends i)) false s) 0 (length ps) ss (omega (arith, count))
-            (λ i s l k. subst (λ (x : Stage). Stands (kinds i) i x false s) (h.leads i l).1 k.stands)
-            (each-applied (λ i s. Stood (kinds i) i (after i (stages i) a) CountSlaves s) 0 (turned r).slaves ss (λ i s t g q. stood-applied (kinds i) i (after i (stages i) a) CountSlaves s t g q) app t.each);
-      }),
-)
-rises ps kinds ends stages a (b ∷ rest) r path h (suc k) e (Turns _ _ _ ss app more) =
-    let t = has-turned ps kinds ends stages a (b ∷ rest) r path h in
-    let sp = split-at (script ps) r.start.place a (b ∷ rest) h.ahead in
-    let on : nat_lt (r.start.place + 1) (length (script r.start.plan)) ≡ true
-    = ap (λ (q : List SlavePlan). nat_lt (r.start.place + 1) (length (script q))) h.plan_is ∙ lt-ltb _ _ (omega (arith, sp.size)) in
-    let both : (k < suc (length rest) → IsWaiting ((turned r).start.next + k) e) × (k ≡ suc (length rest) → HasRisen (length ps) kinds ends ((turned r).start.next + k) e)
-    = rises ps kinds ends (λ i. after i (stages i) a) b rest (rising (turned r).start ss) path (record {
-      plan_is = ap (λ (s : StartState). s.plan) t.start ∙ h.plan_is;
-      idle = ap (λ (s : StartState). s.phase) t.start ∙ if_true _ _ _ on;
-      ahead = ap (λ (s : StartState). drop s.place (script ps)) t.start ∙ sp.on;
-      count = applied-length (turned r).slaves ss app ∙ t.count;
-      told = subst (λ (s : StartState). Told (type_of ps) s.seen b) (sym t.start) (told-next (type_of ps) r.start.seen (length ps) a b h.chained.1 h.chained.0 h.told);
-      inside = h.chained.1;
-      sendable = h.chained.2;
-      chained = h.chained.3;
-      leads = λ i l. (h.leads i l).1;
-      blessed = λ i l. (h.blessed i l).1;
-      each = each-applied (λ i s. Stood (kinds i) i (after i (stages i) a) b s) 0 (turned r).slaves ss (λ i s t g q. stood-applied (kinds i) i (after i (stages i) a) b s t g q) app t.each;
-    }) k e more in
-    let n : (turned r).start.next ≡ r.start.next + 1 = ap (λ (s : StartState). s.next) t.start in
-    let m : (turned r).start.next + k ≡ r.start.next + suc k = omega (arith, n) in (
-      λ l. let w = both.0 (omega (arith, l)) in record { idle = w.idle; good = w.good; numbers = w.numbers ∙ m },
-      λ q. let w = both.1 (omega (arith, q)) in record { count = w.count; ready = w.ready; numbers = w.numbers ∙ m; each = w.each },
-    )
+      let m : (turned r).start.next + k ≡ r.start.next + suc k = omega (arith, n) in (
+        λ l. subst (λ (x : ℕ). IsOnItsWay x e) m (both.0 (omega (arith, l))),
+        λ q. subst (λ (x : ℕ). HasRisen (length ps) kinds ends x e) m (both.1 (omega (arith, q))),
+      )
 
 -- ---- the script as a walk: each wait stands right behind what it waits for
 
@@ -260,9 +242,6 @@ each-free : (f : ℕ → SlavePlan → List Action) (n k : ℕ) (ps : List Slave
     → ((t : ℕ) (q : SlavePlan) → t < n → CanReach q.kind.mailbox → Free n (f t q)) → Free n (each_slave f k ps)
 each-free f n k [] l r h = λ p. tt
 each-free f n k (q ∷ ps) l r h = free-append n (f k q) (each_slave f (k + 1) ps) (h k q (omega (arith, l)) (r 0 (omega arith))) (each-free f n (k + 1) ps (omega (arith, l)) (λ i b. r (suc i) (omega (arith, b))) h)
-
-named-free : (n t : ℕ) (q : SlavePlan) → t < n → Free n (named t q)
-named-free n t q l = λ p. (tt, l, tt, tt)
 
 identified-free : (n t : ℕ) (q : SlavePlan) → t < n → Free n (identified t q)
 identified-free n t q l =
@@ -299,10 +278,9 @@ mapped-free n t q l =
 
 pub phases-free : (ps : List SlavePlan) → ((i : ℕ) → i < length ps → CanReach (plan_at ps i).kind.mailbox) → Free (length ps) (phases ps)
 phases-free ps r =
-    let n : ℕ = length ps in
     let k : 0 + length ps ≤ length ps = omega arith in
     free-append (length ps) cleared _ (λ p. (tt, tt, tt, (refl, tt, tt, (tt, tt, tt, (tt, tt, tt, (tt, tt, tt, tt))))))
-    (free-append (length ps) (each_slave named 0 ps) _ (each-free named (length ps) 0 ps k r (λ t q l c. named-free (length ps) t q l))
+    (free-append (length ps) (each_slave named 0 ps) _ (each-free named (length ps) 0 ps k r (λ t q l c p. (tt, l, tt, tt)))
     (free-append (length ps) (each_slave identified 0 ps) _ (each-free identified (length ps) 0 ps k r (λ t q l c. identified-free (length ps) t q l))
     (free-append (length ps) (each_slave (λ i q. mailbox_set i q q.kind.mailbox) 0 ps) _ (each-free (λ i q. mailbox_set i q q.kind.mailbox) (length ps) 0 ps k r (λ t q l c. mailbox-free (length ps) t q q.kind.mailbox l))
     (free-append (length ps) (each_slave (raised PreOp) 0 ps) _ (each-free (raised PreOp) (length ps) 0 ps k r (λ t q l c. raised-free (length ps) t PreOp q l))

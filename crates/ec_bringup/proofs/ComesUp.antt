@@ -1,13 +1,13 @@
 -- An undisturbed start-up ends Ready.
 use Rattle.ec_bringup.proofs.Words.{ℕ, zero, suc, ◌+◌, ◌^◌, ◌<◌, ◌≤◌, ◌≡◌, false, refl, sym, subst, inl, arith, List, [], ◌∷◌, length, Device, SlaveState, SlavePlan, CountSlaves, phases, script, begun, type_of, Before, Up, end_of, Stands, IsIdentity, AreDevices, ArePlans, Rising, unplanned, plan_at, slave_of, rising, TurnsTo, AppliedStays as Stays, Turns, AppliedUpLaw, IsOnItsWay, ComesUpLaw, CompiledUpLaw, IsUpAndWorks, IsBroughtUp, StandsUpLaw, both_ways, Works, Shown, Working, Faulted, WasReset, plan_of}
-use Rattle.ec_bringup.proofs.Leading.{script-leads}
+use Rattle.ec_bringup.proofs.Leading.{script-walks}
 use Rattle.ec_bringup.proofs.Sends.{datagram-good}
 use Rattle.ec_bringup.proofs.Commands.{word_of}
 use Rattle.ec_bringup.proofs.Passed.{Each}
 use Rattle.ec_bringup.proofs.Applying.{Stood, turns-to}
-use Rattle.ec_bringup.proofs.Climbs.{IsPath, IsNow, IsWaiting, HasRisen, rises, phases-free}
-use Rattle.ec_bringup.proofs.Blessings.{phases-blessed}
-use Rattle.ec_bringup.proofs.Granting.{is-lively}
+use Rattle.ec_bringup.proofs.Climbs.{IsPath, IsNow, rises, phases-free}
+use Rattle.ec_bringup.proofs.Next.{Bears}
+use Rattle.ec_bringup.proofs.Granting.{bears-all}
 use Rattle.ec_bringup.proofs.CompleteLaws.{are-plans}
 use Rattle.ec_bringup.proofs.Theorem.{stands-shown}
 
@@ -58,8 +58,7 @@ is-now p ps from ss h d = record {
   inside = tt;
   sendable = tt;
   chained = phases-free (p ∷ ps) (λ i l. (h.complete i l).reach) CountSlaves;
-  leads = λ i l. script-leads unplanned p ps i l d.few (h.planned i l);
-  blessed = λ i l. (tt, phases-blessed unplanned i (p ∷ ps) l d.few (h.planned i l) (is-lively (plan_at (p ∷ ps) i) (h.planned i l) (h.complete i l)));
+  walks = λ i l. script-walks (Bears (plan_at (p ∷ ps) i).kind) unplanned p ps i l d.few (h.planned i l) (bears-all i (plan_at (p ∷ ps) i) (h.planned i l) (h.complete i l));
   each = each-from (λ i s. Stood (plan_at (p ∷ ps) i).kind i Before CountSlaves s) 0 ss
       (λ k l.
       let b : k < length (p ∷ ps) = omega (arith, l, d.count) in
@@ -72,10 +71,8 @@ brought-up : (p : SlavePlan) (ps : List SlavePlan) (from : ℕ) (ss : List Slave
     → (k < length (script (p ∷ ps)) → IsOnItsWay (from + k) e) × (k ≡ length (script (p ∷ ps)) → IsBroughtUp (p ∷ ps) (from + k) e)
 unfolding begun
 brought-up p ps from ss h d k e turns =
-    let both : (k < suc (length (phases (p ∷ ps))) → IsWaiting (from + k) e)
-    × (k ≡ suc (length (phases (p ∷ ps))) → HasRisen (length (p ∷ ps)) (λ i. (plan_at (p ∷ ps) i).kind) (λ i. end_of (plan_at (p ∷ ps) i)) (from + k) e)
-    = rises (p ∷ ps) (λ i. (plan_at (p ∷ ps) i).kind) (λ i. end_of (plan_at (p ∷ ps) i)) (λ i. Before) CountSlaves (phases (p ∷ ps)) (rising (begun (p ∷ ps) from) ss) (is-path p ps d.few h) (is-now p ps from ss h d) k e turns in (
-      λ l. let w = both.0 l in record { idle = w.idle; next_number = w.numbers; good = w.good },
+    let both = rises (p ∷ ps) (λ i. (plan_at (p ∷ ps) i).kind) (λ i. end_of (plan_at (p ∷ ps) i)) (is-path p ps d.few h) (λ i. Before) CountSlaves (phases (p ∷ ps)) (rising (begun (p ∷ ps) from) ss) (is-now p ps from ss h d) k e turns in (
+      both.0,
       λ q.
           let w = both.1 q in
           record {

@@ -1,8 +1,9 @@
 -- The commands of a start-up at their slave: each counts 1, and what the firmware step after it makes of it.
-use Rattle.ec_bringup.proofs.Words.{ℕ, zero, suc, ◌+◌, ◌-◌, ◌*◌, ◌/◌, ◌%◌, ◌<◌, ◌≤◌, ◌≡◌, ◌&&◌, not, Bool, true, false, List, Option, Some, None, Ok, refl, sym, ◌∙◌, ap, subst, arith, [], ◌∷◌, length, or_left, or_right, and_left, le-leb, if_true, if_false, within_true, SyncManagerSettings, FmmuSettings, Device, device_of, is_stored, takes_writes, manager_bytes, fmmu_bytes, State, Init, PreOp, SafeOp, Op, Checks, state_number, answer, requested_by, acknowledges, Al, sii_image_word_at as word_at, size_of, Sii, written, read_command, SlaveState, station_of, datagram_met, control_word, checks_of, served, AskWord, SetManager, SetFmmu, AskState, station, datagram_of, word_place, IsStepUp, IsAsked, IsSpelled, settles}
+use Rattle.ec_bringup.proofs.Words.{ℕ, zero, suc, ◌+◌, ◌-◌, ◌*◌, ◌/◌, ◌%◌, ◌<◌, ◌≤◌, ◌≡◌, ◌&&◌, not, Bool, true, false, List, Option, Some, None, Ok, refl, sym, ◌∙◌, ap, subst, arith, [], ◌∷◌, length, or_left, and_left, le-leb, if_true, if_false, SyncManagerSettings, FmmuSettings, Device, device_of, is_stored, takes_writes, manager_bytes, fmmu_bytes, State, Init, PreOp, SafeOp, Op, Checks, state_number, answer, requested_by, acknowledges, Al, sii_image_word_at as word_at, size_of, Sii, written, read_command, SlaveState, station_of, datagram_met, control_word, checks_of, served, AskWord, SetManager, SetFmmu, AskState, station, datagram_of, word_place, IsStepUp, IsAsked, IsSpelled, settles}
 use Rattle.ec_al.specs.Al as al
 use Rattle.ec_sii.specs.Port as port
 use Rattle.ec_bringup.proofs.Polls.{register-goes}
+use Rattle.ec_bringup.proofs.Sets.{fmmu-stored}
 
 -- ---- they count
 
@@ -13,12 +14,9 @@ pub ask-word-goes : (s : SlaveState) (i which number : ℕ) → station_of s ≡
 ask-word-goes s i which number e l idle =
     register-goes s i 0x0502 (read_command (word_place which)) number 0 e l (let n : length (read_command (word_place which)) ≡ 6 = refl in omega (arith, n)) (omega arith) (ap (λ (b : Bool). takes_writes b 0x0502) idle)
 
-fmmu-stored : (n : ℕ) → n < 4 → is_stored (0x0600 + 16 * n + 0) ≡ true
-fmmu-stored n l = or_right _ _ (or_right _ _ (or_left _ _ (within_true 0x0600 64 (0x0600 + 16 * n + 0) (omega arith) (omega (arith, l)))))
-
 pub set-fmmu-goes : (s : SlaveState) (i n : ℕ) (f : FmmuSettings) (number : ℕ) → station_of s ≡ station i → i < 64 → n < 4 → (datagram_met s (datagram_of (SetFmmu i n f) number)).counter ≡ 1
 set-fmmu-goes s i n f number e l b =
-    register-goes s i (0x0600 + 16 * n) (fmmu_bytes f) number 0 e l (let k : length (fmmu_bytes f) ≡ 16 = refl in omega (arith, k)) (omega (arith, b)) (or_left _ _ (fmmu-stored n b))
+    register-goes s i (0x0600 + 16 * n) (fmmu_bytes f) number 0 e l (let k : length (fmmu_bytes f) ≡ 16 = refl in omega (arith, k)) (omega (arith, b)) (or_left _ _ (fmmu-stored n 0 b (omega arith)))
 
 manager-stored : (n : ℕ) → n < 4 → is_stored (0x0800 + 8 * n + 0) ≡ true
 manager-stored (suc (suc (suc (suc n)))) l = absurd (omega (arith, l))
@@ -48,8 +46,6 @@ pub record IsThere (state : State) (s : SlaveState) : Type 0 where
 
 pub granted : (s : SlaveState) (from to : State) → IsStepUp from to → IsAsked from (state_number to) s → Passes (checks_of s) to → IsThere to (served s)
 granted s from to up h p =
-    let a : Al = s.al in
-    let c : Checks = checks_of s in
     let d : al.decided s.al (control_word s) (checks_of s) ≡ al.answered s.al (Ok to)
     = if_false (s.al.error && not (acknowledges (control_word s))) (al.ignored s.al) _ (and_left _ _ h.no_error)
     ∙ (ap (λ (k : ℕ). al.answered s.al (answer s.al.state (requested_by k) (checks_of s))) h.control_is

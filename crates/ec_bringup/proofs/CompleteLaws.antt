@@ -110,9 +110,8 @@ run-plain reads writes from bits start = elim (cases_Bool (eqb bits 0)) [
 all-plain : (from out_start in_start outs ins n : ℕ) → IsPlain (fmmu_at (fmmus_of from out_start in_start outs ins) n)
 all-plain from out_start in_start outs ins zero = run-plain false true from outs out_start
 all-plain from out_start in_start outs ins (suc zero) = run-plain true false from ins in_start
-all-plain from out_start in_start outs ins (suc (suc zero)) = none-plain
-all-plain from out_start in_start outs ins (suc (suc (suc zero))) = none-plain
 all-plain from out_start in_start outs ins (suc (suc (suc (suc n)))) = none-plain
+all-plain from out_start in_start outs ins _ = none-plain
 
 -- ---- of a table without faults
 

@@ -1,5 +1,5 @@
 -- A world that starts up goes on starting up: by the laws of one slave.
-use Rattle.ec_bringup.proofs.Words.{ℕ, ◌+◌, ◌<◌, ◌≤◌, ◌≡◌, ◌≢◌, ◌==◌, Bool, false, refl, sym, ◌∙◌, subst, inl, inr, arith, List, length, drop, set, length-set, get_or-set_same, get_or-set_other, cases_Bool, cases_lt, cases_eq, lt-ltb, le-ltb, drop_more, drop_all, if_true, if_false, SlaveKind, Datagram, IsDatagram, SlaveState, slave_met, datagram_met, meets-keeps, Action, CountSlaves, script, TooSlow, Verdict, Next, Shows, Again, Fails, Device, verdict, StartState, action_of, type_of, advanced, judged, taken, with_shown, Config, Stage, Up, Fits, after, FrameLaw, Leads, AreAhead, AllMet, IsUnderWay, Instant, Between, UnderWay, Adrift, Over, IsReady, Starts, LaterLaw, TakeLaw, SlaveLaw, IsOfKind, Stands, Arrives, MayRepeat, MayEnd, Met, with_passed, with_start, with_slave, Carried, Starting, no_slave, slave_at, trouble_at, kind_at, AreSlaves}
+use Rattle.ec_bringup.proofs.Words.{ℕ, ◌+◌, ◌<◌, ◌≤◌, ◌≡◌, ◌≢◌, ◌==◌, Bool, false, refl, sym, ◌∙◌, subst, inl, inr, arith, List, length, drop, set, length-set, get_or-set_same, get_or-set_other, cases_Bool, cases_lt, cases_eq, lt-ltb, le-ltb, drop_more, drop_all, if_true, if_false, SlaveKind, Datagram, IsDatagram, SlaveState, slave_met, datagram_met, meets-keeps, Action, CountSlaves, script, TooSlow, Verdict, Next, Shows, Again, Fails, Device, verdict, StartState, action_of, type_of, advanced, judged, taken, with_shown, Config, Stage, Up, Fits, after, FrameLaw, Leads, AreAhead, AllMet, IsUnderWay, Instant, Between, UnderWay, Adrift, Over, IsReady, Starts, LaterLaw, TakeLaw, SlaveLaw, IsOfKind, Stands, Arrives, MayRepeat, MayEnd, Met, with_passed, with_start, with_slave, Carried, Starting, no_slave, slave_at, trouble_at, kind_at, AreSlaves, Before}
 
 -- ---- a frame passes a slave
 
@@ -149,6 +149,10 @@ pub record Keeps (kind : SlaveKind) (before : Bool) (s : SlaveState) (later : Bo
   pub slave : IsOfKind kind s → IsOfKind kind t
   pub stands : (i : ℕ) (st : Stage) → Stands kind i st before s → Stands kind i st later t
 
+pub keeps-by : {kind : SlaveKind} {before : Bool} {s : SlaveState} {later : Bool} {t : SlaveState} → ((i : ℕ) (st : Stage) → Stands kind i st before s → Stands kind i st later t)
+    → Keeps kind before s later t
+keeps-by f = record { slave = λ h. (f 0 Before (record { slave = h; at = inl tt })).slave; stands = f }
+
 trouble_one : (P : ℕ → Bool → SlaveState → Type 0) (ts : List Bool) (ss : List SlaveState) (k : ℕ) (b : Bool) (t : SlaveState) (i : ℕ) → k < length ts → k < length ss
     → (i ≡ k → P k b t) → (i ≢ k → P i (trouble_at ts i) (slave_at ss i)) → P i (trouble_at (set ts k b) i) (slave_at (set ss k t) i)
 trouble_one P ts ss k b t i l m mine others = elim (cases_eq i k) [
@@ -181,17 +185,6 @@ slave-starts ends w k t b l keeps h =
     one stages ls lt i mine others = trouble_one (λ n x s. Stands (kind_at w.start.plan n) n (stages n) x s) w.troubles w.slaves k b t i lt ls
         (λ e. keeps.stands k (stages k) (mine e)) others
 
-    met : (stages : ℕ → Stage) (a : Action) (d : Datagram) → k < length w.slaves → k < length w.troubles → (i : ℕ)
-        → (i ≡ k → Met (kind_at w.start.plan k) k (stages k) (trouble_at w.troubles k) a d (slave_at w.slaves k))
-        → (i ≢ k → Met (kind_at w.start.plan i) i (stages i) (trouble_at w.troubles i) a d (slave_at w.slaves i))
-        → Met (kind_at w.start.plan i) i (stages i) (trouble_at (set w.troubles k b) i) a d (slave_at (set w.slaves k t) i)
-    met stages a d ls lt i mine others = trouble_one (λ n x s. Met (kind_at w.start.plan n) n (stages n) x a d s) w.troubles w.slaves k b t i lt ls
-        (λ e. record {
-          other = λ o. keeps.stands k (stages k) ((mine e).other o);
-          repeated = λ o. keeps.stands k (stages k) ((mine e).repeated o);
-          ended = λ o. keeps.stands k (after k (stages k) a) ((mine e).ended o);
-        }) others
-
     at : Instant ends w → k < length w.slaves → k < length w.troubles → Instant ends (with_slave w k t b)
     at (Between h) ls lt = Between (record {
       idle = h.idle;
@@ -212,7 +205,13 @@ slave-starts ends w k t b l keeps h =
       good = h.good;
       arrives = h.arrives;
       met = record {
-        passed = λ i m. met h.stages (action_of w.start) h.carried.datagram ls lt i (λ e. h.met.passed k (subst (λ (n : ℕ). n < h.carried.passed) e m)) (λ ne. h.met.passed i m);
+        passed = λ i m. trouble_one (λ n x s. Met (kind_at w.start.plan n) n (h.stages n) x (action_of w.start) h.carried.datagram s) w.troubles w.slaves k b t i lt ls
+            (λ e. let own = h.met.passed k (subst (λ (n : ℕ). n < h.carried.passed) e m) in record {
+              other = λ o. keeps.stands k (h.stages k) (own.other o);
+              repeated = λ o. keeps.stands k (h.stages k) (own.repeated o);
+              ended = λ o. keeps.stands k (after k (h.stages k) (action_of w.start)) (own.ended o);
+            })
+            (λ ne. h.met.passed i m);
         to_come = λ i m n. one h.stages ls lt i (λ e. h.met.to_come k (subst (λ (n : ℕ). h.carried.passed ≤ n) e m) l) (λ ne. h.met.to_come i m n);
       };
     })

@@ -12,9 +12,8 @@ same-fmmu b c h =
 
 bits-back : (r w : Bool) → ((bit_at (from_bool r + 2 * from_bool w) 0 == 1) ≡ r) × ((bit_at (from_bool r + 2 * from_bool w) 1 == 1) ≡ w)
 bits-back true true = (refl, refl)
-bits-back true false = (refl, refl)
 bits-back false true = (refl, refl)
-bits-back false false = (refl, refl)
+bits-back _ _ = (refl, refl)
 
 bit-back : (a : Bool) → (bit_at (from_bool a) 0 == 1) ≡ a
 bit-back true = refl

@@ -63,45 +63,41 @@ reset-true kind s h = on-true kind s.kind s.identity h.vendor h.product h.revisi
 
 -- ---- worlds
 
--- one slave is set
-set-true : (w : Starting) (k : ℕ) (t : SlaveState) (slaves : length w.slaves ≡ length w.start.plan) → k < length w.start.plan → IsTrue (plan_at w.start.plan k).kind t → AreTrue w
-    → (i : ℕ) → i < length w.start.plan → IsTrue (plan_at w.start.plan i).kind (slave_at (set w.slaves k t) i)
-set-true w k t e l m h i b = set_one (λ n s. IsTrue (plan_at w.start.plan n).kind s) w.slaves k t i (omega (arith, e, l)) (λ q. m) (λ q. h.each i b)
+-- the slaves of a world after an event
+slaves-true : (w v : Starting) → length w.slaves ≡ length w.start.plan → Happens w v → AreTrue w → (i : ℕ) → i < length w.start.plan → IsTrue (plan_at w.start.plan i).kind (slave_of v.slaves i)
+slaves-true w v n event h i l = by event
+  where
+    kept : v.slaves ≡ w.slaves → IsTrue (plan_at w.start.plan i).kind (slave_of v.slaves i)
+    kept e = subst (λ (ss : List SlaveState). IsTrue (plan_at w.start.plan i).kind (slave_of ss i)) (sym e) (h.each i l)
+
+    one : (k : ℕ) (t : SlaveState) → k < length w.start.plan → IsTrue (plan_at w.start.plan k).kind t → v.slaves ≡ set w.slaves k t → IsTrue (plan_at w.start.plan i).kind (slave_of v.slaves i)
+    one k t m own e = subst (λ (ss : List SlaveState). IsTrue (plan_at w.start.plan i).kind (slave_of ss i)) (sym e)
+        (set_one (λ j s. IsTrue (plan_at w.start.plan j).kind s) w.slaves k t i (omega (arith, n, m)) (λ q. own) (λ q. h.each i l))
+
+    same : (k : ℕ) (t : SlaveState) → k < length w.start.plan → Same (slave_at w.slaves k) t → v.slaves ≡ set w.slaves k t → IsTrue (plan_at w.start.plan i).kind (slave_of v.slaves i)
+    same k t m e = one k t m (true-on (plan_at w.start.plan k).kind (slave_at w.slaves k) t e (h.each k m))
+
+    by : Happens w v → IsTrue (plan_at w.start.plan i).kind (slave_of v.slaves i)
+    by (Sends idle good e) = kept (ap (λ (x : Starting). x.slaves) e)
+    by (Passes c full m e) = same c.passed _ m (met-same (slave_at w.slaves c.passed) c.datagram) (ap (λ (x : Starting). x.slaves) e)
+    by (Loses c full e) = kept (ap (λ (x : Starting). x.slaves) e)
+    by (Returns c full m sent e) = kept (ap (λ (x : Starting). x.slaves) e)
+    by (Strays c f full failed e) = kept (ap (λ (x : Starting). x.slaves) e)
+    by (Closes number sent e) = kept (ap (λ (x : Starting). x.slaves) e)
+    by (Serves k m e) = same k _ m (served-same (slave_at w.slaves k)) (ap (λ (x : Starting). x.slaves) e)
+    by (Puts k place byte m e) = same k _ m (put-same (slave_at w.slaves k) place byte) (ap (λ (x : Starting). x.slaves) e)
+    by (Gets k place m e) = same k _ m (got-by (slave_at w.slaves k) (output_got (slave_at w.slaves k) place)) (ap (λ (x : Starting). x.slaves) e)
+    by (Faults k m op e) = same k _ m (fault-same (slave_at w.slaves k)) (ap (λ (x : Starting). x.slaves) e)
+    by (Resets k m e) = one k _ m (reset-true (plan_at w.start.plan k).kind (slave_at w.slaves k) (h.each k m)) (ap (λ (x : Starting). x.slaves) e)
 
 by-slaves : (w v : Starting) → v.start.plan ≡ w.start.plan → ((i : ℕ) → i < length w.start.plan → IsTrue (plan_at w.start.plan i).kind (slave_of v.slaves i)) → AreTrue v
 by-slaves w v e h = record { each = subst (λ (ps : List SlavePlan). (i : ℕ) → i < length ps → IsTrue (plan_at ps i).kind (slave_of v.slaves i)) (sym e) h }
-
-kept : (w v : Starting) (ss : List SlaveState) → v.start.plan ≡ w.start.plan → v.slaves ≡ ss → ((i : ℕ) → i < length w.start.plan → IsTrue (plan_at w.start.plan i).kind (slave_of ss i)) → AreTrue v
-kept w v ss p e h = by-slaves w v p (λ i l. subst (λ (xs : List SlaveState). IsTrue (plan_at w.start.plan i).kind (slave_of xs i)) (sym e) (h i l))
-
-one-on : (w : Starting) (k : ℕ) (t : SlaveState) → length w.slaves ≡ length w.start.plan → k < length w.start.plan → Same (slave_at w.slaves k) t → AreTrue w
-    → (i : ℕ) → i < length w.start.plan → IsTrue (plan_at w.start.plan i).kind (slave_of (set w.slaves k t) i)
-one-on w k t e l q h = set-true w k t e l (true-on (plan_at w.start.plan k).kind (slave_at w.slaves k) t q (h.each k l)) h
-
-happens-true : (w v : Starting) → length w.slaves ≡ length w.start.plan → Happens w v → AreTrue w → AreTrue v
-happens-true w v n (Sends idle good e) h = kept w v w.slaves (happens-plan w v (Sends idle good e)) (ap (λ (x : Starting). x.slaves) e) h.each
-happens-true w v n (Passes c full l e) h = kept w v (set w.slaves c.passed (slave_met (slave_at w.slaves c.passed) c.datagram)) (happens-plan w v (Passes c full l e)) (ap (λ (x : Starting). x.slaves) e)
-    (one-on w c.passed (slave_met (slave_at w.slaves c.passed) c.datagram) n l (met-same (slave_at w.slaves c.passed) c.datagram) h)
-happens-true w v n (Loses c full e) h = kept w v w.slaves (happens-plan w v (Loses c full e)) (ap (λ (x : Starting). x.slaves) e) h.each
-happens-true w v n (Returns c full l sent e) h = kept w v w.slaves (happens-plan w v (Returns c full l sent e)) (ap (λ (x : Starting). x.slaves) e) h.each
-happens-true w v n (Strays c f full failed e) h = kept w v w.slaves (happens-plan w v (Strays c f full failed e)) (ap (λ (x : Starting). x.slaves) e) h.each
-happens-true w v n (Closes number sent e) h = kept w v w.slaves (happens-plan w v (Closes number sent e)) (ap (λ (x : Starting). x.slaves) e) h.each
-happens-true w v n (Serves k l e) h = kept w v (set w.slaves k (served (slave_at w.slaves k))) (happens-plan w v (Serves k l e)) (ap (λ (x : Starting). x.slaves) e)
-    (one-on w k (served (slave_at w.slaves k)) n l (served-same (slave_at w.slaves k)) h)
-happens-true w v n (Puts k place byte l e) h = kept w v (set w.slaves k (unwrap_or (input_put (slave_at w.slaves k) place byte) (slave_at w.slaves k))) (happens-plan w v (Puts k place byte l e)) (ap (λ (x : Starting). x.slaves) e)
-    (one-on w k (unwrap_or (input_put (slave_at w.slaves k) place byte) (slave_at w.slaves k)) n l (put-same (slave_at w.slaves k) place byte) h)
-happens-true w v n (Gets k place l e) h = kept w v (set w.slaves k (output_taken (slave_at w.slaves k) (output_got (slave_at w.slaves k) place))) (happens-plan w v (Gets k place l e)) (ap (λ (x : Starting). x.slaves) e)
-    (one-on w k (output_taken (slave_at w.slaves k) (output_got (slave_at w.slaves k) place)) n l (got-by (slave_at w.slaves k) (output_got (slave_at w.slaves k) place)) h)
-happens-true w v n (Faults k l op e) h = kept w v (set w.slaves k (faulted (slave_at w.slaves k))) (happens-plan w v (Faults k l op e)) (ap (λ (x : Starting). x.slaves) e)
-    (one-on w k (faulted (slave_at w.slaves k)) n l (fault-same (slave_at w.slaves k)) h)
-happens-true w v n (Resets k l e) h = kept w v (set w.slaves k (power_on (slave_at w.slaves k).kind (slave_at w.slaves k).identity)) (happens-plan w v (Resets k l e)) (ap (λ (x : Starting). x.slaves) e)
-    (set-true w k (power_on (slave_at w.slaves k).kind (slave_at w.slaves k).identity) n l (reset-true (plan_at w.start.plan k).kind (slave_at w.slaves k) (h.each k l)) h)
 
 -- the length of the slaves is that of the plan at every instant: by the runs so far
 runs-true : (ps : List SlavePlan) → AreStartable ps → (w v : Starting) → Runs w v → IsGood ps w → AreTrue w → AreTrue v
 runs-true ps planned w v (Stops x) g h = h
 runs-true ps planned w v (Steps x u y e r) g h =
-    runs-true ps planned u v r (runs-good ps planned w u (Steps w u u e (Stops u)) g) (happens-true w u g.starts.slaves.slaves e h)
+    runs-true ps planned u v r (runs-good ps planned w u (Steps w u u e (Stops u)) g) (by-slaves w u (happens-plan w u e) (slaves-true w u g.starts.slaves.slaves e h))
 runs-true ps planned w v (Begins x y f failed empty r) g h =
     runs-true ps planned (with_begun w) v r (runs-good ps planned w (with_begun w) (Begins w (with_begun w) f failed empty (Stops (with_begun w))) g) (by-slaves w (with_begun w) (begun-plan w) h.each)
 

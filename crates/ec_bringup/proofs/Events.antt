@@ -1,26 +1,9 @@
 -- A fault of a slave that stands at a stage, and what its application reads and writes.
-use Rattle.ec_bringup.proofs.Words.{ℕ, ◌<◌, ◌≡◌, ◌≢◌, ◌⊎◌, Bool, true, false, Option, Some, None, refl, sym, ◌∙◌, ap, subst, inl, inr, arith, if◌then◌else◌, List, length, set, unwrap_or, option_map, nat_lt, ◌==◌, length-set, get_or-set_same, get_or-set_other, cases_Bool, cases_eq, both_ways, if_true, if_false, SlaveKind, Buffer, Got, view_next, app_written, app_read, SyncManager, no_manager, may_app_put, may_app_get, app_put, app_got, State, Init, PreOp, SafeOp, Op, Al, SlaveState, manager_at, is_running, with_manager, input_put, output_got, output_taken, faults, switched_on, faulted, locked_empty, Rise, Stays, Climbs, Config, Stage, Before, Called, Down, Up, Talk, unviewed, HoldsZeros, IsOfKind, Rises, IsSilent, Talks, IsUpAt, Reached, IsGone, IsFaulted, IsTop, HadFault, Stands}
+use Rattle.ec_bringup.proofs.Words.{ℕ, ◌<◌, ◌≡◌, ◌≢◌, ◌⊎◌, Bool, true, false, Option, Some, None, refl, sym, ◌∙◌, ap, subst, inl, inr, arith, if◌then◌else◌, List, length, set, unwrap_or, option_map, nat_lt, ◌==◌, length-set, get_or-set_same, get_or-set_other, cases_Bool, cases_eq, both_ways, if_true, if_false, SlaveKind, Buffer, Got, view_next, app_written, app_read, SyncManager, no_manager, may_app_put, may_app_get, app_put, app_got, Init, PreOp, SafeOp, Op, Al, SlaveState, manager_at, is_running, with_manager, input_put, output_got, output_taken, faults, switched_on, faulted, locked_empty, Rise, Stays, Climbs, Config, Stage, Before, Called, Down, Up, Talk, unviewed, HoldsZeros, IsOfKind, Rises, IsSilent, Talks, IsUpAt, Reached, IsGone, IsFaulted, IsTop, HadFault, Stands}
 use Rattle.ec_al.specs.Al as al
-use Rattle.ec_bringup.proofs.Alike.{SameFront, front-refl, SameFronts, Alike, stands-alike}
+use Rattle.ec_bringup.proofs.Alike.{Alike, stands-alike, gone-on, had-fault, set-front}
 
 -- ---- a fault
-
-abbrev IsOther : State → State → Type 0
-IsOther Init Init = ⊥
-IsOther Init b = Unit {0}
-IsOther PreOp Op = Unit {0}
-IsOther SafeOp Op = Unit {0}
-IsOther SafeOp Init = Unit {0}
-IsOther a b = ⊥
-
-other-state : (a b : State) → a ≡ b → IsOther a b → ⊥
-other-state Init PreOp e h = let x : Init ≡ PreOp = e in cc
-other-state Init SafeOp e h = let x : Init ≡ SafeOp = e in cc
-other-state Init Op e h = let x : Init ≡ Op = e in cc
-other-state PreOp Op e h = let x : PreOp ≡ Op = e in cc
-other-state SafeOp Op e h = let x : SafeOp ≡ Op = e in cc
-other-state SafeOp Init e h = let x : SafeOp ≡ Init = e in cc
-other-state a b e h = absurd h
 
 at_two : (ms : List SyncManager) (n : ℕ) → 2 < length ms → n ≢ 2 → manager_at (set ms 2 (locked_empty (manager_at ms 2))) n ≡ manager_at ms n
 at_two ms n l ne = get_or-set_other ms 2 n (locked_empty (manager_at ms 2)) no_manager ne
@@ -44,9 +27,6 @@ mail_two ms n l h = elim (cases_eq n 2) [
 abbrev with_fault : SlaveState → SlaveState
 with_fault s = record s { al = al.faulted s.al; managers = set s.managers 2 (locked_empty (manager_at s.managers 2)) }
 
-faulted-is : (s : SlaveState) → s.al.state ≡ Op → faulted s ≡ with_fault s
-faulted-is s e = (faults s).in_op (ap al.is_operational e)
-
 al-is : (a : Al) → a.state ≡ Op → al.faulted a ≡ record { state = SafeOp; error = true; code = 1; requested = a.requested }
 al-is a e = if_true _ _ _ (ap al.is_operational e)
 
@@ -58,7 +38,7 @@ fault-slave kind s e h = record {
   outs = h.outs;
   ins = h.ins;
   fixed = λ q. let g = h.fixed q in record { outs = g.outs; ins = g.ins };
-  unlocked_in_init = λ q n l. absurd (other-state SafeOp Init (ap (λ (x : Al). x.state) (sym (al-is s.al e)) ∙ q) tt);
+  unlocked_in_init = λ q n l. absurd (cc (ap (λ (x : Al). x.state) (sym (al-is s.al e)) ∙ q));
 }
 
 fault-at : (i : ℕ) (c : Config) (s : SlaveState) → s.al.state ≡ Op → 3 < length s.managers → s.al.requested ≡ false → IsTop c.rise → IsUpAt i c s → IsFaulted i c (with_fault s)
@@ -91,71 +71,51 @@ fault-at i c s e l quiet top u =
     }
 
 fault-up : (i : ℕ) (c : Config) (r : Rise) (s : SlaveState) → c.rise ≡ r → s.al.state ≡ Op → 3 < length s.managers → Rises r s → IsUpAt i c s → IsFaulted i c (with_fault s)
-fault-up i c (Stays Init) s q e l h u = absurd (other-state Init Op (sym h.state ∙ e) tt)
-fault-up i c (Stays PreOp) s q e l h u = absurd (other-state PreOp Op (sym h.state_is ∙ e) tt)
-fault-up i c (Stays SafeOp) s q e l h u = absurd (other-state SafeOp Op (sym h.state_is ∙ e) tt)
+fault-up i c (Stays Init) s q e l h u = absurd (cc (sym h.state ∙ e))
+fault-up i c (Stays PreOp) s q e l h u = absurd (cc (sym h.state_is ∙ e))
+fault-up i c (Stays SafeOp) s q e l h u = absurd (cc (sym h.state_is ∙ e))
 fault-up i c (Stays Op) s q e l h u = fault-at i c s e l h.no_request (subst (λ (x : Rise). IsTop x) (sym q) tt) u
 fault-up i c (Climbs SafeOp Op) s q e l (up, inr (inl h)) u = fault-at i c s e l h.no_request (subst (λ (x : Rise). IsTop x) (sym q) tt) u
-fault-up i c (Climbs SafeOp Op) s q e l (up, inl h) u = absurd (other-state SafeOp Op (sym h.state ∙ e) tt)
-fault-up i c (Climbs SafeOp Op) s q e l (up, inr (inr h)) u = absurd (other-state SafeOp Op (sym h.state ∙ e) tt)
-fault-up i c (Climbs PreOp SafeOp) s q e l (up, inl h) u = absurd (other-state PreOp Op (sym h.state ∙ e) tt)
-fault-up i c (Climbs PreOp SafeOp) s q e l (up, inr (inl h)) u = absurd (other-state SafeOp Op (sym h.state_is ∙ e) tt)
-fault-up i c (Climbs PreOp SafeOp) s q e l (up, inr (inr h)) u = absurd (other-state PreOp Op (sym h.state ∙ e) tt)
-fault-up i c (Climbs Init PreOp) s q e l (up, inl h) u = absurd (other-state Init Op (sym h.state ∙ e) tt)
-fault-up i c (Climbs Init PreOp) s q e l (up, inr (inl h)) u = absurd (other-state PreOp Op (sym h.state_is ∙ e) tt)
-fault-up i c (Climbs Init PreOp) s q e l (up, inr (inr h)) u = absurd (other-state Init Op (sym h.state ∙ e) tt)
+fault-up i c (Climbs SafeOp Op) s q e l (up, inl h) u = absurd (cc (sym h.state ∙ e))
+fault-up i c (Climbs SafeOp Op) s q e l (up, inr (inr h)) u = absurd (cc (sym h.state ∙ e))
+fault-up i c (Climbs PreOp SafeOp) s q e l (up, inl h) u = absurd (cc (sym h.state ∙ e))
+fault-up i c (Climbs PreOp SafeOp) s q e l (up, inr (inl h)) u = absurd (cc (sym h.state_is ∙ e))
+fault-up i c (Climbs PreOp SafeOp) s q e l (up, inr (inr h)) u = absurd (cc (sym h.state ∙ e))
+fault-up i c (Climbs Init PreOp) s q e l (up, inl h) u = absurd (cc (sym h.state ∙ e))
+fault-up i c (Climbs Init PreOp) s q e l (up, inr (inl h)) u = absurd (cc (sym h.state_is ∙ e))
+fault-up i c (Climbs Init PreOp) s q e l (up, inr (inr h)) u = absurd (cc (sym h.state ∙ e))
 fault-up i c _ s q e l (up, h) u = absurd up
 
 fault-reached : (i : ℕ) (st : Stage) (s : SlaveState) → s.al.state ≡ Op → 3 < length s.managers → Reached i st s
     → Reached i st (with_fault s) ⊎ ((true ≡ true) × (IsGone st (with_fault s) ⊎ HadFault i st (with_fault s)))
 fault-reached i Before s e l h = inl tt
 fault-reached i Called s e l (inl h) = inl (inl (ap (λ (x : Al). x.requested) (al-is s.al e) ∙ h.0, h.1))
-fault-reached i Called s e l (inr h) = absurd (other-state Init Op (sym h.state ∙ e) tt)
-fault-reached i (Down f m) s e l h = absurd (other-state Init Op (sym h.init.state ∙ e) tt)
+fault-reached i Called s e l (inr h) = absurd (cc (sym h.state ∙ e))
+fault-reached i (Down f m) s e l h = absurd (cc (sym h.init.state ∙ e))
 fault-reached i (Up c) s e l h = inr (refl, inr (fault-up i c c.rise s refl e l h.rises h))
 
 gone-state : (st : Stage) (s : SlaveState) → IsGone st s → s.al.state ≡ Init
-gone-state (Up c) s h = ap (λ (t : SlaveState). t.al.state) h ∙ ap (λ (a : Al). a.state) (switched_on s.kind s.identity).al
-gone-state _ s h = absurd h
-
-fault-state : (i : ℕ) (st : Stage) (s : SlaveState) → HadFault i st s → s.al.state ≡ SafeOp
-fault-state i (Up c) s h = h.faulted.state
-fault-state i _ s h = absurd h
+gone-state st s h = ap (λ (t : SlaveState). t.al.state) (gone-on st s h) ∙ ap (λ (a : Al). a.state) (switched_on s.kind s.identity).al
 
 pub fault-stands : (kind : SlaveKind) (i : ℕ) (st : Stage) (trouble : Bool) (s : SlaveState) → s.al.state ≡ Op → Stands kind i st trouble s → Stands kind i st true (faulted s)
-fault-stands kind i st trouble s e h = subst (λ (t : SlaveState). Stands kind i st true t) (sym (faulted-is s e)) (record {
+fault-stands kind i st trouble s e h = subst (λ (t : SlaveState). Stands kind i st true t) (sym ((faults s).in_op (ap al.is_operational e))) (record {
   slave = fault-slave kind s e h.slave;
   at = elim h.at [
     | inl r ↦ fault-reached i st s e (let f = h.slave.four in omega arith) r
-    | inr (t, inl g) ↦ absurd (other-state Init Op (sym (gone-state st s g) ∙ e) tt)
-    | inr (t, inr g) ↦ absurd (other-state SafeOp Op (sym (fault-state i st s g) ∙ e) tt)
+    | inr (t, inl g) ↦ absurd (cc (sym (gone-state st s g) ∙ e))
+    | inr (t, inr g) ↦ absurd (cc (sym (had-fault i st s g).1.state ∙ e))
   ];
 })
 
 -- ---- the application
 
 -- a manager whose buffer alone is another, and of the outputs' no more than the view
-buffer-front : (ms : List SyncManager) (n : ℕ) (b : Buffer) → n < length ms → (n ≡ 2 → unviewed b ≡ unviewed (manager_at ms n).buffer) → SameFronts ms (set ms n (record (manager_at ms n) { buffer = b }))
-buffer-front ms n b l same = record {
-  four = length-set ms n _;
-  each = λ k. elim (cases_eq k n) [
-    | inl e ↦ subst (λ (j : ℕ). SameFront (manager_at ms j) (manager_at (set ms n (record (manager_at ms n) { buffer = b })) j)) (sym e)
-        (subst (λ (m : SyncManager). SameFront (manager_at ms n) m) (sym (get_or-set_same ms n (record (manager_at ms n) { buffer = b }) no_manager l)) (record { settings = refl; locked = refl; mail = refl }))
-    | inr ne ↦ subst (λ (m : SyncManager). SameFront (manager_at ms k) m) (sym (get_or-set_other ms n k (record (manager_at ms n) { buffer = b }) no_manager ne)) (front-refl (manager_at ms k))
-  ];
-  outputs = elim (cases_eq 2 n) [
-    | inl e ↦ subst (λ (j : ℕ). unviewed (manager_at (set ms n (record (manager_at ms n) { buffer = b })) j).buffer ≡ unviewed (manager_at ms j).buffer) (sym e)
-        (ap (λ (m : SyncManager). unviewed m.buffer) (get_or-set_same ms n (record (manager_at ms n) { buffer = b }) no_manager l) ∙ same (sym e))
-    | inr ne ↦ ap (λ (m : SyncManager). unviewed m.buffer) (get_or-set_other ms n 2 (record (manager_at ms n) { buffer = b }) no_manager ne)
-  ];
-}
-
 buffer-alike : (s : SlaveState) (n : ℕ) (b : Buffer) → n < length s.managers → (n ≡ 2 → unviewed b ≡ unviewed (manager_at s.managers n).buffer) → Alike s (with_manager s n (record (manager_at s.managers n) { buffer = b }))
 buffer-alike s n b l same = record {
   kind = refl;
   room = refl;
   memory = λ a k. refl;
-  managers = buffer-front s.managers n b l same;
+  managers = set-front s.managers n (record (manager_at s.managers n) { buffer = b }) l (record { settings = refl; locked = refl; mail = refl }) same;
   idle = λ e. e;
   outs = refl;
   ins = refl;

@@ -1,10 +1,9 @@
 -- The checks of the AL state machine pass at a slave that was set as the plan says.
-use Rattle.ec_bringup.proofs.Words.{ℕ, ◌/◌, ◌%◌, ◌<◌, ◌≡◌, ◌==◌, ◌&&◌, not, true, false, Option, Some, None, refl, sym, ◌∙◌, ap, subst, inl, inr, arith, List, [], ◌∷◌, take, cases_Bool, eq-eqb, eqb-true, and_from, and_parts, bytes_of_bits, if_true, if_false, SyncManagerSettings, Mailbox, no_settings, is_set, is_mailbox, is_master_written, is_master_read, SlaveKind, PreOp, SafeOp, SyncManager, SlaveState, manager_at, bits_assigned, checks, is_manager, mailbox_check, process_check, SlavePlan, settings_at, prepared, asked_all, AreMailboxes, IsStartable, IsAssigned, IsComplete, carries}
+use Rattle.ec_bringup.proofs.Words.{ℕ, ◌/◌, ◌%◌, ◌<◌, ◌≡◌, ◌==◌, ◌&&◌, not, true, false, Option, Some, None, refl, sym, ◌∙◌, ap, subst, inl, inr, arith, List, [], ◌∷◌, take, cases_Bool, eq-eqb, eqb-true, and_from, and_parts, bytes_of_bits, if_true, if_false, SyncManagerSettings, Mailbox, no_settings, is_set, is_mailbox, is_master_written, is_master_read, SlaveKind, PreOp, SafeOp, SyncManager, SlaveState, manager_at, bits_assigned, checks, is_manager, mailbox_check, process_check, SlavePlan, settings_at, prepared, asked_all, AreMailboxes, IsStartable, IsAssigned, IsComplete, carries, requests, ◌+◌, Action, AskWord, AwaitWord, AskState, SendRequest, SdoRequest, Stays, Config, answered}
 use Rattle.ec_bringup.proofs.Assigns.{assignment-held}
-use Rattle.ec_bringup.proofs.Leading.{boxed, mapped_to}
-use Rattle.ec_bringup.proofs.Next.{Grants}
-use Rattle.ec_bringup.proofs.Blessings.{IsLively}
-use Rattle.ec_bringup.proofs.Offers.{requests-answered}
+use Rattle.ec_bringup.proofs.Leading.{Bearing, IsEasy, AllSent, answered-frame, boxed, mapped_to}
+use Rattle.ec_bringup.proofs.Next.{Grants, Bears}
+use Rattle.ec_bringup.proofs.Offers.{AllAnswers, requests-answered}
 
 -- ---- the mailboxes
 
@@ -32,11 +31,8 @@ mailboxes-right s (Some b) ms h e u =
 
 pub preop-granted : (p : SlavePlan) → IsStartable p → Grants p.kind (boxed (settings_at p.managers 0) (settings_at p.managers 1)) PreOp
 preop-granted p h s k =
-    let e0 : settings_at p.managers 0 ≡ h.m0 = ap (λ (ms : List SyncManagerSettings). settings_at ms 0) h.managers in
-    let e1 : settings_at p.managers 1 ≡ h.m1 = ap (λ (ms : List SyncManagerSettings). settings_at ms 1) h.managers in
     let boxes : (x : Mailbox) → p.kind.mailbox ≡ Some x → AreMailboxes x (settings_at p.managers 0 ∷ settings_at p.managers 1 ∷ no_settings ∷ no_settings ∷ [])
-    = λ x e. subst (λ (m : SyncManagerSettings). AreMailboxes x (settings_at p.managers 0 ∷ m ∷ no_settings ∷ no_settings ∷ [])) (sym e1)
-    (subst (λ (m : SyncManagerSettings). AreMailboxes x (m ∷ h.m1 ∷ no_settings ∷ no_settings ∷ [])) (sym e0) (h.mailbox x e)) in
+    = λ x e. subst (λ (ms : List SyncManagerSettings). AreMailboxes x (settings_at ms 0 ∷ settings_at ms 1 ∷ no_settings ∷ no_settings ∷ [])) (sym h.managers) (h.mailbox x e) in
     (checks s).mailbox ∙ (ap (λ (t : SlaveKind). mailbox_check s.managers t.mailbox) k.slave.kind_is
     ∙ mailboxes-right s p.kind.mailbox (settings_at p.managers 0 ∷ settings_at p.managers 1 ∷ no_settings ∷ no_settings ∷ []) boxes k.settings k.unlocked)
 
@@ -71,5 +67,27 @@ safeop-granted p h v s k =
           ∙ process-right (manager_at s.managers 3) (settings_at p.managers 3) (bits_assigned p.kind.inputs p.inputs) p.kind.in_start 0 (k.settings 3 (omega arith)) (k.unlocked 3 (omega arith)) v.in_carried)),
     )
 
-pub is-lively : (p : SlavePlan) → IsStartable p → IsComplete p → IsLively p
-is-lively p h v = record { to_preop = preop-granted p h; answers = λ b e. requests-answered p v; to_safeop = safeop-granted p h v }
+-- ---- all that the start-up asks of a plan
+
+easy-bears : (kind : SlaveKind) (c : Config) (a : Action) → IsEasy a → Bears kind c a
+easy-bears kind c (AskWord t which) h = h
+easy-bears kind c (AwaitWord t which) h = h
+easy-bears kind c (AskState t to) h = absurd h
+easy-bears kind c (SendRequest t counter b r) h = absurd h
+easy-bears kind c _ h = tt
+
+answers-sent : (kind : SlaveKind) (i counter : ℕ) (b : Mailbox) (c : Config) (rs : List SdoRequest) → c.rise ≡ Stays PreOp → c.idle ≡ true → kind.mailbox ≡ Some b → AllAnswers kind c rs
+    → AllSent (Bears kind) i counter b c rs
+answers-sent kind i counter b c [] rise idle boxed h = tt
+answers-sent kind i counter b c (r ∷ rs) rise idle boxed h =
+    let a = answered-frame c r r.transfer in
+    (record { rise = rise; idle = idle; box = b; boxed = boxed; good = h.0 }, answers-sent kind i (counter + 1) b (answered c r) rs (a.rise ∙ rise) (a.idle ∙ idle) boxed h.1)
+
+pub bears-all : (i : ℕ) (p : SlavePlan) → IsStartable p → IsComplete p → Bearing (Bears p.kind) i p
+bears-all i p h v = record {
+  easy = easy-bears p.kind;
+  to_preop = preop-granted p h;
+  sends = λ b e. answers-sent p.kind i 0 b (prepared p) (requests p) refl refl e (requests-answered p v);
+  to_safeop = safeop-granted p h v;
+  to_op = λ c s k. tt;
+}

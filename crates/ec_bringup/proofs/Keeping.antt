@@ -1,12 +1,12 @@
 -- What befalls a slave keeps what is known of it.
-use Rattle.ec_bringup.proofs.Words.{ℕ, ◌≡◌, ◌<◌, ◌≢◌, ◌⊎◌, Bool, true, refl, sym, subst, ◌∙◌, SlaveKind, Fprd, Fpwr, Datagram, IsDatagram, SlaveState, power_on, station_of, meets, slave_met, station, at, Stage, Up, IsUp, Stands, IsGone, IsOfKind, StaysStanding, inside_kept}
+use Rattle.ec_bringup.proofs.Words.{true, refl, sym, subst, ◌∙◌, SlaveKind, power_on, slave_met, Up, Stands, inside_kept, ForOthersLaw, GoneLaw, SlaveLaw, StandingLaw}
 use Rattle.ec_bringup.proofs.Events.{fault-stands, put-stands, got-stands}
 use Rattle.ec_bringup.proofs.Messages.{stands-served}
 use Rattle.ec_bringup.proofs.Passing.{station-zero, one-passes}
 use Rattle.ec_bringup.proofs.Resets.{reset_stands}
 use Rattle.ec_bringup.proofs.Alike.{kind-kept}
 
-pub stays-standing : (kind : SlaveKind) (i : ℕ) (st : Stage) (trouble : Bool) (s : SlaveState) → Stands kind i st trouble s → StaysStanding kind i st trouble s
+pub stays-standing : StandingLaw
 stays-standing kind i st trouble s h = record {
   serves = stands-served kind i st trouble s h;
   puts = λ place byte. put-stands kind i st trouble s place byte h;
@@ -15,18 +15,16 @@ stays-standing kind i st trouble s h = record {
   resets = subst (λ (k : SlaveKind). Stands kind i st true (power_on k s.identity)) (sym h.slave.kind_is) (reset_stands kind s.identity i st);
 }
 
-pub gone-is-silent : (st : Stage) (s : SlaveState) → IsGone st s → station_of s ≡ 0
+pub gone-is-silent : GoneLaw
 gone-is-silent (Up c) s h = station-zero s h
 gone-is-silent _ s h = absurd h
 
-pub for-others : (kind : SlaveKind) (i t ado : ℕ) (st : Stage) (trouble : Bool) (s : SlaveState) (d : Datagram) → i < 64 → t < 64 → t ≢ i → IsUp st → Stands kind i st trouble s
-    → IsDatagram d → (d.command ≡ Fprd) ⊎ (d.command ≡ Fpwr) → d.address ≡ at (station t) ado
-    → meets s d ≡ record { slave = s; datagram = d }
+pub for-others : ForOthersLaw
 for-others kind i t ado st trouble s d li lt ne up h good c a = one-passes kind i t st trouble s d d ado li lt ne up h good c a (record { command = refl; address = refl })
 
 -- ---- whatever a datagram does, a slave stays one of its type, and its locks stay
 
-pub slave-law : (kind : SlaveKind) (s : SlaveState) (d : Datagram) → IsOfKind kind s → IsOfKind kind (slave_met s d)
+pub slave-law : SlaveLaw
 slave-law kind s d h =
     let k = inside_kept s d in
     kind-kept kind s (slave_met s d) k.kind k.room k.count k.outs k.ins (λ e n l. k.locked n ∙ h.unlocked_in_init (sym k.state ∙ e) n l) h

@@ -1,24 +1,8 @@
 -- The script brings every slave to the top: the actions fit one after another.
 use Rattle.ec_bringup.proofs.Words.{ℕ, suc, ◌+◌, ◌-◌, ◌<◌, ◌≤◌, ◌≡◌, ◌≢◌, refl, sym, ◌∙◌, ap, subst, inl, inr, arith, List, [], ◌∷◌, ◌++◌, length, get_or, ◌==◌, Bool, true, false, Option, Some, None, if◌then◌else◌, set, cases_eq, eq-eqb, if_true, SlavePlan, Action, AskWord, AwaitWord, SetManager, SetFmmu, AskState, AwaitState, SendRequest, AwaitReply, each_slave, named, identified, mailbox_set, raised, exchanged, talked, manager_set, fmmu_set, mapped, cleared, phases, script, requests, Config, Stage, Up, told, after, Fits, CanTell, talked_over, asked_all, prepared, end_of, Rise, Stays, Before, Down, fresh, answered, answered_by, claimed, CanClimb, IsClimbing, climbing, IsLow, IsStepUp, Leads, SyncManagerSettings, FmmuSettings, Mailbox, no_settings, no_fmmu, State, Init, PreOp, SafeOp, Op, output_assignment, input_assignment, settings_at, fmmu_at, SdoRequest, Transfer, Download, Upload, AreRequests, IsStartable, AreMailboxes}
-use Rattle.ec_bringup.proofs.Passing.{others-stay}
+use Rattle.ec_bringup.proofs.Passing.{others-stay, ForAskState, ForAskWord, ForAwaitReply, ForAwaitState, ForAwaitWord, ForSend, ForSetFmmu, ForSetManager, IsFor, as_one, mine-told}
 
 -- ---- runs of actions
-
-pub leads-append : (i : ℕ) (xs bs : List Action) (st mid end : Stage) → Leads i st xs mid → Leads i mid bs end → Leads i st (xs ++ bs) end
-leads-append i [] bs st mid end h k = subst (λ (x : Stage). Leads i x bs end) (sym h) k
-leads-append i (a ∷ xs) bs st mid end h k = (h.0, leads-append i xs bs (after i st a) mid end h.1 k)
-
--- an action for slave t alone, which has its station address
-abbrev pub IsFor : ℕ → Action → Type 0
-IsFor t (AskWord s which) = s ≡ t
-IsFor t (AwaitWord s which) = s ≡ t
-IsFor t (SetManager s n m) = s ≡ t
-IsFor t (SetFmmu s n f) = s ≡ t
-IsFor t (AskState s state) = s ≡ t
-IsFor t (AwaitState s state) = s ≡ t
-IsFor t (SendRequest s counter b r) = s ≡ t
-IsFor t (AwaitReply s b r) = s ≡ t
-IsFor t _ = ⊥
 
 abbrev pub AreFor : ℕ → List Action → Type 0
 AreFor t [] = Unit {0}
@@ -28,76 +12,80 @@ pub for-append : (t : ℕ) (xs bs : List Action) → AreFor t xs → AreFor t bs
 for-append t [] bs h k = k
 for-append t (a ∷ xs) bs h k = (h.0, for-append t xs bs h.1 k)
 
--- at another slave
-other-step : (i t : ℕ) (c : Config) (a : Action) → t ≢ i → t < 64 → IsFor t a → Fits i (Up c) a × (after i (Up c) a ≡ Up c)
-other-step i t c (AskWord s which) ne l h = let q : s ≢ i = λ e. ne (sym h ∙ e) in (((subst (λ (x : ℕ). x < 64) (sym h) l), tt, λ e. absurd (q e)), others-stay s i _ _ q)
-other-step i t c (AwaitWord s which) ne l h = let q : s ≢ i = λ e. ne (sym h ∙ e) in (((subst (λ (x : ℕ). x < 64) (sym h) l), tt, λ e. absurd (q e)), others-stay s i _ _ q)
-other-step i t c (SetManager s n m) ne l h = let q : s ≢ i = λ e. ne (sym h ∙ e) in (((subst (λ (x : ℕ). x < 64) (sym h) l), tt, λ e. absurd (q e)), others-stay s i _ _ q)
-other-step i t c (SetFmmu s n f) ne l h = let q : s ≢ i = λ e. ne (sym h ∙ e) in (((subst (λ (x : ℕ). x < 64) (sym h) l), tt, λ e. absurd (q e)), others-stay s i _ _ q)
-other-step i t c (AskState s state) ne l h = let q : s ≢ i = λ e. ne (sym h ∙ e) in (((subst (λ (x : ℕ). x < 64) (sym h) l), tt, λ e. absurd (q e)), others-stay s i _ _ q)
-other-step i t c (AwaitState s state) ne l h = let q : s ≢ i = λ e. ne (sym h ∙ e) in (((subst (λ (x : ℕ). x < 64) (sym h) l), tt, λ e. absurd (q e)), others-stay s i _ _ q)
-other-step i t c (SendRequest s counter b r) ne l h = let q : s ≢ i = λ e. ne (sym h ∙ e) in (((subst (λ (x : ℕ). x < 64) (sym h) l), tt, λ e. absurd (q e)), others-stay s i _ _ q)
-other-step i t c (AwaitReply s b r) ne l h = let q : s ≢ i = λ e. ne (sym h ∙ e) in (((subst (λ (x : ℕ). x < 64) (sym h) l), tt, λ e. absurd (q e)), others-stay s i _ _ q)
-other-step i t c _ ne l h = absurd h
+-- what an action asks, at a slave with its station address
+abbrev pub BearsAt : (Config → Action → Type 0) → Stage → Action → Type 0
+BearsAt B (Up c) a = B c a
+BearsAt B _ a = Unit {0}
 
-pub others-lead : (i t : ℕ) (c : Config) (xs : List Action) → t ≢ i → t < 64 → AreFor t xs → Leads i (Up c) xs (Up c)
-others-lead i t c [] ne l h = refl
-others-lead i t c (a ∷ xs) ne l h =
-    let q = other-step i t c a ne l h.0 in
-    (q.0, subst (λ (x : Stage). Leads i x xs (Up c)) (sym q.1) (others-lead i t c xs ne l h.1))
+-- the actions fit one after another, and each that is for slave i finds what it asks; they bring the slave to a stage
+abbrev pub Walks : (Config → Action → Type 0) → ℕ → Stage → List Action → Stage → Type 0
+Walks B i st [] end = st ≡ end
+Walks B i st (a ∷ xs) end = Fits i st a × (IsFor i a → BearsAt B st a) × Walks B i (after i st a) xs end
 
--- at its own
-pub own-step : (i : ℕ) (c : Config) (a : Action) → i < 64 → IsFor i a → CanTell c a → Fits i (Up c) a × (after i (Up c) a ≡ Up (told c a))
-own-step i c (AskWord s which) l h k = (((subst (λ (x : ℕ). x < 64) (sym h) l), tt, λ e. k), if_true _ _ _ (eq-eqb s i h))
-own-step i c (AwaitWord s which) l h k = (((subst (λ (x : ℕ). x < 64) (sym h) l), tt, λ e. k), if_true _ _ _ (eq-eqb s i h))
-own-step i c (SetManager s n m) l h k = (((subst (λ (x : ℕ). x < 64) (sym h) l), tt, λ e. k), if_true _ _ _ (eq-eqb s i h))
-own-step i c (SetFmmu s n f) l h k = (((subst (λ (x : ℕ). x < 64) (sym h) l), tt, λ e. k), if_true _ _ _ (eq-eqb s i h))
-own-step i c (AskState s state) l h k = (((subst (λ (x : ℕ). x < 64) (sym h) l), tt, λ e. k), if_true _ _ _ (eq-eqb s i h))
-own-step i c (AwaitState s state) l h k = (((subst (λ (x : ℕ). x < 64) (sym h) l), tt, λ e. k), if_true _ _ _ (eq-eqb s i h))
-own-step i c (SendRequest s counter b r) l h k = (((subst (λ (x : ℕ). x < 64) (sym h) l), tt, λ e. k), if_true _ _ _ (eq-eqb s i h))
-own-step i c (AwaitReply s b r) l h k = (((subst (λ (x : ℕ). x < 64) (sym h) l), tt, λ e. k), if_true _ _ _ (eq-eqb s i h))
-own-step i c _ l h k = absurd h
+-- told to the slave itself, they may be
+abbrev pub Tells : (Config → Action → Type 0) → Config → List Action → Config → Type 0
+Tells B c [] end = c ≡ end
+Tells B c (a ∷ xs) end = CanTell c a × B c a × Tells B (told c a) xs end
 
-abbrev pub Tells : Config → List Action → Config → Type 0
-Tells c [] end = c ≡ end
-Tells c (a ∷ xs) end = CanTell c a × Tells (told c a) xs end
+pub walks-lead : (B : Config → Action → Type 0) (i : ℕ) (st end : Stage) (xs : List Action) → Walks B i st xs end → Leads i st xs end
+walks-lead B i st end [] h = h
+walks-lead B i st end (a ∷ xs) h = (h.0, walks-lead B i (after i st a) end xs h.2)
 
-pub own-leads : (i : ℕ) (c end : Config) (xs : List Action) → i < 64 → AreFor i xs → Tells c xs end → Leads i (Up c) xs (Up end)
-own-leads i c end [] l h k = ap (λ (x : Config). Up x) k
-own-leads i c end (a ∷ xs) l h k =
-    let q = own-step i c a l h.0 k.0 in
-    (q.0, subst (λ (x : Stage). Leads i x xs (Up end)) (sym q.1) (own-leads i (told c a) end xs l h.1 k.1))
+tells-append : (B : Config → Action → Type 0) (c mid end : Config) (xs bs : List Action) → Tells B c xs mid → Tells B mid bs end → Tells B c (xs ++ bs) end
+tells-append B c mid end [] bs h k = subst (λ (x : Config). Tells B x bs end) (sym h) k
+tells-append B c mid end (a ∷ xs) bs h k = (h.0, h.1, tells-append B (told c a) mid end xs bs h.2 k)
 
-pub tells-append : (c mid end : Config) (xs bs : List Action) → Tells c xs mid → Tells mid bs end → Tells c (xs ++ bs) end
-tells-append c mid end [] bs h k = subst (λ (x : Config). Tells x bs end) (sym h) k
-tells-append c mid end (a ∷ xs) bs h k = (h.0, tells-append (told c a) mid end xs bs h.1 k)
+module _ (B : Config → Action → Type 0) (i : ℕ) where
+  walks-append : (xs bs : List Action) (st mid end : Stage) → Walks B i st xs mid → Walks B i mid bs end → Walks B i st (xs ++ bs) end
+  walks-append [] bs st mid end h k = subst (λ (x : Stage). Walks B i x bs end) (sym h) k
+  walks-append (a ∷ xs) bs st mid end h k = (h.0, h.1, walks-append xs bs (after i st a) mid end h.2 k)
 
--- ---- a phase over all slaves
+  -- those of another slave
+  others-walk : (t : ℕ) (c : Config) (xs : List Action) → t ≢ i → t < 64 → AreFor t xs → Walks B i (Up c) xs (Up c)
+  others-walk t c [] ne l h = refl
+  others-walk t c (a ∷ xs) ne l h =
+      let o = as_one 0 h.0 in
+      let stays : after i (Up c) a ≡ Up c = o.leads i (Up c) ∙ others-stay t i _ _ ne in (
+        o.fit i (Up c) (l, tt, λ e. absurd (ne e)),
+        λ is. absurd ((as_one 0 is).other i (o.is_other i ne) refl),
+        subst (λ (x : Stage). Walks B i x xs (Up c)) (sym stays) (others-walk t c xs ne l h.1),
+      )
 
-pub each-others : (f : ℕ → SlavePlan → List Action) (i k : ℕ) (ps : List SlavePlan) (st : Stage) → i < k → k + length ps ≤ 64
-    → ((t : ℕ) (p : SlavePlan) → t ≢ i → t < 64 → Leads i st (f t p) st) → Leads i st (each_slave f k ps) st
-each-others f i k [] st l b h = refl
-each-others f i k (p ∷ ps) st l b h = leads-append i (f k p) (each_slave f (k + 1) ps) st st st (h k p (λ e. omega (arith, e, l)) (omega arith)) (each-others f i (k + 1) ps st (omega arith) (omega arith) h)
+  -- its own
+  own-walk : (c end : Config) (xs : List Action) → i < 64 → AreFor i xs → Tells B c xs end → Walks B i (Up c) xs (Up end)
+  own-walk c end [] l h k = ap (λ (x : Config). Up x) k
+  own-walk c end (a ∷ xs) l h k =
+      let o = as_one 0 h.0 in (
+        o.fit i (Up c) (l, tt, λ e. k.0),
+        λ is. k.1,
+        subst (λ (x : Stage). Walks B i x xs (Up end)) (sym (mine-told o c)) (own-walk (told c a) end xs l h.1 k.2),
+      )
 
--- from one stage to another at its own turn
-pub each-leads : (f : ℕ → SlavePlan → List Action) (d : SlavePlan) (i k : ℕ) (ps : List SlavePlan) (st end : Stage) → k ≤ i → i < k + length ps → k + length ps ≤ 64
-    → ((t : ℕ) (p : SlavePlan) → t ≢ i → t < 64 → Leads i st (f t p) st) → ((t : ℕ) (p : SlavePlan) → t ≢ i → t < 64 → Leads i end (f t p) end)
-    → Leads i st (f i (get_or ps (i - k) d)) end → Leads i st (each_slave f k ps) end
-each-leads f d i k [] st end a l b h g mine = absurd (omega arith)
-each-leads f d i k (p ∷ ps) st end a l b h g mine = elim (cases_eq k i) [
-  | inl e ↦
-      let z : i - k ≡ 0 = omega (arith, e) in
-      leads-append i (f k p) (each_slave f (k + 1) ps) st end end
-      (subst (λ (x : ℕ). Leads i st (f x p) end) (sym e) (subst (λ (x : ℕ). Leads i st (f i (get_or (p ∷ ps) x d)) end) z mine))
-      (each-others f i (k + 1) ps end (omega (arith, e)) (omega arith) g)
-  | inr ne ↦
-      let below : k < i = omega (arith, ne, a) in
-      let z : i - k ≡ suc (i - (k + 1)) = omega (arith, below) in
-      leads-append i (f k p) (each_slave f (k + 1) ps) st st end (h k p ne (omega arith))
-      (each-leads f d i (k + 1) ps st end (omega (arith, below)) (omega arith) (omega arith) h g (subst (λ (x : ℕ). Leads i st (f i (get_or (p ∷ ps) x d)) end) z mine))
-]
+  -- ---- a phase over all slaves
 
--- ---- what the script as a whole leaves a slave in
+  each-others : (f : ℕ → SlavePlan → List Action) (k : ℕ) (ps : List SlavePlan) (st : Stage) → i < k → k + length ps ≤ 64
+      → ((t : ℕ) (p : SlavePlan) → t ≢ i → t < 64 → Walks B i st (f t p) st) → Walks B i st (each_slave f k ps) st
+  each-others f k [] st l b h = refl
+  each-others f k (p ∷ ps) st l b h =
+      walks-append (f k p) (each_slave f (k + 1) ps) st st st (h k p (λ e. omega (arith, e, l)) (omega arith)) (each-others f (k + 1) ps st (omega arith) (omega arith) h)
+
+  -- from one stage to another at its own turn
+  each-walks : (f : ℕ → SlavePlan → List Action) (d : SlavePlan) (k : ℕ) (ps : List SlavePlan) (st end : Stage) → k ≤ i → i < k + length ps → k + length ps ≤ 64
+      → ((t : ℕ) (p : SlavePlan) → t ≢ i → t < 64 → Walks B i st (f t p) st) → ((t : ℕ) (p : SlavePlan) → t ≢ i → t < 64 → Walks B i end (f t p) end)
+      → Walks B i st (f i (get_or ps (i - k) d)) end → Walks B i st (each_slave f k ps) end
+  each-walks f d k [] st end a l b h g mine = absurd (omega arith)
+  each-walks f d k (p ∷ ps) st end a l b h g mine = elim (cases_eq k i) [
+    | inl e ↦
+        let z : i - k ≡ 0 = omega (arith, e) in
+        walks-append (f k p) (each_slave f (k + 1) ps) st end end
+        (subst (λ (x : ℕ). Walks B i st (f x p) end) (sym e) (subst (λ (x : ℕ). Walks B i st (f i (get_or (p ∷ ps) x d)) end) z mine))
+        (each-others f (k + 1) ps end (omega (arith, e)) (omega arith) g)
+    | inr ne ↦
+        let below : k < i = omega (arith, ne, a) in
+        let z : i - k ≡ suc (i - (k + 1)) = omega (arith, below) in
+        walks-append (f k p) (each_slave f (k + 1) ps) st st end (h k p ne (omega arith))
+        (each-walks f d (k + 1) ps st end (omega (arith, below)) (omega arith) (omega arith) h g (subst (λ (x : ℕ). Walks B i st (f i (get_or (p ∷ ps) x d)) end) z mine))
+  ]
 
 -- ---- the requests
 
@@ -127,184 +115,208 @@ talked-frame c (r ∷ rs) e =
 
 pub exchanged-for : (i counter : ℕ) (b : Mailbox) (rs : List SdoRequest) → AreFor i (exchanged i b counter rs)
 exchanged-for i counter b [] = tt
-exchanged-for i counter b (r ∷ rs) = (refl, (refl, exchanged-for i (counter + 1) b rs))
+exchanged-for i counter b (r ∷ rs) = (ForSend i counter b r, (ForAwaitReply i b r, exchanged-for i (counter + 1) b rs))
 
-exchanged-tells : (i counter : ℕ) (b : Mailbox) (c : Config) (rs : List SdoRequest) → IsLow c.rise → c.talk ≡ None → AreMailboxes b c.managers → AreRequests rs → Tells c (exchanged i b counter rs) (talked_over c rs)
-exchanged-tells i counter b c [] low none boxes qs = refl
-exchanged-tells i counter b c (r ∷ rs) low none boxes qs =
-    let a = answered-frame c r r.transfer in (
-      (low, none, boxes, qs.0),
-      (
-        (low, (counter, refl), boxes),
-        exchanged-tells i (counter + 1) b (answered c r) rs (subst (λ (x : Rise). IsLow x) (sym a.rise) low) a.talk (subst (λ (x : List SyncManagerSettings). AreMailboxes b x) (sym a.managers) boxes) qs.1,
-      ),
-    )
-
--- ---- phase by phase
+-- ---- the actions of a slave itself, phase by phase
 
 abbrev pub identity_known : Config
 identity_known = record fresh { idle = true }
 
-pub identified-tells : (i : ℕ) (p : SlavePlan) → Tells fresh (identified i p) identity_known
-identified-tells i p = ((tt, refl), ((tt, refl), ((tt, refl), ((tt, refl), ((tt, refl), ((tt, refl), refl))))))
-
 abbrev pub boxed : SyncManagerSettings → SyncManagerSettings → Config
 boxed m0 m1 = record identity_known { managers = m0 ∷ m1 ∷ no_settings ∷ no_settings ∷ [] }
 
-pub mailbox-for : (i : ℕ) (p : SlavePlan) (o : Option Mailbox) → AreFor i (mailbox_set i p o)
+identified-for : (i : ℕ) (p : SlavePlan) → AreFor i (identified i p)
+identified-for i p = (ForAskWord i 0, (ForAwaitWord i 0, (ForAskWord i 1, (ForAwaitWord i 1, (ForAskWord i 2, (ForAwaitWord i 2, tt))))))
+
+mailbox-for : (i : ℕ) (p : SlavePlan) (o : Option Mailbox) → AreFor i (mailbox_set i p o)
 mailbox-for i p None = tt
-mailbox-for i p (Some b) = (refl, (refl, tt))
+mailbox-for i p (Some b) = (ForSetManager i 0 _, (ForSetManager i 1 _, tt))
 
-pub mailbox-tells : (i : ℕ) (p : SlavePlan) (o : Option Mailbox) → (o ≡ None → (settings_at p.managers 0 ≡ no_settings) × (settings_at p.managers 1 ≡ no_settings))
-    → Tells identity_known (mailbox_set i p o) (boxed (settings_at p.managers 0) (settings_at p.managers 1))
-mailbox-tells i p None h =
-    let e = h refl in
-    sym (ap (λ (m : SyncManagerSettings). boxed m (settings_at p.managers 1)) e.0 ∙ ap (λ (m : SyncManagerSettings). boxed no_settings m) e.1)
-mailbox-tells i p (Some b) h = ((tt, omega arith, refl, refl), ((tt, omega arith, refl, refl), refl))
-
-pub raised-for : (state : State) (i : ℕ) (p : SlavePlan) → AreFor i (raised state i p)
-raised-for state i p = (refl, (refl, tt))
-
-pub raised-tells : (from to : State) (i : ℕ) (p : SlavePlan) (c : Config) → c.rise ≡ Stays from → c.talk ≡ None → IsStepUp from to → Tells c (raised to i p) (record c { rise = Stays to })
-raised-tells from to i p c e none up = ((none, subst (λ (r : Rise). CanClimb r to) (sym e) up), ((none, subst (λ (r : Rise). IsClimbing (climbing r to) to) (sym e) (up, refl)), refl))
+raised-for : (state : State) (i : ℕ) (p : SlavePlan) → AreFor i (raised state i p)
+raised-for state i p = (ForAskState i state, (ForAwaitState i state, tt))
 
 manager-for : (i n : ℕ) (p : SlavePlan) (b : Bool) → AreFor i (if b then [] else SetManager i n (settings_at p.managers n) ∷ [])
 manager-for i n p true = tt
-manager-for i n p false = (refl, tt)
+manager-for i n p false = (ForSetManager i n _, tt)
 
 fmmu-for : (i n : ℕ) (p : SlavePlan) (b : Bool) → AreFor i (fmmu_set i p n b)
-fmmu-for i n p true = (refl, tt)
+fmmu-for i n p true = (ForSetFmmu i n _, tt)
 fmmu-for i n p false = tt
 
-pub mapped-for : (i : ℕ) (p : SlavePlan) → AreFor i (mapped i p)
+mapped-for : (i : ℕ) (p : SlavePlan) → AreFor i (mapped i p)
 mapped-for i p =
     for-append i _ _ (manager-for i 2 p ((settings_at p.managers 2).activate == 0))
     (for-append i _ _ (manager-for i 3 p ((settings_at p.managers 3).activate == 0))
     (for-append i _ _ (fmmu-for i 0 p (fmmu_at p.fmmus 0).active) (fmmu-for i 1 p (fmmu_at p.fmmus 1).active)))
 
-pub talked-for : (i : ℕ) (p : SlavePlan) (o : Option Mailbox) → AreFor i (talked i p o)
+talked-for : (i : ℕ) (p : SlavePlan) (o : Option Mailbox) → AreFor i (talked i p o)
 talked-for i p None = tt
 talked-for i p (Some b) = exchanged-for i 0 b (requests p)
-
--- a manager, or an FMMU, that is set in its place, or is nothing there and in the plan
-manager-tells : (i n : ℕ) (p : SlavePlan) (c : Config) (m : SyncManagerSettings) (b : Bool) → n < 4 → length c.managers ≡ 4 → IsLow c.rise → c.talk ≡ None
-    → set c.managers n no_settings ≡ c.managers → (b ≡ true → m ≡ no_settings)
-    → Tells c (if b then [] else SetManager i n m ∷ []) (record c { managers = set c.managers n m })
-manager-tells i n p c m true l four low none same unset = ap (λ (ms : List SyncManagerSettings). record c { managers = ms }) (sym (ap (set c.managers n) (unset refl) ∙ same))
-manager-tells i n p c m false l four low none same unset = ((low, omega arith, four, none), refl)
-
-fmmu-tells : (i n : ℕ) (p : SlavePlan) (c : Config) (b : Bool) → n < 4 → length c.fmmus ≡ 4 → IsLow c.rise → c.talk ≡ None
-    → set c.fmmus n no_fmmu ≡ c.fmmus → (b ≡ false → fmmu_at p.fmmus n ≡ no_fmmu)
-    → Tells c (fmmu_set i p n b) (record c { fmmus = set c.fmmus n (fmmu_at p.fmmus n) })
-fmmu-tells i n p c true l four low none same unset = ((low, omega arith, four, none), refl)
-fmmu-tells i n p c false l four low none same unset = ap (λ (fs : List FmmuSettings). record c { fmmus = fs }) (sym (ap (set c.fmmus n) (unset refl) ∙ same))
 
 abbrev pub mapped_to : Config → SlavePlan → Config
 mapped_to c p = record c { managers = p.managers; fmmus = p.fmmus }
 
-pub mapped-tells : (i : ℕ) (p : SlavePlan) (c : Config) → IsStartable p → c.managers ≡ settings_at p.managers 0 ∷ settings_at p.managers 1 ∷ no_settings ∷ no_settings ∷ []
-    → c.fmmus ≡ no_fmmu ∷ no_fmmu ∷ no_fmmu ∷ no_fmmu ∷ [] → IsLow c.rise → c.talk ≡ None → Tells c (mapped i p) (mapped_to c p)
-mapped-tells i p c h em ef low none =
-    let s0 = settings_at p.managers 0 in
-    let s1 = settings_at p.managers 1 in
-    let s2 = settings_at p.managers 2 in
-    let s3 = settings_at p.managers 3 in
-    let g0 = fmmu_at p.fmmus 0 in
-    let g1 = fmmu_at p.fmmus 1 in
-    let e2 : s2 ≡ h.m2 = ap (λ (ms : List SyncManagerSettings). settings_at ms 2) h.managers in
-    let e3 : s3 ≡ h.m3 = ap (λ (ms : List SyncManagerSettings). settings_at ms 3) h.managers in
-    let d0 : g0 ≡ h.f0 = ap (λ (fs : List FmmuSettings). fmmu_at fs 0) h.fmmus in
-    let d1 : g1 ≡ h.f1 = ap (λ (fs : List FmmuSettings). fmmu_at fs 1) h.fmmus in
-    let c2 : Config = record c { managers = set c.managers 2 s2 } in
-    let c3 : Config = record c { managers = set (set c.managers 2 s2) 3 s3 } in
-    let c4 : Config = record c3 { fmmus = set c.fmmus 0 g0 } in
-    let c5 : Config = record c3 { fmmus = set (set c.fmmus 0 g0) 1 g1 } in
-    let m2 : set c.managers 2 s2 ≡ s0 ∷ s1 ∷ s2 ∷ no_settings ∷ [] = ap (λ (ms : List SyncManagerSettings). set ms 2 s2) em in
-    let m3 : set (set c.managers 2 s2) 3 s3 ≡ s0 ∷ s1 ∷ s2 ∷ s3 ∷ [] = ap (λ (ms : List SyncManagerSettings). set ms 3 s3) m2 in
-    let f0 : set c.fmmus 0 g0 ≡ g0 ∷ no_fmmu ∷ no_fmmu ∷ no_fmmu ∷ [] = ap (λ (fs : List FmmuSettings). set fs 0 g0) ef in
-    let f1 : set (set c.fmmus 0 g0) 1 g1 ≡ g0 ∷ g1 ∷ no_fmmu ∷ no_fmmu ∷ [] = ap (λ (fs : List FmmuSettings). set fs 1 g1) f0 in
-    let whole : s0 ∷ s1 ∷ s2 ∷ s3 ∷ [] ≡ p.managers = four_of p.managers h.m0 h.m1 h.m2 h.m3 h.managers in
-    let one : Tells c (manager_set i p 2) c2 = manager-tells i 2 p c s2 (s2.activate == 0) (omega arith) (ap length em) low none (ap (λ (ms : List SyncManagerSettings). set ms 2 no_settings) em ∙ sym em)
-    (λ e. e2 ∙ h.no_outputs (subst (λ (m : SyncManagerSettings). (m.activate == 0) ≡ true) e2 e)) in
-    let two : Tells c2 (manager_set i p 3) c3 = manager-tells i 3 p c2 s3 (s3.activate == 0) (omega arith) (ap length m2) low none (ap (λ (ms : List SyncManagerSettings). set ms 3 no_settings) m2 ∙ sym m2)
-    (λ e. e3 ∙ h.no_inputs (subst (λ (m : SyncManagerSettings). (m.activate == 0) ≡ true) e3 e)) in
-    let three : Tells c3 (fmmu_set i p 0 g0.active) c4 = fmmu-tells i 0 p c3 g0.active (omega arith) (ap length ef) low none (ap (λ (fs : List FmmuSettings). set fs 0 no_fmmu) ef ∙ sym ef)
-    (λ e. d0 ∙ h.no_out_fmmu (subst (λ (f : FmmuSettings). f.active ≡ false) d0 e)) in
-    let four : Tells c4 (fmmu_set i p 1 g1.active) c5 = fmmu-tells i 1 p c4 g1.active (omega arith) (ap length f0) low none (ap (λ (fs : List FmmuSettings). set fs 1 no_fmmu) f0 ∙ sym f0)
-    (λ e. d1 ∙ h.no_in_fmmu (subst (λ (f : FmmuSettings). f.active ≡ false) d1 e)) in
-    let last : c5 ≡ mapped_to c p = ap (λ (ms : List SyncManagerSettings). record c { managers = ms; fmmus = set (set c.fmmus 0 g0) 1 g1 }) (m3 ∙ whole)
-    ∙ ap (λ (fs : List FmmuSettings). record c { managers = p.managers; fmmus = fs }) (f1 ∙ (two_of p.fmmus h.f0 h.f1 h.fmmus)) in
-    subst (λ (x : Config). Tells c (mapped i p) x) last
-    (tells-append c c2 c5 (manager_set i p 2) _ one (tells-append c2 c3 c5 (manager_set i p 3) _ two (tells-append c3 c4 c5 (fmmu_set i p 0 g0.active) _ three four)))
-  where
-    four_of : (ms : List SyncManagerSettings) (a b c d : SyncManagerSettings) → ms ≡ a ∷ b ∷ c ∷ d ∷ [] → settings_at ms 0 ∷ settings_at ms 1 ∷ settings_at ms 2 ∷ settings_at ms 3 ∷ [] ≡ ms
-    four_of ms a b c d e = subst (λ (x : List SyncManagerSettings). settings_at x 0 ∷ settings_at x 1 ∷ settings_at x 2 ∷ settings_at x 3 ∷ [] ≡ x) (sym e) refl
+-- ---- what they ask, and what they tell
 
-    two_of : (fs : List FmmuSettings) (a b : FmmuSettings) → fs ≡ a ∷ b ∷ no_fmmu ∷ no_fmmu ∷ [] → fmmu_at fs 0 ∷ fmmu_at fs 1 ∷ no_fmmu ∷ no_fmmu ∷ [] ≡ fs
-    two_of fs a b e = subst (λ (x : List FmmuSettings). fmmu_at x 0 ∷ fmmu_at x 1 ∷ no_fmmu ∷ no_fmmu ∷ [] ≡ x) (sym e) refl
+-- the actions that ask no more than a word of the identity to be one of three
+abbrev pub IsEasy : Action → Type 0
+IsEasy (AskWord t which) = which < 3
+IsEasy (AwaitWord t which) = which < 3
+IsEasy (AskState t to) = ⊥
+IsEasy (SendRequest t counter b r) = ⊥
+IsEasy _ = Unit {0}
 
--- ---- the requests of a slave, if it has a mailbox
+-- each request that is sent, at what is known by the ones before it
+abbrev pub AllSent : (Config → Action → Type 0) → ℕ → ℕ → Mailbox → Config → List SdoRequest → Type 0
+AllSent B i counter b c [] = Unit {0}
+AllSent B i counter b c (r ∷ rs) = B c (SendRequest i counter b r) × AllSent B i (counter + 1) b (answered c r) rs
 
-pub talked-tells : (i : ℕ) (p : SlavePlan) (o : Option Mailbox) → AreRequests (requests p)
-    → ((b : Mailbox) → o ≡ Some b → AreMailboxes b (prepared p).managers) → Tells (prepared p) (talked i p o) (asked_all (prepared p) p o)
-talked-tells i p None q h = refl
-talked-tells i p (Some b) q h = exchanged-tells i 0 b (prepared p) (requests p) tt refl (h b refl) q
+-- what the plan of slave i has to give
+pub record Bearing (B : Config → Action → Type 0) (i : ℕ) (p : SlavePlan) : Type 0 where
+  pub easy : (c : Config) (a : Action) → IsEasy a → B c a
+  pub to_preop : B (boxed (settings_at p.managers 0) (settings_at p.managers 1)) (AskState i PreOp)
+  pub sends : (b : Mailbox) → p.kind.mailbox ≡ Some b → AllSent B i 0 b (prepared p) (requests p)
+  pub to_safeop : B (mapped_to (asked_all (prepared p) p p.kind.mailbox) p) (AskState i SafeOp)
+  pub to_op : (c : Config) → B c (AskState i Op)
 
 pub asked-frame : (p : SlavePlan) (o : Option Mailbox) → SameFrame (prepared p) (asked_all (prepared p) p o)
 asked-frame p None = record { managers = refl; fmmus = refl; idle = refl; talk = refl; rise = refl }
 asked-frame p (Some b) = talked-frame (prepared p) (requests p) refl
 
+-- a plan, and a configuration, of these managers and FMMUs
+abbrev Maps : (Config → Action → Type 0) → ℕ → SlavePlan → Config → (ms ns : List SyncManagerSettings) (fs gs : List FmmuSettings) → Type 0
+Maps B i p c ms ns fs gs = Tells B (record c { managers = ns; fmmus = gs }) (mapped i (record p { managers = ms; fmmus = fs })) (record c { managers = ms; fmmus = fs })
+
+module _ (B : Config → Action → Type 0) (i : ℕ) (easy : (c : Config) (a : Action) → IsEasy a → B c a) where
+  -- a word of the identity
+  word-tells : (n : ℕ) (c end : Config) (xs : List Action) → n < 3 → IsLow c.rise → c.talk ≡ None → Tells B (record c { idle = true }) xs end → Tells B c (AskWord i n ∷ AwaitWord i n ∷ xs) end
+  word-tells n c end xs l low none k = ((low, none), easy _ (AskWord i n) l, ((low, none), easy _ (AwaitWord i n) l, k))
+
+  identified-tells : (p : SlavePlan) → Tells B fresh (identified i p) identity_known
+  identified-tells p =
+      word-tells 0 fresh identity_known (AskWord i 1 ∷ AwaitWord i 1 ∷ AskWord i 2 ∷ AwaitWord i 2 ∷ []) (omega arith) tt refl
+      (word-tells 1 identity_known identity_known (AskWord i 2 ∷ AwaitWord i 2 ∷ []) (omega arith) tt refl (word-tells 2 identity_known identity_known [] (omega arith) tt refl refl))
+
+  mailbox-tells : (p : SlavePlan) (o : Option Mailbox) → (o ≡ None → identity_known ≡ boxed (settings_at p.managers 0) (settings_at p.managers 1))
+      → Tells B identity_known (mailbox_set i p o) (boxed (settings_at p.managers 0) (settings_at p.managers 1))
+  mailbox-tells p None h = h refl
+  mailbox-tells p (Some b) h = ((tt, omega arith, refl, refl), easy _ (SetManager i 0 _) tt, ((tt, omega arith, refl, refl), easy _ (SetManager i 1 _) tt, refl))
+
+  raised-tells : (from to : State) (p : SlavePlan) (c : Config) → c.rise ≡ Stays from → c.talk ≡ None → IsStepUp from to → B c (AskState i to) → Tells B c (raised to i p) (record c { rise = Stays to })
+  raised-tells from to p c e none up asks = (
+    (none, subst (λ (r : Rise). CanClimb r to) (sym e) up),
+    asks,
+    ((none, subst (λ (r : Rise). IsClimbing (climbing r to) to) (sym e) (up, refl)), easy _ (AwaitState i to) tt, refl),
+  )
+
+  exchanged-tells : (counter : ℕ) (b : Mailbox) (c : Config) (rs : List SdoRequest) → IsLow c.rise → c.talk ≡ None → AreMailboxes b c.managers → AreRequests rs → AllSent B i counter b c rs
+      → Tells B c (exchanged i b counter rs) (talked_over c rs)
+  exchanged-tells counter b c [] low none boxes qs h = refl
+  exchanged-tells counter b c (r ∷ rs) low none boxes qs h =
+      let a = answered-frame c r r.transfer in (
+        (low, none, boxes, qs.0),
+        h.0,
+        (
+          (low, (counter, refl), boxes),
+          easy _ (AwaitReply i b r) tt,
+          exchanged-tells (counter + 1) b (answered c r) rs (subst (λ (x : Rise). IsLow x) (sym a.rise) low) a.talk (subst (λ (x : List SyncManagerSettings). AreMailboxes b x) (sym a.managers) boxes) qs.1 h.1,
+        ),
+      )
+
+  talked-tells : (p : SlavePlan) (o : Option Mailbox) → AreRequests (requests p) → ((b : Mailbox) → o ≡ Some b → AreMailboxes b (prepared p).managers × AllSent B i 0 b (prepared p) (requests p))
+      → Tells B (prepared p) (talked i p o) (asked_all (prepared p) p o)
+  talked-tells p None q h = refl
+  talked-tells p (Some b) q h = exchanged-tells 0 b (prepared p) (requests p) tt refl (h b refl).0 q (h b refl).1
+
+  -- a manager, or an FMMU, that is set in its place, or is nothing there and in the plan
+  manager-tells : (n : ℕ) (c : Config) (m : SyncManagerSettings) (b : Bool) → n < 4 → length c.managers ≡ 4 → IsLow c.rise → c.talk ≡ None → set c.managers n no_settings ≡ c.managers
+      → (b ≡ true → m ≡ no_settings) → Tells B c (if b then [] else SetManager i n m ∷ []) (record c { managers = set c.managers n m })
+  manager-tells n c m true l four low none same unset = ap (λ (ms : List SyncManagerSettings). record c { managers = ms }) (sym (ap (set c.managers n) (unset refl) ∙ same))
+  manager-tells n c m false l four low none same unset = ((low, omega arith, four, none), easy _ (SetManager i n m) tt, refl)
+
+  fmmu-tells : (n : ℕ) (p : SlavePlan) (c : Config) (b : Bool) → n < 4 → length c.fmmus ≡ 4 → IsLow c.rise → c.talk ≡ None → set c.fmmus n no_fmmu ≡ c.fmmus
+      → (b ≡ false → fmmu_at p.fmmus n ≡ no_fmmu) → Tells B c (fmmu_set i p n b) (record c { fmmus = set c.fmmus n (fmmu_at p.fmmus n) })
+  fmmu-tells n p c true l four low none same unset = ((low, omega arith, four, none), easy _ (SetFmmu i n _) tt, refl)
+  fmmu-tells n p c false l four low none same unset = ap (λ (fs : List FmmuSettings). record c { fmmus = fs }) (sym (ap (set c.fmmus n) (unset refl) ∙ same))
+
+  mapped-tells : (p : SlavePlan) (c : Config) (h : IsStartable p) → c.managers ≡ h.m0 ∷ h.m1 ∷ no_settings ∷ no_settings ∷ [] → c.fmmus ≡ fresh.fmmus → IsLow c.rise → c.talk ≡ None
+      → Tells B c (mapped i p) (mapped_to c p)
+  mapped-tells p c h em ef low none =
+      let ms : List SyncManagerSettings = h.m0 ∷ h.m1 ∷ h.m2 ∷ h.m3 ∷ [] in
+      let fs : List FmmuSettings = h.f0 ∷ h.f1 ∷ no_fmmu ∷ no_fmmu ∷ [] in
+      let q : SlavePlan = record p { managers = ms; fmmus = fs } in
+      let c1 : Config = record c { managers = h.m0 ∷ h.m1 ∷ no_settings ∷ no_settings ∷ []; fmmus = fresh.fmmus } in
+      let c2 : Config = record c1 { managers = h.m0 ∷ h.m1 ∷ h.m2 ∷ no_settings ∷ [] } in
+      let c3 : Config = record c1 { managers = ms } in
+      let c4 : Config = record c3 { fmmus = h.f0 ∷ no_fmmu ∷ no_fmmu ∷ no_fmmu ∷ [] } in
+      let c5 : Config = record c { managers = ms; fmmus = fs } in
+      subst (λ x. Maps B i p c x c.managers p.fmmus c.fmmus) (sym h.managers) (subst (λ x. Maps B i p c ms c.managers x c.fmmus) (sym h.fmmus)
+      (subst (λ x. Maps B i p c ms x fs c.fmmus) (sym em) (subst (λ x. Maps B i p c ms c1.managers fs x) (sym ef)
+      (tells-append B c1 c2 c5 (manager_set i q 2) _ (manager-tells 2 c1 h.m2 (h.m2.activate == 0) (omega arith) refl low none refl h.no_outputs)
+      (tells-append B c2 c3 c5 (manager_set i q 3) _ (manager-tells 3 c2 h.m3 (h.m3.activate == 0) (omega arith) refl low none refl h.no_inputs)
+      (tells-append B c3 c4 c5 (fmmu_set i q 0 h.f0.active) _ (fmmu-tells 0 q c3 h.f0.active (omega arith) refl low none refl h.no_out_fmmu)
+      (fmmu-tells 1 q c4 h.f1.active (omega arith) refl low none refl h.no_in_fmmu)))))))
+
 -- ---- the whole script
 
-pub others-of : (f : ℕ → SlavePlan → List Action) → ((t : ℕ) (p : SlavePlan) → AreFor t (f t p)) → (i : ℕ) (c : Config) (t : ℕ) (p : SlavePlan) → t ≢ i → t < 64 → Leads i (Up c) (f t p) (Up c)
-others-of f h i c t p ne l = others-lead i t c (f t p) ne l (h t p)
+module _ (B : Config → Action → Type 0) (i : ℕ) (d : SlavePlan) where
+  -- one phase that tells each slave by itself
+  phase-walks : (f : ℕ → SlavePlan → List Action) → ((t : ℕ) (p : SlavePlan) → AreFor t (f t p)) → (ps : List SlavePlan) (c end : Config) → i < length ps → length ps ≤ 64
+      → Tells B c (f i (get_or ps i d)) end → Walks B i (Up c) (each_slave f 0 ps) (Up end)
+  phase-walks f h ps c end l b k =
+      each-walks B i f d 0 ps (Up c) (Up end) (omega arith) (omega arith) (omega arith)
+      (λ t p ne lt. others-walk B i t c (f t p) ne lt (h t p)) (λ t p ne lt. others-walk B i t end (f t p) ne lt (h t p))
+      (let z : i - 0 ≡ i = omega arith in subst (λ (x : ℕ). Walks B i (Up c) (f i (get_or ps x d)) (Up end)) (sym z) (own-walk B i c end (f i (get_or ps i d)) (omega arith) (h i (get_or ps i d)) k))
 
--- one phase that tells each slave by itself
-pub phase-leads : (f : ℕ → SlavePlan → List Action) → ((t : ℕ) (p : SlavePlan) → AreFor t (f t p)) → (d : SlavePlan) (i : ℕ) (ps : List SlavePlan) (c end : Config) → i < length ps → length ps ≤ 64
-    → Tells c (f i (get_or ps i d)) end → Leads i (Up c) (each_slave f 0 ps) (Up end)
-phase-leads f h d i ps c end l b k =
-    each-leads f d i 0 ps (Up c) (Up end) (omega arith) (omega arith) (omega arith) (others-of f h i c) (others-of f h i end)
-    (let z : i - 0 ≡ i = omega arith in subst (λ (x : ℕ). Leads i (Up c) (f i (get_or ps x d)) (Up end)) (sym z) (own-leads i c end (f i (get_or ps i d)) (omega arith) (h i (get_or ps i d)) k))
+  named-walks : (ps : List SlavePlan) → i < length ps → length ps ≤ 64 → Walks B i (Down true true) (each_slave named 0 ps) (Up fresh)
+  named-walks ps l b =
+      each-walks B i named d 0 ps (Down true true) (Up fresh) (omega arith) (omega arith) (omega arith)
+      (λ t p ne lt. ((lt, λ e. absurd (ne e)), λ is. tt, others-stay t i (Up fresh) (Down true true) ne))
+      (λ t p ne lt. ((lt, λ e. absurd (ne e)), λ is. elim is [ ], others-stay t i (Up fresh) (Up fresh) ne))
+      ((omega arith, λ e. tt), λ is. tt, if_true _ _ _ (eq-eqb i i refl))
 
-pub named-leads : (d : SlavePlan) (i : ℕ) (ps : List SlavePlan) → i < length ps → length ps ≤ 64 → Leads i (Down true true) (each_slave named 0 ps) (Up fresh)
-named-leads d i ps l b =
-    each-leads named d i 0 ps (Down true true) (Up fresh) (omega arith) (omega arith) (omega arith)
-    (λ t p ne lt. ((lt, λ e. absurd (ne e)), others-stay t i (Up fresh) (Down true true) ne))
-    (λ t p ne lt. ((lt, λ e. absurd (ne e)), others-stay t i (Up fresh) (Up fresh) ne))
-    ((omega arith, λ e. tt), if_true _ _ _ (eq-eqb i i refl))
+  phases-walk : (ps : List SlavePlan) → i < length ps → length ps ≤ 64 → IsStartable (get_or ps i d) → Bearing B i (get_or ps i d) → Walks B i Before (phases ps) (Up (end_of (get_or ps i d)))
+  phases-walk ps l b h v =
+      let p : SlavePlan = get_or ps i d in
+      let o : Option Mailbox = p.kind.mailbox in
+      let e : (prepared p).managers ≡ h.m0 ∷ h.m1 ∷ no_settings ∷ no_settings ∷ []
+      = ap (λ (ms : List SyncManagerSettings). settings_at ms 0 ∷ settings_at ms 1 ∷ no_settings ∷ no_settings ∷ []) h.managers in
+      let none : o ≡ None → h.m0 ∷ h.m1 ∷ no_settings ∷ no_settings ∷ [] ≡ no_settings ∷ no_settings ∷ no_settings ∷ no_settings ∷ []
+      = λ q. let n = h.no_mailbox q in cc (n.0, n.1) in
+      let c2 : Config = boxed (settings_at p.managers 0) (settings_at p.managers 1) in
+      let c4 : Config = asked_all (prepared p) p o in
+      let fr : SameFrame (prepared p) c4 = asked-frame p o in
+      let c5 : Config = mapped_to c4 p in
+      let c6 : Config = record c5 { rise = Stays SafeOp } in
+      walks-append B i cleared _ Before (Down true true) (Up (end_of p)) (tt, λ is. tt, (tt, λ is. tt, (tt, λ is. tt, (tt, λ is. tt, (tt, λ is. tt, refl)))))
+      (walks-append B i (each_slave named 0 ps) _ (Down true true) (Up fresh) (Up (end_of p)) (named-walks ps l b)
+      (walks-append B i (each_slave identified 0 ps) _ (Up fresh) (Up identity_known) (Up (end_of p))
+      (phase-walks identified identified-for ps fresh identity_known l b (identified-tells B i v.easy p))
+      (walks-append B i (each_slave (λ j q. mailbox_set j q q.kind.mailbox) 0 ps) _ (Up identity_known) (Up c2) (Up (end_of p))
+      (phase-walks (λ j q. mailbox_set j q q.kind.mailbox) (λ t q. mailbox-for t q q.kind.mailbox) ps identity_known c2 l b
+      (mailbox-tells B i v.easy p o (λ q. ap (λ (ms : List SyncManagerSettings). record identity_known { managers = ms }) (sym (e ∙ none q)))))
+      (walks-append B i (each_slave (raised PreOp) 0 ps) _ (Up c2) (Up (prepared p)) (Up (end_of p))
+      (phase-walks (raised PreOp) (raised-for PreOp) ps c2 (prepared p) l b (raised-tells B i v.easy Init PreOp p c2 refl refl tt v.to_preop))
+      (walks-append B i (each_slave (λ j q. talked j q q.kind.mailbox) 0 ps) _ (Up (prepared p)) (Up c4) (Up (end_of p))
+      (phase-walks (λ j q. talked j q q.kind.mailbox) (λ t q. talked-for t q q.kind.mailbox) ps (prepared p) c4 l b
+      (talked-tells B i v.easy p o h.requests (λ x q. (subst (λ (ms : List SyncManagerSettings). AreMailboxes x ms) (sym e) (h.mailbox x q), v.sends x q))))
+      (walks-append B i (each_slave mapped 0 ps) _ (Up c4) (Up c5) (Up (end_of p))
+      (phase-walks mapped mapped-for ps c4 c5 l b (mapped-tells B i v.easy p c4 h (fr.managers ∙ e) fr.fmmus (subst (λ (r : Rise). IsLow r) (sym fr.rise) tt) fr.talk))
+      (walks-append B i (each_slave (raised SafeOp) 0 ps) _ (Up c5) (Up c6) (Up (end_of p))
+      (phase-walks (raised SafeOp) (raised-for SafeOp) ps c5 c6 l b (raised-tells B i v.easy PreOp SafeOp p c5 fr.rise fr.talk tt v.to_safeop))
+      (phase-walks (raised Op) (raised-for Op) ps c6 (end_of p) l b (raised-tells B i v.easy SafeOp Op p c6 refl fr.talk tt (v.to_op c6))))))))))
 
-pub phases-lead : (d : SlavePlan) (i : ℕ) (ps : List SlavePlan) → i < length ps → length ps ≤ 64 → IsStartable (get_or ps i d) → Leads i Before (phases ps) (Up (end_of (get_or ps i d)))
-phases-lead d i ps l b h =
-    let p : SlavePlan = get_or ps i d in
-    let o : Option Mailbox = p.kind.mailbox in
-    let e0 : settings_at p.managers 0 ≡ h.m0 = ap (λ (ms : List SyncManagerSettings). settings_at ms 0) h.managers in
-    let e1 : settings_at p.managers 1 ≡ h.m1 = ap (λ (ms : List SyncManagerSettings). settings_at ms 1) h.managers in
-    let c2 : Config = boxed (settings_at p.managers 0) (settings_at p.managers 1) in
-    let c4 : Config = asked_all (prepared p) p o in
-    let fr : SameFrame (prepared p) c4 = asked-frame p o in
-    let c5 : Config = mapped_to c4 p in
-    let c6 : Config = record c5 { rise = Stays SafeOp } in
-    let boxes : (x : Mailbox) → o ≡ Some x → AreMailboxes x (prepared p).managers
-    = λ x e. subst (λ (m : SyncManagerSettings). AreMailboxes x (settings_at p.managers 0 ∷ m ∷ no_settings ∷ no_settings ∷ [])) (sym e1)
-    (subst (λ (m : SyncManagerSettings). AreMailboxes x (m ∷ h.m1 ∷ no_settings ∷ no_settings ∷ [])) (sym e0) (h.mailbox x e)) in
-    let clear : Leads i Before cleared (Down true true) = (tt, (tt, (tt, (tt, (tt, refl))))) in
-    leads-append i cleared _ Before (Down true true) (Up (end_of p)) clear
-    (leads-append i (each_slave named 0 ps) _ (Down true true) (Up fresh) (Up (end_of p)) (named-leads d i ps l b)
-    (leads-append i (each_slave identified 0 ps) _ (Up fresh) (Up identity_known) (Up (end_of p))
-    (phase-leads identified (λ t q. (refl, (refl, (refl, (refl, (refl, (refl, tt))))))) d i ps fresh identity_known l b (identified-tells i p))
-    (leads-append i (each_slave (λ j q. mailbox_set j q q.kind.mailbox) 0 ps) _ (Up identity_known) (Up c2) (Up (end_of p))
-    (phase-leads (λ j q. mailbox_set j q q.kind.mailbox) (λ t q. mailbox-for t q q.kind.mailbox) d i ps identity_known c2 l b
-    (mailbox-tells i p o (λ e. let n = h.no_mailbox e in (e0 ∙ n.0, e1 ∙ n.1))))
-    (leads-append i (each_slave (raised PreOp) 0 ps) _ (Up c2) (Up (prepared p)) (Up (end_of p))
-    (phase-leads (raised PreOp) (raised-for PreOp) d i ps c2 (prepared p) l b (raised-tells Init PreOp i p c2 refl refl tt))
-    (leads-append i (each_slave (λ j q. talked j q q.kind.mailbox) 0 ps) _ (Up (prepared p)) (Up c4) (Up (end_of p))
-    (phase-leads (λ j q. talked j q q.kind.mailbox) (λ t q. talked-for t q q.kind.mailbox) d i ps (prepared p) c4 l b (talked-tells i p o h.requests boxes))
-    (leads-append i (each_slave mapped 0 ps) _ (Up c4) (Up c5) (Up (end_of p))
-    (phase-leads mapped mapped-for d i ps c4 c5 l b (mapped-tells i p c4 h fr.managers fr.fmmus (subst (λ (r : Rise). IsLow r) (sym fr.rise) tt) fr.talk))
-    (leads-append i (each_slave (raised SafeOp) 0 ps) _ (Up c5) (Up c6) (Up (end_of p))
-    (phase-leads (raised SafeOp) (raised-for SafeOp) d i ps c5 c6 l b (raised-tells PreOp SafeOp i p c5 fr.rise fr.talk tt))
-    (phase-leads (raised Op) (raised-for Op) d i ps c6 (end_of p) l b (raised-tells SafeOp Op i p c6 refl fr.talk tt)))))))))
+-- of a plan with slaves
+pub script-walks : (B : Config → Action → Type 0) (d p : SlavePlan) (ps : List SlavePlan) (i : ℕ) → i < length (p ∷ ps) → length (p ∷ ps) ≤ 64 → IsStartable (get_or (p ∷ ps) i d)
+    → Bearing B i (get_or (p ∷ ps) i d) → Walks B i Before (script (p ∷ ps)) (Up (end_of (get_or (p ∷ ps) i d)))
+script-walks B d p ps i l b h v = (tt, λ is. tt, phases-walk B i d (p ∷ ps) l b h v)
 
--- the whole script, of a plan with slaves
+-- where nothing more is asked
 pub script-leads : (d p : SlavePlan) (ps : List SlavePlan) (i : ℕ) → i < length (p ∷ ps) → length (p ∷ ps) ≤ 64 → IsStartable (get_or (p ∷ ps) i d) → Leads i Before (script (p ∷ ps)) (Up (end_of (get_or (p ∷ ps) i d)))
-script-leads d p ps i l b h = (tt, phases-lead d i (p ∷ ps) l b h)
+script-leads d p ps i l b h =
+    walks-lead (λ c a. Unit {0}) i Before (Up (end_of (get_or (p ∷ ps) i d))) (script (p ∷ ps))
+    (script-walks (λ c a. Unit {0}) d p ps i l b h (record { easy = λ c a e. tt; to_preop = tt; sends = λ x e. any-sent 0 x _ _; to_safeop = tt; to_op = λ c. tt }))
+  where
+    any-sent : (counter : ℕ) (x : Mailbox) (c : Config) (rs : List SdoRequest) → AllSent (λ c a. Unit {0}) i counter x c rs
+    any-sent counter x c [] = tt
+    any-sent counter x c (r ∷ rs) = (tt, any-sent (counter + 1) x (answered c r) rs)

@@ -7,8 +7,6 @@
 pub mod Words
 -- ---- One slave, and what befalls it
 
--- a plan has a slave for each of its table
-pub mod SwitchedOn
 -- a slave that is reset stands where it stood, if it has no station address yet, and else is gone
 pub mod Resets
 -- slaves that differ in nothing that a start-up knows of
@@ -75,8 +73,6 @@ pub mod Applying
 
 -- the script brings every slave to the top
 pub mod Leading
--- the script as a walk
-pub mod Blessings
 -- from one frame to the next, and from the first to the last
 pub mod Climbs
 -- the checks of the AL state machine pass at a slave that was set as the plan says

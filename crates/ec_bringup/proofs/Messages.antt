@@ -1,11 +1,11 @@
 -- A firmware step of a slave that stands at a stage: its mailbox.
-use Rattle.ec_bringup.proofs.Words.{ℕ, ◌+◌, ◌-◌, ◌*◌, ◌<◌, ◌≤◌, ◌≡◌, ◌&&◌, ◌++◌, not, Bool, true, Option, Some, None, refl, sym, ◌∙◌, ap, subst, inl, inr, arith, List, length, slice_index, is_some, length-append, option_and_then, ◌%◌, ◌^◌, false, is_none, cases_Bool, both_ways, and_parts, le-ltb, eq-eqb, and_from, lt-ltb, length-replicate, zeros, if_true, if_false, within_true, SlaveKind, is_mailbox, is_master_written, is_set, is_master_read, span, SyncManager, is_enabled, mailbox_message_in, padded, may_write, Al, SlaveState, manager_at, station_of, Message, ValueSize, One, Two, Three, Four, DownloadRequest, DownloadResponse, UploadResponse, message_read, message_length, command_of, command_number, message_bytes, message_in, size_number, service_of, service_number, KeepsBesideMessages, IsAnswered, three_parts, messages_keep, messages_rest, requests_answered, requests_decided, finished, switched_on, Answer, answer_of, Unexpected, reads_back, reads-as-message, command-read, service-read, index-read, subindex-read, value-read, replies_fit, replies_alone, message_or_none, dictionary_of, is_preop, has_mailbox, takes_reply, is_served, request_for, request_in, reply_counter, answer_to, bytes_to, message_served, served, is_init, read_finished, request_decided, Transfer, Download, Upload, SdoRequest, message_verdict, reply_verdict, Next, filled, request_bytes, request_command, request_message, request_value, station, datagram_of, Config, Stage, Before, Called, Down, Up, Talk, Claim, HasAll, HoldsZeros, IsInInit, IsOfKind, IsConfigured, IsSent, Claims, Talks, IsUpAt, IsDownAt, Reached, IsGone, HadFault, Stands, IsIn, mod-eq_of_lt, SyncManagerSettings, Mailbox, Fpwr, State, PreOp, governor, covers, in_first_buffer, writes_under, touches, datagram_met, Service, Response, Sdo, reply_in, reply_by, response_in, Dictionary, reply_bytes, SendRequest, AreMailboxes, ram_governed}
-use Rattle.ec_bringup.proofs.Alike.{rises-alike, word_of}
+use Rattle.ec_bringup.proofs.Words.{ℕ, ◌+◌, ◌-◌, ◌*◌, ◌<◌, ◌≤◌, ◌≡◌, ◌&&◌, ◌++◌, not, Bool, true, Option, Some, None, refl, sym, ◌∙◌, ap, subst, inl, inr, arith, List, length, slice_index, is_some, length-append, option_and_then, ◌%◌, ◌^◌, false, is_none, cases_Bool, both_ways, and_parts, le-ltb, eq-eqb, and_from, lt-ltb, length-replicate, zeros, if_true, if_false, within_true, SlaveKind, is_mailbox, is_master_written, is_set, is_master_read, span, SyncManager, is_enabled, mailbox_message_in, padded, may_write, Al, SlaveState, manager_at, station_of, Message, ValueSize, One, Two, Three, Four, DownloadRequest, DownloadResponse, UploadResponse, message_read, message_length, command_of, command_number, message_bytes, message_in, size_number, service_of, service_number, KeepsBesideMessages, IsAnswered, three_parts, messages_keep, messages_rest, requests_answered, requests_decided, finished, switched_on, Answer, answer_of, Unexpected, reads_back, reads-as-message, command-read, service-read, index-read, subindex-read, value-read, replies_fit, replies_alone, message_or_none, dictionary_of, is_preop, has_mailbox, takes_reply, is_served, request_for, request_in, reply_counter, answer_to, bytes_to, message_served, served, is_init, read_finished, request_decided, Transfer, Download, Upload, SdoRequest, message_verdict, reply_verdict, Next, filled, request_bytes, request_command, request_message, request_value, station, datagram_of, Config, Stage, Before, Called, Down, Up, Talk, Claim, HasAll, HoldsZeros, IsInInit, IsOfKind, IsConfigured, IsSent, Claims, Talks, IsUpAt, IsDownAt, Reached, HadFault, Stands, IsIn, mod-eq_of_lt, SyncManagerSettings, Mailbox, Fpwr, State, PreOp, governor, covers, in_first_buffer, writes_under, touches, datagram_met, Service, Response, Sdo, reply_in, reply_by, response_in, Dictionary, reply_bytes, SendRequest, AreMailboxes, ram_governed}
+use Rattle.ec_bringup.proofs.Alike.{rises-alike, word_of, stands-by, gone-on, had-fault}
 use Rattle.ec_bringup.proofs.Serves.{stands-decided, stands-finished}
 use Rattle.ec_bringup.proofs.Claiming.{reply-claims}
-use Rattle.ec_bringup.proofs.Owns.{window-sent}
+use Rattle.ec_bringup.proofs.Owns.{window-sent, own-writes}
 use Rattle.ec_bringup.proofs.Sends.{sending, sending-length, set-lies, four-of}
-use Rattle.ec_bringup.proofs.Polls.{own-write-counts}
+use Rattle.ec_bringup.proofs.Polls.{write-counts}
 use Rattle.ec_bringup.proofs.Shown.{HasReply}
 
 -- ---- a request is answered
@@ -29,9 +29,6 @@ reply_raw s r = padded (manager_at s.managers 1) (bytes_to s r)
 pub record Replies (s : SlaveState) (r : Message) (t : SlaveState) : Type 0 where
   pub kept : KeepsBesideMessages s t
   pub answer : IsAnswered s r t
-
-pub given-replies : (s : SlaveState) (r : Message) → 1 < length s.managers → is_served s ≡ true → request_in s ≡ Some r → 16 ≤ (manager_at s.managers 1).settings.length → Replies s r (message_served s)
-given-replies s r l y e room = record { kept = messages_keep s; answer = requests_answered s r l y e room }
 
 -- ---- a slave that was sent a request
 
@@ -107,7 +104,7 @@ answering i c k s four u h = elim (cases_Bool (is_served s)) [
             let long : 16 ≤ m1.settings.length = subst (λ (x : ℕ). 16 ≤ x) (sym (ap (λ x. x.length) (u.settings 1 (omega arith)) ∙ h.mailboxes.send_length)) h.mailboxes.send_some in
             let fit : request_in s ≡ Some (message_of k)
             = ap (λ (o : Option (List ℕ)). request_for m1 (option_and_then message_read o)) l ∙ (ap (request_for m1) (mailbox_message-read k) ∙ if_true _ _ _ (ap not (le-ltb m1.settings.length message_length long))) in
-            Replied (given-replies s (message_of k) (omega arith) y fit long)
+            Replied (record { kept = messages_keep s; answer = requests_answered s (message_of k) (omega arith) y fit long })
       ]
 ]
 
@@ -144,23 +141,11 @@ reached-served i Called s four h = called-served i s h
 reached-served i (Down f m) s four h = subst (λ (x : SlaveState). IsDownAt f m x) (sym ((messages_rest s).in_init h.init.state)) h
 reached-served i (Up c) s four h = up-served i c c.talk s refl four h.talks h
 
-gone-serves : (st : Stage) (s : SlaveState) → IsGone st s → message_served s ≡ s
-gone-serves (Up c) s h = (messages_rest s).in_init (ap (λ (t : SlaveState). t.al.state) h ∙ ap (λ (a : Al). a.state) (switched_on s.kind s.identity).al)
-gone-serves _ s h = absurd h
-
-fault-serves : (i : ℕ) (st : Stage) (s : SlaveState) → HadFault i st s → message_served s ≡ s
-fault-serves i (Up c) s h = (messages_rest s).empty h.faulted.silent.no_message
-fault-serves i _ s h = absurd h
-
 pub stands-messages : (kind : SlaveKind) (i : ℕ) (st : Stage) (trouble : Bool) (s : SlaveState) → Stands kind i st trouble s → Stands kind i st trouble (message_served s)
-stands-messages kind i st trouble s h = record {
-  slave = message-slave kind s h.slave;
-  at = elim h.at [
-    | inl r ↦ inl (reached-served i st s h.slave.four r)
-    | inr (t, inl g) ↦ inr (t, inl (subst (λ (x : SlaveState). IsGone st x) (sym (gone-serves st s g)) g))
-    | inr (t, inr g) ↦ inr (t, inr (subst (λ (x : SlaveState). HadFault i st x) (sym (fault-serves i st s g)) g))
-  ];
-}
+stands-messages kind i st trouble s h =
+    stands-by kind i st trouble s (message_served s) (message-slave kind s h.slave) (reached-served i st s h.slave.four)
+    (λ g. (messages_rest s).in_init (ap (λ (t : SlaveState). t.al.state) (gone-on st s g) ∙ ap (λ (a : Al). a.state) (switched_on s.kind s.identity).al))
+    (λ g. subst (λ (x : SlaveState). HadFault i st x) (sym ((messages_rest s).empty (had-fault i st s g).1.silent.no_message)) g) h
 
 -- a whole firmware step
 pub stands-served : (kind : SlaveKind) (i : ℕ) (st : Stage) (trouble : Bool) (s : SlaveState) → Stands kind i st trouble s → Stands kind i st trouble (served s)
@@ -168,8 +153,6 @@ stands-served kind i st trouble s h = subst (λ (t : SlaveState). Stands kind i 
     (stands-messages kind i st trouble _ (stands-finished kind i st trouble _ (stands-decided kind i st trouble s h)))
 
 -- ---- a request at its slave in PREOP: it counts 1, and after the firmware step the reply that is wanted lies in manager 1
-
--- ---- it counts
 
 pub request-goes : (s : SlaveState) (i counter : ℕ) (c : Config) (b : Mailbox) (r : SdoRequest) (number : ℕ) → station_of s ≡ station i → i < 64 → length s.managers ≡ 4
     → AreMailboxes b c.managers → IsUpAt i c s → (manager_at s.managers 0).mail ≡ None
@@ -197,7 +180,8 @@ request-goes s i counter c b r number e l four h u none =
     let front : in_first_buffer (manager_at s.managers 0) (b.receive_start + 0) ≡ true = lt-ltb _ _ (omega (arith, start, len, some)) in
     let under : writes_under s.managers (touches (sending b counter r)) (b.receive_start + 0) (governor s.managers (b.receive_start + 0)) ≡ true
     = ap (λ (o : Option ℕ). writes_under s.managers (touches (sending b counter r)) (b.receive_start + 0) o) gov ∙ and_from _ _ front (and_from _ _ cov may) in
-    own-write-counts s (datagram_of (SendRequest i counter b r) number) (sending b counter r) 0 refl (let a : (station i % 65536 + 65536 * b.receive_start) % 65536 ≡ station_of s = omega (arith, e, l) in a)
+    write-counts s (datagram_of (SendRequest i counter b r) number) (sending b counter r) 0
+    (own-writes s (datagram_of (SendRequest i counter b r) number) refl (let a : (station i % 65536 + 65536 * b.receive_start) % 65536 ≡ station_of s = omega (arith, e, l) in a))
     (window-sent Fpwr (station i) b.receive_start (filled b.receive_size (request_bytes counter r)) number) (omega (arith, long, some))
     ((ram_governed s (b.receive_start + 0) (omega (arith, low, start)) (omega (arith, high, start, wide, len, some))).writes s.sii.busy (touches (sending b counter r)) ∙ under)
 
@@ -214,15 +198,12 @@ pub record IsWanted (r : SdoRequest) (m : Message) : Type 0 where
   pub subindex : m.subindex ≡ r.subindex
   pub brings : DoesBring r.transfer m.command m.value
 
-kept-number : (n size : ℕ) → n < 2 ^ (8 * size) → n % 2 ^ (8 * size) ≡ n
-kept-number n size l = mod-eq_of_lt l
-
 wanted-value : (i : ℕ) (r : SdoRequest) (m : Message) (x : Transfer) → DoesBring x m.command m.value → reply_verdict i r x (response_in m m.command) ≡ Next
 wanted-value i r m (Download v) h = ap (λ (c : Sdo). reply_verdict i r (Download v) (response_in m c)) h
 wanted-value i r m (Upload v) h =
     ap (λ (c : Sdo). reply_verdict i r (Upload v) (response_in m c)) h.0
     ∙ (if_false _ _ _ (ap not (eq-eqb (size_number v.size) (size_number v.size) refl))
-    ∙ if_true _ _ _ (eq-eqb _ v.number (ap (λ (n : ℕ). n % 2 ^ (8 * size_number v.size)) h.1 ∙ kept-number v.number (size_number v.size) h.2)))
+    ∙ if_true _ _ _ (eq-eqb _ v.number (ap (λ (n : ℕ). n % 2 ^ (8 * size_number v.size)) h.1 ∙ mod-eq_of_lt h.2)))
 
 pub wanted-ends : (i : ℕ) (r : SdoRequest) (m : Message) → IsWanted r m → message_verdict i r (Some m) ≡ Next
 unfolding reply_in
@@ -237,9 +218,7 @@ brings-read (Upload y) c e v w q p h = (q ∙ (ap (λ (k : Sdo). command_of (com
   where
     own-response : (s : ValueSize) → command_of (command_number (UploadResponse s)) ≡ UploadResponse s
     own-response One = refl
-    own-response Two = refl
-    own-response Three = refl
-    own-response Four = refl
+    own-response _ = refl
 
 -- also as it is read back from its bytes
 wanted-read : (r : SdoRequest) (m : Message) (rest : List ℕ) → IsWanted r m → IsWanted r (message_in (message_bytes m ++ rest))
@@ -285,7 +264,6 @@ pub replied : (kind : SlaveKind) (i : ℕ) (c : Config) (k : Talk) (box : Mailbo
     → ((n : ℕ) → n < 4 → (manager_at s.managers n).locked ≡ false) → IsIn PreOp s → s.sii.busy ≡ false → IsSent k c s → Answers kind c.outs c.ins k.request
     → HasReply i k.request k.mailbox.send_size (served s)
 replied kind i c k box s slave boxed u unlocked preop idle h good =
-    let m0 : SyncManager = manager_at s.managers 0 in
     let m1 : SyncManager = manager_at s.managers 1 in
     let four = slave.four in
     let e0 = u.settings 0 (omega arith) in
@@ -305,7 +283,7 @@ replied kind i c k box s slave boxed u unlocked preop idle h good =
     let still : request_decided s ≡ s = (requests_decided s).rests preop.no_request in
     let quiet : read_finished (request_decided s) ≡ s = ap read_finished still ∙ (finished s).rests idle in
     let all : served s ≡ message_served s = three_parts s ∙ ap message_served quiet in
-    let rep : Replies s (message_of k) (message_served s) = given-replies s (message_of k) (omega (arith, four)) (and_from _ _ has (and_from _ _ takes (ap is_some l))) fit long in
+    let rep : Replies s (message_of k) (message_served s) = record { kept = messages_keep s; answer = requests_answered s (message_of k) (omega (arith, four)) (and_from _ _ has (and_from _ _ takes (ap is_some l))) fit long } in
     let wanted : IsWanted k.request (answer_to s (message_of k)).reply
     = subst (λ (x : Bool). IsWanted k.request (answer_of x (dictionary_of s) (message_of k) (reply_counter s.replies)).reply) (sym (ap is_preop preop.state_is))
     (good (dictionary_of s) (message_of k) (reply_counter s.replies)

@@ -1,5 +1,7 @@
 -- What the firmware steps after a frame prepare for the next action.
-use Rattle.ec_bringup.proofs.Words.{ℕ, zero, suc, ◌+◌, ◌*◌, ◌%◌, ◌<◌, ◌≡◌, ◌==◌, true, false, Option, Some, None, refl, sym, ◌∙◌, ap, subst, inl, inr, arith, if◌then◌else◌, List, [], ◌∷◌, length, both_ways, eq-eqb, if_true, Mailbox, SlaveKind, Fpwr, Datagram, State, Init, PreOp, state_number, Al, requesting, read_command, SlaveState, station_of, manager_at, Window, touches, physical_after, slave_met, checks_of, served, settings_at, Action, AskInit, AwaitInit, AskWord, AwaitWord, SetManager, SetFmmu, AskState, AwaitState, SendRequest, AwaitReply, SdoRequest, station, sent, datagram_of, word_place, filled, request_bytes, Rise, Stays, Climbs, Config, Stage, Called, Up, Talk, told, climbing, after, Fits, CanClimb, IsOfKind, IsIn, Rises, Claims, IsSent, IsSilent, Talks, IsUpAt, Reached, Stands, Arrives, Untouched, IsSpelled, wrote, settles}
+use Rattle.ec_bringup.proofs.Words.{ℕ, zero, suc, ◌+◌, ◌*◌, ◌%◌, ◌<◌, ◌≡◌, ◌==◌, true, false, Option, Some, None, refl, sym, ◌∙◌, ap, subst, inl, inr, arith, if◌then◌else◌, List, [], ◌∷◌, length, both_ways, eq-eqb, if_true, Mailbox, SlaveKind, Fpwr, Datagram, State, Init, PreOp, state_number, Al, requesting, read_command, SlaveState, station_of, manager_at, Window, touches, physical_after, slave_met, checks_of, served, settings_at, Action, AskInit, AwaitInit, AskWord, AwaitWord, AskState, AwaitState, SendRequest, AwaitReply, SdoRequest, station, sent, word_place, filled, request_bytes, Rise, Stays, Climbs, Config, Stage, Called, Up, Talk, told, climbing, after, Fits, CanClimb, IsOfKind, IsIn, Rises, Claims, IsSent, IsSilent, Talks, IsUpAt, Reached, Stands, Arrives, IsSpelled, wrote, settles}
+use Rattle.ec_bringup.proofs.Passing.{IsFor, as_one, ForAskWord, ForAskState, ForSend}
+use Rattle.ec_bringup.proofs.Leading.{BearsAt}
 use Rattle.ec_bringup.proofs.Owns.{own-write, window-sent}
 use Rattle.ec_bringup.proofs.Sends.{sending, delivered}
 use Rattle.ec_bringup.proofs.Messages.{stands-served, Answers, replied}
@@ -36,20 +38,8 @@ Bears kind c (AskState t to) = Grants kind c to
 Bears kind c (SendRequest t counter b r) = Talkable kind c r
 Bears kind c _ = Unit {0}
 
-abbrev pub BearsAt : SlaveKind → Stage → Action → Type 0
-BearsAt kind (Up c) a = Bears kind c a
-BearsAt kind _ a = Unit {0}
-
 abbrev pub Bless : SlaveKind → ℕ → Stage → Action → Type 0
-Bless kind i st (AskWord t which) = t ≡ i → BearsAt kind st (AskWord t which)
-Bless kind i st (AwaitWord t which) = t ≡ i → BearsAt kind st (AwaitWord t which)
-Bless kind i st (SetManager t n m) = t ≡ i → BearsAt kind st (SetManager t n m)
-Bless kind i st (SetFmmu t n f) = t ≡ i → BearsAt kind st (SetFmmu t n f)
-Bless kind i st (AskState t to) = t ≡ i → BearsAt kind st (AskState t to)
-Bless kind i st (AwaitState t to) = t ≡ i → BearsAt kind st (AwaitState t to)
-Bless kind i st (SendRequest t counter b r) = t ≡ i → BearsAt kind st (SendRequest t counter b r)
-Bless kind i st (AwaitReply t b r) = t ≡ i → BearsAt kind st (AwaitReply t b r)
-Bless kind i st _ = Unit {0}
+Bless kind i st a = IsFor i a → BearsAt (Bears kind) st a
 
 -- ---- what a slave shows before an action
 
@@ -102,9 +92,6 @@ next-init kind i t h = elim (reached-of kind i Called (served t) (stands-served 
 
 -- ---- the datagram of its own action, as it comes to the slave
 
-own-datagram : (i : ℕ) (e d : Datagram) → Untouched i i e d → d ≡ e
-own-datagram i e d h = h.to_come (omega arith)
-
 own-slave : (s t : SlaveState) (i ado : ℕ) (bytes : List ℕ) (number : ℕ) (d : Datagram) → station_of s ≡ station i → i < 64 → d ≡ sent Fpwr (station i) ado bytes number → t ≡ slave_met s d
     → t ≡ physical_after s false true (record { from = ado; bytes = bytes })
 own-slave s t i ado bytes number d e l q m =
@@ -119,9 +106,9 @@ next-word kind i which c number d s t l h arrives m =
     let u : IsUpAt i c s = up-of kind i c s h.stands in
     let n6 : length (read_command (word_place which)) ≡ 6 = refl in
     let q : t ≡ physical_after s false true (record { from = 0x0502; bytes = read_command (word_place which) })
-    = own-slave s t i 0x0502 (read_command (word_place which)) number d u.configured.station_is l (own-datagram i (datagram_of (AskWord i which) number) d arrives) m in
+    = own-slave s t i 0x0502 (read_command (word_place which)) number d u.configured.station_is l (arrives.to_come (omega arith)) m in
     let w = wrote s (record { from = 0x0502; bytes = read_command (word_place which) }) (omega (arith, n6)) in
-    word-found kind.device s t which (h.bless refl) h.sure h.spelled (ap (λ (x : SlaveState). x.sii) q ∙ w.sii)
+    word-found kind.device s t which (h.bless (ForAskWord i which)) h.sure h.spelled (ap (λ (x : SlaveState). x.sii) q ∙ w.sii)
 
 -- ---- a state
 
@@ -132,12 +119,6 @@ asks-now : (s t : SlaveState) (to : State) → t ≡ physical_after s false true
 asks-now s t to q =
     let w = wrote s (asked-window to) (omega arith) in
     ap (λ (x : SlaveState). x.al.requested) q ∙ ap (λ (x : Al). x.requested) (w.al ∙ if_true (touches (asked-window to) 0x0120) (requesting s.al) s.al refl)
-
--- what is held at a stage without a message
-holds-of : (kind : SlaveKind) (i : ℕ) (c : Config) (s : SlaveState) → c.talk ≡ None → IsOfKind kind s → IsUpAt i c s → Holds kind c s
-holds-of kind i c s none h u =
-    let silent : IsSilent c s = subst (λ (o : Option Talk). Talks i c o s) none u.talks in
-    record { slave = h; settings = u.configured.settings; unlocked = u.unlocked; outs = silent.assigned.outs; ins = silent.assigned.ins }
 
 risen : (kind : SlaveKind) (i : ℕ) (c : Config) (r : Rise) (to : State) (t : SlaveState) → CanClimb r to → Grants kind c to → Holds kind c t → t.al.requested ≡ true → Rises (climbing r to) t → IsThere to (served t)
 risen kind i c (Climbs from other) to t can g h asks rises = absurd can
@@ -152,9 +133,11 @@ next-state kind i to c number d s t l h arrives m stood =
     let v : IsUpAt i (record c { rise = climbing c.rise to }) t = up-of kind i (record c { rise = climbing c.rise to }) t stood in
     let can = h.fits.2 refl in
     let q : t ≡ physical_after s false true (asked-window to)
-    = own-slave s t i 0x0120 (state_number to ∷ 0 ∷ []) number d u.configured.station_is l (own-datagram i (datagram_of (AskState i to) number) d arrives) m in
-    let held = holds-of kind i (record c { rise = climbing c.rise to }) t can.0 stood.slave v in
-    risen kind i c c.rise to t can.1 (h.bless refl) (record { slave = held.slave; settings = held.settings; unlocked = held.unlocked; outs = held.outs; ins = held.ins })
+    = own-slave s t i 0x0120 (state_number to ∷ 0 ∷ []) number d u.configured.station_is l (arrives.to_come (omega arith)) m in
+    -- no message is on its way
+    let silent : IsSilent (record c { rise = climbing c.rise to }) t = subst (λ (o : Option Talk). Talks i (record c { rise = climbing c.rise to }) o t) can.0 v.talks in
+    risen kind i c c.rise to t can.1 (h.bless (ForAskState i to))
+    (record { slave = stood.slave; settings = v.configured.settings; unlocked = v.unlocked; outs = silent.assigned.outs; ins = silent.assigned.ins })
     (asks-now s t to q) v.rises
 
 -- ---- a reply
@@ -170,10 +153,10 @@ next-reply kind i counter b r c number d s t l h arrives m stood =
     let k : Talk = record { mailbox = b; counter = counter; request = r } in
     let v : IsUpAt i (record c { talk = Some k }) t = up-of kind i (record c { talk = Some k }) t stood in
     let can = h.fits.2 refl in
-    let z = h.bless refl in
+    let z = h.bless (ForSend i counter b r) in
     let silent : IsSilent c s = subst (λ (o : Option Talk). Talks i c o s) can.1 u.talks in
     let q : t ≡ physical_after s false true (sending b counter r)
-    = own-slave s t i b.receive_start (filled b.receive_size (request_bytes counter r)) number d u.configured.station_is l (own-datagram i (datagram_of (SendRequest i counter b r) number) d arrives) m in
+    = own-slave s t i b.receive_start (filled b.receive_size (request_bytes counter r)) number d u.configured.station_is l (arrives.to_come (omega arith)) m in
     let w = delivered i counter c b r s h.stands.slave.four can.2 u silent.no_message in
     let mailbox_message : (manager_at t.managers 0).mail ≡ Some (sending b counter r).bytes = ap (λ (x : SlaveState). (manager_at x.managers 0).mail) q ∙ w.mailbox_message in
     let lies : IsSent k (record c { talk = Some k }) t = sent-of i k (record c { talk = Some k }) t (sending b counter r).bytes mailbox_message v.talks in
@@ -186,30 +169,25 @@ next-reply kind i counter b r c number d s t l h arrives m stood =
 abbrev Shows : SlaveKind → ℕ → Stage → ℕ → Datagram → SlaveState → SlaveState → Action → Action → Type 0
 Shows kind i st number d s t a b = Prior kind i st a s → Arrives a number i d → Stands kind i (after i st a) false t → Sure kind i b (served t)
 
-word-shows : (kind : SlaveKind) (i which : ℕ) (st : Stage) (number : ℕ) (d : Datagram) (s t : SlaveState) → i < 64 → t ≡ slave_met s d → Shows kind i st number d s t (AskWord i which) (AwaitWord i which)
-word-shows kind i which (Up c) number d s t l m h r k e = next-word kind i which c number d s t l h r m
-word-shows kind i which _ number d s t l m h r k e = absurd h.fits.1
-
-state-shows : (kind : SlaveKind) (i : ℕ) (to : State) (st : Stage) (number : ℕ) (d : Datagram) (s t : SlaveState) → i < 64 → t ≡ slave_met s d → Shows kind i st number d s t (AskState i to) (AwaitState i to)
-state-shows kind i to (Up c) number d s t l m h r k e = next-state kind i to c number d s t l h r m (mine-after (λ x. Stands kind i x false t) i _ _ k)
-state-shows kind i to _ number d s t l m h r k e = absurd h.fits.1
-
-reply-shows : (kind : SlaveKind) (i counter : ℕ) (b : Mailbox) (q : SdoRequest) (st : Stage) (number : ℕ) (d : Datagram) (s t : SlaveState) → i < 64 → t ≡ slave_met s d
-    → Shows kind i st number d s t (SendRequest i counter b q) (AwaitReply i b q)
-reply-shows kind i counter b q (Up c) number d s t l m h r k e = next-reply kind i counter b q c number d s t l h r m (mine-after (λ x. Stands kind i x false t) i _ _ k)
-reply-shows kind i counter b q _ number d s t l m h r k e = absurd h.fits.1
+-- the slave that an action is for has its station address
+at-up : (kind : SlaveKind) (i : ℕ) (st : Stage) (number : ℕ) (d : Datagram) (s t : SlaveState) (a b : Action) → IsFor i a → ((c : Config) → Shows kind i (Up c) number d s t a b) → Shows kind i st number d s t a b
+at-up kind i (Up c) number d s t a b is f = f c
+at-up kind i st number d s t a b is f = λ h. absurd ((as_one number is).fits i st h.fits).1
 
 pub next-sure : (kind : SlaveKind) (i : ℕ) (st : Stage) (number : ℕ) (d : Datagram) (s t : SlaveState) (a b : Action) → i < 64 → t ≡ slave_met s d → Prompted a b → Shows kind i st number d s t a b
 next-sure kind i st number d s t a AwaitInit l m p = subst (λ (x : Action). Shows kind i st number d s t x AwaitInit) (sym p) (λ h r k. next-init kind i t k)
 next-sure kind i st number d s t a (AskWord x zero) l m p = λ h r k. (settles t).idle
 next-sure kind i st number d s t a (AskWord x (suc which)) l m p = λ h r k. (settles t).idle
 next-sure kind i st number d s t a (AwaitWord x which) l m p =
-    λ h r k e. subst (λ (y : ℕ). Shows kind i st number d s t (AskWord y which) (AwaitWord y which)) (sym e) (word-shows kind i which st number d s t l m)
-    (subst (λ (y : Action). Prior kind i st y s) p h) (subst (λ (y : Action). Arrives y number i d) p r) (subst (λ (y : Action). Stands kind i (after i st y) false t) p k) e
+    subst (λ (y : Action). Shows kind i st number d s t y (AwaitWord x which)) (sym p) (λ h r k e.
+    subst (λ (y : ℕ). Shows kind i st number d s t (AskWord y which) (AwaitWord y which)) (sym e)
+    (at-up kind i st number d s t (AskWord i which) (AwaitWord i which) (ForAskWord i which) (λ c h r k e. next-word kind i which c number d s t l h r m)) h r k e)
 next-sure kind i st number d s t a (AwaitState x to) l m p =
-    λ h r k e. subst (λ (y : ℕ). Shows kind i st number d s t (AskState y to) (AwaitState y to)) (sym e) (state-shows kind i to st number d s t l m)
-    (subst (λ (y : Action). Prior kind i st y s) p h) (subst (λ (y : Action). Arrives y number i d) p r) (subst (λ (y : Action). Stands kind i (after i st y) false t) p k) e
+    subst (λ (y : Action). Shows kind i st number d s t y (AwaitState x to)) (sym p) (λ h r k e.
+    subst (λ (y : ℕ). Shows kind i st number d s t (AskState y to) (AwaitState y to)) (sym e)
+    (at-up kind i st number d s t (AskState i to) (AwaitState i to) (ForAskState i to) (λ c h r k e. next-state kind i to c number d s t l h r m (mine-after (λ x. Stands kind i x false t) i _ _ k))) h r k e)
 next-sure kind i st number d s t a (AwaitReply x b q) l m (counter, p) =
-    λ h r k e. subst (λ (y : ℕ). Shows kind i st number d s t (SendRequest y counter b q) (AwaitReply y b q)) (sym e) (reply-shows kind i counter b q st number d s t l m)
-    (subst (λ (y : Action). Prior kind i st y s) p h) (subst (λ (y : Action). Arrives y number i d) p r) (subst (λ (y : Action). Stands kind i (after i st y) false t) p k) e
+    subst (λ (y : Action). Shows kind i st number d s t y (AwaitReply x b q)) (sym p) (λ h r k e.
+    subst (λ (y : ℕ). Shows kind i st number d s t (SendRequest y counter b q) (AwaitReply y b q)) (sym e)
+    (at-up kind i st number d s t (SendRequest i counter b q) (AwaitReply i b q) (ForSend i counter b q) (λ c h r k e. next-reply kind i counter b q c number d s t l h r m (mine-after (λ x. Stands kind i x false t) i _ _ k))) h r k e)
 next-sure kind i st number d s t a _ l m p = λ h r k. tt

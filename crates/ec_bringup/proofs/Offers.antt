@@ -1,8 +1,7 @@
 -- A slave of the type answers each request of the script as it should: its mapping is the type's, and each download is done.
-use Rattle.ec_bringup.proofs.Words.{ℕ, zero, suc, ◌+◌, ◌-◌, ◌*◌, ◌%◌, ◌^◌, ◌<◌, ◌≤◌, ◌≡◌, ◌≢◌, ◌==◌, not, Bool, true, false, Option, Some, None, Result, refl, sym, ◌∙◌, ap, subst, arith, if◌then◌else◌, List, [], ◌∷◌, ◌++◌, length, map, take, slice_get, slice_set, nat_le, is_some, option_map, All, append_assoc, length-append, flat_map, option_or, eq-eqb, ne_eqb, and_from, or_right, le-leb, slice_get-map, if_true, if_false, Entry, Pdo, SlaveKind, Message, ValueSize, One, Two, SdoValue, AbortCode, Response, Sdo, DownloadRequest, DownloadResponse, UploadRequest, UploadResponse, size_number, answer_of, answer_by, upload_answer, download_answer, reply_to, value_of, Dictionary, Assignment, identity_object, output_assignment, input_assignment, has_some, entry_number, byte_value, word_value, long_value, assignment_values, pdo_values, device_name_object, shown_values, send_room, object_values, pdo_at, bits_assigned, value_or_abort, value_at, uploaded, distinct, takes_value, is_open, transfers_assignment_written as assignment_written, with_value, with_outs, with_ins, written_over, downloaded, good, uploads_expedited, SlavePlan, SdoRequest, requests, uploads, downloads, entries_read, pdo_read, slots_written, assignment_written as assignment_requests, Claim, Config, answered, claimed, talked_over, prepared, Claims, IsNumbered, IsOffered, AreOffered, IsAssignable, IsComplete}
-use Rattle.ec_bringup.proofs.Assigns.{claim_at, object_at, own-claim}
+use Rattle.ec_bringup.proofs.Words.{ℕ, zero, suc, ◌+◌, ◌-◌, ◌*◌, ◌%◌, ◌^◌, ◌<◌, ◌≤◌, ◌≡◌, ◌≢◌, ◌==◌, not, Bool, true, false, Option, Some, None, Result, refl, sym, ◌∙◌, ap, subst, arith, if◌then◌else◌, List, [], ◌∷◌, ◌++◌, length, map, take, slice_get, slice_set, nat_le, is_some, option_map, All, length-append, flat_map, option_or, eq-eqb, ne_eqb, and_from, or_right, le-leb, slice_get-map, if_false, Entry, Pdo, SlaveKind, Message, ValueSize, One, Two, SdoValue, AbortCode, Response, Sdo, DownloadRequest, DownloadResponse, UploadResponse, size_number, answer_of, answer_by, upload_answer, download_answer, reply_to, value_of, Dictionary, Assignment, identity_object, output_assignment, input_assignment, has_some, entry_number, byte_value, word_value, long_value, assignment_values, pdo_values, device_name_object, shown_values, send_room, object_values, pdo_at, bits_assigned, value_or_abort, value_at, uploaded, distinct, takes_value, is_open, transfers_assignment_written as assignment_written, with_value, with_outs, with_ins, written_over, downloaded, good, uploads_expedited, SlavePlan, SdoRequest, requests, uploads, downloads, entries_read, pdo_read, slots_written, assignment_written as assignment_requests, Claim, Config, answered, talked_over, prepared, Claims, IsNumbered, IsOffered, AreOffered, IsAssignable, IsComplete}
+use Rattle.ec_bringup.proofs.Assigns.{claim_at, object_at, own-claim, slot-own, slots-own}
 use Rattle.ec_bringup.proofs.Messages.{IsWanted, Knows, Answers}
-use Rattle.ec_bringup.proofs.Blessings.{AllAnswers}
 
 -- ---- uploads
 
@@ -15,6 +14,11 @@ any-append : (kind : SlaveKind) (xs bs : List SdoRequest) → AnyAnswers kind xs
 any-append kind [] bs h k = k
 any-append kind (r ∷ xs) bs h k = (h.0, any-append kind xs bs h.1 k)
 
+-- each request at what is known by the ones before it
+abbrev pub AllAnswers : SlaveKind → Config → List SdoRequest → Type 0
+AllAnswers kind c [] = Unit {0}
+AllAnswers kind c (r ∷ rs) = Answers kind c.outs c.ins r × AllAnswers kind (answered c r) rs
+
 any-all : (kind : SlaveKind) (c : Config) (rs : List SdoRequest) → AnyAnswers kind rs → AllAnswers kind c rs
 any-all kind c [] h = tt
 any-all kind c (r ∷ rs) h = (h.0 c.outs c.ins, any-all kind (answered c r) rs h.1)
@@ -23,15 +27,13 @@ all-append : (kind : SlaveKind) (c : Config) (xs bs : List SdoRequest) → AllAn
 all-append kind c [] bs h k = k
 all-append kind c (r ∷ xs) bs h k = (h.0, all-append kind (answered c r) xs bs h.1 k)
 
-upload-reply : (d : Dictionary) (m : Message) (counter : ℕ) (v : SdoValue) → m.command ≡ UploadRequest → m.index ≢ device_name_object → uploaded d m.index m.subindex ≡ good v
-    → (answer_of true d m counter).reply ≡ reply_to m counter Response (UploadResponse v.size) v.number
-upload-reply d m counter v c ne u = uploads_expedited.elsewhere true d m counter c ne ∙ ap (upload_answer m counter) u
-
 upload-answers : (kind : SlaveKind) (o n : Claim) (index sub : ℕ) (v : SdoValue) → ((d : Dictionary) → d.kind ≡ kind → uploaded d index sub ≡ good v) → v.number < 2 ^ (8 * size_number v.size) → index ≢ device_name_object
     → Answers kind o n (uploads index sub v)
 upload-answers kind o n index sub v h small ne d m counter k asks =
     let q : uploaded d m.index m.subindex ≡ good v = ap (λ (x : ℕ). uploaded d x m.subindex) asks.index ∙ (ap (λ (x : ℕ). uploaded d index x) asks.subindex ∙ h d k.kind_is) in
-    subst (λ (x : Message). IsWanted (uploads index sub v) x) (sym (upload-reply d m counter v asks.command (λ e. ne (sym asks.index ∙ e)) q))
+    let reply : (answer_of true d m counter).reply ≡ reply_to m counter Response (UploadResponse v.size) v.number
+    = uploads_expedited.elsewhere true d m counter asks.command (λ e. ne (sym asks.index ∙ e)) ∙ ap (upload_answer m counter) q in
+    subst (λ (x : Message). IsWanted (uploads index sub v) x) (sym reply)
     (record { service = refl; index = asks.index; subindex = asks.subindex; brings = (refl, refl, small) })
 
 -- an object of a PDO
@@ -42,9 +44,6 @@ pdo-shown kind ps x h d sub v k e =
     let object : object_values d x ≡ Some (pdo_values h.pdo)
     = if_false _ _ _ (ne_eqb x identity_object h.no_identity) ∙ (if_false _ _ _ (ne_eqb x output_assignment h.no_outputs) ∙ (if_false _ _ _ (ne_eqb x input_assignment h.no_inputs) ∙ ap (λ (o : Option Pdo). option_or (option_map pdo_values o) (shown_values d.kind.face (send_room d.kind.mailbox) x)) there)) in
     ap (λ (y : ℕ). uploaded d y sub) h.index_is ∙ (ap (λ (o : Option (List SdoValue)). value_at o sub) object ∙ ap value_or_abort e)
-
-get-map : (es : List Entry) (j : ℕ) (e : Entry) → slice_get es j ≡ Some e → slice_get (map (λ (x : Entry). long_value (entry_number x)) es) j ≡ Some (long_value (entry_number e))
-get-map es j e h = slice_get-map (λ (x : Entry). long_value (entry_number x)) es j ∙ ap (option_map (λ (x : Entry). long_value (entry_number x))) h
 
 entries-answer : (kind : SlaveKind) (ps : List Pdo) (x : ℕ) (h : IsOffered kind ps x) (k : ℕ) (es : List Entry) → All IsNumbered es
     → ((j : ℕ) (e : Entry) → slice_get es j ≡ Some e → slice_get (pdo_values h.pdo) (k + j) ≡ Some (long_value (entry_number e))) → AnyAnswers kind (entries_read h.pdo.index k es)
@@ -62,7 +61,8 @@ pdo-answer kind ps x h =
     subst (λ (o : Option Pdo). AnyAnswers kind (pdo_read o)) (sym h.named) (
       λ o n. upload-answers kind o n h.pdo.index 0 (byte_value (length h.pdo.entries)) (λ d q. pdo-shown kind ps x h d 0 (byte_value (length h.pdo.entries)) q refl) small (λ w. h.no_name (sym h.index_is ∙ w)),
       entries-answer kind ps x h 1 h.pdo.entries h.entries
-          (λ j e q. let w : 1 + j ≡ suc j = omega arith in ap (slice_get (pdo_values h.pdo)) w ∙ get-map h.pdo.entries j e q),
+          (λ j e q. let w : 1 + j ≡ suc j = omega arith in ap (slice_get (pdo_values h.pdo)) w
+          ∙ (slice_get-map (λ (x : Entry). long_value (entry_number x)) h.pdo.entries j ∙ ap (option_map (λ (x : Entry). long_value (entry_number x))) q)),
     )
 
 pdos-answer : (kind : SlaveKind) (ps : List Pdo) (xs : List ℕ) → AreOffered kind ps xs → AnyAnswers kind (flat_map (λ index. pdo_read (pdo_at ps index)) xs)
@@ -96,24 +96,15 @@ abbrev assigned_at : Bool → Dictionary → Assignment
 assigned_at true d = d.outs
 assigned_at false d = d.ins
 
-download-outs : (d : Dictionary) (sub : ℕ) (v old : SdoValue) (a : Assignment) → has_some d.kind.outputs ≡ true → slice_get (assignment_values d.outs) sub ≡ Some old → (size_number v.size == size_number old.size) ≡ true
-    → assignment_written true d.kind.outputs d.outs sub v.number ≡ good a → downloaded true d output_assignment sub v ≡ good (record d { outs = a })
-unfolding downloaded uploaded object_values
-download-outs d sub v old a some e l w =
-    let u : uploaded d output_assignment sub ≡ good old = ap (λ (b : Bool). value_at (if b then Some (assignment_values d.outs) else None) sub) some ∙ ap value_or_abort e in
-    ap (written_over true d output_assignment sub v) u ∙ (if_false _ _ _ (ap not l) ∙ ap (with_outs d) w)
-
-download-ins : (d : Dictionary) (sub : ℕ) (v old : SdoValue) (a : Assignment) → has_some d.kind.inputs ≡ true → slice_get (assignment_values d.ins) sub ≡ Some old → (size_number v.size == size_number old.size) ≡ true
-    → assignment_written true d.kind.inputs d.ins sub v.number ≡ good a → downloaded true d input_assignment sub v ≡ good (record d { ins = a })
-unfolding downloaded uploaded object_values
-download-ins d sub v old a some e l w =
-    let u : uploaded d input_assignment sub ≡ good old = ap (λ (b : Bool). value_at (if b then Some (assignment_values d.ins) else None) sub) some ∙ ap value_or_abort e in
-    ap (written_over true d input_assignment sub v) u ∙ (if_false _ _ _ (ap not l) ∙ ap (with_ins d) w)
-
 download-at : (o : Bool) (d : Dictionary) (sub : ℕ) (v old : SdoValue) (a : Assignment) → has_some (ps_at o d.kind) ≡ true → slice_get (assignment_values (assigned_at o d)) sub ≡ Some old → (size_number v.size == size_number old.size) ≡ true
     → assignment_written true (ps_at o d.kind) (assigned_at o d) sub v.number ≡ good a → (e : Dictionary) × (downloaded true d (object_at o) sub v ≡ good e)
-download-at true d sub v old a some e l w = (record d { outs = a }, download-outs d sub v old a some e l w)
-download-at false d sub v old a some e l w = (record d { ins = a }, download-ins d sub v old a some e l w)
+unfolding downloaded uploaded object_values
+download-at true d sub v old a some e l w =
+    let u : uploaded d output_assignment sub ≡ good old = ap (λ (b : Bool). value_at (if b then Some (assignment_values d.outs) else None) sub) some ∙ ap value_or_abort e in
+    (record d { outs = a }, ap (written_over true d output_assignment sub v) u ∙ (if_false _ _ _ (ap not l) ∙ ap (with_outs d) w))
+download-at false d sub v old a some e l w =
+    let u : uploaded d input_assignment sub ≡ good old = ap (λ (b : Bool). value_at (if b then Some (assignment_values d.ins) else None) sub) some ∙ ap value_or_abort e in
+    (record d { ins = a }, ap (written_over true d input_assignment sub v) u ∙ (if_false _ _ _ (ap not l) ∙ ap (with_ins d) w))
 
 -- what is known of the one direction
 known-claims : (o : Bool) (kind : SlaveKind) (c : Config) (d : Dictionary) → Knows kind c.outs c.ins d → Claims (claim_at o c) (assigned_at o d)
@@ -130,14 +121,11 @@ unfolding assignment_written
 written-taken ps a sub number o t = if_false _ _ _ (ap not o) ∙ if_false _ _ _ (ap not t)
 
 -- the count 0 is always taken
-zero-taken : (ps : List Pdo) (a : Assignment) → assignment_written true ps a 0 0 ≡ good (record { slots = a.slots; count = 0 })
-zero-taken ps a = written-taken ps a 0 0 refl (and_from (nat_le 0 (length ps)) _ (le-leb 0 (length ps) (omega arith)) refl)
-
 zero-answers : (o : Bool) (kind : SlaveKind) (c : Config) → has_some (ps_at o kind) ≡ true → Answers kind c.outs c.ins (downloads (object_at o) 0 (byte_value 0))
 zero-answers o kind c some =
     download-answers kind c.outs c.ins (object_at o) 0 (byte_value 0)
     (λ d k. download-at o d 0 (value_of One 0) (byte_value (assigned_at o d).count) (record { slots = (assigned_at o d).slots; count = 0 }) (ap (λ (t : SlaveKind). has_some (ps_at o t)) k.kind_is ∙ some) refl refl
-    (zero-taken (ps_at o d.kind) (assigned_at o d)))
+    (written-taken (ps_at o d.kind) (assigned_at o d) 0 0 refl (and_from (nat_le 0 (length (ps_at o d.kind))) _ (le-leb 0 (length (ps_at o d.kind)) (omega arith)) refl)))
 
 -- a slot while the count is 0
 get-there : (xs : List ℕ) (k : ℕ) → k < length xs → (y : ℕ) × (slice_get (map word_value xs) k ≡ Some (word_value y))
@@ -190,27 +178,13 @@ count-answers o kind c n xs some e h =
 
 slots-answer : (o : Bool) (kind : SlaveKind) (c : Config) (S xs : List ℕ) → has_some (ps_at o kind) ≡ true → claim_at o c ≡ record { count = Some 0; slots = S } → AreOffered kind (ps_at o kind) xs → length S + length xs ≤ length (ps_at o kind)
     → AllAnswers kind c (slots_written (object_at o) (length S + 1) xs)
-    × (claim_at o (talked_over c (slots_written (object_at o) (length S + 1) xs)) ≡ record { count = Some 0; slots = S ++ xs })
-slots-answer o kind c S [] some e h l = (tt, e ∙ ap (λ (x : List ℕ). record { count = Some 0; slots = x }) (sym (append-none S)))
-  where
-    append-none : (S : List ℕ) → S ++ [] ≡ S
-    append-none [] = refl
-    append-none (y ∷ S) = ap (λ (x : List ℕ). y ∷ x) (append-none S)
+slots-answer o kind c S [] some e h l = tt
 slots-answer o kind c S (x ∷ xs) some e h l =
     let r : SdoRequest = downloads (object_at o) (length S + 1) (word_value x) in
-    let q : claim_at o (answered c r) ≡ record { count = Some 0; slots = S ++ x ∷ [] }
-    = own-claim o c (length S + 1) (word_value x) ∙ (ap (λ (k : Claim). claimed k (length S + 1) x) e
-    ∙ (if_false (length S + 1 == 0) _ _ (ne_eqb (length S + 1) 0 (λ z. omega (arith, z)))
-    ∙ ap (λ (y : List ℕ). record { count = Some 0; slots = y }) (if_true (length S + 1 == length S + 1) (S ++ x ∷ []) [] (eq-eqb (length S + 1) (length S + 1) refl)))) in
-    let m : length (S ++ x ∷ []) ≡ length S + 1 = length-append S (x ∷ []) in
-    let p : length (S ++ x ∷ []) + 1 ≡ length S + 1 + 1 = ap (λ (k : ℕ). k + 1) m in
-    let k = slots-answer o kind (answered c r) (S ++ x ∷ []) xs some q h.1 (omega (arith, l, m)) in (
-      (
-        slot-answers o kind c S x some e h.0 (omega (arith, l)),
-        subst (λ (j : ℕ). AllAnswers kind (answered c r) (slots_written (object_at o) j xs)) p k.0,
-      ),
-      subst (λ (j : ℕ). claim_at o (talked_over (answered c r) (slots_written (object_at o) j xs)) ≡ record { count = Some 0; slots = S ++ x ∷ xs }) p
-          (k.1 ∙ ap (λ (y : List ℕ). record { count = Some 0; slots = y }) (append_assoc S (x ∷ []) xs)),
+    let m : length (S ++ x ∷ []) ≡ length S + 1 = length-append S (x ∷ []) in (
+      slot-answers o kind c S x some e h.0 (omega (arith, l)),
+      subst (λ (j : ℕ). AllAnswers kind (answered c r) (slots_written (object_at o) j xs)) (ap (λ (k : ℕ). k + 1) m)
+          (slots-answer o kind (answered c r) (S ++ x ∷ []) xs some (slot-own o c (Some 0) S x e) h.1 (omega (arith, l, m))),
     )
 
 object-answers : (o : Bool) (kind : SlaveKind) (c : Config) (xs : List ℕ) (b : Bool) → has_some (ps_at o kind) ≡ b → IsAssignable kind (ps_at o kind) xs → AllAnswers kind c (assignment_requests (object_at o) xs b)
@@ -221,8 +195,8 @@ object-answers o kind c (x ∷ xs) true some h =
     let e : claim_at o c1 ≡ record { count = Some 0; slots = [] } = own-claim o c 0 (byte_value 0) in
     let k = slots-answer o kind c1 [] (x ∷ xs) some e h.offered (omega (arith, h.few)) in (
       zero-answers o kind c some,
-      all-append kind c1 (slots_written (object_at o) 1 (x ∷ xs)) (downloads (object_at o) 0 (byte_value (length (x ∷ xs))) ∷ []) k.0
-          (count-answers o kind (talked_over c1 (slots_written (object_at o) 1 (x ∷ xs))) (Some 0) (x ∷ xs) some k.1 h, tt),
+      all-append kind c1 (slots_written (object_at o) 1 (x ∷ xs)) (downloads (object_at o) 0 (byte_value (length (x ∷ xs))) ∷ []) k
+          (count-answers o kind (talked_over c1 (slots_written (object_at o) 1 (x ∷ xs))) (Some 0) (x ∷ xs) some (slots-own o c1 (Some 0) [] (x ∷ xs) e) h, tt),
     )
 
 -- ---- all requests

@@ -1,7 +1,7 @@
 -- What a slave becomes by a datagram that writes registers.
-use Rattle.ec_bringup.proofs.Words.{ℕ, ◌≡◌, Bool, true, false, refl, sym, ◌∙◌, ap, arith, if◌then◌else◌, length, ◌+◌, ◌*◌, ◌/◌, ◌%◌, ◌<◌, ◌≤◌, ◌⊎◌, Option, None, subst, inl, inr, List, [], ◌∷◌, slice_index, SlaveKind, SyncManager, empty_manager, State, Al, requesting, SlaveState, manager_at, Meeting, station_of, power_on, Window, touches, is_configured, settings_written, physical_after, Wrote, set_by, OnlyWrites, IsOfKind, HoldsZeros, IsConfigured, Rises, IsSilent, Talks, IsUpAt, IsTop, Stands, eq-eqb, if_true, if_false, within_below, within_above, Command, Fpwr, Datagram, IsDatagram, adp_of, ado_of, Init, Op, state_number, Sii, written, role_of, adp_after, is_reading, is_writing, window_of, meets, slave_met, datagram_met, other_station_passes, control_word, Action, AskState, station, at, sent, Rise, Stays, Climbs, Config, Stage, Up, Talk, told, climbing, after, CanTell, CanClimb, writes_meet, goes_on, Untouched, ReadsOn, Arrives, IsOther, MayRepeat, Met, wrote, unconfigured, Fprd, Fprw}
+use Rattle.ec_bringup.proofs.Words.{ℕ, ◌≡◌, Bool, true, false, refl, sym, ◌∙◌, ap, arith, if◌then◌else◌, length, ◌+◌, ◌*◌, ◌/◌, ◌%◌, ◌<◌, ◌≤◌, ◌⊎◌, Option, None, subst, inl, inr, List, [], ◌∷◌, slice_index, SlaveKind, SyncManager, empty_manager, State, Al, requesting, SlaveState, manager_at, Meeting, station_of, power_on, Window, touches, is_configured, settings_written, physical_after, Wrote, set_by, OnlyWrites, IsOfKind, HoldsZeros, IsConfigured, Rises, IsSilent, Talks, IsUpAt, IsTop, Stands, eq-eqb, if_true, if_false, within_below, within_above, Command, Fpwr, Datagram, IsDatagram, adp_of, ado_of, Init, Op, state_number, Sii, written, role_of, adp_after, is_reading, is_writing, window_of, meets, slave_met, datagram_met, other_station_passes, control_word, Action, AskState, station, sent, Rise, Stays, Climbs, Config, Stage, Up, Talk, told, climbing, CanTell, CanClimb, writes_meet, goes_on, Untouched, ReadsOn, Arrives, MayRepeat, wrote, unconfigured, Fprd, Fprw}
 use Rattle.ec_bringup.proofs.Alike.{claims-alike, kind-kept}
-use Rattle.ec_bringup.proofs.Passing.{IsOne, one-ask-state, station-zero}
+use Rattle.ec_bringup.proofs.Passing.{IsOne, ForAskState, station-zero, Owes, as_one, mine-told}
 
 abbrev locked_of : SyncManager → Bool
 locked_of m = m.locked
@@ -23,8 +23,6 @@ slave-wrote kind w s t a h = kind-kept kind s t a.kind a.room a.count a.outs a.i
     state_by false = refl
 
 -- ---- a datagram of a start-up at the slave that it is for
-
--- ---- the meeting
 
 -- the slave that is meant is told to write
 pub own-writes : (s : SlaveState) (d : Datagram) → d.command ≡ Fpwr → adp_of d ≡ station_of s → OnlyWrites s d
@@ -57,22 +55,20 @@ window-sent c adp ado bytes number = let e : (adp % 65536 + 65536 * ado) / 65536
 -- ---- a write of registers at its slave
 
 pub pass-own : (kind : SlaveKind) (i : ℕ) (c : Config) (trouble : Bool) (a : Action) (number : ℕ) (d : Datagram) (s : SlaveState) (w : Window)
-    → (one : IsOne a i number) → i < 64 → one.e.command ≡ Fpwr → window_of one.e ≡ w → one.ado < 65536 → after i (Up c) a ≡ Up (told c a) → (MayRepeat a (datagram_met s d) → ⊥) → (IsOther a i → ⊥)
-    → (IsTop c.rise → ⊥)
+    → (one : IsOne a i number) → i < 64 → one.e.command ≡ Fpwr → window_of one.e ≡ w → one.ado < 65536 → (MayRepeat a (datagram_met s d) → ⊥) → (IsTop c.rise → ⊥)
     → (IsOfKind kind s → IsUpAt i c s → IsOfKind kind (physical_after s false true w))
     → (IsOfKind kind s → IsUpAt i c s → IsUpAt i (told c a) (physical_after s false true w))
-    → IsDatagram d → Arrives a number i d → Stands kind i (Up c) trouble s
-    → Met kind i (Up c) trouble a (datagram_met s d) (slave_met s d) × Arrives a number (i + 1) (datagram_met s d)
-pass-own kind i c trouble a number d s w one l cm win ado aft never self low keeps up good arrives h =
+    → IsDatagram d → Owes kind i (Up c) trouble a number d s
+pass-own kind i c trouble a number d s w one l cm win ado never low keeps up good arrives h =
     let u : Untouched i i one.e d = one.arrives i d arrives in
     let e : d ≡ one.e = u.to_come (omega arith) in
     let cmd : d.command ≡ Fpwr = u.gone_by.command ∙ cm in
-    let adp : adp_of d ≡ station i = let x = u.gone_by.address in let y = one.address in omega (arith, x, y, at, ado) in
+    let adp : adp_of d ≡ station i = let x = u.gone_by.address in let y = one.address in omega (arith, x, y, ado) in
     let on : Arrives a number (i + 1) (datagram_met s d) = one.arrived (i + 1) (datagram_met s d) (record { to_come = λ k. absurd (omega arith); gone_by = reads-on Fpwr s d one.e refl u.gone_by cmd }) in (
       record {
-        other = λ o. absurd (self o);
+        other = λ o. absurd (one.other i o refl);
         repeated = λ r. absurd (never r);
-        ended = λ _. subst (λ (x : Stage). Stands kind i x trouble (slave_met s d)) (sym aft) (stood h e cmd adp);
+        ended = λ _. subst (λ (x : Stage). Stands kind i x trouble (slave_met s d)) (sym (mine-told one c)) (stood h e cmd adp);
       },
       on,
     )
@@ -159,11 +155,10 @@ low-top (Climbs from other) state can top = can
 low-top _ state can top = top
 
 pub pass-ask-state : (kind : SlaveKind) (i : ℕ) (c : Config) (trouble : Bool) (state : State) (number : ℕ) (d : Datagram) (s : SlaveState)
-    → i < 64 → CanTell c (AskState i state) → IsDatagram d → Arrives (AskState i state) number i d → Stands kind i (Up c) trouble s
-    → Met kind i (Up c) trouble (AskState i state) (datagram_met s d) (slave_met s d) × Arrives (AskState i state) number (i + 1) (datagram_met s d)
+    → i < 64 → CanTell c (AskState i state) → IsDatagram d → Owes kind i (Up c) trouble (AskState i state) number d s
 pass-ask-state kind i c trouble state number d s l can good arrives h =
-    pass-own kind i c trouble (AskState i state) number d s (asking state) (one-ask-state i state number) l refl (window-sent Fpwr (station i) 0x0120 (state_number state ∷ 0 ∷ []) number) (omega arith)
-    (if_true _ _ _ (eq-eqb i i refl)) (λ r. r) (λ o. o refl) (low-top c.rise state can.1)
+    pass-own kind i c trouble (AskState i state) number d s (asking state) (as_one number (ForAskState i state)) l refl (window-sent Fpwr (station i) 0x0120 (state_number state ∷ 0 ∷ []) number) (omega arith)
+    (λ r. r) (low-top c.rise state can.1)
     (λ k u. slave-wrote kind (asking state) s (physical_after s false true (asking state)) (wrote s (asking state) (omega arith)) k)
     (λ k u. ask-up i c state s (physical_after s false true (asking state)) (wrote s (asking state) (omega arith)) k.room k.four can.0 can.1 u)
     good arrives h

@@ -1,11 +1,12 @@
 -- A reply is read from a slave's mailbox.
-use Rattle.ec_bringup.proofs.Words.{ℕ, zero, suc, ◌+◌, ◌-◌, ◌/◌, ◌%◌, ◌<◌, ◌≤◌, ◌≡◌, ◌⊎◌, ◌&&◌, not, Bool, true, false, Option, Some, None, refl, sym, ◌∙◌, ap, subst, inl, inr, arith, List, [], ◌∷◌, length, slice_index, is_some, is_none, unwrap_or, from_bool, eq-eqb, cases_Bool, and_from, and_left, and_right, lt-ltb, eqb-true, length-replicate, zeros, any_below, if_true, if_false, within_true, within_below, within_above, any_below_none, any_below_from, SyncManagerSettings, Mailbox, SlaveKind, ram_start, ram_end, is_set, is_mailbox, is_master_written, is_master_read, span, SyncManager, may_read, is_enabled, ring_read, shown, covers, governor, governs, in_first_buffer, Fprd, Datagram, IsDatagram, adp_of, SlaveState, Meeting, manager_at, station_of, reads_under, is_ungoverned, is_read_by, Window, touches, physical_after, physical_manager, physical_managers, may_read_byte, some_byte_read, byte_read, byte_at, ram_byte, retold, window_of, slave_met, datagram_met, message_read, fmmu_bytes, settings_at, fmmu_at, AwaitReply, SdoRequest, station, at, datagram_of, message_verdict, Next, Rise, Config, Stage, Up, Talk, answered, after, CanTell, AreMailboxes, IsOfKind, IsAssigned, Talks, IsUpAt, Rises, Reached, IsGone, HadFault, Stands, Arrives, Met, reads_meet, accesses_leave, managers_accessed, ram_governed, retold_whole}
+use Rattle.ec_bringup.proofs.Words.{ℕ, ◌+◌, ◌-◌, ◌/◌, ◌%◌, ◌<◌, ◌≤◌, ◌≡◌, ◌⊎◌, ◌&&◌, not, Bool, true, false, Option, Some, None, refl, sym, ◌∙◌, ap, subst, inl, inr, arith, List, [], ◌∷◌, length, slice_index, is_some, is_none, unwrap_or, from_bool, and_from, and_left, and_right, lt-ltb, eqb-true, length-replicate, zeros, any_below, if_true, if_false, within_true, within_below, within_above, any_below_none, any_below_from, SyncManagerSettings, Mailbox, SlaveKind, ram_start, ram_end, is_set, is_mailbox, is_master_written, is_master_read, span, SyncManager, may_read, is_enabled, shown, covers, governor, governs, in_first_buffer, Fprd, Datagram, IsDatagram, adp_of, SlaveState, Meeting, manager_at, station_of, reads_under, is_ungoverned, Window, touches, physical_after, physical_manager, physical_managers, may_read_byte, some_byte_read, byte_read, byte_at, ram_byte, retold, window_of, slave_met, datagram_met, message_read, fmmu_bytes, settings_at, fmmu_at, AwaitReply, SdoRequest, station, datagram_of, message_verdict, Next, Rise, Config, Stage, Up, Talk, answered, after, CanTell, AreMailboxes, IsOfKind, IsAssigned, Talks, IsUpAt, Rises, Reached, IsGone, HadFault, Stands, Met, reads_meet, accesses_leave, managers_accessed, ram_governed, retold_whole, ne_eqb}
 use Rattle.ec_bringup.proofs.Alike.{rises-alike}
 use Rattle.ec_bringup.proofs.Owns.{window-sent, reads-on, gone-passes}
 use Rattle.ec_bringup.proofs.Polls.{own-reads, read-slave, read-bytes}
 use Rattle.ec_bringup.proofs.Sets.{low-top}
-use Rattle.ec_bringup.proofs.Sends.{none-set, four-of, set-lies, list4}
+use Rattle.ec_bringup.proofs.Sends.{none-set, four-of, set-lies, list4, with_mails, mails-settings, mails-locked, mails-mail}
 use Rattle.ec_bringup.proofs.Leading.{SameFrame, answered-frame}
+use Rattle.ec_bringup.proofs.Passing.{ForAwaitReply, Owes, as_one, mine-told}
 
 abbrev pub asking : Mailbox → Window
 asking b = record { from = b.send_start; bytes = zeros b.send_size }
@@ -21,10 +22,7 @@ read-counter s d c e = (reads_meet s d (own-reads s d c e)).counter
 -- ---- who governs the reply
 
 written-not-read : (m : SyncManagerSettings) → is_master_written m ≡ true → is_master_read m ≡ false
-written-not-read m h = elim (cases_Bool (is_master_read m)) [
-  | inr e ↦ e
-  | inl e ↦ absurd (let a = eqb-true (m.control / 4 % 4) 1 h in let b = eqb-true (m.control / 4 % 4) 0 e in omega (arith, a, b))
-]
+written-not-read m h = ne_eqb (m.control / 4 % 4) 0 (λ e. let a = eqb-true (m.control / 4 % 4) 1 h in omega (arith, a, e))
 
 -- what is known of the two mailboxes of a slave
 pub record Boxes (b : Mailbox) (s : SlaveState) : Type 0 where
@@ -79,44 +77,41 @@ boxes-of i b c s four h u =
 not-first : (b : Mailbox) (s : SlaveState) (a : ℕ) → Boxes b s → b.send_start ≤ a → a < b.send_start + b.send_size → governs (manager_at s.managers 0) a ≡ false
 not-first b s a h l m =
     let m0 = manager_at s.managers 0 in
-    let fs = h.first_start in let fp = h.first_span in
     and_right _ _ (elim h.apart [
-      | inl x ↦ within_above m0.settings.start (span m0.settings) a (omega (arith, x, fs, fp, l))
-      | inr x ↦ within_below m0.settings.start (span m0.settings) a (omega (arith, x, fs, m))
+      | inl x ↦ within_above m0.settings.start (span m0.settings) a (omega (arith, x))
+      | inr x ↦ within_below m0.settings.start (span m0.settings) a (omega (arith, x))
     ])
 
 pub governed : (b : Mailbox) (s : SlaveState) (a : ℕ) → Boxes b s → b.send_start ≤ a → a < b.send_start + b.send_size → governor s.managers a ≡ Some 1
 governed b s a h l m =
     let m0 = manager_at s.managers 0 in let m1 = manager_at s.managers 1 in
-    let st = h.start in let ln = h.len in
     let wide : span m1.settings ≡ m1.settings.length = if_true _ _ _ h.box in
-    let is1 : governs m1 a ≡ true = and_from _ _ h.set (within_true m1.settings.start (span m1.settings) a (omega (arith, st, l)) (omega (arith, st, ln, wide, m))) in
+    let is1 : governs m1 a ≡ true = and_from _ _ h.set (within_true m1.settings.start (span m1.settings) a (omega arith) (omega arith)) in
     ap (λ (ms : List SyncManager). governor ms a) (four-of s.managers h.four) ∙ (if_false _ _ _ (not-first b s a h l m) ∙ if_true _ _ _ is1)
 
 pub covered : (b : Mailbox) (s : SlaveState) → Boxes b s → covers (touches (asking b)) (manager_at s.managers 1) ≡ true
 covered b s h =
-    let st = h.start in let ln = h.len in let some = h.some in let n = asking-length b in
-    and_from _ _ (within_true b.send_start (length (asking b).bytes) (manager_at s.managers 1).settings.start (omega (arith, st)) (omega (arith, st, n, some)))
-    (within_true b.send_start (length (asking b).bytes) ((manager_at s.managers 1).settings.start + (manager_at s.managers 1).settings.length - 1) (omega (arith, st, ln, some)) (omega (arith, st, ln, n, some)))
+    let n = asking-length b in
+    and_from _ _ (within_true b.send_start (length (asking b).bytes) (manager_at s.managers 1).settings.start (omega arith) (omega (arith, n)))
+    (within_true b.send_start (length (asking b).bytes) ((manager_at s.managers 1).settings.start + (manager_at s.managers 1).settings.length - 1) (omega arith) (omega (arith, n)))
 
 -- it has a byte of its own, and that is asked for
 own-byte : (b : Mailbox) (s : SlaveState) → Boxes b s
     → any_below (manager_at s.managers 1).settings.length (λ k. touches (asking b) ((manager_at s.managers 1).settings.start + k) && is_ungoverned (manager_at s.managers 0 ∷ []) ((manager_at s.managers 1).settings.start + k)) ≡ true
 own-byte b s h =
-    let st = h.start in let ln = h.len in let some = h.some in let n = asking-length b in
+    let n = asking-length b in
     let m1 : SyncManager = manager_at s.managers 1 in
-    let free : governs (manager_at s.managers 0) (m1.settings.start + 0) ≡ false = not-first b s (m1.settings.start + 0) h (omega (arith, st)) (omega (arith, st, some)) in
+    let free : governs (manager_at s.managers 0) (m1.settings.start + 0) ≡ false = not-first b s (m1.settings.start + 0) h (omega arith) (omega arith) in
     any_below_from (manager_at s.managers 1).settings.length
-    (λ k. touches (asking b) ((manager_at s.managers 1).settings.start + k) && is_ungoverned (manager_at s.managers 0 ∷ []) ((manager_at s.managers 1).settings.start + k)) 0 (omega (arith, ln, some))
-    (and_from _ _ (within_true b.send_start (length (asking b).bytes) (m1.settings.start + 0) (omega (arith, st)) (omega (arith, st, n, some))) (ap is_none (if_false _ _ _ free)))
+    (λ k. touches (asking b) ((manager_at s.managers 1).settings.start + k) && is_ungoverned (manager_at s.managers 0 ∷ []) ((manager_at s.managers 1).settings.start + k)) 0 (omega arith)
+    (and_from _ _ (within_true b.send_start (length (asking b).bytes) (m1.settings.start + 0) (omega arith) (omega (arith, n))) (ap is_none (if_false _ _ _ free)))
 
 -- a byte of it may be read where the mailbox may
 pub readable : (b : Mailbox) (s : SlaveState) (k : ℕ) (r : Bool) → Boxes b s → k < b.send_size → may_read (manager_at s.managers 1) ≡ r → may_read_byte s.managers (touches (asking b)) (b.send_start + k) ≡ r
 readable b s k r h l e =
-    let low = h.low in let high = h.high in let st = h.start in let ln = h.len in
-    let g = governed b s (b.send_start + k) h (omega arith) (omega (arith, l)) in
-    let f : in_first_buffer (manager_at s.managers 1) (b.send_start + k) ≡ true = lt-ltb _ _ (omega (arith, st, ln, l)) in
-    (ram_governed s (b.send_start + k) (omega (arith, low)) (omega (arith, high, l))).reads (touches (asking b))
+    let g = governed b s (b.send_start + k) h (omega arith) (omega arith) in
+    let f : in_first_buffer (manager_at s.managers 1) (b.send_start + k) ≡ true = lt-ltb _ _ (omega arith) in
+    (ram_governed s (b.send_start + k) (omega arith) (omega arith)).reads (touches (asking b))
     ∙ (ap (λ (o : Option ℕ). reads_under s.managers (touches (asking b)) (b.send_start + k) o) g
     ∙ (ap (λ (x : Bool). x && (covers (touches (asking b)) (manager_at s.managers 1) && may_read (manager_at s.managers 1))) f
     ∙ (ap (λ (x : Bool). x && may_read (manager_at s.managers 1)) (covered b s h) ∙ e)))
@@ -125,9 +120,6 @@ readable b s k r h l e =
 
 met-kept : (lower : List SyncManager) (w : Window) (n : ℕ) (m : SyncManager) → may_read m ≡ false → physical_manager lower true false w n m ≡ m
 met-kept lower w n m e = (managers_accessed lower w n m).read ∙ if_false _ _ _ (and_left (may_read m) _ e)
-
-met-read : (lower : List SyncManager) (w : Window) (n : ℕ) (m : SyncManager) → is_read_by (touches w) (is_ungoverned lower) m ≡ true → physical_manager lower true false w n m ≡ ring_read m
-met-read lower w n m e = (managers_accessed lower w n m).read ∙ if_true _ _ _ e
 
 managers-after : (b : Mailbox) (s : SlaveState) (x : SyncManager) → Boxes b s → physical_manager (manager_at s.managers 0 ∷ []) true false (asking b) 1 (manager_at s.managers 1) ≡ x
     → physical_managers [] true false (asking b) 0 s.managers ≡ manager_at s.managers 0 ∷ x ∷ manager_at s.managers 2 ∷ manager_at s.managers 3 ∷ []
@@ -142,21 +134,20 @@ unread b s h e = (accesses_leave s (asking b)).read ∙ (ap (λ (ms : List SyncM
 
 -- the reply is read, and the mailbox empty
 abbrev pub emptied : SlaveState → SlaveState
-emptied s = record s { managers = manager_at s.managers 0 ∷ record (manager_at s.managers 1) { mail = None } ∷ manager_at s.managers 2 ∷ manager_at s.managers 3 ∷ [] }
+emptied s = record s { managers = with_mails s.managers (manager_at s.managers 0).mail None }
 
 pub read-out : (b : Mailbox) (s : SlaveState) → Boxes b s → may_read (manager_at s.managers 1) ≡ true → physical_after s true false (asking b) ≡ emptied s
 read-out b s h e = (accesses_leave s (asking b)).read ∙ ap (λ (ms : List SyncManager). record s { managers = ms }) (managers-after b s (record (manager_at s.managers 1) { mail = None }) h
-    (met-read (manager_at s.managers 0 ∷ []) (asking b) 1 (manager_at s.managers 1) (and_from _ _ e (and_from _ _ (covered b s h) (own-byte b s h))) ∙ if_true _ _ _ h.box))
+    ((managers_accessed (manager_at s.managers 0 ∷ []) (asking b) 1 (manager_at s.managers 1)).read ∙ (if_true _ _ _ (and_from _ _ e (and_from _ _ (covered b s h) (own-byte b s h))) ∙ if_true _ _ _ h.box)))
 
 -- ---- the data
 
 shown-at : (b : Mailbox) (s : SlaveState) (raw : List ℕ) (k : ℕ) → Boxes b s → (manager_at s.managers 1).mail ≡ Some raw → k < b.send_size → byte_at s (b.send_start + k) ≡ slice_index raw k
 shown-at b s raw k h e l =
-    let low = h.low in let high = h.high in let st = h.start in
-    let z : b.send_start + k - (manager_at s.managers 1).settings.start ≡ k = omega (arith, st) in
+    let z : b.send_start + k - (manager_at s.managers 1).settings.start ≡ k = omega arith in
     let v : shown (manager_at s.managers 1) ≡ raw = if_true _ _ _ h.box ∙ ap (λ (o : Option (List ℕ)). unwrap_or o []) e in
-    (ram_governed s (b.send_start + k) (omega (arith, low)) (omega (arith, high, l))).shows
-    ∙ (ap (λ (o : Option ℕ). ram_byte s.memory s.managers (b.send_start + k) o) (governed b s (b.send_start + k) h (omega arith) (omega (arith, l)))
+    (ram_governed s (b.send_start + k) (omega arith) (omega arith)).shows
+    ∙ (ap (λ (o : Option ℕ). ram_byte s.memory s.managers (b.send_start + k) o) (governed b s (b.send_start + k) h (omega arith) (omega arith))
     ∙ (ap (λ (x : List ℕ). slice_index x (b.send_start + k - (manager_at s.managers 1).settings.start)) v ∙ ap (λ (x : ℕ). slice_index raw x) z))
 
 pub raw-read : (b : Mailbox) (s : SlaveState) (raw : List ℕ) → Boxes b s → (manager_at s.managers 1).mail ≡ Some raw → length raw ≡ b.send_size → may_read (manager_at s.managers 1) ≡ true
@@ -175,40 +166,20 @@ emptied-slave kind s h = record {
   outs = h.outs;
   ins = h.ins;
   fixed = λ e. let f = h.fixed e in record { outs = f.outs; ins = f.ins };
-  unlocked_in_init = λ e n l. emptied-locked s n l ∙ h.unlocked_in_init e n l;
+  unlocked_in_init = λ e n l. mails-locked s.managers (manager_at s.managers 0).mail None n l ∙ h.unlocked_in_init e n l;
 }
-  where
-    emptied-locked : (s : SlaveState) (n : ℕ) → n < 4 → (manager_at (emptied s).managers n).locked ≡ (manager_at s.managers n).locked
-    emptied-locked s (suc (suc (suc (suc n)))) l = absurd (omega (arith, l))
-    emptied-locked s _ l = refl
-
--- its front, whatever its configuration is called
-emptied-settings : (s : SlaveState) (n : ℕ) → n < 4 → (manager_at (emptied s).managers n).settings ≡ (manager_at s.managers n).settings
-emptied-settings s (suc (suc (suc (suc n)))) l = absurd (omega (arith, l))
-emptied-settings s _ l = refl
-
-emptied-lock : (s : SlaveState) (n : ℕ) → n < 4 → (manager_at (emptied s).managers n).locked ≡ (manager_at s.managers n).locked
-emptied-lock s (suc (suc (suc (suc n)))) l = absurd (omega (arith, l))
-emptied-lock s _ l = refl
-
-emptied-others : (s : SlaveState) (n : ℕ) → 2 ≤ n → n < 4 → (manager_at (emptied s).managers n).mail ≡ (manager_at s.managers n).mail
-emptied-others s zero a l = absurd (omega (arith, a))
-emptied-others s (suc zero) a l = absurd (omega (arith, a))
-emptied-others s (suc (suc zero)) a l = refl
-emptied-others s (suc (suc (suc zero))) a l = refl
-emptied-others s (suc (suc (suc (suc n)))) a l = absurd (omega (arith, l))
 
 emptied-up : (i : ℕ) (c d : Config) (s : SlaveState) → SameFrame c d → (manager_at s.managers 0).mail ≡ None → IsAssigned d s → IsUpAt i c s → IsUpAt i d (emptied s)
 emptied-up i c d s f none done u = record {
   configured = record {
     station_is = u.configured.station_is;
-    settings = λ n l. emptied-settings s n l ∙ (u.configured.settings n l ∙ ap (λ (ms : List SyncManagerSettings). settings_at ms n) (sym f.managers));
+    settings = λ n l. mails-settings s.managers (manager_at s.managers 0).mail None n l ∙ (u.configured.settings n l ∙ ap (λ (ms : List SyncManagerSettings). settings_at ms n) (sym f.managers));
     fmmus = λ n k l m. u.configured.fmmus n k l m ∙ ap (λ fs. slice_index (fmmu_bytes (fmmu_at fs n)) k) (sym f.fmmus);
     idle = λ e. u.configured.idle (sym f.idle ∙ e);
-    no_messages = λ n a l. emptied-others s n a l ∙ u.configured.no_messages n a l;
+    no_messages = λ n a l. mails-mail s.managers (manager_at s.managers 0).mail None n (omega (arith, a)) (λ e. absurd (omega (arith, a, e))) l ∙ u.configured.no_messages n a l;
     outputs = u.configured.outputs;
   };
-  unlocked = λ n l. emptied-lock s n l ∙ u.unlocked n l;
+  unlocked = λ n l. mails-locked s.managers (manager_at s.managers 0).mail None n l ∙ u.unlocked n l;
   rises = subst (λ (r : Rise). Rises r (emptied s)) (sym f.rise) (rises-alike c.rise s (emptied s) refl refl u.rises);
   talks = subst (λ (o : Option Talk). Talks i d o (emptied s)) (sym f.talk) (record {
     no_message = none;
@@ -235,18 +206,17 @@ some-read b s false h e = let n = asking-length b in
     any_below_none (length (asking b).bytes) (λ k. may_read_byte s.managers (touches (asking b)) (b.send_start + k)) (λ k l. readable b s k false h (omega (arith, l, n)) e)
 
 pub pass-await-reply : (kind : SlaveKind) (i : ℕ) (b : Mailbox) (r : SdoRequest) (c : Config) (trouble : Bool) (number : ℕ) (d : Datagram) (s : SlaveState)
-    → i < 64 → CanTell c (AwaitReply i b r) → IsDatagram d → Arrives (AwaitReply i b r) number i d → Stands kind i (Up c) trouble s
-    → Met kind i (Up c) trouble (AwaitReply i b r) (datagram_met s d) (slave_met s d) × Arrives (AwaitReply i b r) number (i + 1) (datagram_met s d)
+    → i < 64 → CanTell c (AwaitReply i b r) → IsDatagram d → Owes kind i (Up c) trouble (AwaitReply i b r) number d s
 pass-await-reply kind i b r c trouble number d s l can good arrives h =
     let e : d ≡ datagram_of (AwaitReply i b r) number = arrives.to_come (omega arith) in
     let cmd : d.command ≡ Fprd = arrives.gone_by.command in
-    let adp : adp_of d ≡ station i = let x = arrives.gone_by.address in omega (arith, x, at, l) in
+    let adp : adp_of d ≡ station i = let x = arrives.gone_by.address in omega (arith, x, l) in
     let w : window_of d ≡ asking b = ap window_of e ∙ window-sent Fprd (station i) b.send_start (zeros b.send_size) number in
     let z : d.counter ≡ 0 = ap (λ (x : Datagram). x.counter) e in
     (by h.at cmd adp w z, record { to_come = λ k. absurd (omega (arith, k)); gone_by = reads-on Fprd s d (datagram_of (AwaitReply i b r) number) refl arrives.gone_by cmd })
   where
     aft : after i (Up c) (AwaitReply i b r) ≡ Up (answered c r)
-    aft = if_true _ _ _ (eq-eqb i i refl)
+    aft = mine-told (as_one number (ForAwaitReply i b r)) c
 
     read : Found i b r c s → Boxes b s → IsUpAt i c s → d.command ≡ Fprd → adp_of d ≡ station_of s → window_of d ≡ asking b → d.counter ≡ 0 → Met kind i (Up c) trouble (AwaitReply i b r) (datagram_met s d) (slave_met s d)
     read (Nothing empty) bx u cmd e w z =

@@ -7,11 +7,8 @@ get_or-zeros (suc n) zero = refl
 get_or-zeros (suc n) (suc k) = get_or-zeros n k
 
 empty_at : (n : ℕ) → manager_at (no_manager ∷ no_manager ∷ no_manager ∷ no_manager ∷ []) n ≡ no_manager
-empty_at zero = refl
-empty_at (suc zero) = refl
-empty_at (suc (suc zero)) = refl
-empty_at (suc (suc (suc zero))) = refl
 empty_at (suc (suc (suc (suc n)))) = refl
+empty_at _ = refl
 
 pub power_on_is : (kind : SlaveKind) (identity : Identity) → IsOfKind kind (power_on kind identity)
 power_on_is kind identity =

@@ -13,9 +13,7 @@ slaves-all [] number d = refl
 slaves-all (s ∷ ss) number d = ap (λ (p : Passed). p.slave ∷ (passes_ring ss p.datagrams).slaves) (two-pass s number d) ∙ ap (λ (xs : List SlaveState). slave_met s d ∷ xs) (slaves-all ss number (datagram_met s d))
 
 shape-by : (c1 c2 : Command) (i j n m : ℕ) → c1 ≡ c2 → i ≡ j → n ≡ m → (let x : Shape = record { command = c1; index = i; bytes = n } in let y : Shape = record { command = c2; index = j; bytes = m } in x ≡ y)
-shape-by c1 c2 i j n m a b c =
-    ap (λ (x : Command). record { command = x; index = i; bytes = n }) a
-    ∙ (ap (λ (x : ℕ). record { command = c2; index = x; bytes = n }) b ∙ ap (λ (x : ℕ). record { command = c2; index = j; bytes = x }) c)
+shape-by c1 c2 i j n m a b c = cc
 
 shape-stays : (ss : List SlaveState) (d : Datagram) → IsDatagram d → shape (all_passed ss d) ≡ shape d
 shape-stays [] d good = refl
@@ -26,7 +24,6 @@ shape-stays (s ∷ ss) d good =
 
 pub round : RoundLaw
 round s number ss good =
-    let d : Datagram = datagram_of (action_of s) number in
     let e = frame-all ss number (datagram_of (action_of s) number) in
     record {
       datagrams = e;

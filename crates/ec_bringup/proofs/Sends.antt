@@ -1,17 +1,14 @@
 -- A request is put into a slave's mailbox.
-use Rattle.ec_bringup.proofs.Words.{ℕ, zero, suc, ◌+◌, ◌-◌, ◌*◌, ◌/◌, ◌%◌, ◌<◌, ◌≤◌, ◌≡◌, ◌==◌, ◌&&◌, ◌||◌, not, Bool, true, false, Option, Some, None, refl, sym, ◌∙◌, ap, subst, inl, inr, arith, List, [], ◌∷◌, length, slice_index, is_none, nat_lt, nat_le, length-append, eq-eqb, cases_Bool, and_parts, and_from, and_left, and_right, eqb-true, leb-true, length-replicate, zeros, any_below, if_true, if_false, within_true, within_below, any_below_from, SyncManagerSettings, Mailbox, SlaveKind, ram_start, ram_end, no_settings, is_set, is_mailbox, is_buffered, is_master_written, is_master_read, span, manager_bytes, SyncManager, may_write, is_enabled, ring_written, covers, Fpwr, Apwr, Fprd, Brd, Bwr, Datagram, IsDatagram, Al, SlaveState, manager_at, is_ungoverned, is_written_by, Window, touches, is_configured, physical_value, physical_manager, physical_managers, physical_after, slave_met, datagram_met, writes_by_byte, length-message, settings_at, SendRequest, CountSlaves, AskInit, AwaitInit, ClearFmmus, ClearManagers, ClearStations, NameSlave, AskWord, AwaitWord, SetManager, SetFmmu, AskState, AwaitState, AwaitReply, SdoRequest, station, filled, request_bytes, request_message, sent, datagram_of, word_place, Config, Up, Talk, CanTell, AreMailboxes, IsRequest, HoldsZeros, IsOfKind, IsSilent, Talks, IsUpAt, IsTop, Stands, Arrives, Met, accesses_leave, managers_accessed, whole_values, unconfigured, Command, fmmu_bytes, state_number, read_command, Action, IsReachable}
+use Rattle.ec_bringup.proofs.Words.{ℕ, zero, suc, ◌+◌, ◌-◌, ◌*◌, ◌/◌, ◌%◌, ◌<◌, ◌≤◌, ◌≡◌, ◌==◌, ◌&&◌, ◌||◌, not, Bool, true, false, Option, Some, None, refl, sym, ◌∙◌, ap, subst, inl, inr, arith, List, [], ◌∷◌, length, slice_index, is_none, nat_lt, nat_le, length-append, and_parts, and_from, and_left, and_right, eqb-true, leb-true, length-replicate, zeros, any_below, if_true, if_false, within_true, within_below, any_below_from, SyncManagerSettings, Mailbox, SlaveKind, ram_start, ram_end, no_settings, is_set, is_mailbox, is_buffered, is_master_written, is_master_read, span, manager_bytes, SyncManager, may_write, is_enabled, ring_written, covers, Fpwr, Apwr, Fprd, Brd, Bwr, Datagram, IsDatagram, Al, SlaveState, manager_at, is_ungoverned, Window, touches, is_configured, physical_value, physical_manager, physical_managers, physical_after, writes_by_byte, length-message, settings_at, SendRequest, CountSlaves, AskInit, AwaitInit, ClearFmmus, ClearManagers, ClearStations, NameSlave, AskWord, AwaitWord, SetManager, SetFmmu, AskState, AwaitState, AwaitReply, SdoRequest, station, filled, request_bytes, request_message, sent, datagram_of, word_place, Config, Up, Talk, CanTell, AreMailboxes, IsRequest, HoldsZeros, IsOfKind, IsSilent, Talks, IsUpAt, IsTop, accesses_leave, managers_accessed, whole_values, unconfigured, Command, fmmu_bytes, state_number, read_command, Action, IsReachable, ne_eqb}
 use Rattle.ec_bringup.proofs.Alike.{claims-alike, rises-alike, kind-kept}
-use Rattle.ec_bringup.proofs.Passing.{one-send}
+use Rattle.ec_bringup.proofs.Passing.{ForSend, Owes, as_one}
 use Rattle.ec_bringup.proofs.Owns.{window-sent, pass-own}
 use Rattle.ec_bringup.proofs.Sets.{aside-busy, low-top}
 
 -- ---- one manager
 
 written-not-read : (m : SyncManagerSettings) → is_master_read m ≡ true → is_master_written m ≡ false
-written-not-read m h = elim (cases_Bool (is_master_written m)) [
-  | inr e ↦ e
-  | inl e ↦ absurd (let a = eqb-true (m.control / 4 % 4) 0 h in let b = eqb-true (m.control / 4 % 4) 1 e in omega (arith, a, b))
-]
+written-not-read m h = ne_eqb (m.control / 4 % 4) 1 (λ e. let a = eqb-true (m.control / 4 % 4) 0 h in omega (arith, a, e))
 
 pub unset-write : (m : SyncManager) → is_set m.settings ≡ false → may_write m ≡ false
 unset-write m e = and_left _ _ (and_left _ _ e)
@@ -24,14 +21,10 @@ none-set m e = ap is_set e
 pub met-stays : (lower : List SyncManager) (w : Window) (n : ℕ) (m : SyncManager) → is_configured w n ≡ false → may_write m ≡ false → physical_manager lower false true w n m ≡ m
 met-stays lower w n m u e = (managers_accessed lower w n m).written u ∙ if_false _ _ _ (and_left (may_write m) _ e)
 
-met-written : (lower : List SyncManager) (w : Window) (n : ℕ) (m : SyncManager) → is_configured w n ≡ false → is_written_by (touches w) (is_ungoverned lower) m ≡ true → physical_manager lower false true w n m ≡ ring_written m (physical_value lower w m.settings.start m.settings.length)
-met-written lower w n m u e = (managers_accessed lower w n m).written u ∙ if_true _ _ _ e
-
 -- ---- four managers
 
 pub list4 : (a b c d x y z v : SyncManager) → a ≡ x → b ≡ y → c ≡ z → d ≡ v → a ∷ b ∷ c ∷ d ∷ [] ≡ x ∷ y ∷ z ∷ v ∷ []
-list4 a b c d x y z v p q r s =
-    ap (λ (k : SyncManager). k ∷ b ∷ c ∷ d ∷ []) p ∙ (ap (λ (k : SyncManager). x ∷ k ∷ c ∷ d ∷ []) q ∙ (ap (λ (k : SyncManager). x ∷ y ∷ k ∷ d ∷ []) r ∙ ap (λ (k : SyncManager). x ∷ y ∷ z ∷ k ∷ []) s))
+list4 a b c d x y z v p q r s = cc
 
 pub four-of : (ms : List SyncManager) → length ms ≡ 4 → ms ≡ manager_at ms 0 ∷ manager_at ms 1 ∷ manager_at ms 2 ∷ manager_at ms 3 ∷ []
 four-of (a ∷ b ∷ c ∷ d ∷ []) e = refl
@@ -40,14 +33,11 @@ four-of _ e = absurd (omega (arith, e))
 abbrev pub sending : Mailbox → ℕ → SdoRequest → Window
 sending b counter r = record { from = b.receive_start; bytes = filled b.receive_size (request_bytes counter r) }
 
-pub request-length : (counter : ℕ) (r : SdoRequest) → length (request_bytes counter r) ≡ 16
-request-length counter r = length-message (request_message counter r)
-
 pub sending-length : (b : Mailbox) (counter : ℕ) (r : SdoRequest) → 16 ≤ b.receive_size → length (sending b counter r).bytes ≡ b.receive_size
 sending-length b counter r l =
     let e = length-append (request_bytes counter r) (zeros (b.receive_size - length (request_bytes counter r))) in
     let f = length-replicate {A = ℕ} (b.receive_size - length (request_bytes counter r)) 0 in
-    omega (arith, request-length counter r, e, f, l)
+    omega (arith, length-message (request_message counter r), e, f, l)
 
 -- a set manager lies in the RAM
 pub set-lies : (m : SyncManagerSettings) → is_set m ≡ true → (ram_start ≤ m.start) × (m.start + span m ≤ ram_end)
@@ -65,7 +55,6 @@ pub sent-managers : (i counter : ℕ) (c : Config) (b : Mailbox) (r : SdoRequest
     → physical_managers [] false true (sending b counter r) 0 s.managers
     ≡ record (manager_at s.managers 0) { mail = Some (sending b counter r).bytes } ∷ manager_at s.managers 1 ∷ manager_at s.managers 2 ∷ manager_at s.managers 3 ∷ []
 sent-managers i counter c b r s four h u none =
-    let w : Window = sending b counter r in
     let m0 = manager_at s.managers 0 in let m1 = manager_at s.managers 1 in let m2 = manager_at s.managers 2 in let m3 = manager_at s.managers 3 in
     let e0 = u.configured.settings 0 (omega arith) in let e1 = u.configured.settings 1 (omega arith) in
     let e2 = u.configured.settings 2 (omega arith) in let e3 = u.configured.settings 3 (omega arith) in
@@ -73,20 +62,18 @@ sent-managers i counter c b r s four h u none =
     let len : m0.settings.length ≡ b.receive_size = ap (λ (x : SyncManagerSettings). x.length) e0 ∙ h.receive_length in
     let long : length (sending b counter r).bytes ≡ b.receive_size = sending-length b counter r h.receive_some in
     let ram = (set-lies (settings_at c.managers 0) h.receive_set).0 in
-    let rs = h.receive_start in
-    let some = h.receive_some in
-    let free : (n : ℕ) → n < 4 → is_configured (sending b counter r) n ≡ false = λ n l. unconfigured (sending b counter r) n (inr (omega (arith, ram, rs, l))) in
-    let cov : covers (touches (sending b counter r)) m0 ≡ true = and_from _ _ (within_true b.receive_start (length (sending b counter r).bytes) m0.settings.start (omega (arith, start)) (omega (arith, start, long, some)))
-    (within_true b.receive_start (length (sending b counter r).bytes) (m0.settings.start + m0.settings.length - 1) (omega (arith, start, len, some)) (omega (arith, start, len, long, some))) in
+    let free : (n : ℕ) → n < 4 → is_configured (sending b counter r) n ≡ false = λ n l. unconfigured (sending b counter r) n (inr (omega (arith, ram, l))) in
+    let cov : covers (touches (sending b counter r)) m0 ≡ true = and_from _ _ (within_true b.receive_start (length (sending b counter r).bytes) m0.settings.start (omega (arith, start)) (omega (arith, start, long)))
+    (within_true b.receive_start (length (sending b counter r).bytes) (m0.settings.start + m0.settings.length - 1) (omega (arith, start, len)) (omega (arith, start, len, long))) in
     let box : is_mailbox m0.settings ≡ true = ap is_mailbox e0 ∙ h.receive_mailbox in
     let may : may_write m0 ≡ true = and_from _ _ (and_from _ _ (ap is_set e0 ∙ h.receive_set) (ap not (u.unlocked 0 (omega arith)))) (and_from _ _ (ap is_master_written e0 ∙ h.receive_written) (if_true _ _ _ box ∙ ap is_none none)) in
-    let touched : touches (sending b counter r) (m0.settings.start + 0) ≡ true = within_true b.receive_start (length (sending b counter r).bytes) (m0.settings.start + 0) (omega (arith, start)) (omega (arith, start, long, some)) in
+    let touched : touches (sending b counter r) (m0.settings.start + 0) ≡ true = within_true b.receive_start (length (sending b counter r).bytes) (m0.settings.start + 0) (omega (arith, start)) (omega (arith, start, long)) in
     let own : any_below m0.settings.length (λ k. touches (sending b counter r) (m0.settings.start + k) && is_ungoverned [] (m0.settings.start + k)) ≡ true
-    = any_below_from m0.settings.length (λ k. touches (sending b counter r) (m0.settings.start + k) && is_ungoverned [] (m0.settings.start + k)) 0 (omega (arith, len, some)) (and_from _ _ touched refl) in
+    = any_below_from m0.settings.length (λ k. touches (sending b counter r) (m0.settings.start + k) && is_ungoverned [] (m0.settings.start + k)) 0 (omega (arith, len)) (and_from _ _ touched refl) in
     let value : physical_value [] (sending b counter r) m0.settings.start m0.settings.length ≡ (sending b counter r).bytes
     = ap (λ (x : ℕ). physical_value [] (sending b counter r) x m0.settings.length) start ∙ (ap (λ (x : ℕ). physical_value [] (sending b counter r) b.receive_start x) (len ∙ sym long) ∙ whole_values (sending b counter r)) in
     let first : physical_manager [] false true (sending b counter r) 0 m0 ≡ record m0 { mail = Some (sending b counter r).bytes }
-    = met-written [] (sending b counter r) 0 m0 (free 0 (omega arith)) (and_from _ _ may (and_from _ _ cov own)) ∙ (ap (ring_written m0) value ∙ if_true _ _ _ box) in
+    = (managers_accessed [] (sending b counter r) 0 m0).written (free 0 (omega arith)) ∙ (if_true _ _ _ (and_from _ _ may (and_from _ _ cov own)) ∙ (ap (ring_written m0) value ∙ if_true _ _ _ box)) in
     let no1 : may_write m1 ≡ false = and_right (is_enabled m1) _ (and_left _ _ (written-not-read m1.settings (ap is_master_read e1 ∙ h.send_read))) in
     let no2 : may_write m2 ≡ false = unset-write m2 (none-set m2.settings (e2 ∙ h.no_outputs)) in
     let no3 : may_write m3 ≡ false = unset-write m3 (none-set m3.settings (e3 ∙ h.no_inputs)) in
@@ -112,42 +99,43 @@ pub record Delivered (b : Mailbox) (counter : ℕ) (r : SdoRequest) (s t : Slave
   pub outs : t.outs ≡ s.outs
   pub ins : t.ins ≡ s.ins
 
-abbrev with_message : List SyncManager → List ℕ → List SyncManager
-with_message ms x = record (manager_at ms 0) { mail = Some x } ∷ manager_at ms 1 ∷ manager_at ms 2 ∷ manager_at ms 3 ∷ []
+-- the first two managers with these messages
+abbrev pub with_mails : List SyncManager → Option (List ℕ) → Option (List ℕ) → List SyncManager
+with_mails ms x y = record (manager_at ms 0) { mail = x } ∷ record (manager_at ms 1) { mail = y } ∷ manager_at ms 2 ∷ manager_at ms 3 ∷ []
 
-mailbox_message-settings : (ms : List SyncManager) (x : List ℕ) (n : ℕ) → n < 4 → (manager_at (with_message ms x) n).settings ≡ (manager_at ms n).settings
-mailbox_message-settings ms x (suc (suc (suc (suc n)))) l = absurd (omega (arith, l))
-mailbox_message-settings ms x _ l = refl
+pub mails-settings : (ms : List SyncManager) (x y : Option (List ℕ)) (n : ℕ) → n < 4 → (manager_at (with_mails ms x y) n).settings ≡ (manager_at ms n).settings
+mails-settings ms x y (suc (suc (suc (suc n)))) l = absurd (omega (arith, l))
+mails-settings ms x y _ l = refl
 
-mailbox_message-locked : (ms : List SyncManager) (x : List ℕ) (n : ℕ) → n < 4 → (manager_at (with_message ms x) n).locked ≡ (manager_at ms n).locked
-mailbox_message-locked ms x (suc (suc (suc (suc n)))) l = absurd (omega (arith, l))
-mailbox_message-locked ms x _ l = refl
+pub mails-locked : (ms : List SyncManager) (x y : Option (List ℕ)) (n : ℕ) → n < 4 → (manager_at (with_mails ms x y) n).locked ≡ (manager_at ms n).locked
+mails-locked ms x y (suc (suc (suc (suc n)))) l = absurd (omega (arith, l))
+mails-locked ms x y _ l = refl
 
-mailbox_message-mail : (ms : List SyncManager) (x : List ℕ) (n : ℕ) → 1 ≤ n → n < 4 → (manager_at (with_message ms x) n).mail ≡ (manager_at ms n).mail
-mailbox_message-mail ms x zero a l = absurd (omega (arith, a))
-mailbox_message-mail ms x (suc (suc (suc (suc n)))) a l = absurd (omega (arith, l))
-mailbox_message-mail ms x _ a l = refl
+-- the second one's kept, or not asked for
+pub mails-mail : (ms : List SyncManager) (x y : Option (List ℕ)) (n : ℕ) → 1 ≤ n → (n ≡ 1 → y ≡ (manager_at ms 1).mail) → n < 4 → (manager_at (with_mails ms x y) n).mail ≡ (manager_at ms n).mail
+mails-mail ms x y zero a e l = absurd (omega (arith, a))
+mails-mail ms x y (suc zero) a e l = e refl
+mails-mail ms x y (suc (suc (suc (suc n)))) a e l = absurd (omega (arith, l))
+mails-mail ms x y _ a e l = refl
 
 pub delivered : (i counter : ℕ) (c : Config) (b : Mailbox) (r : SdoRequest) (s : SlaveState) → length s.managers ≡ 4 → AreMailboxes b c.managers → IsUpAt i c s → (manager_at s.managers 0).mail ≡ None
     → Delivered b counter r s (physical_after s false true (sending b counter r))
 delivered i counter c b r s four h u none =
-    let w : Window = sending b counter r in
     let x : List ℕ = (sending b counter r).bytes in
     let e = sent-managers i counter c b r s four h u none in
     let ram = (set-lies (settings_at c.managers 0) h.receive_set).0 in
-    let rs = h.receive_start in
     subst (Delivered b counter r s) (sym (accesses_leave s (sending b counter r)).written) (record {
       kind = refl;
       room = (writes_by_byte s.managers (sending b counter r) s.memory).0;
-      memory = λ a l k. ((writes_by_byte s.managers (sending b counter r) s.memory).1 a k).untouched (within_below b.receive_start (length (sending b counter r).bytes) a (omega (arith, ram, rs, l)));
+      memory = λ a l k. ((writes_by_byte s.managers (sending b counter r) s.memory).1 a k).untouched (within_below b.receive_start (length (sending b counter r).bytes) a (omega (arith, ram, l)));
       count = ap length e;
       mailbox_message = ap (λ (ms : List SyncManager). (manager_at ms 0).mail) e;
-      settings = λ n l. ap (λ (ms : List SyncManager). (manager_at ms n).settings) e ∙ mailbox_message-settings s.managers x n l;
-      locked = λ n l. ap (λ (ms : List SyncManager). (manager_at ms n).locked) e ∙ mailbox_message-locked s.managers x n l;
-      mail = λ n a l. ap (λ (ms : List SyncManager). (manager_at ms n).mail) e ∙ mailbox_message-mail s.managers x n a l;
+      settings = λ n l. ap (λ (ms : List SyncManager). (manager_at ms n).settings) e ∙ mails-settings s.managers (Some x) (manager_at s.managers 1).mail n l;
+      locked = λ n l. ap (λ (ms : List SyncManager). (manager_at ms n).locked) e ∙ mails-locked s.managers (Some x) (manager_at s.managers 1).mail n l;
+      mail = λ n a l. ap (λ (ms : List SyncManager). (manager_at ms n).mail) e ∙ mails-mail s.managers (Some x) (manager_at s.managers 1).mail n a (λ _. refl) l;
       outputs = ap (λ (ms : List SyncManager). manager_at ms 2) e;
-      al = if_false _ _ _ (within_below b.receive_start (length (sending b counter r).bytes) 0x0120 (omega (arith, ram, rs)));
-      busy = aside-busy (sending b counter r) s.sii (omega (arith, ram, rs));
+      al = if_false _ _ _ (within_below b.receive_start (length (sending b counter r).bytes) 0x0120 (omega (arith, ram)));
+      busy = aside-busy (sending b counter r) s.sii (omega (arith, ram));
       outs = refl;
       ins = refl;
     })
@@ -186,17 +174,15 @@ delivered-up i counter c b r s t room none boxes q low h u =
     }
 
 pub pass-send : (kind : SlaveKind) (i counter : ℕ) (b : Mailbox) (r : SdoRequest) (c : Config) (trouble : Bool) (number : ℕ) (d : Datagram) (s : SlaveState)
-    → i < 64 → CanTell c (SendRequest i counter b r) → IsDatagram d → Arrives (SendRequest i counter b r) number i d → Stands kind i (Up c) trouble s
-    → Met kind i (Up c) trouble (SendRequest i counter b r) (datagram_met s d) (slave_met s d) × Arrives (SendRequest i counter b r) number (i + 1) (datagram_met s d)
+    → i < 64 → CanTell c (SendRequest i counter b r) → IsDatagram d → Owes kind i (Up c) trouble (SendRequest i counter b r) number d s
 pass-send kind i counter b r c trouble number d s l can good arrives h =
-    let low = can.0 in let none = can.1 in let boxes = can.2 in let q = can.3 in
-    let lies = set-lies (settings_at c.managers 0) boxes.receive_set in
-    let silent = λ (u : IsUpAt i c s). subst (λ (o : Option Talk). Talks i c o s) none u.talks in
-    pass-own kind i c trouble (SendRequest i counter b r) number d s (sending b counter r) (one-send i counter b r number) l refl
-    (window-sent Fpwr (station i) b.receive_start (filled b.receive_size (request_bytes counter r)) number) (let a = lies.1 in omega (arith, a, boxes.receive_start))
-    (if_true _ _ _ (eq-eqb i i refl)) (λ o. o) (λ o. o refl) (low-top c.rise low)
-    (λ k u. delivered-slave kind b counter r s (physical_after s false true (sending b counter r)) (delivered i counter c b r s k.four boxes u (silent u).no_message) k)
-    (λ k u. delivered-up i counter c b r s (physical_after s false true (sending b counter r)) k.room none boxes q (low-top c.rise low) (delivered i counter c b r s k.four boxes u (silent u).no_message) u)
+    let lies = set-lies (settings_at c.managers 0) can.2.receive_set in
+    let silent = λ (u : IsUpAt i c s). subst (λ (o : Option Talk). Talks i c o s) can.1 u.talks in
+    pass-own kind i c trouble (SendRequest i counter b r) number d s (sending b counter r) (as_one number (ForSend i counter b r)) l refl
+    (window-sent Fpwr (station i) b.receive_start (filled b.receive_size (request_bytes counter r)) number) (let a = lies.1 in omega (arith, a, can.2.receive_start))
+    (λ o. o) (low-top c.rise can.0)
+    (λ k u. delivered-slave kind b counter r s (physical_after s false true (sending b counter r)) (delivered i counter c b r s k.four can.2 u (silent u).no_message) k)
+    (λ k u. delivered-up i counter c b r s (physical_after s false true (sending b counter r)) k.room can.1 can.2 can.3 (low-top c.rise can.0) (delivered i counter c b r s k.four can.2 u (silent u).no_message) u)
     good arrives h
 
 -- ---- the datagrams of a start-up are datagrams: each field fits its bits
@@ -214,16 +200,6 @@ sent-good c adp ado bytes number a l = record { index = omega arith; address = o
 zeros-few : (n : ℕ) → n < 2048 → length (zeros n) < 2048
 zeros-few n l = let e = length-replicate {A = ℕ} n 0 in omega (arith, e, l)
 
-filled-few : (b : Mailbox) (counter : ℕ) (r : SdoRequest) → IsReachable b → length (filled b.receive_size (request_bytes counter r)) < 2048
-filled-few b counter r h =
-    let e = length-append (request_bytes counter r) (zeros (b.receive_size - length (request_bytes counter r))) in
-    let f = length-replicate {A = ℕ} (b.receive_size - length (request_bytes counter r)) 0 in
-    let x = h.receive_few in let y = h.receive_some in
-    omega (arith, length-message (request_message counter r), e, f, x, y)
-
-six : (which : ℕ) → length (read_command (word_place which)) ≡ 6
-six which = refl
-
 pub datagram-good : (a : Action) (number : ℕ) → IsSendable a → IsDatagram (datagram_of a number)
 datagram-good CountSlaves number h = sent-good Brd 0 0x0130 (zeros 2) number (omega arith) (zeros-few 2 (omega arith))
 datagram-good AskInit number h = sent-good Bwr 0 0x0120 _ number (omega arith) (omega arith)
@@ -232,11 +208,11 @@ datagram-good ClearFmmus number h = sent-good Bwr 0 0x0600 (zeros 64) number (om
 datagram-good ClearManagers number h = sent-good Bwr 0 0x0800 (zeros 32) number (omega arith) (zeros-few 32 (omega arith))
 datagram-good ClearStations number h = sent-good Bwr 0 0x0010 (zeros 2) number (omega arith) (zeros-few 2 (omega arith))
 datagram-good (NameSlave t) number h = sent-good Apwr (65536 - t) 0x0010 _ number (omega arith) (omega arith)
-datagram-good (AskWord t which) number h = let e = six which in sent-good Fpwr (station t) 0x0502 (read_command (word_place which)) number (omega arith) (omega (arith, e))
+datagram-good (AskWord t which) number h = let e : length (read_command (word_place which)) ≡ 6 = refl in sent-good Fpwr (station t) 0x0502 (read_command (word_place which)) number (omega arith) (omega (arith, e))
 datagram-good (AwaitWord t which) number h = sent-good Fprd (station t) 0x0502 (zeros 10) number (omega arith) (zeros-few 10 (omega arith))
 datagram-good (SetManager t n m) number h = sent-good Fpwr (station t) (0x0800 + 8 * n) (manager_bytes m) number (let l : n < 4 = h in omega (arith, l)) (omega arith)
 datagram-good (SetFmmu t n f) number h = sent-good Fpwr (station t) (0x0600 + 16 * n) (fmmu_bytes f) number (let l : n < 4 = h in omega (arith, l)) (omega arith)
 datagram-good (AskState t to) number h = sent-good Fpwr (station t) 0x0120 (state_number to ∷ 0 ∷ []) number (omega arith) (omega arith)
 datagram-good (AwaitState t to) number h = sent-good Fprd (station t) 0x0130 (zeros 6) number (omega arith) (zeros-few 6 (omega arith))
-datagram-good (SendRequest t counter b r) number h = sent-good Fpwr (station t) b.receive_start (filled b.receive_size (request_bytes counter r)) number h.receive (filled-few b counter r h)
+datagram-good (SendRequest t counter b r) number h = sent-good Fpwr (station t) b.receive_start (filled b.receive_size (request_bytes counter r)) number h.receive (omega (arith, sending-length b counter r h.receive_some, h.receive_few))
 datagram-good (AwaitReply t b r) number h = sent-good Fprd (station t) b.send_start (zeros b.send_size) number h.send (zeros-few b.send_size (let x = h.send_few in omega (arith, x)))

@@ -1,7 +1,7 @@
 -- A firmware step of a slave that stands at a stage: the AL request, and the SII read.
-use Rattle.ec_bringup.proofs.Words.{ℕ, zero, suc, ◌<◌, ◌≡◌, ◌⊎◌, ◌&&◌, not, Bool, true, false, refl, sym, ◌∙◌, ap, subst, inl, inr, arith, List, [], ◌∷◌, length, map, set, if◌then◌else◌, length-set, get_or-set_same, get_or-set_other, slice_index, Result, Ok, Err, both_ways, cases_Bool, and_left, and_right, cases_eq, length-map, if_false, SlaveKind, SyncManager, no_manager, zeros_published, State, Init, PreOp, SafeOp, Op, StatusCode, InvalidMailboxConfiguration, InvalidOutputConfiguration, InvalidInputConfiguration, Checks, state_number, code_number, answer, requested_by, acknowledges, Al, decided, slave_answered as answered, SlaveState, manager_at, control_word, checks_of, unlocked_empty, managers_entered, with_al, request_decided, read_finished, Sii, requests_decided, finished, switched_on, Rise, Stays, Climbs, Config, Stage, Before, Called, Down, Up, IsStepUp, unviewed, IsOfKind, IsInInit, Rises, IsUpAt, IsDownAt, Reached, IsGone, HadFault, Stands}
+use Rattle.ec_bringup.proofs.Words.{ℕ, zero, suc, ◌<◌, ◌≡◌, ◌⊎◌, ◌&&◌, not, Bool, true, false, refl, sym, ◌∙◌, ap, subst, inl, inr, arith, List, [], ◌∷◌, length, map, if◌then◌else◌, slice_index, Result, Ok, Err, both_ways, cases_Bool, and_left, and_right, length-map, if_false, SlaveKind, SyncManager, zeros_published, State, Init, PreOp, SafeOp, Op, StatusCode, InvalidMailboxConfiguration, InvalidOutputConfiguration, InvalidInputConfiguration, Checks, state_number, code_number, answer, requested_by, acknowledges, Al, decided, slave_answered as answered, SlaveState, manager_at, control_word, checks_of, unlocked_empty, managers_entered, with_al, request_decided, read_finished, Sii, requests_decided, finished, switched_on, Rise, Stays, Climbs, Config, Stage, Before, Called, Down, Up, IsStepUp, IsOfKind, IsInInit, Rises, IsUpAt, IsDownAt, Reached, HadFault, Stands}
 use Rattle.ec_al.specs.Al as al
-use Rattle.ec_bringup.proofs.Alike.{SameFront, front-refl, SameFronts, fronts-refl, Alike, slave-alike, stands-alike, down-rest, up-rest}
+use Rattle.ec_bringup.proofs.Alike.{SameFronts, fronts-refl, Alike, slave-alike, stands-alike, stands-by, gone-on, had-fault, down-rest, up-rest, set-front}
 
 -- ---- the managers, where a state is entered
 
@@ -9,19 +9,6 @@ map-unlocked : (ms : List SyncManager) (n : ℕ) → (manager_at (map unlocked_e
 map-unlocked [] n = refl
 map-unlocked (m ∷ ms) zero = refl
 map-unlocked (m ∷ ms) (suc n) = map-unlocked ms n
-
--- manager 3 published zeros: all managers are the same from the front
-zeros-front : (ms : List SyncManager) → 3 < length ms → SameFronts ms (set ms 3 (zeros_published (manager_at ms 3)))
-zeros-front ms l = record {
-  four = length-set ms 3 _;
-  each = λ n. elim (cases_eq n 3) [
-    | inl e ↦ subst (λ (k : ℕ). SameFront (manager_at ms k) (manager_at (set ms 3 (zeros_published (manager_at ms 3))) k)) (sym e)
-        (subst (λ (m : SyncManager). SameFront (manager_at ms 3) m) (sym (get_or-set_same ms 3 (zeros_published (manager_at ms 3)) no_manager l))
-        (record { settings = refl; locked = refl; mail = refl }))
-    | inr ne ↦ subst (λ (m : SyncManager). SameFront (manager_at ms n) m) (sym (get_or-set_other ms 3 n (zeros_published (manager_at ms 3)) no_manager ne)) (front-refl (manager_at ms n))
-  ];
-  outputs = ap (λ (m : SyncManager). unviewed m.buffer) (get_or-set_other ms 3 2 (zeros_published (manager_at ms 3)) no_manager (λ q. omega (arith, q)));
-}
 
 -- no state is left for INIT
 abbrev NoFall : State → State → Type 0
@@ -31,10 +18,9 @@ NoFall old new = Unit {0}
 
 entered-front : (old new : State) (ms : List SyncManager) → 3 < length ms → NoFall old new → SameFronts ms (managers_entered old new ms)
 entered-front Init Init ms l h = fronts-refl ms
-entered-front PreOp Init ms l h = absurd h
-entered-front PreOp SafeOp ms l h = zeros-front ms l
-entered-front SafeOp Init ms l h = absurd h
-entered-front Op Init ms l h = absurd h
+entered-front PreOp SafeOp ms l h =
+    set-front ms 3 (zeros_published (manager_at ms 3)) l (record { settings = refl; locked = refl; mail = refl }) (λ e. absurd (omega (arith, e)))
+entered-front _ Init ms l h = absurd h
 entered-front _ _ ms l h = fronts-refl ms
 
 -- INIT entered from another state: all unlocked
@@ -44,22 +30,18 @@ Falls old Init = Unit {0}
 Falls old new = ⊥
 
 pub cases_fall : (old new : State) → NoFall old new ⊎ Falls old new
-cases_fall PreOp Init = inr tt
-cases_fall SafeOp Init = inr tt
-cases_fall Op Init = inr tt
+cases_fall Init _ = inl tt
+cases_fall _ Init = inr tt
 cases_fall _ _ = inl tt
 
 falls-entered : (old new : State) (ms : List SyncManager) → Falls old new → managers_entered old new ms ≡ map unlocked_empty ms
-falls-entered PreOp Init ms h = refl
-falls-entered SafeOp Init ms h = refl
-falls-entered Op Init ms h = refl
+falls-entered Init _ ms h = absurd h
+falls-entered _ Init ms h = refl
 falls-entered _ _ ms h = absurd h
 
 no_fall-init : (old new : State) → NoFall old new → new ≡ Init → old ≡ Init
 no_fall-init Init new h e = refl
-no_fall-init PreOp Init h e = absurd h
-no_fall-init SafeOp Init h e = absurd h
-no_fall-init Op Init h e = absurd h
+no_fall-init _ Init h e = absurd h
 no_fall-init _ _ h e = cc
 
 -- ---- the AL state machine is given another state
@@ -100,33 +82,29 @@ decided-init a checks =
   where
     init : (st : State) → answer st (requested_by 0x0011) checks ≡ Ok Init
     init Init = refl
-    init PreOp = refl
-    init SafeOp = refl
-    init Op = refl
+    init _ = refl
 
 -- a step up without an error is granted or refused
 pub data Climbed (from to : State) (a : Al) : Type 0 where
   Granted : a ≡ record { state = to; error = false; code = 0; requested = false } → Climbed from to a
   Refused : (code : ℕ) → a ≡ record { state = from; error = true; code = code; requested = false } → Climbed from to a
 
-pub by_answer : (a : Al) (from to : State) (r : Result State StatusCode) → a.state ≡ from → (r ≡ Ok to) ⊎ ((code : StatusCode) × (r ≡ Err code)) → Climbed from to (answered a r)
+-- what a step up is answered: granted, or refused
+abbrev IsAnswer : State → Result State StatusCode → Type 0
+IsAnswer to r = (r ≡ Ok to) ⊎ ((code : StatusCode) × (r ≡ Err code))
+
+by_answer : (a : Al) (from to : State) (r : Result State StatusCode) → a.state ≡ from → IsAnswer to r → Climbed from to (answered a r)
 by_answer a from to r e (inl g) = subst (λ (x : Result State StatusCode). Climbed from to (answered a x)) (sym g) (Granted refl)
 by_answer a from to r e (inr (code, g)) = subst (λ (x : Result State StatusCode). Climbed from to (answered a x)) (sym g) (Refused (code_number code) (ap (λ (t : State). record { state = t; error = true; code = code_number code; requested = false }) e))
 
--- what a step up is answered
-pub answer-climb : (from to : State) (checks : Checks) → IsStepUp from to
-    → (answer from (requested_by (state_number to)) checks ≡ Ok to) ⊎ ((code : StatusCode) × (answer from (requested_by (state_number to)) checks ≡ Err code))
-answer-climb Init PreOp checks h = mailbox checks.mailbox
-  where
-    mailbox : (b : Bool) → ((if b then Ok PreOp else Err InvalidMailboxConfiguration) ≡ Ok PreOp) ⊎ ((code : StatusCode) × ((if b then Ok PreOp else Err InvalidMailboxConfiguration) ≡ Err code))
-    mailbox true = inl refl
-    mailbox false = inr (InvalidMailboxConfiguration, refl)
-answer-climb PreOp SafeOp checks h = process checks.outputs checks.inputs
-  where
-    process : (b c : Bool) → ((if b then (if c then Ok SafeOp else Err InvalidInputConfiguration) else Err InvalidOutputConfiguration) ≡ Ok SafeOp) ⊎ ((code : StatusCode) × ((if b then (if c then Ok SafeOp else Err InvalidInputConfiguration) else Err InvalidOutputConfiguration) ≡ Err code))
-    process true true = inl refl
-    process true false = inr (InvalidInputConfiguration, refl)
-    process false c = inr (InvalidOutputConfiguration, refl)
+tested : (to : State) (b : Bool) (r : Result State StatusCode) (code : StatusCode) → IsAnswer to r → IsAnswer to (if b then r else Err code)
+tested to true r code h = h
+tested to false r code h = inr (code, refl)
+
+answer-climb : (from to : State) (checks : Checks) → IsStepUp from to → IsAnswer to (answer from (requested_by (state_number to)) checks)
+answer-climb Init PreOp checks h = tested PreOp checks.mailbox (Ok PreOp) InvalidMailboxConfiguration (inl refl)
+answer-climb PreOp SafeOp checks h =
+    tested SafeOp checks.outputs _ InvalidOutputConfiguration (tested SafeOp checks.inputs (Ok SafeOp) InvalidInputConfiguration (inl refl))
 answer-climb SafeOp Op checks h = inl refl
 answer-climb _ _ checks h = absurd h
 
@@ -149,9 +127,7 @@ no_fall-up _ _ h = absurd h
 
 no_fall-same : (s : State) → NoFall s s
 no_fall-same Init = tt
-no_fall-same PreOp = tt
-no_fall-same SafeOp = tt
-no_fall-same Op = tt
+no_fall-same _ = tt
 
 waits-none : (s : SlaveState) → s.al.requested ≡ false → request_decided s ≡ s
 waits-none s e = (requests_decided s).rests e
@@ -201,9 +177,7 @@ up-decided i c (Stays Init) s e l h u = elim (kept-init s h) [
   | Turned q z ↦ subst (λ (t : SlaveState). IsUpAt i c t) (sym q)
       (up-rest i c s (with_al s al.power_on) (turned-alike s z l) (subst (λ (x : Rise). Rises x (with_al s al.power_on)) (sym e) (in-init s)) u)
 ]
-up-decided i c (Stays PreOp) s e l h u = subst (λ (t : SlaveState). IsUpAt i c t) (sym (waits-none s h.no_request)) u
-up-decided i c (Stays SafeOp) s e l h u = subst (λ (t : SlaveState). IsUpAt i c t) (sym (waits-none s h.no_request)) u
-up-decided i c (Stays Op) s e l h u = subst (λ (t : SlaveState). IsUpAt i c t) (sym (waits-none s h.no_request)) u
+up-decided i c (Stays _) s e l h u = subst (λ (t : SlaveState). IsUpAt i c t) (sym (waits-none s h.no_request)) u
 up-decided i c (Climbs from to) s e l (up, inl h) u =
     let a : Al = al.decided s.al (control_word s) (checks_of s) in
     let d : Climbed from to a = decided-climb s.al from to (control_word s) (checks_of s) up h.state h.no_error h.control_is in
@@ -227,23 +201,11 @@ reached-decided i (Down f m) s l h = elim (kept-init s h.init) [
 ]
 reached-decided i (Up c) s l h = up-decided i c c.rise s refl l h.rises h
 
-gone-waits : (st : Stage) (s : SlaveState) → IsGone st s → s.al.requested ≡ false
-gone-waits (Up c) s h = ap (λ (t : SlaveState). t.al.requested) h ∙ ap (λ (a : Al). a.requested) (switched_on s.kind s.identity).al
-gone-waits _ s h = absurd h
-
-fault-waits : (i : ℕ) (st : Stage) (s : SlaveState) → HadFault i st s → s.al.requested ≡ false
-fault-waits i (Up c) s h = h.faulted.no_request
-fault-waits i _ s h = absurd h
-
 pub stands-decided : (kind : SlaveKind) (i : ℕ) (st : Stage) (trouble : Bool) (s : SlaveState) → Stands kind i st trouble s → Stands kind i st trouble (request_decided s)
-stands-decided kind i st trouble s h = record {
-  slave = slave-decided kind s h.slave;
-  at = elim h.at [
-    | inl r ↦ inl (reached-decided i st s (let e = h.slave.four in omega arith) r)
-    | inr (t, inl g) ↦ inr (t, inl (subst (λ (x : SlaveState). IsGone st x) (sym (waits-none s (gone-waits st s g))) g))
-    | inr (t, inr g) ↦ inr (t, inr (subst (λ (x : SlaveState). HadFault i st x) (sym (waits-none s (fault-waits i st s g))) g))
-  ];
-}
+stands-decided kind i st trouble s h =
+    stands-by kind i st trouble s (request_decided s) (slave-decided kind s h.slave) (reached-decided i st s (let e = h.slave.four in omega arith))
+    (λ g. waits-none s (ap (λ (t : SlaveState). t.al.requested) (gone-on st s g) ∙ ap (λ (a : Al). a.requested) (switched_on s.kind s.identity).al))
+    (λ g. subst (λ (x : SlaveState). HadFault i st x) (sym (waits-none s (had-fault i st s g).1.no_request)) g) h
 
 -- ---- the SII read finished
 
@@ -259,10 +221,6 @@ finished-alike s =
       ins = ap (λ (t : SlaveState). t.ins) f.is;
     }
 
-gone-idle : (st : Stage) (s : SlaveState) → IsGone st s → s.sii.busy ≡ false
-gone-idle (Up c) s h = ap (λ (t : SlaveState). t.sii.busy) h ∙ ap (λ (p : Sii). p.busy) (switched_on s.kind s.identity).sii
-gone-idle _ s h = absurd h
-
 pub stands-finished : (kind : SlaveKind) (i : ℕ) (st : Stage) (trouble : Bool) (s : SlaveState) → Stands kind i st trouble s → Stands kind i st trouble (read_finished s)
 stands-finished kind i st trouble s h =
-    stands-alike kind i st trouble s (read_finished s) (finished-alike s) (ap (λ (t : SlaveState). t.al) (finished s).is) (λ g. (finished s).rests (gone-idle st s g)) h
+    stands-alike kind i st trouble s (read_finished s) (finished-alike s) (ap (λ (t : SlaveState). t.al) (finished s).is) (λ g. (finished s).rests (ap (λ (t : SlaveState). t.sii.busy) (gone-on st s g) ∙ ap (λ (p : Sii). p.busy) (switched_on s.kind s.identity).sii)) h

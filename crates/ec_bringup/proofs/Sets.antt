@@ -1,7 +1,7 @@
 -- Registers that are set at one slave: the SII command, a manager, an FMMU.
-use Rattle.ec_bringup.proofs.Words.{ℕ, suc, ◌+◌, ◌-◌, ◌*◌, ◌/◌, ◌%◌, ◌<◌, ◌≤◌, ◌≡◌, ◌≢◌, Bool, true, false, Option, None, refl, sym, ◌∙◌, ap, subst, inl, inr, arith, if◌then◌else◌, List, length, slice_index, set, get_or-set_same, get_or-set_other, eq-eqb, both_ways, cases_eq, cases_lt, or_left, or_right, within, any_below, if_true, if_false, within_true, within_below, within_above, SyncManagerSettings, FmmuSettings, SlaveKind, ram_start, is_stored, no_settings, manager_bytes, settings_of, fmmu_bytes, no_fmmu, SyncManager, empty_manager, Fpwr, Datagram, IsDatagram, Init, PreOp, Sii, written, byte_for, commanded, addressed, address_written, read_command, SlaveState, manager_at, station_of, Window, physical_after, is_configured, settings_written, slave_met, datagram_met, settings_at, fmmu_at, AskWord, SetManager, SetFmmu, station, word_place, Rise, Stays, Config, Up, Talk, CanTell, IsLow, HoldsZeros, IsConfigured, IsSilent, Talks, IsUpAt, IsTop, Rises, Claims, Stands, Arrives, Met, Wrote, set_by, wrote, unconfigured}
+use Rattle.ec_bringup.proofs.Words.{ℕ, suc, ◌+◌, ◌-◌, ◌*◌, ◌/◌, ◌%◌, ◌<◌, ◌≤◌, ◌≡◌, ◌≢◌, Bool, true, false, Option, None, refl, sym, ◌∙◌, ap, subst, inl, inr, arith, if◌then◌else◌, List, length, slice_index, set, get_or-set_same, get_or-set_other, both_ways, cases_eq, cases_lt, or_left, or_right, within, any_below, if_true, if_false, within_true, within_below, within_above, SyncManagerSettings, FmmuSettings, SlaveKind, ram_start, is_stored, no_settings, manager_bytes, settings_of, fmmu_bytes, no_fmmu, SyncManager, empty_manager, Fpwr, Datagram, IsDatagram, Init, PreOp, Sii, written, byte_for, commanded, addressed, address_written, read_command, SlaveState, manager_at, station_of, Window, physical_after, is_configured, settings_written, settings_at, fmmu_at, AskWord, SetManager, SetFmmu, station, word_place, Rise, Stays, Config, Up, Talk, CanTell, IsLow, HoldsZeros, IsConfigured, IsSilent, Talks, IsUpAt, IsTop, Rises, Claims, Wrote, set_by, wrote, unconfigured}
 use Rattle.ec_bringup.proofs.Alike.{claims-alike, rises-alike, word_of}
-use Rattle.ec_bringup.proofs.Passing.{one-ask-word, one-set-manager, one-set-fmmu}
+use Rattle.ec_bringup.proofs.Passing.{ForAskWord, ForSetManager, ForSetFmmu, Owes, as_one}
 use Rattle.ec_bringup.proofs.Owns.{set-locked, slave-wrote, window-sent, pass-own}
 
 -- ---- what stays where neither the station address nor the AL control word is written
@@ -20,9 +20,6 @@ aside-station w s t h k room =
 aside-word : (w : Window) (s t : SlaveState) → Aside w → Wrote w s t → length s.memory ≡ 0x3000 → word_of t.memory ≡ word_of s.memory
 aside-word w s t h k room =
     ap (λ (x : ℕ). x + 256 * slice_index t.memory 0x0121) (aside-below w s t 0x0120 h k room (omega arith)) ∙ ap (λ (x : ℕ). slice_index s.memory 0x0120 + 256 * x) (aside-below w s t 0x0121 h k room (omega arith))
-
-aside-al : (w : Window) (s t : SlaveState) → Aside w → Wrote w s t → t.al ≡ s.al
-aside-al w s t h k = let f = h.from in k.al ∙ if_false _ _ _ (within_below w.from (length w.bytes) 0x0120 (omega (arith, f)))
 
 pub aside-busy : (w : Window) (p : Sii) → 0x0508 ≤ w.from → (written p w.from w.bytes).busy ≡ p.busy
 unfolding written
@@ -79,7 +76,7 @@ set-up i c d s t w h k room four none free eo ei er settings fmmus idle u =
         outputs = subst HoldsZeros (sym (k.managers 2 (omega (arith, four)))) (set-zeros w 2 (manager_at s.managers 2) u.configured.outputs);
       };
       unlocked = λ n l. ap (λ (m : SyncManager). m.locked) (k.managers n (omega (arith, four, l))) ∙ (set-locked w n (manager_at s.managers n) ∙ u.unlocked n l);
-      rises = subst (λ (r : Rise). Rises r t) (sym er) (rises-alike c.rise s t (aside-word w s t h k room) (aside-al w s t h k) u.rises);
+      rises = subst (λ (r : Rise). Rises r t) (sym er) (rises-alike c.rise s t (aside-word w s t h k room) (k.al ∙ if_false _ _ _ (within_below w.from (length w.bytes) 0x0120 (omega (arith, h.from)))) u.rises);
       talks = subst (λ (o : Option Talk). Talks i d o t) (sym free)
           (quiet-messages c d s t eo ei (λ n l e. mail n (omega (arith, l)) e) k.outs k.ins silent);
       quiet = λ _. free;
@@ -99,20 +96,14 @@ same-settings c i w s t n k four l e h = ap (λ (m : SyncManager). m.settings) (
 abbrev reading : ℕ → Window
 reading which = record { from = 0x0502; bytes = read_command (word_place which) }
 
-six : (which : ℕ) → length (read_command (word_place which)) ≡ 6
-six which = refl
-
 pub pass-ask-word : (kind : SlaveKind) (i which : ℕ) (c : Config) (trouble : Bool) (number : ℕ) (d : Datagram) (s : SlaveState)
-    → i < 64 → CanTell c (AskWord i which) → IsDatagram d → Arrives (AskWord i which) number i d → Stands kind i (Up c) trouble s
-    → Met kind i (Up c) trouble (AskWord i which) (datagram_met s d) (slave_met s d) × Arrives (AskWord i which) number (i + 1) (datagram_met s d)
+    → i < 64 → CanTell c (AskWord i which) → IsDatagram d → Owes kind i (Up c) trouble (AskWord i which) number d s
 pass-ask-word kind i which c trouble number d s l can good arrives h =
-    let w : Window = reading which in
-    let n6 : length (reading which).bytes ≡ 6 = six which in
-    let t : SlaveState = physical_after s false true (reading which) in
+    let n6 : length (reading which).bytes ≡ 6 = refl in
     let inside : 0x0502 + length (reading which).bytes ≤ ram_start = omega (arith, n6) in
     let k : Wrote (reading which) s (physical_after s false true (reading which)) = wrote s (reading which) inside in
-    pass-own kind i c trouble (AskWord i which) number d s (reading which) (one-ask-word i which number) l refl (window-sent Fpwr (station i) 0x0502 (read_command (word_place which)) number) (omega arith)
-    (if_true _ _ _ (eq-eqb i i refl)) (λ r. r) (λ o. o refl) (low-top c.rise can.0)
+    pass-own kind i c trouble (AskWord i which) number d s (reading which) (as_one number (ForAskWord i which)) l refl (window-sent Fpwr (station i) 0x0502 (read_command (word_place which)) number) (omega arith)
+    (λ r. r) (low-top c.rise can.0)
     (λ q u. slave-wrote kind (reading which) s (physical_after s false true (reading which)) k q)
     (λ q u. set-up i c (record c { idle = false }) s (physical_after s false true (reading which)) (reading which) (record { from = omega arith; registers = inside }) k q.room q.four can.1 can.1 refl refl refl
     (λ n b. same-settings c i (reading which) s (physical_after s false true (reading which)) n k q.four b (unconfigured (reading which) n (inl (omega (arith, n6)))) u.configured)
@@ -125,7 +116,7 @@ pass-ask-word kind i which c trouble number d s l can good arrives h =
 abbrev mapping : ℕ → FmmuSettings → Window
 mapping n f = record { from = 0x0600 + 16 * n; bytes = fmmu_bytes f }
 
-fmmu-stored : (n b : ℕ) → n < 4 → b < 16 → is_stored (0x0600 + 16 * n + b) ≡ true
+pub fmmu-stored : (n b : ℕ) → n < 4 → b < 16 → is_stored (0x0600 + 16 * n + b) ≡ true
 fmmu-stored n b l m = or_right _ _ (or_right _ _ (or_left _ _ (within_true 0x0600 64 (0x0600 + 16 * n + b) (omega arith) (omega (arith, l, m)))))
 
 fmmu-taken : (n : ℕ) (f : FmmuSettings) (s t : SlaveState) (b : ℕ) → Wrote (mapping n f) s t → length s.memory ≡ 0x3000 → n < 4 → b < 16 → slice_index t.memory (0x0600 + 16 * n + b) ≡ slice_index (fmmu_bytes f) b
@@ -150,18 +141,16 @@ set-fmmus n f c i s t k room l there h j b x y = elim (cases_eq j n) [
 ]
 
 pub pass-set-fmmu : (kind : SlaveKind) (i n : ℕ) (f : FmmuSettings) (c : Config) (trouble : Bool) (number : ℕ) (d : Datagram) (s : SlaveState)
-    → i < 64 → CanTell c (SetFmmu i n f) → IsDatagram d → Arrives (SetFmmu i n f) number i d → Stands kind i (Up c) trouble s
-    → Met kind i (Up c) trouble (SetFmmu i n f) (datagram_met s d) (slave_met s d) × Arrives (SetFmmu i n f) number (i + 1) (datagram_met s d)
+    → i < 64 → CanTell c (SetFmmu i n f) → IsDatagram d → Owes kind i (Up c) trouble (SetFmmu i n f) number d s
 pass-set-fmmu kind i n f c trouble number d s l can good arrives h =
-    let low = can.0 in let there = can.1 in let four = can.2 in let none = can.3 in
-    let b4 : n < 4 = omega (arith, there, four) in
+    let b4 : n < 4 = omega (arith, can.1, can.2) in
     let k : Wrote (mapping n f) s (physical_after s false true (mapping n f)) = wrote s (mapping n f) (omega (arith, b4)) in
-    pass-own kind i c trouble (SetFmmu i n f) number d s (mapping n f) (one-set-fmmu i n f number) l refl (window-sent Fpwr (station i) (0x0600 + 16 * n) (fmmu_bytes f) number) (omega (arith, b4))
-    (if_true _ _ _ (eq-eqb i i refl)) (λ r. r) (λ o. o refl) (low-top c.rise low)
+    pass-own kind i c trouble (SetFmmu i n f) number d s (mapping n f) (as_one number (ForSetFmmu i n f)) l refl (window-sent Fpwr (station i) (0x0600 + 16 * n) (fmmu_bytes f) number) (omega (arith, b4))
+    (λ r. r) (low-top c.rise can.0)
     (λ q u. slave-wrote kind (mapping n f) s (physical_after s false true (mapping n f)) k q)
-    (λ q u. set-up i c (record c { fmmus = set c.fmmus n f }) s (physical_after s false true (mapping n f)) (mapping n f) (record { from = omega arith; registers = omega (arith, b4) }) k q.room q.four none none refl refl refl
+    (λ q u. set-up i c (record c { fmmus = set c.fmmus n f }) s (physical_after s false true (mapping n f)) (mapping n f) (record { from = omega arith; registers = omega (arith, b4) }) k q.room q.four can.3 can.3 refl refl refl
     (λ j x. same-settings c i (mapping n f) s (physical_after s false true (mapping n f)) j k q.four x (unconfigured (mapping n f) j (inl (omega (arith, b4)))) u.configured)
-    (set-fmmus n f c i s (physical_after s false true (mapping n f)) k q.room b4 there u.configured)
+    (set-fmmus n f c i s (physical_after s false true (mapping n f)) k q.room b4 can.1 u.configured)
     (λ e. ap (λ (p : Sii). p.busy) k.sii ∙ (aside-busy (mapping n f) s.sii (omega arith) ∙ u.configured.idle e)) u)
     good arrives h
 
@@ -194,17 +183,15 @@ set-managers n m c i s t k four l there h j x = elim (cases_eq j n) [
 ]
 
 pub pass-set-manager : (kind : SlaveKind) (i n : ℕ) (m : SyncManagerSettings) (c : Config) (trouble : Bool) (number : ℕ) (d : Datagram) (s : SlaveState)
-    → i < 64 → CanTell c (SetManager i n m) → IsDatagram d → Arrives (SetManager i n m) number i d → Stands kind i (Up c) trouble s
-    → Met kind i (Up c) trouble (SetManager i n m) (datagram_met s d) (slave_met s d) × Arrives (SetManager i n m) number (i + 1) (datagram_met s d)
+    → i < 64 → CanTell c (SetManager i n m) → IsDatagram d → Owes kind i (Up c) trouble (SetManager i n m) number d s
 pass-set-manager kind i n m c trouble number d s l can good arrives h =
-    let low = can.0 in let there = can.1 in let four = can.2 in let none = can.3 in
-    let b4 : n < 4 = omega (arith, there, four) in
+    let b4 : n < 4 = omega (arith, can.1, can.2) in
     let k : Wrote (managing n m) s (physical_after s false true (managing n m)) = wrote s (managing n m) (omega (arith, b4)) in
-    pass-own kind i c trouble (SetManager i n m) number d s (managing n m) (one-set-manager i n m number) l refl (window-sent Fpwr (station i) (0x0800 + 8 * n) (manager_bytes m) number) (omega (arith, b4))
-    (if_true _ _ _ (eq-eqb i i refl)) (λ r. r) (λ o. o refl) (low-top c.rise low)
+    pass-own kind i c trouble (SetManager i n m) number d s (managing n m) (as_one number (ForSetManager i n m)) l refl (window-sent Fpwr (station i) (0x0800 + 8 * n) (manager_bytes m) number) (omega (arith, b4))
+    (λ r. r) (low-top c.rise can.0)
     (λ q u. slave-wrote kind (managing n m) s (physical_after s false true (managing n m)) k q)
-    (λ q u. set-up i c (record c { managers = set c.managers n m }) s (physical_after s false true (managing n m)) (managing n m) (record { from = omega arith; registers = omega (arith, b4) }) k q.room q.four none none refl refl refl
-    (set-managers n m c i s (physical_after s false true (managing n m)) k q.four b4 there u.configured)
+    (λ q u. set-up i c (record c { managers = set c.managers n m }) s (physical_after s false true (managing n m)) (managing n m) (record { from = omega arith; registers = omega (arith, b4) }) k q.room q.four can.3 can.3 refl refl refl
+    (set-managers n m c i s (physical_after s false true (managing n m)) k q.four b4 can.1 u.configured)
     (λ j b x y. k.untouched (0x0600 + 16 * j + b) (let f = q.room in omega (arith, f, x, y)) (within_below (0x0800 + 8 * n) 8 (0x0600 + 16 * j + b) (omega (arith, x, y))) ∙ u.configured.fmmus j b x y)
     (λ e. ap (λ (p : Sii). p.busy) k.sii ∙ (aside-busy (managing n m) s.sii (omega arith) ∙ u.configured.idle e)) u)
     good arrives h

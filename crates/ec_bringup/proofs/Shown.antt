@@ -1,5 +1,5 @@
 -- The polls of a start-up at a slave that has what is waited for: one poll ends the wait.
-use Rattle.ec_bringup.proofs.Words.{ℕ, zero, suc, ◌+◌, ◌*◌, ◌%◌, ◌^◌, ◌<◌, ◌≤◌, ◌≡◌, ◌==◌, ◌&&◌, not, Bool, true, false, Some, refl, sym, ◌∙◌, ap, arith, List, length, slice_index, is_some, bit_at, to_le_bytes, w32, from_bool, from_le_bytes-to_le_bytes_4, eq-eqb, and_from, length-replicate, zeros, if_true, if_false, Device, Mailbox, ram_start, Fprd, Datagram, adp_of, State, Init, PreOp, SafeOp, Op, state_number, may_read, SlaveState, station_of, manager_at, Window, byte_at, byte_read, retold, some_byte_read, window_of, datagram_met, message_read, AwaitWord, AwaitState, AwaitReply, SdoRequest, station, sent, datagram_of, Next, Shows, with_word, is_device, word_at, long_at, word_verdict, state_verdict, message_verdict, verdict, shows_itself}
+use Rattle.ec_bringup.proofs.Words.{ℕ, zero, suc, ◌+◌, ◌*◌, ◌%◌, ◌^◌, ◌<◌, ◌≤◌, ◌≡◌, ◌==◌, ◌&&◌, not, Bool, true, false, Some, refl, sym, ◌∙◌, ap, arith, List, length, slice_index, is_some, bit_at, to_le_bytes, w32, from_bool, from_le_bytes-to_le_bytes_4, eq-eqb, and_from, length-replicate, zeros, if_true, if_false, Device, Mailbox, ram_start, Fprd, adp_of, State, Init, state_number, may_read, SlaveState, station_of, manager_at, Window, byte_at, byte_read, retold, some_byte_read, window_of, datagram_met, message_read, AwaitWord, AwaitState, AwaitReply, SdoRequest, station, sent, datagram_of, Next, Shows, with_word, is_device, word_at, long_at, word_verdict, message_verdict, verdict, shows_itself}
 use Rattle.ec_bringup.proofs.Owns.{window-sent}
 use Rattle.ec_bringup.proofs.Polls.{read-byte, read-bytes, register-shows}
 use Rattle.ec_bringup.proofs.Receives.{Boxes, asking, read-counter, some-read, raw-read}
@@ -17,41 +17,29 @@ back s i ado n number k e l r b =
 
 good-state : (st : State) → (bit_at (state_number st) 4 == 1) ≡ false
 good-state Init = refl
-good-state PreOp = refl
-good-state SafeOp = refl
-good-state Op = refl
+good-state _ = refl
 
 same-state : (st : State) → (state_number st % 32 == state_number st) ≡ true
 same-state Init = refl
-same-state PreOp = refl
-same-state SafeOp = refl
-same-state Op = refl
-
-pub state-ends : (i : ℕ) (state : State) (bytes : List ℕ) → slice_index bytes 0 ≡ state_number state → state_verdict i state bytes ≡ Next
-state-ends i state bytes e =
-    if_false _ _ _ (ap (λ (x : ℕ). bit_at x 4 == 1) e ∙ good-state state) ∙ if_true _ _ _ (ap (λ (x : ℕ). x % 32 == state_number state) e ∙ same-state state)
+same-state _ = refl
 
 pub await-state-ends : (n step : ℕ) (seen : Device) (types : ℕ → Device) (s : SlaveState) (i : ℕ) (state : State) (number : ℕ) → station_of s ≡ station i → i < 64 → IsThere state s
     → verdict n step seen types (AwaitState i state) (datagram_met s (datagram_of (AwaitState i state) number)) ≡ Next
 await-state-ends n step seen types s i state number e l h =
-    let d = datagram_met s (datagram_of (AwaitState i state) number) in
     let b : slice_index (datagram_met s (datagram_of (AwaitState i state) number)).data_bytes 0 ≡ state_number state
     = back s i 0x0130 6 number 0 e l (omega arith) (omega arith) ∙ ((shows_itself s).status ∙ (ap (λ (x : State). state_number x + 16 * from_bool s.al.error) h.state_is ∙ (ap (λ (x : Bool). state_number state + 16 * from_bool x) h.no_error ∙ more (state_number state)))) in
     if_true _ _ _ (eq-eqb _ 1 (register-shows s i 0x0130 (zeros 6) number 0 e l (omega arith) (omega arith)))
-    ∙ state-ends i state (datagram_met s (datagram_of (AwaitState i state) number)).data_bytes b
+    ∙ (if_false _ _ _ (ap (λ (x : ℕ). bit_at x 4 == 1) b ∙ good-state state) ∙ if_true _ _ _ (ap (λ (x : ℕ). x % 32 == state_number state) b ∙ same-state state))
   where
     more : (n : ℕ) → n + 16 * 0 ≡ n
     more n = omega arith
 
 -- ---- a word
 
-spells : (n : ℕ) → n < 2 ^ 32 → slice_index (to_le_bytes w32 n) 0 + 256 * slice_index (to_le_bytes w32 n) 1 + 65536 * slice_index (to_le_bytes w32 n) 2 + 16777216 * slice_index (to_le_bytes w32 n) 3 ≡ n
-spells n l = let e = from_le_bytes-to_le_bytes_4 n l in omega (arith, e)
-
 long-spells : (bytes : List ℕ) (n : ℕ) → n < 2 ^ 32 → ((j : ℕ) → j < 4 → slice_index bytes (6 + j) ≡ slice_index (to_le_bytes w32 n) j) → long_at bytes 6 ≡ n
 long-spells bytes n l h =
     let a = h 0 (omega arith) in let b = h 1 (omega arith) in let c = h 2 (omega arith) in let d = h 3 (omega arith) in
-    omega (arith, a, b, c, d, spells n l)
+    omega (arith, a, b, c, d, from_le_bytes-to_le_bytes_4 n l)
 
 -- the words that this slave has shown before are the type's
 abbrev pub Tells : Device → Device → ℕ → Type 0
@@ -77,7 +65,6 @@ pub await-word-ends : (n step : ℕ) (seen : Device) (types : ℕ → Device) (s
     → word_of (types i) which < 2 ^ 32 → Tells (types i) seen which → HasFound (word_of (types i) which) s.sii
     → verdict n step seen types (AwaitWord i which) (datagram_met s (datagram_of (AwaitWord i which) number)) ≡ Shows (word_of (types i) which)
 await-word-ends n step seen types s i which number e l w big told h =
-    let bytes : List ℕ = (datagram_met s (datagram_of (AwaitWord i which) number)).data_bytes in
     let low : slice_index (datagram_met s (datagram_of (AwaitWord i which) number)).data_bytes 0 ≡ 0 = back s i 0x0502 10 number 0 e l (omega arith) (omega arith) ∙ (shows_itself s).sii_low in
     let high : slice_index (datagram_met s (datagram_of (AwaitWord i which) number)).data_bytes 1 ≡ 0
     = back s i 0x0502 10 number 1 e l (omega arith) (omega arith) ∙ ((shows_itself s).sii_high ∙ (ap (λ (x : Bool). from_bool x + 32 * from_bool s.sii.error + 128 * from_bool x) h.idle ∙ ap (λ (x : Bool). 0 + 32 * from_bool x + 128 * 0) h.no_error)) in
@@ -103,7 +90,6 @@ pub await-reply-ends : (n step : ℕ) (seen : Device) (types : ℕ → Device) (
     → Boxes b s → HasReply i r b.send_size s
     → verdict n step seen types (AwaitReply i b r) (datagram_met s (datagram_of (AwaitReply i b r) number)) ≡ Next
 await-reply-ends n step seen types s i b r number e l bx h =
-    let d : Datagram = datagram_of (AwaitReply i b r) number in
     let adp : adp_of (datagram_of (AwaitReply i b r) number) ≡ station_of s = omega (arith, e, l) in
     let w : window_of (datagram_of (AwaitReply i b r) number) ≡ asking b = window-sent Fprd (station i) b.send_start (zeros b.send_size) number in
     let full : may_read (manager_at s.managers 1) ≡ true = and_from _ _ bx.enabled (and_from _ _ bx.read (if_true _ _ _ bx.box ∙ ap is_some h.mail)) in

@@ -1,26 +1,15 @@
 -- Every run of a world that starts up: up to the step that makes it ready, and from then on without a cycle.
-use Rattle.ec_bringup.proofs.Words.{ℕ, ◌-◌, ◌<◌, ◌≤◌, ◌≡◌, ◌==◌, Bool, true, false, Option, Some, None, refl, sym, ◌∙◌, ap, subst, inl, inr, arith, List, [], ◌∷◌, length, get_or, replicate, drop, cases_Bool, and_parts, eqb-true, length-replicate, if_true, if_false, SlaveKind, Datagram, IsDatagram, SlaveState, power_on, slave_met, datagram_met, passes as passes_all, served, SlavePlan, datagram_of, numbered, script, StartError, Lost, StartState, sending, action_of, type_of, taken, begun, Ready, Failed, Config, Talk, Stage, Before, Up, end_of, Leads, AreAhead, IsBetween, Instant, Between, UnderWay, Adrift, Over, IsReady, Starts, LaterLaw, TakeLaw, SlaveLaw, IsOfKind, IsConfigured, IsSilent, IsUpAt, IsFaultedAt, Talks, Stands, IsStartable, Carried, Starting, slave_at, trouble_at, kind_at, no_plan, AreSlaves, is_idle, is_beginning, with_passed, with_start, with_sent, with_begun, with_empty, with_lost, AreStartable, ends_of, Happens, Sends, Passes, Loses, Returns, Strays, Closes, Serves, Puts, Gets, Faults, Resets, Runs, Stops, Steps, Begins, HoldsAll, Works, HasFault, Shown, Working, Faulted, WasReset, StartUpLaw, IsNew, taken_plan}
+use Rattle.ec_bringup.proofs.Words.{ℕ, ◌<◌, ◌≤◌, ◌≡◌, ◌==◌, Bool, true, false, Option, Some, None, refl, sym, ◌∙◌, ap, subst, inl, inr, arith, List, [], ◌∷◌, length, get_or, replicate, drop, cases_Bool, and_parts, eqb-true, length-replicate, if_true, if_false, SlaveKind, Datagram, IsDatagram, SlaveState, power_on, slave_met, datagram_met, passes as passes_all, SlavePlan, datagram_of, numbered, script, StartError, Lost, StartState, sending, action_of, taken, begun, Ready, Failed, Config, Talk, Stage, Before, Up, end_of, Leads, AreAhead, IsBetween, Instant, Between, UnderWay, Adrift, Over, IsReady, Starts, IsOfKind, IsConfigured, IsSilent, IsUpAt, IsFaultedAt, Talks, Stands, IsStartable, Carried, Starting, slave_at, trouble_at, kind_at, no_plan, AreSlaves, is_idle, is_beginning, with_passed, with_start, with_sent, with_begun, with_empty, with_lost, AreStartable, ends_of, Happens, Sends, Passes, Loses, Returns, Strays, Closes, Serves, Puts, Gets, Faults, Resets, Runs, Stops, Steps, Begins, HoldsAll, Works, HasFault, Shown, Working, Faulted, WasReset, StartUpLaw, IsNew, taken_plan, Idle, IsUnderWay, ◌⊎◌, IsOver}
 use Rattle.ec_bringup.proofs.Rounds.{two-pass}
-use Rattle.ec_bringup.proofs.Resets.{power_on_is, reset_stands}
+use Rattle.ec_bringup.proofs.Resets.{reset_stands}
 use Rattle.ec_bringup.proofs.Events.{fault-stands, put-stands, got-stands}
 use Rattle.ec_bringup.proofs.Messages.{stands-served}
 use Rattle.ec_bringup.proofs.PassLaws.{pass-law, later-law, take-law}
 use Rattle.ec_bringup.proofs.Keeping.{slave-law}
 use Rattle.ec_bringup.proofs.Assigns.{assignment-held}
 use Rattle.ec_bringup.proofs.Leading.{script-leads, asked-frame}
-use Rattle.ec_bringup.proofs.Composes.{pass-starts, pass-slaves, take-starts, slave-starts, Keeps}
+use Rattle.ec_bringup.proofs.Composes.{pass-starts, pass-slaves, take-starts, slave-starts, keeps-by}
 use Rattle.ec_bringup.proofs.Passed.{sets-out}
-
--- ---- the laws
-
-later : LaterLaw
-later kind i st trouble other j sj had a number d s t l b f good r h m = later-law kind i st trouble other j sj had a number d s t l b good f r h m
-
-takes : TakeLaw
-takes n step seen ps a d = take-law n step seen (type_of ps) a d
-
-keeps : SlaveLaw
-keeps kind s d h = slave-law kind s d h
 
 -- ---- a frame is sent
 
@@ -44,9 +33,6 @@ cleared-between ends w h b e = record {
   };
   stand = record { each = λ i l. record { slave = h.each i l; at = inl tt } };
 }
-
-cleared-slaves : (w : Starting) → AreSlaves w → AreSlaves (cleared w)
-cleared-slaves w h = record { slaves = h.slaves; troubles = length-replicate {A = Bool} (length w.start.plan) false; few = h.few; each = h.each }
 
 -- with these flags
 abbrev sent-with : Starting → List Bool → Starting
@@ -79,7 +65,8 @@ sent-starts ends w h good b = elim (cases_Bool (is_beginning w.start)) [
   | inl on ↦
       let place : w.start.place ≡ 0 = eqb-true w.start.place 0 (and_parts (is_idle w.start.phase) (w.start.place == 0) on).1 in
       subst (λ (flags : List Bool). Starts ends (sent-with w flags)) (sym (if_true (is_beginning w.start) (replicate (length w.start.plan) false) w.troubles on))
-      (sent-between ends (cleared w) (cleared-slaves w h) good (cleared-between ends w h b place))
+      (sent-between ends (cleared w) (record { slaves = h.slaves; troubles = length-replicate {A = Bool} (length w.start.plan) false; few = h.few; each = h.each })
+      good (cleared-between ends w h b place))
   | inr off ↦
       subst (λ (flags : List Bool). Starts ends (sent-with w flags)) (sym (if_false (is_beginning w.start) (replicate (length w.start.plan) false) w.troubles off))
       (sent-between ends w h good b)
@@ -111,9 +98,6 @@ begun-starts w h planned = record {
 
 -- ---- the events of a world that starts up
 
-some-same : (b c : Carried) → (let o : Option Carried = Some b in o ≡ Some c) → b ≡ c
-some-same b c e = cc
-
 over : (ends : ℕ → Config) (v : Starting) (f : StartError) → AreSlaves v → v.start.phase ≡ Failed f → Starts ends v
 over ends v f h e = record { slaves = h; instant = Over (record { failure = f; failed = e }) }
 
@@ -125,88 +109,62 @@ same-slaves w s o e h = record {
   each = subst (λ (ps : List SlavePlan). (i : ℕ) → i < length ps → IsOfKind (kind_at ps i) (slave_at w.slaves i)) (sym e) h.each;
 }
 
--- a slave by itself
-served-keeps : (kind : SlaveKind) (b : Bool) (s : SlaveState) → Keeps kind b s b (served s)
-served-keeps kind b s = record {
-  slave = λ h. (stands-served kind 0 Before b s (record { slave = h; at = inl tt })).slave;
-  stands = λ i st h. stands-served kind i st b s h;
-}
+between-of : (ends : ℕ → Config) (w : Starting) → w.start.phase ≡ Idle → Instant ends w → IsBetween ends w
+between-of ends w idle (Between b) = b
+between-of ends w idle (UnderWay b) = absurd (cc (sym idle ∙ b.sent))
+between-of ends w idle (Adrift b) = absurd (cc (sym idle ∙ b.sent))
+between-of ends w idle (Over b) = absurd (cc (sym idle ∙ b.failed))
+between-of ends w idle (IsReady b) = absurd (cc (sym idle ∙ b.ready))
+
+-- a frame in the slot is under way, or the start-up has failed
+full-of : (ends : ℕ → Config) (w : Starting) (c : Carried) → w.slot ≡ Some c → Instant ends w → ((u : IsUnderWay ends w) × (u.carried ≡ c)) ⊎ IsOver w
+full-of ends w c full (UnderWay b) = inl (b, (cc (sym b.full ∙ full)))
+full-of ends w c full (Over b) = inr b
+full-of ends w c full (Between b) = absurd (cc (sym b.empty ∙ full))
+full-of ends w c full (Adrift b) = absurd (cc (sym b.empty ∙ full))
+full-of ends w c full (IsReady b) = absurd (cc (sym b.empty ∙ full))
 
 pub happens-starts : (ends : ℕ → Config) (w v : Starting) → Happens w v → Starts ends w → Starts ends v
-happens-starts ends w v (Sends idle good e) h = subst (Starts ends) (sym e) (by h.instant)
-  where
-    by : Instant ends w → Starts ends (with_sent w)
-    by (Between b) = sent-starts ends w h.slaves good b
-    by (UnderWay b) = absurd (cc (sym idle ∙ b.sent))
-    by (Adrift b) = absurd (cc (sym idle ∙ b.sent))
-    by (Over b) = absurd (cc (sym idle ∙ b.failed))
-    by (IsReady b) = absurd (cc (sym idle ∙ b.ready))
-happens-starts ends w v (Passes c full l e) h = subst (Starts ends) (sym e) (by h.instant)
-  where
-    by : Instant ends w → Starts ends (with_passed w c)
-    by (Between b) = absurd (cc (sym b.empty ∙ full))
-    by (UnderWay b) =
-        let q : b.carried ≡ c = some-same b.carried c (sym b.full ∙ full) in
-        subst (λ (x : Carried). Starts ends (with_passed w x)) q (pass-starts keeps pass-law later ends w h.slaves b (subst (λ (x : Carried). x.passed < length w.start.plan) (sym q) l))
-    by (Adrift b) = absurd (cc (sym b.empty ∙ full))
-    by (Over b) = over ends (with_passed w c) b.failure (pass-slaves keeps w c l h.slaves) b.failed
-    by (IsReady b) = absurd (cc (sym b.empty ∙ full))
-happens-starts ends w v (Loses c full e) h = subst (Starts ends) (sym e) (by h.instant)
-  where
-    by : Instant ends w → Starts ends (with_empty w)
-    by (Between b) = absurd (cc (sym b.empty ∙ full))
-    by (UnderWay b) = record { slaves = same-slaves w w.start None refl h.slaves; instant = Adrift (record { number = b.carried.number; sent = b.sent; empty = refl }) }
-    by (Adrift b) = absurd (cc (sym b.empty ∙ full))
-    by (Over b) = over ends (with_empty w) b.failure (same-slaves w w.start None refl h.slaves) b.failed
-    by (IsReady b) = absurd (cc (sym b.empty ∙ full))
-happens-starts ends w v (Returns c full l sent e) h = subst (Starts ends) (sym e) (by h.instant)
-  where
-    by : Instant ends w → Starts ends (with_start w (taken w.start c.datagram))
-    by (Between b) = absurd (cc (sym b.empty ∙ full))
-    by (UnderWay b) =
-        let q : b.carried ≡ c = some-same b.carried c (sym b.full ∙ full) in
-        subst (λ (x : Carried). Starts ends (with_start w (taken w.start x.datagram))) q (take-starts takes ends w h.slaves b (ap (λ (x : Carried). x.passed) q ∙ l))
-    by (Adrift b) = absurd (cc (sym b.empty ∙ full))
-    by (Over b) = absurd (cc (sym sent ∙ b.failed))
-    by (IsReady b) = absurd (cc (sym sent ∙ b.ready))
+happens-starts ends w v (Sends idle good e) h = subst (Starts ends) (sym e) (sent-starts ends w h.slaves good (between-of ends w idle h.instant))
+happens-starts ends w v (Passes c full l e) h = subst (Starts ends) (sym e) (elim (full-of ends w c full h.instant) [
+  | inl (u, q) ↦
+      subst (λ (x : Carried). Starts ends (with_passed w x)) q
+      (pass-starts slave-law pass-law later-law ends w h.slaves u (subst (λ (x : Carried). x.passed < length w.start.plan) (sym q) l))
+  | inr b ↦ over ends (with_passed w c) b.failure (pass-slaves slave-law w c l h.slaves) b.failed
+])
+happens-starts ends w v (Loses c full e) h = subst (Starts ends) (sym e) (elim (full-of ends w c full h.instant) [
+  | inl (u, q) ↦ record { slaves = same-slaves w w.start None refl h.slaves; instant = Adrift (record { number = u.carried.number; sent = u.sent; empty = refl }) }
+  | inr b ↦ over ends (with_empty w) b.failure (same-slaves w w.start None refl h.slaves) b.failed
+])
+happens-starts ends w v (Returns c full l sent e) h = subst (Starts ends) (sym e) (elim (full-of ends w c full h.instant) [
+  | inl (u, q) ↦
+      subst (λ (x : Carried). Starts ends (with_start w (taken w.start x.datagram))) q (take-starts take-law ends w h.slaves u (ap (λ (x : Carried). x.passed) q ∙ l))
+  | inr b ↦ absurd (cc (sym sent ∙ b.failed))
+])
 happens-starts ends w v (Strays c f full failed e) h = subst (Starts ends) (sym e) (over ends (with_empty w) f (same-slaves w w.start None refl h.slaves) failed)
 happens-starts ends w v (Closes number sent e) h = subst (Starts ends) (sym e) (over ends (with_lost w) Lost (same-slaves w (record w.start { phase = Failed Lost }) w.slot refl h.slaves) refl)
-happens-starts ends w v (Serves k l e) h = subst (Starts ends) (sym e) (slave-starts ends w k _ _ l (served-keeps (kind_at w.start.plan k) (trouble_at w.troubles k) (slave_at w.slaves k)) h)
-happens-starts ends w v (Puts k place byte l e) h = subst (Starts ends) (sym e) (slave-starts ends w k _ _ l (record {
-  slave = λ q. (put-stands (kind_at w.start.plan k) 0 Before (trouble_at w.troubles k) (slave_at w.slaves k) place byte (record { slave = q; at = inl tt })).slave;
-  stands = λ i st q. put-stands (kind_at w.start.plan k) i st (trouble_at w.troubles k) (slave_at w.slaves k) place byte q;
-}) h)
-happens-starts ends w v (Gets k place l e) h = subst (Starts ends) (sym e) (slave-starts ends w k _ _ l (record {
-  slave = λ q. (got-stands (kind_at w.start.plan k) 0 Before (trouble_at w.troubles k) (slave_at w.slaves k) place (record { slave = q; at = inl tt })).slave;
-  stands = λ i st q. got-stands (kind_at w.start.plan k) i st (trouble_at w.troubles k) (slave_at w.slaves k) place q;
-}) h)
-happens-starts ends w v (Faults k l op e) h = subst (Starts ends) (sym e) (slave-starts ends w k _ _ l (record {
-  slave = λ q. (fault-stands (kind_at w.start.plan k) 0 Before (trouble_at w.troubles k) (slave_at w.slaves k) op (record { slave = q; at = inl tt })).slave;
-  stands = λ i st q. fault-stands (kind_at w.start.plan k) i st (trouble_at w.troubles k) (slave_at w.slaves k) op q;
-}) h)
+happens-starts ends w v (Serves k l e) h =
+    subst (Starts ends) (sym e) (slave-starts ends w k _ _ l (keeps-by (λ i st. stands-served (kind_at w.start.plan k) i st (trouble_at w.troubles k) (slave_at w.slaves k))) h)
+happens-starts ends w v (Puts k place byte l e) h =
+    subst (Starts ends) (sym e) (slave-starts ends w k _ _ l (keeps-by (λ i st. put-stands (kind_at w.start.plan k) i st (trouble_at w.troubles k) (slave_at w.slaves k) place byte)) h)
+happens-starts ends w v (Gets k place l e) h =
+    subst (Starts ends) (sym e) (slave-starts ends w k _ _ l (keeps-by (λ i st. got-stands (kind_at w.start.plan k) i st (trouble_at w.troubles k) (slave_at w.slaves k) place)) h)
+happens-starts ends w v (Faults k l op e) h =
+    subst (Starts ends) (sym e) (slave-starts ends w k _ _ l (keeps-by (λ i st. fault-stands (kind_at w.start.plan k) i st (trouble_at w.troubles k) (slave_at w.slaves k) op)) h)
 happens-starts ends w v (Resets k l e) h =
-    let is : (slave_at w.slaves k).kind ≡ kind_at w.start.plan k = (h.slaves.each k l).kind_is in
-    subst (Starts ends) (sym e) (slave-starts ends w k _ _ l (record {
-      slave = λ q. subst (λ (x : SlaveKind). IsOfKind x (power_on (slave_at w.slaves k).kind (slave_at w.slaves k).identity)) is (power_on_is (slave_at w.slaves k).kind (slave_at w.slaves k).identity);
-      stands = λ i st q. subst (λ (x : SlaveKind). Stands x i st true (power_on (slave_at w.slaves k).kind (slave_at w.slaves k).identity)) is (reset_stands (slave_at w.slaves k).kind (slave_at w.slaves k).identity i st);
-    }) h)
+    subst (Starts ends) (sym e) (slave-starts ends w k _ _ l (keeps-by (λ i st q.
+    subst (λ (x : SlaveKind). Stands x i st true (power_on (slave_at w.slaves k).kind (slave_at w.slaves k).identity)) (h.slaves.each k l).kind_is (reset_stands (slave_at w.slaves k).kind (slave_at w.slaves k).identity i st))) h)
 
 -- ---- what a slave holds when the start-up is ready
-
-end-idle : (p : SlavePlan) → (end_of p).idle ≡ true
-end-idle p = (asked-frame p p.kind.mailbox).idle
-
-end-talk : (p : SlavePlan) → (end_of p).talk ≡ None
-end-talk p = (asked-frame p p.kind.mailbox).talk
 
 all-held : (i : ℕ) (p : SlavePlan) (s : SlaveState) → IsStartable p → IsOfKind p.kind s → IsConfigured i (end_of p) s → IsSilent (end_of p) s → HoldsAll i p s
 all-held i p s planned slave configured silent =
     let q = assignment-held p p.kind.mailbox s refl planned slave (record { outs = silent.assigned.outs; ins = silent.assigned.ins }) in
-    record { configured = configured; silent = silent; no_read = configured.idle (end-idle p); outs = q.0; ins = q.1 }
+    record { configured = configured; silent = silent; no_read = configured.idle (asked-frame p p.kind.mailbox).idle; outs = q.0; ins = q.1 }
 
 up-works : (i : ℕ) (p : SlavePlan) (s : SlaveState) → IsStartable p → IsOfKind p.kind s → IsUpAt i (end_of p) s → Works i p s
 up-works i p s planned slave u = record {
-  holds = all-held i p s planned slave u.configured (subst (λ (o : Option Talk). Talks i (end_of p) o s) (end-talk p) u.talks);
+  holds = all-held i p s planned slave u.configured (subst (λ (o : Option Talk). Talks i (end_of p) o s) (asked-frame p p.kind.mailbox).talk u.talks);
   in_op = u.rises;
   unlocked = u.unlocked;
 }
@@ -284,12 +242,7 @@ new-good ps planned w new = record {
 
 pub start-up : StartUpLaw
 start-up ps planned w v new r ready i l =
-    let first : IsGood ps w = record {
-      plan_is = new.plan_is;
-      starts = subst (λ (x : Starting). Starts (ends_of ps) x) (sym new.start)
-          (subst (λ (qs : List SlavePlan). Starts (ends_of qs) (with_begun w)) new.plan_is (begun-starts w new.slaves (subst AreStartable (sym new.plan_is) planned)));
-    } in
-    let g : IsGood ps v = runs-good ps planned w v r first in
+    let g : IsGood ps v = runs-good ps planned w v r (new-good ps planned w new) in
     subst (λ (qs : List SlavePlan). Shown i (get_or qs i no_plan) (trouble_at v.troubles i) (slave_at v.slaves i)) g.plan_is
     (ready-shown v (subst AreStartable (sym g.plan_is) planned) (subst (λ (qs : List SlavePlan). Starts (ends_of qs) v) (sym g.plan_is) g.starts) ready i (subst (λ (qs : List SlavePlan). i < length qs) (sym g.plan_is) l))
 

@@ -3,7 +3,7 @@
 pub use Rattle.std.proofs.Common.{ℕ, ◌+◌, ◌*◌, ◌<◌, ◌≡◌, Bool, false, Option, Some, None, refl, sym, ◌∙◌, ap, subst, inl, inr, arith, List, length, slice_index, zero, suc, ◌≢◌, true, [], ◌∷◌, get_or-set_other, ◌==◌, not, ◌++◌, take, append_assoc, length-append, ◌&&◌, if◌then◌else◌, get_or, nat_lt, ◌-◌, ◌≤◌, ◌%◌, map, ◌/◌, ◌^◌, Result, Ok, Err, set, drop, ◌⊎◌, eqb, All, length-set, get_or-set_same, unwrap_or, option_map, is_some, option_and_then, is_none, slice_get, slice_set, nat_le, ◌||◌, replicate, vec_len, length-take-le}
 pub use Rattle.std.proofs.Math.Nat.{mod-eq_of_lt}
 pub use Rattle.std.proofs.lemmas.Bool.{eq-eqb, ne_eqb, both_ways, cases_eq, or_left, or_right, cases_Bool, lt-ltb, le-ltb, and_left, le-leb, false≢true, cases_lt, eqb-true, and_from, and_parts, and_right, leb-true}
-pub use Rattle.std.proofs.lemmas.List.{length-map, drop_more, drop_all, set_past, length-replicate, take_more}
+pub use Rattle.std.proofs.lemmas.List.{append-nil, take_all, length-map, drop_more, drop_all, set_past, length-replicate, take_more}
 pub use Rattle.std.proofs.lemmas.List.Edits.{map_over_more}
 pub use Rattle.std.proofs.lemmas.Nat.{le_or_l, le_or_r, from_le_bytes-to_le_bytes_4}
 pub use Rattle.std.proofs.lemmas.Option.{slice_get-map, get_or_from_slice_get}
@@ -63,6 +63,8 @@ pub use Rattle.ec_start.specs.Interface.{requests, downloads, entries_read, pdo_
 unfoldable pub use Rattle.ec_start.specs.Running.{begun}
 pub use Rattle.ec_start.proofs.LawLemmas.{taken_plan}
 pub use Rattle.ec_start.proofs.Startable.{startable}
-pub use Rattle.ec_bringup.specs.Instants.{claim_of, Leads, AreAhead, AllMet, IsUnderWay, Instant, Between, UnderWay, Adrift, Over, IsReady, Starts, LaterLaw, TakeLaw, SlaveLaw, IsBetween}
+pub use Rattle.ec_bringup.specs.Instants.{claim_of, Leads, AreAhead, AllMet, IsUnderWay, Instant, Between, UnderWay, Adrift, Over, IsReady, Starts, LaterLaw, TakeLaw, SlaveLaw, IsBetween, IsOver}
 pub use Rattle.ec_bringup.specs.Interface.{Rise, Stays, Climbs, Claim, Talk, Config, Stage, Before, Called, Down, Up, answered, IsOfKind, unviewed, HoldsZeros, IsConfigured, IsAssigned, Claims, IsSilent, Talks, IsInInit, IsIn, StaysIn, Rises, IsUpAt, AreClear, IsDownAt, Reached, IsGone, HadFault, Stands, IsSpelled, Rising, turned, turns, rising, Applied, Rests, Reads, Writes, AreApplied, TurnsTo, AppliedStays, Turns, no_claim, claimed, answered_by, talked_over, asked_all, prepared, is_idle, is_beginning, BeginningLaw, fresh, told, after, IsLow, frame_at, all_passed, all_met, ArePlans, AreDevices, IsUpAndWorks, IsOnItsWay, IsBroughtTo, BringUpRests, RunsOut, BringUpTurns, IsWriting, Arrives, IsOther, MayRepeat, Met, slot_claimed, MayEnd, plan_at, IsReachable, CanReach, end_of, IsIdentity, unplanned, slave_of, AppliedUpLaw, ComesUpLaw, CompiledUpLaw, Works, Shown, Working, Faulted, WasReset, IsStepUp, IsAsked, CompiledPlansLaw, IsNumbered, IsOffered, AreOffered, IsAssignable, IsComplete, carries, Fits, FrameLaw, with_passed, with_start, with_slave, Carried, Starting, no_slave, slave_at, trouble_at, kind_at, AreSlaves, IsDevice, with_begun, AreStartable, Happens, Sends, Passes, Loses, Returns, Strays, Closes, Serves, Puts, Gets, Faults, Resets, Runs, Stops, Steps, Begins, IsTrue, AreTrue, AgainLaw, IsFaulted, IsTop, IsGenuine, SwitchedOnLaw, DevicesLaw, RingLaw, IsUp, StaysStanding, CanTell, CanClimb, IsClimbing, climbing, HasAll, IsSent, IsClear, Untouched, ReadsOn, IsBroadcast, ShowsInit, if_mine, FitsMine, RoundLaw, IsFaultedAt, no_plan, with_sent, with_empty, with_lost, ends_of, HoldsAll, HasFault, StartUpLaw, IsNew, no_identity, switched_on as bringup_switched_on}
+pub use Rattle.ec_bringup.specs.Stages.{told_at, FitsOne}
+pub use Rattle.ec_bringup.specs.Keeping.{StandingLaw, GoneLaw, ForOthersLaw}
 pub use Rattle.ec_bringup.specs.Turned.{IsBroughtUp, StandsUpLaw}
