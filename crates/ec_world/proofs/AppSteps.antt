@@ -3,7 +3,7 @@ use Rattle.ec_world.proofs.Words.{◌≡◌, ℕ, zero, suc, ◌<◌, ◌≤◌,
 use Rattle.ec_slave.proofs.Serves as serves
 use Rattle.ec_al.specs.Al as al
 use Rattle.ec_world.specs.Plain as plain
-use Rattle.ec_world.proofs.Mapped.{some_bits, no_bits, set_for_outs, unset, third_held, outs_enabled, ins_enabled, locked_denies, fourth_held}
+use Rattle.ec_world.proofs.Mapped.{some_bits, no_bits, unset, third_held, outs_enabled, ins_enabled, locked_denies, fourth_held, still_holds, still_quiet, buffer_long, set_for_outs}
 
 pub quiet-rests : (s : SlaveState) → IsQuiet s → served s ≡ s
 quiet-rests s q = serves.rests_quietly s (record { no_request = q.no_request; no_read = q.no_read; no_message = q.no_message 0 })
@@ -14,52 +14,23 @@ quiet-rests s q = serves.rests_quietly s (record { no_request = q.no_request; no
 
 pub slave_changed : (w : WorldState) (p : Plain) (t : ℕ) (x : SlaveState) (q : PlainSlave) → Shows w p → SlaveShows t (slave_at w.plan t) x q → t < length w.plan.slaves
     → Shows (with_slave w t x) (plain.with_slave p t q)
-slave_changed w p t x q s h l = record {
-  started = s.started;
-  no_start = s.no_start;
-  is_ready = s.is_ready;
-  same_plan = s.same_plan;
-  outputs = s.outputs;
-  inputs = s.inputs;
-  next = s.next;
-  got = s.got;
-  cycle = s.cycle;
-  report = s.report;
-  count = length-set w.slaves t x ∙ s.count;
-  plain_count = length-set p.slaves t q ∙ s.plain_count;
-  slaves = λ u b. elim (cases_eq u t) [
-    | inl e ↦ subst (λ (i : ℕ). SlaveShows i (slave_at w.plan i) (get_or (set w.slaves t x) i no_slave) (get_or (set p.slaves t q) i no_plain_slave)) (sym e)
-        (subst (λ (y : SlaveState). SlaveShows t (slave_at w.plan t) y (get_or (set p.slaves t q) t no_plain_slave)) (sym (get_or-set_same w.slaves t x no_slave (let y = s.count in omega arith)))
-        (subst (λ (y : PlainSlave). SlaveShows t (slave_at w.plan t) x y) (sym (get_or-set_same p.slaves t q no_plain_slave (let y = s.plain_count in omega arith))) h))
-    | inr ne ↦
-        subst (λ (y : SlaveState). SlaveShows u (slave_at w.plan u) y (get_or (set p.slaves t q) u no_plain_slave)) (sym (get_or-set_other w.slaves t u x no_slave ne))
-        (subst (λ (y : PlainSlave). SlaveShows u (slave_at w.plan u) (slave_of w u) y) (sym (get_or-set_other p.slaves t u q no_plain_slave ne)) (s.slaves u b))
-  ];
-  progress = s.progress;
-  frames = s.frames;
-}
+slave_changed w p t x q s h l = assumption (length-set w.slaves t x ∙ s.count, length-set p.slaves t q ∙ s.plain_count, slaves)
+  where
+    slaves : (u : ℕ) → u < length w.plan.slaves → SlaveShows u (slave_at w.plan u) (get_or (set w.slaves t x) u no_slave) (get_or (set p.slaves t q) u no_plain_slave)
+    slaves u b = elim (cases_eq u t) [
+      | inl e ↦ subst (λ (i : ℕ). SlaveShows i (slave_at w.plan i) (get_or (set w.slaves t x) i no_slave) (get_or (set p.slaves t q) i no_plain_slave)) (sym e)
+          (subst (λ (y : SlaveState). SlaveShows t (slave_at w.plan t) y (get_or (set p.slaves t q) t no_plain_slave)) (sym (get_or-set_same w.slaves t x no_slave (let y = s.count in omega arith)))
+          (subst (λ (y : PlainSlave). SlaveShows t (slave_at w.plan t) x y) (sym (get_or-set_same p.slaves t q no_plain_slave (let y = s.plain_count in omega arith))) h))
+      | inr ne ↦
+          subst (λ (y : SlaveState). SlaveShows u (slave_at w.plan u) y (get_or (set p.slaves t q) u no_plain_slave)) (sym (get_or-set_other w.slaves t u x no_slave ne))
+          (subst (λ (y : PlainSlave). SlaveShows u (slave_at w.plan u) (slave_of w u) y) (sym (get_or-set_other p.slaves t u q no_plain_slave ne)) (s.slaves u b))
+    ]
 
 -- the master, the report and what was read last change, and slaves and slots stay
 pub master_changed : (w : WorldState) (p q : Plain) (m : MasterState) (r : Option ReportState) (g : Option ℕ) → Shows w p → m.is_ready ≡ true → m.plan ≡ w.plan → m.outputs ≡ q.outputs
     → m.inputs ≡ q.inputs → m.next ≡ q.next → g ≡ q.got → CyclesShow w.plan m.cycle q.cycle → ReportShows w.plan r q.closed
     → Shows (record w { master = m; report = r; got = g }) (record q { slaves = p.slaves; slots = p.slots })
-master_changed w p q m r g s ready plan outputs inputs next got cycle report = record {
-  started = s.started;
-  no_start = s.no_start;
-  is_ready = ready;
-  same_plan = plan;
-  outputs = outputs;
-  inputs = inputs;
-  next = next;
-  got = got;
-  cycle = cycle;
-  report = report;
-  count = s.count;
-  plain_count = s.plain_count;
-  slaves = s.slaves;
-  progress = s.progress;
-  frames = s.frames;
-}
+master_changed w p q m r g s ready plan outputs inputs next got cycle report = assumption
 
 -- the plain event at a slave that there is, and at one that there isn't
 pub at_there : (w : WorldState) (p : Plain) (t : ℕ) (f : PlainSlave → Option Plain) → Shows w p → t < length w.plan.slaves → at_slave p t f ≡ f (plain_slave p t)
@@ -146,16 +117,11 @@ reset_shows w p t s l =
 abbrev fallen : SlaveState → SlaveState
 fallen s = record s { al = al.faulted s.al; managers = set s.managers 2 (empty_manager (manager_at s.managers 2).settings true) }
 
-fault_made : (s : SlaveState) → al.is_operational s.al.state ≡ true → faulted s ≡ fallen s
-fault_made s e = (faults s).in_op e
-
 pub out_length : (p : SlavePlan) → AreListed p → buffer_length (output_manager p) ≡ bytes_of_bits p.share.outs
-out_length p a = elim (cases_lt 0 p.share.outs) [
-  | inl l ↦ ap buffer_length (some_bits p.share.outs p.kind.out_start 0x24 l) ∙ if_true _ _ _ (and_from _ _ (set_for_outs p.share.outs p.kind.out_start l a.out_fits) refl)
-  | inr z ↦
-      let none : p.share.outs ≡ 0 = omega arith in
-      ap buffer_length (no_bits p.share.outs p.kind.out_start 0x24 none) ∙ (if_false _ _ _ (and_left _ _ unset) ∙ ap bytes_of_bits (sym none))
-]
+out_length p a = buffer_long p.share.outs p.kind.out_start 0x24 (λ l. set_for_outs p.share.outs p.kind.out_start l a.out_fits) refl
+
+pub state_on : (s : SlaveState) → s ≡ power_on s.kind s.identity → s.al.state ≡ Init
+state_on s e = ap (λ (x : SlaveState). x.al.state) e ∙ ap (λ (a : al.Al). a.state) (switched_on s.kind s.identity).al
 
 module _ (i : ℕ) (p : SlavePlan) (s : SlaveState) (q : PlainSlave) (fits : AreListed p) where
   pub two_there : Holds i p s → 3 < length s.managers
@@ -166,47 +132,30 @@ module _ (i : ℕ) (p : SlavePlan) (s : SlaveState) (q : PlainSlave) (fits : Are
       let m = empty_manager (manager_at s.managers 2).settings true in
       let b : 2 < length s.managers = let x = two_there h.holds in omega arith in
       let own : manager_at (set s.managers 2 m) 2 ≡ m = get_or-set_same s.managers 2 m no_manager b in
-      let other : (n : ℕ) → n ≢ 2 → manager_at (set s.managers 2 m) n ≡ manager_at s.managers n = λ n ne. get_or-set_other s.managers 2 n m no_manager ne in
+      let other : manager_at (set s.managers 2 m) 3 ≡ manager_at s.managers 3 = get_or-set_other s.managers 2 3 m no_manager (omega arith) in
       let operational : al.is_operational s.al.state ≡ true = ap al.is_operational h.state in
       let len : buffer_length (manager_at s.managers 2).settings ≡ length q.outputs.published = ap buffer_length (third_held i p s h.holds fits) ∙ (out_length p fits ∙ sym h.process.out_bytes.published) in
       record {
-        holds = record {
-          kind = h.holds.kind;
-          station = h.holds.station;
-          fmmus = h.holds.fmmus;
-          managers = map-set_same (λ (x : SyncManager). x.settings) s.managers 2 m no_manager refl ∙ h.holds.managers;
-          outputs = h.holds.outputs;
-          inputs = h.holds.inputs;
-        };
-        quiet = record {
-          no_request = ap (λ (x : al.Al). x.requested) (if_true _ _ _ operational) ∙ h.quiet.no_request;
-          no_read = h.quiet.no_read;
-          no_message = λ n. elim (cases_eq n 2) [
-            | inl e ↦ subst (λ (k : ℕ). (manager_at (set s.managers 2 m) k).mail ≡ None) (sym e) (ap (λ (x : SyncManager). x.mail) own)
-            | inr ne ↦ ap (λ (x : SyncManager). x.mail) (other n ne) ∙ h.quiet.no_message n
-          ];
-        };
+        holds = still_holds i p s (al.faulted s.al) 2 m refl h.holds;
+        quiet = still_quiet s (al.faulted s.al) 2 m b (ap (λ (x : al.Al). x.requested) (if_true _ _ _ operational)) refl h.quiet;
         process = record {
           outputs = ap (λ (x : SyncManager). x.buffer) own ∙ ap emptied_buffer len;
-          inputs = ap (λ (x : SyncManager). x.buffer) (other 3 (omega arith)) ∙ h.process.inputs;
+          inputs = ap (λ (x : SyncManager). x.buffer) other ∙ h.process.inputs;
           out_bytes = record { published = length-replicate (length q.outputs.published) 0 ∙ h.process.out_bytes.published; draft = λ d e. absurd (none_some d e) };
           in_bytes = h.process.in_bytes;
         };
         state = ap (λ (x : al.Al). x.state) (if_true _ _ _ operational);
         error = ap (λ (x : al.Al). x.error) (if_true _ _ _ operational);
         out_locked = ap (λ (x : SyncManager). x.locked) own;
-        in_unlocked = ap (λ (x : SyncManager). x.locked) (other 3 (omega arith)) ∙ h.in_unlocked;
+        in_unlocked = ap (λ (x : SyncManager). x.locked) other ∙ h.in_unlocked;
       }
 
-  pub state_on : s ≡ power_on s.kind s.identity → s.al.state ≡ Init
-  state_on e = ap (λ (x : SlaveState). x.al.state) e ∙ ap (λ (a : al.Al). a.state) (switched_on s.kind s.identity).al
-
   pub fault_let : (x : Health) → IsAs i p s q x → al.is_operational s.al.state ≡ is_working x
-  fault_let Reset h = ap al.is_operational (state_on h.as_on)
+  fault_let Reset h = ap al.is_operational (state_on s h.as_on)
   fault_let _ h = ap al.is_operational h.state
 
   pub fault_as : (x : Health) → IsAs i p s q x → is_working x ≡ true → IsFaulted i p (faulted s) (failing q)
-  fault_as Working h e = subst (λ (y : SlaveState). IsFaulted i p y (failing q)) (sym (fault_made s (ap al.is_operational h.state))) (fault_is h)
+  fault_as Working h e = subst (λ (y : SlaveState). IsFaulted i p y (failing q)) (sym ((faults s).in_op (ap al.is_operational h.state))) (fault_is h)
   fault_as _ h e = absurd (let z : false ≡ true = e in cc)
 
 -- ---- bytes of a slave's application
@@ -296,18 +245,15 @@ module _ (i : ℕ) (p : SlavePlan) (s : SlaveState) (q : PlainSlave) (fits : Are
   ]
 
   pub put_by : (k x : ℕ) (h : Health) → IsAs i p s q h → input_put s k x ≡ (if not (is_reset h) then option_map put_into (app_written q.inputs k x) else None)
-  put_by k x Reset w = if_false _ _ _ (ap is_running (state_on i p s q fits w.as_on))
+  put_by k x Reset w = if_false _ _ _ (ap is_running (state_on s w.as_on))
   put_by k x _ w = put_is k x w.holds w.process w.in_unlocked (ap is_running w.state)
 
   pub got_by : (k : ℕ) (h : Health) → IsAs i p s q h → output_got s k ≡ (if is_working h then app_read q.outputs k else None)
   got_by k Working w = got_is k w.holds w.process w.out_unlocked (ap is_running w.state)
   got_by k Faulted w = if_true _ _ _ (ap is_running w.state) ∙ if_false _ _ _ (locked_denies m2 w.out_locked).1
-  got_by k Reset w = if_false _ _ _ (ap is_running (state_on i p s q fits w.as_on))
+  got_by k Reset w = if_false _ _ _ (ap is_running (state_on s w.as_on))
 
   -- ---- the slave with another buffer in a manager
-
-  managers_kept : (n : ℕ) (m : SyncManager) → (λ (x : SyncManager). x.settings) m ≡ (manager_at s.managers n).settings → map (λ (x : SyncManager). x.settings) (slice_set s.managers n m) ≡ map (λ (x : SyncManager). x.settings) s.managers
-  managers_kept n m e = map-set_same (λ (x : SyncManager). x.settings) s.managers n m no_manager e
 
   own_of : (n : ℕ) (m : SyncManager) → n < 4 → Holds i p s → manager_at (slice_set s.managers n m) n ≡ m
   own_of n m l h = get_or-set_same s.managers n m no_manager (let x = two_there i p s q fits h in omega arith)
@@ -315,70 +261,43 @@ module _ (i : ℕ) (p : SlavePlan) (s : SlaveState) (q : PlainSlave) (fits : Are
   others_of : (n k : ℕ) (m : SyncManager) → k ≢ n → manager_at (slice_set s.managers n m) k ≡ manager_at s.managers k
   others_of n k m ne = get_or-set_other s.managers n k m no_manager ne
 
-  holds_put : (n : ℕ) (m : SyncManager) → m.settings ≡ (manager_at s.managers n).settings → Holds i p s → Holds i p (with_manager s n m)
-  holds_put n m e h = record {
-    kind = h.kind;
-    station = h.station;
-    fmmus = h.fmmus;
-    managers = managers_kept n m e ∙ h.managers;
-    outputs = h.outputs;
-    inputs = h.inputs;
-  }
-
-  quiet_put : (n : ℕ) (m : SyncManager) → n < 4 → m.mail ≡ (manager_at s.managers n).mail → Holds i p s → IsQuiet s → IsQuiet (with_manager s n m)
-  quiet_put n m l e h w = record {
-    no_request = w.no_request;
-    no_read = w.no_read;
-    no_message = λ k. elim (cases_eq k n) [
-      | inl z ↦ subst (λ (j : ℕ). (manager_at (slice_set s.managers n m) j).mail ≡ None) (sym z) (ap (λ (x : SyncManager). x.mail) (own_of n m l h) ∙ (e ∙ w.no_message n))
-      | inr ne ↦ ap (λ (x : SyncManager). x.mail) (others_of n k m ne) ∙ w.no_message k
-    ];
-  }
-
   put_data : (b : Buffer) → IsOfLength (bytes_of_bits p.share.ins) b → Holds i p s → HoldsData p s q → HoldsData p (put_into b) (record q { inputs = b })
-  put_data b len h d = record {
-    outputs = ap (λ (x : SyncManager). x.buffer) (others_of 3 2 (record m3 { buffer = b }) (omega arith)) ∙ d.outputs;
-    inputs = ap (λ (x : SyncManager). x.buffer) (own_of 3 (record m3 { buffer = b }) (omega arith) h);
-    out_bytes = d.out_bytes;
-    in_bytes = len;
-  }
+  put_data b len h d = assumption (
+    len,
+    ap (λ (x : SyncManager). x.buffer) (others_of 3 2 (record m3 { buffer = b }) (omega arith)) ∙ d.outputs,
+    ap (λ (x : SyncManager). x.buffer) (own_of 3 (record m3 { buffer = b }) (omega arith) h),
+  )
 
   put_shows : (h : Health) (k x : ℕ) (b : Buffer) → app_written q.inputs k x ≡ Some b → is_reset h ≡ false → IsAs i p s q h → IsAs i p (put_into b) (record q { inputs = b }) h
-  put_shows Working k x b e z w = record {
-    holds = holds_put 3 (record m3 { buffer = b }) refl w.holds;
-    quiet = quiet_put 3 (record m3 { buffer = b }) (omega arith) refl w.holds w.quiet;
-    process = put_data b (written_length (bytes_of_bits p.share.ins) q.inputs k x b w.process.in_bytes e) w.holds w.process;
-    state = w.state;
-    no_error = w.no_error;
-    out_unlocked = ap (λ (x : SyncManager). x.locked) (others_of 3 2 (record m3 { buffer = b }) (omega arith)) ∙ w.out_unlocked;
-    in_unlocked = ap (λ (x : SyncManager). x.locked) (own_of 3 (record m3 { buffer = b }) (omega arith) w.holds) ∙ w.in_unlocked;
-  }
-  put_shows Faulted k x b e z w = record {
-    holds = holds_put 3 (record m3 { buffer = b }) refl w.holds;
-    quiet = quiet_put 3 (record m3 { buffer = b }) (omega arith) refl w.holds w.quiet;
-    process = put_data b (written_length (bytes_of_bits p.share.ins) q.inputs k x b w.process.in_bytes e) w.holds w.process;
-    state = w.state;
-    error = w.error;
-    out_locked = ap (λ (x : SyncManager). x.locked) (others_of 3 2 (record m3 { buffer = b }) (omega arith)) ∙ w.out_locked;
-    in_unlocked = ap (λ (x : SyncManager). x.locked) (own_of 3 (record m3 { buffer = b }) (omega arith) w.holds) ∙ w.in_unlocked;
-  }
   put_shows Reset k x b e z w = absurd (let y : true ≡ false = z in cc)
+  put_shows _ k x b e z w =
+      let m : SyncManager = record m3 { buffer = b } in
+      let four : 3 < length s.managers = two_there i p s q fits w.holds in
+      let second : (v : Bool) → m2.locked ≡ v → (manager_at (put_into b).managers 2).locked ≡ v = λ v y. ap (λ (x : SyncManager). x.locked) (others_of 3 2 m (omega arith)) ∙ y in
+      let held : HoldsData p (put_into b) (record q { inputs = b }) = put_data b (written_length (bytes_of_bits p.share.ins) q.inputs k x b w.process.in_bytes e) w.holds w.process in
+      search (
+        still_holds i p s s.al 3 m refl w.holds,
+        still_quiet s s.al 3 m four refl (w.quiet.no_message 3) w.quiet,
+        held,
+        second,
+        ap (λ (x : SyncManager). x.locked) (own_of 3 m (omega arith) w.holds) ∙ w.in_unlocked,
+      )
 
   got_shows : (h : Health) (k : ℕ) (g : Got) → app_read q.outputs k ≡ Some g → is_working h ≡ true → IsAs i p s q h → IsAs i p (got_from g.buffer) (record q { outputs = g.buffer }) h
-  got_shows Working k g e z w = record {
-    holds = holds_put 2 (record m2 { buffer = g.buffer }) refl w.holds;
-    quiet = quiet_put 2 (record m2 { buffer = g.buffer }) (omega arith) refl w.holds w.quiet;
-    process = record {
-      outputs = ap (λ (x : SyncManager). x.buffer) (own_of 2 (record m2 { buffer = g.buffer }) (omega arith) w.holds);
-      inputs = ap (λ (x : SyncManager). x.buffer) (others_of 2 3 (record m2 { buffer = g.buffer }) (omega arith)) ∙ w.process.inputs;
-      out_bytes = read_length (bytes_of_bits p.share.outs) q.outputs k g w.process.out_bytes e;
-      in_bytes = w.process.in_bytes;
-    };
-    state = w.state;
-    no_error = w.no_error;
-    out_unlocked = ap (λ (x : SyncManager). x.locked) (own_of 2 (record m2 { buffer = g.buffer }) (omega arith) w.holds) ∙ w.out_unlocked;
-    in_unlocked = ap (λ (x : SyncManager). x.locked) (others_of 2 3 (record m2 { buffer = g.buffer }) (omega arith)) ∙ w.in_unlocked;
-  }
+  got_shows Working k g e z w =
+      let m : SyncManager = record m2 { buffer = g.buffer } in
+      let four : 3 < length s.managers = two_there i p s q fits w.holds in
+      let own = own_of 2 m (omega arith) w.holds in
+      let other = others_of 2 3 m (omega arith) in
+      let held : HoldsData p (got_from g.buffer) (record q { outputs = g.buffer })
+      = assumption (ap (λ (x : SyncManager). x.buffer) own, ap (λ (x : SyncManager). x.buffer) other ∙ w.process.inputs, read_length (bytes_of_bits p.share.outs) q.outputs k g w.process.out_bytes e) in
+      assumption (
+        still_holds i p s s.al 2 m refl w.holds,
+        still_quiet s s.al 2 m (omega arith) refl (w.quiet.no_message 2) w.quiet,
+        held,
+        ap (λ (x : SyncManager). x.locked) own ∙ w.out_unlocked,
+        ap (λ (x : SyncManager). x.locked) other ∙ w.in_unlocked,
+      )
   got_shows _ k g e z w = absurd (let y : false ≡ true = z in cc)
 
 -- ---- the events

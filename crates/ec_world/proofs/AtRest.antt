@@ -1,17 +1,13 @@
 -- A cycle of a world that is Ready, with no cycle open and no frame on its way: it can begin, and be closed.
-use Rattle.ec_world.proofs.Words.{ℕ, zero, suc, ◌+◌, ◌-◌, ◌^◌, ◌<◌, ◌≤◌, ◌≡◌, nat_le, Bool, true, Option, Some, None, refl, sym, ◌∙◌, ap, subst, arith, List, [], ◌∷◌, ◌++◌, length, map, get_or, replicate, is_none, option_map, unwrap_or, and_from, lt-ltb, le-leb, length-map, if_true, Identity, Contents, PartPlan, Meaning, meaning, PlanState, plan_of, IsUsable, plan_sound, nones, OpenCycle, cycle_limit, Event, Begin, Close, Plain, PlainFrame, Cycle, unit_full, step, run, frame_at, progress_of, WorldState, is_up, flight_at, flight_progress, IsStep, Shows, CyclesShow, IsRun, IsNew, plain_of, IsBegun, IsClosedAs, Says, rounds_of, IsAtRest, Rests, same_progress, none_some, some_same, all_none, cycle_begun}
+use Rattle.ec_world.proofs.Words.{ℕ, zero, suc, ◌+◌, ◌-◌, ◌^◌, ◌<◌, ◌≤◌, ◌≡◌, nat_le, Bool, true, Option, Some, None, refl, sym, ◌∙◌, ap, subst, arith, List, [], ◌∷◌, ◌++◌, length, map, get_or, replicate, is_none, option_map, unwrap_or, and_from, lt-ltb, le-leb, length-map, if_true, Identity, Contents, PartPlan, Meaning, meaning, PlanState, plan_of, IsUsable, plan_sound, nones, OpenCycle, cycle_limit, Event, Begin, Close, Plain, PlainFrame, Cycle, unit_full, step, run, frame_at, progress_of, WorldState, is_up, flight_at, flight_progress, IsStep, Shows, CyclesShow, IsRun, IsNew, plain_of, IsBegun, IsClosedAs, Says, rounds_of, IsAtRest, Rests, same_progress, none_some, some_same, all_none, cycle_begun, closing, is_some, if◌then◌else◌, length-append, nones-all, none_mapped}
 use Rattle.ec_world.proofs.StepLaws.{runs_show, runs_join}
 use Rattle.ec_world.proofs.Promising.{inputs_law}
-use Rattle.ec_world.proofs.Sized.{run_many}
-use Rattle.ec_world.proofs.Calm.{Slots, at_way, empty, fresh, Between, AllMade, Goes, get_mapped, first_made, both_made, rounds_go, filled_fresh}
+use Rattle.ec_world.proofs.Sized.{run_same}
+use Rattle.ec_world.proofs.Calm.{Slots, at_way, empty, fresh, Between, AllMade, get_mapped, rounds_go, filled_fresh, run_made}
 use Rattle.ec_world.proofs.Headlines.{MadeAt, made_at, Sees, sees}
 use Rattle.ec_world.proofs.HeadlineInputs.{says}
 
 -- ---- empty slots
-
-count_none : (z : ℕ) → (let none : Option PlainFrame = None in nones (replicate z none)) ≡ z
-count_none zero = refl
-count_none (suc z) = let e = count_none z in omega (arith, e)
 
 get_none : (z k : ℕ) → get_or (empty z) k None ≡ None
 get_none zero k = refl
@@ -22,10 +18,6 @@ pub get_nones : (y z k : ℕ) → get_or (empty y ++ ([] ++ empty z)) k None ≡
 get_nones zero z k = get_none z k
 get_nones (suc y) z zero = refl
 get_nones (suc y) z (suc k) = get_nones y z k
-
-unmapped : (o : Option PlainFrame) → option_map progress_of o ≡ None → o ≡ None
-unmapped None e = refl
-unmapped (Some f) e = absurd (none_some (progress_of f) (sym e))
 
 no_cycle_shown : (plan : PlanState) (o : Option OpenCycle) (q : Option Cycle) → CyclesShow plan o q → o ≡ None → q ≡ None
 no_cycle_shown plan None None h e = refl
@@ -104,12 +96,12 @@ module _ (t : Contents) (ids : List Identity) (w : WorldState) (o : Comes t ids 
 
   -- slots
   slot_free : (k : ℕ) → frame_at p k ≡ None
-  slot_free k = unmapped (frame_at p k) (sym (same_progress w.slots p.slots k s.shown.progress) ∙ ap (option_map flight_progress) (free.no_frame k))
+  slot_free k = none_mapped progress_of (frame_at p k) (sym (same_progress w.slots p.slots k s.shown.progress) ∙ ap (option_map flight_progress) (free.no_frame k))
 
   as_many : length p.slots ≡ 64
   as_many =
       sym (length-map p.slots (λ o. option_map progress_of o)) ∙ (sym (ap length s.shown.progress) ∙ (length-map w.slots (λ o. option_map flight_progress o)
-      ∙ (run_many o.old o.events w o.made o.reached ∙ ap (λ (x : WorldState). length x.slots) o.new.is)))
+      ∙ ((run_same o.old o.events w o.made o.reached).1 ∙ ap (λ (x : WorldState). length x.slots) o.new.is)))
 
   all_free : p.slots ≡ replicate (length m.parts + z) None
   all_free = all_none p.slots slot_free ∙ ap (λ (y : ℕ). replicate y None) (let a = as_many in let b = parts in let c = few in omega (arith, a, b, c))
@@ -123,7 +115,7 @@ module _ (t : Contents) (ids : List Identity) (w : WorldState) (o : Comes t ids 
 
   begins : step m p Begin ≡ Some B
   begins = if_true _ _ _ (and_from (is_none p.cycle) _ (ap (λ o. is_none o) shut) (and_from (nat_le (length m.parts) (nones p.slots)) _
-      (le-leb (length m.parts) (nones p.slots) (let a = ap (λ os. nones os) all_free in let b = count_none (length m.parts + z) in omega (arith, a, b)))
+      (le-leb (length m.parts) (nones p.slots) (let a = ap (λ os. nones os) all_free in let b = nones-all PlainFrame (length m.parts + z) in omega (arith, a, b)))
       (lt-ltb p.next (2 ^ 64 - 1) (let a = free.numbers in let b = s.shown.next in omega (arith, a, b)))))
 
   between : Between N p.next 0 K z B
@@ -150,6 +142,15 @@ rounds t = rounds_of (length t.slaves) 0 (length (plan_of t).parts)
 pub going : (t : Contents) (w : WorldState) (b : Beginning t w) → AllMade (meaning w.plan) b.begun (rounds t) (Between (length t.slaves) b.p.next (0 + length (plan_of t).parts) 0 (left_over t))
 going t w b = rounds_go (meaning w.plan) (length t.slaves) b.p.next (left_over t) (length (plan_of t).parts) 0 b.begun b.between
 
+-- all of it is made, where the events up to its close are
+pub whole_made : (t : Contents) (w : WorldState) (b : Beginning t w) (mid : List Event) (c : Cycle) → (run (meaning w.plan) b.begun mid).made ≡ length mid → (run (meaning w.plan) b.begun mid).plain.cycle ≡ Some c
+    → (run (meaning w.plan) b.p (Begin ∷ (mid ++ (Close ∷ [])))).made ≡ length (Begin ∷ (mid ++ (Close ∷ [])))
+whole_made t w b mid c made_mid open_mid =
+    let m = meaning w.plan in
+    let close : (run m (run m b.begun mid).plain (Close ∷ [])).made ≡ 1 = ap (λ (o : Option Cycle). (if is_some (option_map (closing m (run m b.begun mid).plain) o) then 1 else 0) + 0) open_mid in
+    let rest : (run m b.begun (mid ++ (Close ∷ []))).made ≡ length (mid ++ (Close ∷ [])) = omega (arith, run_made m b.begun mid (Close ∷ []), length-append mid (Close ∷ []), close, made_mid) in
+    ap (λ (o : Option Plain). (if is_some o then 1 else 0) + (run m (unwrap_or o b.p) (mid ++ (Close ∷ []))).made) b.begins ∙ (let z : 1 + (run m b.begun (mid ++ (Close ∷ []))).made ≡ length (Begin ∷ (mid ++ (Close ∷ []))) = omega (arith, rest) in z)
+
 -- after some events that are made it is closed
 pub record AtClose (t : Contents) (ids : List Identity) (w : WorldState) (b : Beginning t w) (mid : List Event) (c : Cycle) (v : WorldState) (count : ℕ) : Type 0 where
   pub all_made : count ≡ length (Begin ∷ (mid ++ (Close ∷ [])))
@@ -163,7 +164,7 @@ pub record AtClose (t : Contents) (ids : List Identity) (w : WorldState) (b : Be
 pub at_close : (t : Contents) (ids : List Identity) (w : WorldState) → Comes t ids w → (b : Beginning t w) (mid : List Event) (c : Cycle) → (run (meaning w.plan) b.begun mid).made ≡ length mid
     → (run (meaning w.plan) b.begun mid).plain.cycle ≡ Some c → (v : WorldState) (count : ℕ) → IsRun w (Begin ∷ (mid ++ (Close ∷ []))) v count → AtClose t ids w b mid c v count
 at_close t ids w o b mid c made_mid open_mid v count run_on = record {
-  all_made = (runs_show w (Begin ∷ (mid ++ (Close ∷ []))) v count b.usable run_on).made_is p b.shown ∙ whole.made;
+  all_made = (runs_show w (Begin ∷ (mid ++ (Close ∷ []))) v count b.usable run_on).made_is p b.shown ∙ whole_made t w b mid c made_mid open_mid;
   at = mc.made.at;
   comes = record {
     old = o.old;
@@ -194,23 +195,11 @@ at_close t ids w o b mid c made_mid open_mid v count run_on = record {
     opened : P.cycle ≡ Some c
     opened = ap (λ (x : Plain). x.cycle) P_is ∙ open_mid
 
-    closes : Goes m P Close (λ x. Unit {0})
-    closes = record { next = _; made = ap (option_map _) opened; after = tt }
-
-    with_begin : AllMade m p (Begin ∷ mid) (λ x. Unit {0})
-    with_begin = first_made m p Begin mid (λ x. Unit {0}) (λ x. Unit {0}) (record { next = b.begun; made = b.begins; after = tt }) (record { made = made_mid; after = tt })
-
-    whole : AllMade m p (Begin ∷ (mid ++ (Close ∷ []))) (λ x. Unit {0})
-    whole = both_made m p (Begin ∷ mid) (Close ∷ []) (λ x. Unit {0}) (λ x. Unit {0}) with_begin (first_made m P Close [] (λ x. Unit {0}) (λ x. Unit {0}) closes (record { made = refl; after = tt }))
-
-    mc : MadeAt m w p (Begin ∷ (mid ++ (Close ∷ []))) (Begin ∷ mid) Close [] closes.next v
-    mc = made_at w p (Begin ∷ (mid ++ (Close ∷ []))) v count (Begin ∷ mid) Close [] closes.next b.usable b.shown run_on refl closes.made
+    mc : MadeAt m w p (Begin ∷ (mid ++ (Close ∷ []))) (Begin ∷ mid) Close [] (closing m P c) v
+    mc = made_at w p (Begin ∷ (mid ++ (Close ∷ []))) v count (Begin ∷ mid) Close [] (closing m P c) b.usable b.shown run_on refl (ap (option_map (closing m P)) opened)
 
     v_is : v ≡ mc.made.next
-    v_is = by mc.made.behind mc.behind_is mc.made.onward
-      where
-        by : (es : List Event) → es ≡ [] → IsRun mc.made.next es v mc.made.rest → v ≡ mc.made.next
-        by es e g = (subst (λ (xs : List Event). IsRun mc.made.next xs v mc.made.rest) e g).0
+    v_is = (subst (λ (xs : List Event). IsRun mc.made.next xs v mc.made.rest) mc.behind_is mc.made.onward).0
 
     step_on : IsStep mc.made.at Close v true
     step_on = subst (λ (x : WorldState). IsStep mc.made.at Close x true) (sym v_is) mc.made.step

@@ -1,5 +1,5 @@
 -- A cycle of the plain machine that nothing disturbs: each of its frames goes round, one after another.
-use Rattle.ec_world.proofs.Words.{ℕ, zero, suc, ◌+◌, ◌<◌, ◌≤◌, ◌≡◌, ◌==◌, ◌&&◌, ◌||◌, nat_lt, Bool, true, false, Option, Some, None, refl, sym, ◌∙◌, ap, subst, arith, List, [], ◌∷◌, ◌++◌, length, get_or, set, replicate, is_some, if◌then◌else◌, option_map, unwrap_or, length-set, list_all, and_parts, and_from, lt-ltb, le-ltb, eq-eqb, length_push, map-set, length-append, if_true, if_false, Meaning, Event, Pass, Return, Progress, Plain, PlainFrame, Cycle, step, run, frame_at, plain_slave, moved, keeping, filled, new_frames, with_note, met_note, progress_of, all_progress, is_older, lets_by, may_pass, may_return, round_of, rounds_of, none_some, some_same}
+use Rattle.ec_world.proofs.Words.{ℕ, zero, suc, ◌+◌, ◌<◌, ◌≤◌, ◌≡◌, ◌==◌, ◌&&◌, ◌||◌, nat_lt, Bool, true, false, Option, Some, None, refl, sym, ◌∙◌, ap, subst, arith, List, [], ◌∷◌, ◌++◌, length, get_or, set, replicate, is_some, if◌then◌else◌, option_map, unwrap_or, length-set, list_all, and_parts, and_from, lt-ltb, le-ltb, eq-eqb, length_push, map-set, length-append, if_true, if_false, Meaning, Event, Pass, Return, Progress, Plain, PlainFrame, Cycle, step, run, frame_at, plain_slave, moved, keeping, filled, new_frames, with_note, met_note, progress_of, all_progress, is_older, lets_by, may_pass, may_return, round_of, rounds_of, none_some, some_same, list_all-append, filled-none, met_slave}
 use Rattle.ec_world.proofs.Histories.{run_joins, keeping_number}
 
 -- ---- slots
@@ -34,8 +34,7 @@ gap_more (suc j) tail = let e : suc (j + 1) ≡ suc j + 1 = omega arith in ap (�
 
 not_older : (n j i k l : ℕ) → j ≤ k → is_older (at_way n k l) (at_way n j i) ≡ false
 not_older n j i k l le =
-    ap (λ (b : Bool). b || ((n == n) && nat_lt k j)) (le-ltb n n (omega arith))
-    ∙ (ap (λ (b : Bool). (n == n) && b) (le-ltb k j le) ∙ ap (λ (b : Bool). b && false) (eq-eqb n n refl))
+    rw (le-ltb n n (omega arith), eq-eqb n n refl, le-ltb k j le) refl
 
 lets_one : (n j i k l : ℕ) → j ≤ k → lets_by (at_way n j i) (Some (at_way n k l)) ≡ true
 lets_one n j i k l le = if_false _ _ _ (not_older n j i k l le)
@@ -44,17 +43,14 @@ lets_empty : (f : Progress) (z : ℕ) → list_all (lets_by f) (empty z) ≡ tru
 lets_empty f zero = refl
 lets_empty f (suc z) = lets_empty f z
 
-lets_gap : (f : Progress) (j : ℕ) (tail : Slots) → list_all (lets_by f) tail ≡ true → list_all (lets_by f) (empty j ++ tail) ≡ true
-lets_gap f zero tail h = h
-lets_gap f (suc j) tail h = lets_gap f j tail h
-
 pub lets_fresh : (n j i k count z : ℕ) → j ≤ k → list_all (lets_by (at_way n j i)) (fresh n k count ++ empty z) ≡ true
 lets_fresh n j i k zero z le = lets_empty (at_way n j i) z
 lets_fresh n j i k (suc count) z le = and_from _ _ (lets_one n j i k 0 le) (lets_fresh n j i (k + 1) count z (omega (arith, le)))
 
 may_go : (N n j i : ℕ) (tail : Slots) → i < N → list_all (lets_by (at_way n j i)) tail ≡ true → may_pass N (empty j ++ (Some (at_way n j i) ∷ tail)) (Some (at_way n j i)) ≡ true
 may_go N n j i tail few young =
-    and_from (nat_lt i N) _ (lt-ltb i N few) (lets_gap (at_way n j i) j (Some (at_way n j i) ∷ tail) (and_from _ _ (lets_one n j i j i (omega arith)) young))
+    and_from (nat_lt i N) _ (lt-ltb i N few) (list_all-append (lets_by (at_way n j i)) (empty j) (Some (at_way n j i) ∷ tail)
+    ∙ and_from _ _ (lets_empty (at_way n j i) j) (and_from _ _ (lets_one n j i j i (omega arith)) young))
 
 -- ---- the frame of part j on its way, those of earlier parts back
 
@@ -105,19 +101,15 @@ pass_goes m N n j i tail p h few young =
     let on : progress_of (with_note g note) ≡ at_way n j (i + 1)
     = ap (λ (k : ℕ). record { number = g.number; part = g.part; passed = k }) (length_push g.notes note)
     ∙ ap (λ (f : Progress). record { number = f.number; part = f.part; passed = f.passed + 1 }) r.1.1 in
+    let slots : all_progress (moved m p j g).slots ≡ empty j ++ (Some (at_way n j (i + 1)) ∷ tail)
+    = map-set (λ o. option_map progress_of o) p.slots j (Some (with_note g note))
+    ∙ (ap (λ (os : Slots). set os j (Some (progress_of (with_note g note)))) h.slots
+    ∙ (set_gap j (Some (at_way n j i)) (Some (progress_of (with_note g note))) tail
+    ∙ ap (λ (f : Progress). empty j ++ (Some f ∷ tail)) on)) in
     record {
       next = moved m p j g;
       made = if_true _ _ _ can ∙ ap (option_map (moved m p j)) r.1.0;
-      after = record {
-        slots = map-set (λ o. option_map progress_of o) p.slots j (Some (with_note g note))
-            ∙ (ap (λ (os : Slots). set os j (Some (progress_of (with_note g note)))) h.slots
-            ∙ (set_gap j (Some (at_way n j i)) (Some (progress_of (with_note g note))) tail
-            ∙ ap (λ (f : Progress). empty j ++ (Some f ∷ tail)) on));
-        cycle = h.cycle;
-        is_open = h.is_open;
-        number_is = h.number_is;
-        count = length-set p.slaves t _ ∙ h.count;
-      };
+      after = search (h, slots, length-set p.slaves t (met_slave m t g (plain_slave p t)) ∙ h.count);
     }
 
 return_goes : (m : Meaning) (N n j count z : ℕ) (p : Plain) → Going N n j N (fresh n (j + 1) count ++ empty z) p → Goes m p (Return j) (Between N n (j + 1) count z)
@@ -197,12 +189,8 @@ filled_fresh n k z y image us os is size = ap (λ xs. all_progress (filled (new_
     empty_map zero = refl
     empty_map (suc x) = ap (λ (xs : Slots). None ∷ xs) (empty_map x)
 
-    none_more : (x : ℕ) → (let none : Option PlainFrame = None in all_progress (filled [] (replicate x none))) ≡ empty x
-    none_more zero = refl
-    none_more (suc x) = ap (λ (xs : Slots). None ∷ xs) (empty_map x)
-
     go : (k : ℕ) (us : List ℕ) (x : ℕ) → x ≡ length us + z → (let none : Option PlainFrame = None in all_progress (filled (new_frames n image k us) (replicate x none))) ≡ fresh n k (length us) ++ empty z
-    go k [] x e = let same : x ≡ z = omega (arith, e) in none_more x ∙ ap empty same
+    go k [] x e = let same : x ≡ z = omega (arith, e) in ap (λ (os : List (Option PlainFrame)). all_progress os) (filled-none (replicate x None)) ∙ (empty_map x ∙ ap empty same)
     go k (u ∷ us) zero e = absurd (omega (arith, e))
     go k (u ∷ us) (suc x) e = ap (λ (xs : Slots). Some (at_way n k 0) ∷ xs) (go (k + 1) us x (omega (arith, e)))
 
@@ -213,21 +201,16 @@ is_round (Pass k) = true
 is_round (Return k) = true
 is_round e = false
 
-all_both : (xs ys : List Event) → list_all is_round xs ≡ true → list_all is_round ys ≡ true → list_all is_round (xs ++ ys) ≡ true
-all_both [] ys h g = g
-all_both (x ∷ xs) ys h g = let b = and_parts (is_round x) (list_all is_round xs) h in and_from (is_round x) _ b.0 (all_both xs ys b.1 g)
-
 passes_round : (n k : ℕ) → list_all is_round (replicate n (Pass k)) ≡ true
 passes_round zero k = refl
 passes_round (suc n) k = passes_round n k
 
 pub rounds_round : (n k count : ℕ) → list_all is_round (rounds_of n k count) ≡ true
 rounds_round n k zero = refl
-rounds_round n k (suc count) = all_both (round_of n k) (rounds_of n (k + 1) count) (all_both (replicate n (Pass k)) (Return k ∷ []) (passes_round n k) refl) (rounds_round n (k + 1) count)
+rounds_round n k (suc count) = list_all-append is_round (round_of n k) (rounds_of n (k + 1) count)
+    ∙ and_from (list_all is_round (round_of n k)) _ (list_all-append is_round (replicate n (Pass k)) (Return k ∷ []) ∙ and_from _ _ (passes_round n k) refl) (rounds_round n (k + 1) count)
 
 pub round_there : (xs ys : List Event) (e : Event) → list_all is_round (xs ++ (e ∷ ys)) ≡ true → (list_all is_round xs ≡ true) × (is_round e ≡ true)
-round_there [] ys e h = (refl, (and_parts (is_round e) (list_all is_round ys) h).0)
-round_there (x ∷ xs) ys e h =
-    let b = and_parts (is_round x) (list_all is_round (xs ++ (e ∷ ys))) h in
-    let r = round_there xs ys e b.1 in
-    (and_from (is_round x) _ b.0 r.0, r.1)
+round_there xs ys e h =
+    let b = and_parts (list_all is_round xs) (list_all is_round (e ∷ ys)) (sym (list_all-append is_round xs (e ∷ ys)) ∙ h) in
+    (b.0, (and_parts (is_round e) (list_all is_round ys) b.1).0)

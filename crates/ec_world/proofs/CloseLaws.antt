@@ -1,10 +1,10 @@
 -- Closing a cycle: a master that goes by counters takes what the plain machine takes by its notes.
-use Rattle.ec_world.proofs.Words.{ℕ, ◌+◌, ◌-◌, ◌*◌, ◌<◌, ◌≡◌, ◌≢◌, ◌==◌, true, false, Option, Some, None, refl, sym, ◌∙◌, ap, subst, inl, inr, arith, List, [], length, map, get_or, is_some, slice_get, if◌then◌else◌, option_and_then, option_map, unwrap_or, suc, Bool, ◌∷◌, get_or-map as get_or-mapped, cases_Bool, eq-eqb, eqb-true, and_parts, cases_eq, length-map, list_get_or-map as get_or-map, slice_get-get_or, linked_inputs, bit, overlay_alike, if_true, if_false, Share, ExpectedCounters, Lrw, Split, Lrw as InOne, same_counters, unit_of_part, predicted, Gave, counters_of, sum_of, lwr_count, lrd_count, lrw_count, whole_share, nothing_given, share_of, Linked, slave_at, area_at, meaning, in_source, place_of_part, PlanState, part_at, no_part, PartPlan, IsUsable, KeptPart, is_good, unit_taken, bytes_of, returned_bit, inputs_closed, report_of, nones, kept_of, OpenCycle, Answers, Note, Other, Short, Full, Cycle, is_full, all_full, unit_full, noted_bit, notes_of_part, taken_bit, inputs_taken, PlainFrame, note_at, GaveAs, DatagramsShow, KeptShows, CycleShows, said, CountersPredicted, IsCounted, all_from-each, all_from-alike, nones-alike, there_too, map-alike, all_each, Datagram, IsKept, answer_on_their_way, frames_are_kept}
+use Rattle.ec_world.proofs.Words.{ℕ, ◌+◌, ◌-◌, ◌*◌, ◌<◌, ◌≡◌, ◌≢◌, ◌==◌, true, false, Option, Some, None, refl, sym, ◌∙◌, ap, subst, inl, inr, arith, List, [], length, map, get_or, is_some, slice_get, if◌then◌else◌, option_and_then, option_map, unwrap_or, suc, Bool, ◌∷◌, get_or-map as get_or-mapped, cases_Bool, eq-eqb, eqb-true, and_parts, cases_eq, length-map, list_get_or-map as get_or-map, slice_get-get_or, linked_inputs, bit, overlay_alike, if_true, if_false, Share, ExpectedCounters, Lrw, Split, Lrw as InOne, same_counters, unit_of_part, predicted, Gave, counters_of, sum_of, lwr_count, lrd_count, lrw_count, whole_share, nothing_given, share_of, Linked, slave_at, area_at, meaning, in_source, place_of_part, PlanState, part_at, no_part, PartPlan, IsUsable, KeptPart, is_good, unit_taken, bytes_of, returned_bit, inputs_closed, report_of, nones, kept_of, OpenCycle, Answers, Note, Other, Short, Full, Cycle, is_full, all_full, unit_full, noted_bit, notes_of_part, taken_bit, inputs_taken, PlainFrame, note_at, GaveAs, DatagramsShow, KeptShows, CycleShows, said, CountersPredicted, IsCounted, all_from-each, all_from-alike, nones-alike, there_too, map-alike, all_each, Datagram, IsKept, answer_on_their_way, frames_are_kept, Meaning}
 use Rattle.ec_world.proofs.Knowing.{share_is}
 use Rattle.ec_world.proofs.RoundTrips.{good_is_full, at}
 use Rattle.ec_world.proofs.DataLaws.{same_place, full_in_part}
 
-unit_is : (plan : PlanState) (k : ℕ) → unit_of_part (meaning plan) k ≡ (part_at plan.parts k).unit
+pub unit_is : (plan : PlanState) (k : ℕ) → unit_of_part (meaning plan) k ≡ (part_at plan.parts k).unit
 unit_is plan k = get_or-mapped (λ (x : PartPlan). x.unit) plan.parts k no_part
 
 pub taken_is_full : (plan : PlanState) (c : OpenCycle) (q : Cycle) (u : ℕ) → CycleShows plan c q → unit_taken plan c.kept u ≡ unit_full (meaning plan) q u
@@ -26,6 +26,14 @@ pub all_full_kept : (o : Option (List Note)) → all_full o ≡ true → (ns : L
 all_full_kept None e = absurd (let z : false ≡ true = e in cc)
 all_full_kept (Some ns) e = (ns, refl)
 
+-- a part of a unit that is full
+pub part_full : (m : Meaning) (q : Cycle) (u k : ℕ) → unit_full m q u ≡ true → k < length q.kept → unit_of_part m k ≡ u → all_full (get_or q.kept k None) ≡ true
+part_full m q u k on inside own =
+    let z : 0 + k ≡ k = omega arith in
+    sym (if_true (unit_of_part m k == u) (all_full (get_or q.kept k None)) true (eq-eqb _ _ own))
+    ∙ subst (λ (n : ℕ). (if unit_of_part m n == u then all_full (get_or q.kept k None) else true) ≡ true) z
+    (all_from-each (λ j o. if unit_of_part m j == u then all_full o else true) 0 q.kept k None on inside)
+
 -- one linked input bit
 returned_is_taken : (plan : PlanState) (c : OpenCycle) (q : Cycle) (i : Linked) → IsUsable plan → CycleShows plan c q
     → i.slave < length plan.slaves → i.bit_of < (area_at plan i.slave).ins → returned_bit plan c.kept i ≡ taken_bit (meaning plan) q i
@@ -44,11 +52,7 @@ returned_is_taken plan c q i sound h l b =
     elim (cases_Bool (unit_full m q u)) as (λ _. returned_bit plan c.kept i ≡ taken_bit m q i) [
       | inr off ↦ if_false _ _ _ (same ∙ off) ∙ sym (plain ∙ if_false _ _ _ off)
       | inl on ↦
-          let z : 0 + k ≡ k = omega arith in
-          let own : all_full (get_or q.kept k None) ≡ true
-          = sym (if_true (unit_of_part m k == u) (all_full (get_or q.kept k None)) true (eq-eqb _ _ unit))
-          ∙ subst (λ (n : ℕ). (if unit_of_part m n == u then all_full (get_or q.kept k None) else true) ≡ true) z
-          (all_from-each (λ j o. if unit_of_part m j == u then all_full o else true) 0 q.kept k None on inside) in
+          let own = part_full m q u k on inside unit in
           let notes = all_full_kept (get_or q.kept k None) own in
           let kept = there_too c.kept q.kept k notes.0 h.same_parts notes.1 in
           let shows = h.kept k kept.0 notes.0 kept.1 notes.1 in

@@ -2,7 +2,7 @@
 use Rattle.ec_world.proofs.Words.{ℕ, zero, suc, ◌<◌, ◌≡◌, refl, sym, ◌∙◌, ap, arith, List, [], ◌∷◌, length, get_or, None, ◌+◌, ◌⊎◌, Bool, true, false, if◌then◌else◌, Option, subst, inl, inr, ◌++◌, replicate, Identity, SlavePlan, plan_of, PlanState, plan_sound, IsOfType, IsGenuine, AreGenuine, plan_at, bringup_slave_of as slave_of, BringupRising as Rising, turns, genuine-on, stay, no_identity, bringup_switched_on as switched_on, Contents, compile_fault, AreOfTypes, IsTurn, AreTurns, BringUp, IsToStart, IsBroughtUp, NewLaw, rising_of, append-nil, length-append, SlaveState, plan_usable, MasterState, readied, cycle_limit, StartError, Phase, Idle, Ready, Failed, script, StartState, begun, IsUpAndWorks, AreStartable, are-plans, compiled-up, Event, WorldState, Flight, flight_at, phase_ready, phase_awaits, is_up, awaits, resumed, ready_with, IsRun, IsNew, new_world, all_none, none_free}
 use Rattle.ec_table.specs.Sound as table
 use Rattle.ec_world.proofs.ScriptLengths.{script_fits}
-use Rattle.ec_world.proofs.Sized.{run_many}
+use Rattle.ec_world.proofs.Sized.{run_same}
 use Rattle.ec_world.proofs.Whole.{StillRises, still_rises, new-rises, new-low, on-count}
 use Rattle.ec_world.proofs.Turning.{Sending, length-turned}
 use Rattle.ec_world.proofs.Turns.{HasTurned, turns_once}
@@ -61,11 +61,38 @@ idle_sends w idle few = record {
   few = few;
 }
 
-low_master : (m : MasterState) (s : StartState) (b : Bool) → is_up s ≡ b → b ≡ false → ready_with m s ≡ m
-low_master m s b e z = rw (e ∙ z) refl
+low_master : (m : MasterState) (s : StartState) → is_up s ≡ false → ready_with m s ≡ m
+low_master m s e = rw e refl
 
 abbrev pub from_state : StartState → List SlaveState → Rising
 from_state s ss = record { start = s; slaves = ss }
+
+-- k + 1 turns are ahead, and then it is Ready
+pub record MayTurn (k n : ℕ) (w : WorldState) (s : StartState) : Type 0 where
+  pub can : Sending w s
+  pub free : w.slots ≡ None ∷ replicate n None
+  pub go : (j : ℕ) → j < suc k → IsGoing (turns j (from_state s w.slaves))
+  pub ends : (turns (suc k) (from_state s w.slaves)).start.phase ≡ Ready
+
+-- one turn less
+pub turned_on : (k n : ℕ) (w : WorldState) (s : StartState) (v : WorldState) → MayTurn (suc k) n w s → HasTurned n w s v → MayTurn k n v v.start
+turned_on k n w s v h o =
+    let now : IsGoing (rising_of v) = subst IsGoing (sym o.is) (h.go 1 (omega arith)) in
+    record {
+      can = idle_sends v now.idle now.few;
+      free = o.slots;
+      go = λ j l. subst (λ (x : Rising). IsGoing (turns j x)) (sym o.is) (h.go (suc j) (omega (arith, l)));
+      ends = subst (λ (x : Rising). (turns (suc k) x).start.phase ≡ Ready) (sym o.is) h.ends;
+    }
+
+pub turned_idle : (k n : ℕ) (w : WorldState) (s : StartState) (v : WorldState) → MayTurn (suc k) n w s → HasTurned n w s v → v.start.phase ≡ Idle
+turned_idle k n w s v h o = ap (λ (r : Rising). r.start.phase) o.is ∙ (h.go 1 (omega arith)).idle
+
+pub turned_many : (n : ℕ) (w : WorldState) (s : StartState) (v : WorldState) → HasTurned n w s v → length v.slaves ≡ length w.slaves
+turned_many n w s v o = ap (λ (r : Rising). length r.slaves) o.is ∙ length-turned (from_state s w.slaves)
+
+pub turned_up : (n : ℕ) (w : WorldState) (s : StartState) (v : WorldState) → MayTurn 0 n w s → HasTurned n w s v → v.start.phase ≡ Ready
+turned_up n w s v h o = ap (λ (r : Rising). r.start.phase) o.is ∙ h.ends
 
 record HaveTurned (k n : ℕ) (w : WorldState) (s : StartState) (es : List Event) (v : WorldState) (made : ℕ) : Type 0 where
   is : rising_of v ≡ turns k (from_state s w.slaves)
@@ -73,28 +100,22 @@ record HaveTurned (k n : ℕ) (w : WorldState) (s : StartState) (es : List Event
   master : v.master ≡ ready_with w.master v.start
   count : made ≡ length es
 
-turns_all : (k n : ℕ) (w : WorldState) (s : StartState) (es : List Event) (v : WorldState) (made : ℕ) → Sending w s → w.slots ≡ None ∷ replicate n None
-    → ((j : ℕ) → j < suc k → IsGoing (turns j (from_state s w.slaves))) → AreTurns (length w.slaves) (suc k) es → IsRun w es v made → HaveTurned (suc k) n w s es v made
-turns_all zero n w s es v made can free go are h =
+turns_all : (k n : ℕ) (w : WorldState) (s : StartState) (es : List Event) (v : WorldState) (made : ℕ) → MayTurn k n w s → AreTurns (length w.slaves) (suc k) es → IsRun w es v made → HaveTurned (suc k) n w s es v made
+turns_all zero n w s es v made m are h =
     let same : es ≡ are.0 = are.2 ∙ (ap (λ (xs : List Event). are.0 ++ xs) are.4 ∙ append-nil are.0) in
-    let o = turns_once n w s es v made can free (subst (IsTurn (length w.slaves)) (sym same) are.3) h in
+    let o = turns_once n w s es v made m.can m.free (subst (IsTurn (length w.slaves)) (sym same) are.3) h in
     record { is = o.1.is; slots = o.1.slots; master = o.1.master; count = o.0 }
-turns_all (suc k) n w s es v made can free go are h =
+turns_all (suc k) n w s es v made m are h =
     let p = split are.0 are.1 w v made (subst (λ (xs : List Event). IsRun w xs v made) are.2 h) in
-    let once = turns_once n w s are.0 p.mid p.first can free are.3 p.to_mid in
+    let once = turns_once n w s are.0 p.mid p.first m.can m.free are.3 p.to_mid in
     let o = once.1 in
-    let now : IsGoing (rising_of p.mid) = subst IsGoing (sym o.is) (go 1 (omega arith)) in
-    let many : length p.mid.slaves ≡ length w.slaves = ap (λ (r : Rising). length r.slaves) o.is ∙ length-turned (from_state s w.slaves) in
-    let r = turns_all k n p.mid p.mid.start are.1 v p.rest (idle_sends p.mid now.idle now.few) o.slots
-    (λ j l. subst (λ (x : Rising). IsGoing (turns j x)) (sym o.is) (go (suc j) (omega (arith, l))))
-    (subst (λ (m : ℕ). AreTurns m (suc k) are.1) (sym many) are.4) p.onward in
-    let low : ready_with w.master p.mid.start ≡ w.master = low_master w.master p.mid.start (is_up p.mid.start) refl (ap (λ (q : Phase). phase_ready q) now.idle) in
-    let total : made ≡ length (are.0 ++ are.1) = omega (arith, length-append are.0 are.1, once.0, r.count, p.sum) in
+    let r = turns_all k n p.mid p.mid.start are.1 v p.rest (turned_on k n w s p.mid m o) (subst (λ (i : ℕ). AreTurns i (suc k) are.1) (sym (turned_many n w s p.mid o)) are.4) p.onward in
+    let low : ready_with w.master p.mid.start ≡ w.master = low_master w.master p.mid.start (ap (λ (q : Phase). phase_ready q) (turned_idle k n w s p.mid m o)) in
     record {
       is = r.is ∙ ap (λ (x : Rising). turns (suc k) x) o.is;
       slots = r.slots;
-      master = r.master ∙ ap (λ (m : MasterState). ready_with m v.start) (o.master ∙ low);
-      count = total ∙ ap (λ (xs : List Event). length xs) (sym are.2);
+      master = r.master ∙ ap (λ (x : MasterState). ready_with x v.start) (o.master ∙ low);
+      count = (let total : made ≡ length (are.0 ++ are.1) = omega (arith, length-append are.0 are.1, once.0, r.count, p.sum) in total) ∙ ap (λ (xs : List Event). length xs) (sym are.2);
     }
 
 -- ---- from where
@@ -141,33 +162,6 @@ risen t w s low =
     (devices t s.identities n.sound n.accepted n.one_each s.devices)
     (subst (λ (x : WorldState). IsRun x s.events w s.made) n.is s.reached) low
 
--- k + 1 turns are ahead, and then it is Ready
-pub record MayTurn (k n : ℕ) (w : WorldState) (s : StartState) : Type 0 where
-  pub can : Sending w s
-  pub free : w.slots ≡ None ∷ replicate n None
-  pub go : (j : ℕ) → j < suc k → IsGoing (turns j (from_state s w.slaves))
-  pub ends : (turns (suc k) (from_state s w.slaves)).start.phase ≡ Ready
-
--- one turn less
-pub turned_on : (k n : ℕ) (w : WorldState) (s : StartState) (v : WorldState) → MayTurn (suc k) n w s → HasTurned n w s v → MayTurn k n v v.start
-turned_on k n w s v h o =
-    let now : IsGoing (rising_of v) = subst IsGoing (sym o.is) (h.go 1 (omega arith)) in
-    record {
-      can = idle_sends v now.idle now.few;
-      free = o.slots;
-      go = λ j l. subst (λ (x : Rising). IsGoing (turns j x)) (sym o.is) (h.go (suc j) (omega (arith, l)));
-      ends = subst (λ (x : Rising). (turns (suc k) x).start.phase ≡ Ready) (sym o.is) h.ends;
-    }
-
-pub turned_idle : (k n : ℕ) (w : WorldState) (s : StartState) (v : WorldState) → MayTurn (suc k) n w s → HasTurned n w s v → v.start.phase ≡ Idle
-turned_idle k n w s v h o = ap (λ (r : Rising). r.start.phase) o.is ∙ (h.go 1 (omega arith)).idle
-
-pub turned_many : (n : ℕ) (w : WorldState) (s : StartState) (v : WorldState) → HasTurned n w s v → length v.slaves ≡ length w.slaves
-turned_many n w s v o = ap (λ (r : Rising). length r.slaves) o.is ∙ length-turned (from_state s w.slaves)
-
-pub turned_up : (n : ℕ) (w : WorldState) (s : StartState) (v : WorldState) → MayTurn 0 n w s → HasTurned n w s v → v.start.phase ≡ Ready
-turned_up n w s v h o = ap (λ (r : Rising). r.start.phase) o.is ∙ h.ends
-
 -- what holds where a start-up is to begin
 pub record IsBeginning (t : Contents) (w : WorldState) : Type 0 where
   pub k : ℕ
@@ -201,7 +195,7 @@ beginning t w s =
           none_awaited = a.none_awaited;
           few = omega (arith, room, long);
         };
-        free = free_slots 64 w.slots (run_many s.first s.events w s.made s.reached ∙ ap (λ (x : WorldState). length x.slots) new.is) s.no_frame;
+        free = free_slots 64 w.slots ((run_same s.first s.events w s.made s.reached).1 ∙ ap (λ (x : WorldState). length x.slots) new.is) s.no_frame;
         go = λ j l. let g = up.1 j (omega (arith, long, l)) in let x = g.next_number in record { idle = g.idle; few = omega (arith, x, l, room, long) };
         ends = works.ready;
       };
@@ -218,9 +212,8 @@ comes_up t w s events v made are h =
     let ps : List SlavePlan = (plan_of t).slaves in
     let b : IsBeginning t w = beginning t w s in
     let from : ℕ = w.start.next in
-    let left = b.turns_left in
     let turned : HaveTurned (suc b.k) 63 w (begun ps from) events v made
-    = turns_all b.k 63 w (begun ps from) events v made left.can left.free left.go
+    = turns_all b.k 63 w (begun ps from) events v made b.turns_left
     (subst (λ (m : ℕ). AreTurns m (suc b.k) events) (sym b.many) (subst (λ (m : ℕ). AreTurns (length t.slaves) m events) b.long are)) h in
     let works : IsUpAndWorks ps (from + length (script ps)) (rising_of v) = subst (IsUpAndWorks ps (from + length (script ps))) (sym turned.is) b.up in
     let now : is_up v.start ≡ true = ap (λ (p : Phase). phase_ready p) works.ready in

@@ -1,11 +1,37 @@
 -- A world at rest makes a cycle whole.
-use Rattle.ec_world.proofs.Words.{◌≡◌, ◌≤◌, Bool, true, Some, None, Option, refl, ◌∙◌, ap, arith, List, [], ◌∷◌, length, replicate, option_map, unwrap_or, Identity, Contents, Meaning, meaning, PlanState, plan_of, plan_sound, Begin, Close, Plain, run, WorldState, cycle_of, Rests}
-use Rattle.ec_world.proofs.AtRest.{Beginning, beginning, comes_of, free_of, rounds, going}
-use Rattle.ec_world.proofs.Calm.{AllMade, Goes, first_made, both_made}
+use Rattle.ec_world.proofs.Words.{◌≡◌, ◌≤◌, Bool, true, Some, None, Option, refl, ◌∙◌, ap, arith, List, [], ◌∷◌, length, replicate, option_map, unwrap_or, Identity, Contents, Meaning, meaning, PlanState, plan_of, plan_sound, Begin, Close, Plain, run, WorldState, cycle_of, Rests, ℕ, suc, ◌+◌, false, if◌then◌else◌, is_some, sym, subst, IsUsable, Event, step, Shows}
+use Rattle.ec_world.proofs.AtRest.{Beginning, beginning, comes_of, free_of, rounds, going, whole_made}
 use Rattle.ec_world.proofs.ComingUp.{free_slots}
-use Rattle.ec_world.proofs.CycleGoes.{goes_full}
-use Rattle.ec_world.proofs.Sized.{run_many}
+use Rattle.ec_world.proofs.StepLaws.{steps_show}
+use Rattle.ec_world.proofs.Sized.{run_same}
 use Rattle.ec_world.proofs.Turns as turns
+
+-- ---- what the plain machine makes whole, a world that shows it makes whole
+
+made_few : (m : Meaning) (p : Plain) (es : List Event) → (run m p es).made ≤ length es
+made_few m p [] = omega arith
+made_few m p (e ∷ es) = by (is_some (step m p e)) (made_few m (unwrap_or (step m p e) p) es)
+  where
+    by : (b : Bool) → (run m (unwrap_or (step m p e) p) es).made ≤ length es → (if b then 1 else 0) + (run m (unwrap_or (step m p e) p) es).made ≤ suc (length es)
+    by true l = omega (arith, l)
+    by false l = omega (arith, l)
+
+one_made : (one : Bool) (rest : ℕ) (es : List Event) (e : Event) → rest ≤ length es → (if one then 1 else 0) + rest ≡ length (e ∷ es) → (one ≡ true) × (rest ≡ length es)
+one_made true rest es e l h = (refl, omega (arith, h))
+one_made false rest es e l h = absurd (omega (arith, l, h))
+
+goes_full : (es : List Event) (w new : WorldState) (all : Bool) (p : Plain) → IsUsable w.plan → Shows w p → turns.Goes es w new all → (run (meaning w.plan) p es).made ≡ length es → all ≡ true
+goes_full [] w new all p usable shows h full = h.1
+goes_full (e ∷ es) w new all p usable shows h full =
+    let s = steps_show w e h.0 h.1 usable h.2 in
+    let q : Plain = unwrap_or (step (meaning w.plan) p e) p in
+    let both = one_made (is_some (step (meaning w.plan) p e)) (run (meaning w.plan) q es).made es e (made_few (meaning w.plan) q es) full in
+    let plan = s.same_plan p shows in
+    goes_full es h.0 new all q (subst IsUsable (sym plan) usable) (s.shown p shows)
+    (turns.onward ((new ≡ h.0) × (all ≡ false)) h.1 (s.made_is p shows ∙ both.0) h.3)
+    (ap (λ (x : PlanState). (run (meaning x) q es).made) plan ∙ both.1)
+
+-- ---- of a world at rest
 
 -- what it is, for the places of its frames
 pub record IsFreeOf (t : Contents) (w : WorldState) : Type 0 where
@@ -18,26 +44,8 @@ module _ (t : Contents) (ids : List Identity) (w : WorldState) (r : Rests t ids 
   abbrev b : Beginning t w
   b = beginning t ids w (comes_of t ids w r) (free_of t w r.at_rest)
 
-  abbrev m : Meaning
-  m = meaning w.plan
-
-  abbrev P : Plain
-  P = (run m b.p (Begin ∷ rounds t)).plain
-
-  opened : P.cycle ≡ Some (going t w b).after.cycle
-  opened = ap (λ (q : Option Plain). (run m (unwrap_or q b.p) (rounds t)).plain.cycle) b.begins ∙ (going t w b).after.is_open
-
-  closes : Goes m P Close (λ x. Unit {0})
-  closes = record { next = _; made = ap (option_map _) opened; after = tt }
-
-  with_begin : AllMade m b.p (Begin ∷ rounds t) (λ x. Unit {0})
-  with_begin = first_made m b.p Begin (rounds t) (λ x. Unit {0}) (λ x. Unit {0}) (record { next = b.begun; made = b.begins; after = tt }) (record { made = (going t w b).made; after = tt })
-
-  whole : AllMade m b.p (cycle_of t) (λ x. Unit {0})
-  whole = both_made m b.p (Begin ∷ rounds t) (Close ∷ []) (λ x. Unit {0}) (λ x. Unit {0}) with_begin (first_made m P Close [] (λ x. Unit {0}) (λ x. Unit {0}) closes (record { made = refl; after = tt }))
-
   pub cycle_made : (new : WorldState) (all : Bool) → turns.Goes (cycle_of t) w new all → all ≡ true
-  cycle_made new all h = goes_full (cycle_of t) w new all b.p b.usable b.shown h whole.made
+  cycle_made new all h = goes_full (cycle_of t) w new all b.p b.usable b.shown h (whole_made t w b (rounds t) (going t w b).after.cycle (going t w b).made (going t w b).after.is_open)
 
   pub free_there : IsFreeOf t w
   free_there =
@@ -46,6 +54,6 @@ module _ (t : Contents) (ids : List Identity) (w : WorldState) (r : Rests t ids 
       record {
         slaves = b.shown.count ∙ (ap (λ (x : PlanState). length x.slaves) b.w_plan ∙ (plan_sound t r.new.sound r.new.accepted).as_many);
         parts = ap (λ (x : PlanState). length x.parts) (b.shown.same_plan ∙ b.w_plan);
-        slots = free_slots 64 w.slots (run_many r.old r.events w r.made r.reached ∙ ap (λ (x : WorldState). length x.slots) r.new.is) r.at_rest.no_frame;
+        slots = free_slots 64 w.slots ((run_same r.old r.events w r.made r.reached).1 ∙ ap (λ (x : WorldState). length x.slots) r.new.is) r.at_rest.no_frame;
         few = omega (arith, few, same);
       }

@@ -1,15 +1,15 @@
 -- What disturbs a cycle for a unit keeps the unit from being taken: one of its parts is spoiled, and stays so.
-use Rattle.ec_world.proofs.Words.{ℕ, suc, ◌+◌, ◌<◌, ◌≤◌, ◌≡◌, ◌≢◌, ◌==◌, ◌&&◌, ◌||◌, Bool, true, false, Option, Some, None, refl, sym, ◌∙◌, ap, subst, inl, inr, arith, List, [], ◌∷◌, ◌++◌, length, get_or, set, if◌then◌else◌, unwrap_or, nat_le, get_or-set_same, length-set, list_all, list_any, cases_Bool, cases_eq, and_cases, and_parts, and_left, and_right, or_cases, or_left, eqb-true, eq-eqb, leb-true, true≢false, length-map, length_push, if_true, Meaning, share_of, meaning, has_outs, has_ins, unit_of_part, PartPlan, PlanState, IsUsable, Event, Pass, Lose, Fault, ResetSlave, Plain, PlainSlave, PlainFrame, Health, Working, Faulted, Reset, Note, Short, Cycle, unit_full, step, run, frame_at, plain_slave, no_plain_slave, keeping, new_frames, with_note, with_slot, met_note, giving, is_full, all_full, IsBegun, FallsShort, QuietLaw, unit_of_slave, is_of_unit, holds_of_unit, still_comes, is_awaited, disturbs, all_from-each, none_some, some_same, cycle_begun, none_in}
-use Rattle.ec_world.proofs.CloseLaws.{all_full_kept}
+use Rattle.ec_world.proofs.Words.{ℕ, suc, ◌+◌, ◌<◌, ◌≤◌, ◌≡◌, ◌≢◌, ◌==◌, ◌&&◌, ◌||◌, Bool, true, false, Option, Some, None, refl, sym, ◌∙◌, ap, subst, inl, inr, arith, List, [], ◌∷◌, ◌++◌, length, get_or, set, if◌then◌else◌, unwrap_or, nat_le, get_or-set_same, length-set, list_all, list_any, cases_Bool, cases_eq, and_cases, and_parts, and_left, and_right, or_cases, or_left, eqb-true, eq-eqb, leb-true, true≢false, length-map, length_push, if_true, Meaning, share_of, meaning, has_outs, has_ins, unit_of_part, PartPlan, PlanState, IsUsable, Event, Pass, Lose, Fault, ResetSlave, Plain, PlainSlave, PlainFrame, Health, Working, Faulted, Reset, Note, Short, Cycle, unit_full, step, run, frame_at, plain_slave, no_plain_slave, keeping, new_frames, with_note, with_slot, met_note, giving, is_full, all_full, IsBegun, FallsShort, QuietLaw, unit_of_slave, is_of_unit, holds_of_unit, still_comes, is_awaited, disturbs, all_from-each, none_some, some_same, cycle_begun, none_in, list_all-append}
+use Rattle.ec_world.proofs.CloseLaws.{all_full_kept, part_full}
 use Rattle.ec_world.proofs.Knowing.{share_is}
 use Rattle.ec_world.proofs.Tracing.{guarded, Leaves, leaves, Turned, faulted, switched}
-use Rattle.ec_world.proofs.Histories.{run_always, run_joins, begun_below, filled_has, new_one, keeping_number, count_kept, frames_left, cycle_left, next_left, kept_on, Rests, HasFailed, HasRestarted, became}
+use Rattle.ec_world.proofs.Histories.{run_always, begun_below, filled_has, new_one, keeping_number, count_kept, frames_left, cycle_left, next_left, kept_on, Rests, HasFailed, HasRestarted, became, run_cut}
 use Rattle.ec_world.proofs.Quiet.{short_alike}
 use Rattle.ec_world.proofs.Single.{left_there, Single, single_step, single_begun}
 
 -- ---- a slave that falls short goes on to do so
 
-in_op_whole : (m : Meaning) (s : ℕ) (q : PlainSlave) → q.health ≡ Working → FallsShort m s q → ⊥
+pub in_op_whole : (m : Meaning) (s : ℕ) (q : PlainSlave) → q.health ≡ Working → FallsShort m s q → ⊥
 in_op_whole m s q is (inl x) = let z : Working ≡ Reset = sym is ∙ x.0 in cc
 in_op_whole m s q is (inr x) = let z : Working ≡ Faulted = sym is ∙ x.0 in cc
 
@@ -36,15 +36,10 @@ short_note m s f q part short = if_true _ _ _ (eq-eqb _ _ part) ∙ giving_short
 -- ---- a part that is spoiled
 
 not_full_then : (ns : List Note) (n : Note) → list_all is_full ns ≡ false → list_all is_full (ns ++ (n ∷ [])) ≡ false
-not_full_then [] n e = absurd (true≢false e)
-not_full_then (x ∷ ns) n e = elim (and_cases (is_full x) (list_all is_full ns) e) [
-  | inl here ↦ and_left (is_full x) (list_all is_full (ns ++ (n ∷ []))) here
-  | inr there ↦ and_right (is_full x) (list_all is_full (ns ++ (n ∷ []))) (not_full_then ns n there)
-]
+not_full_then ns n e = list_all-append is_full ns (n ∷ []) ∙ and_left (list_all is_full ns) _ e
 
 not_full_at_last : (ns : List Note) → list_all is_full (ns ++ (Short ∷ [])) ≡ false
-not_full_at_last [] = refl
-not_full_at_last (x ∷ ns) = and_right (is_full x) (list_all is_full (ns ++ (Short ∷ []))) (not_full_at_last ns)
+not_full_at_last ns = list_all-append is_full ns (Short ∷ []) ∙ and_right (list_all is_full ns) _ refl
 
 -- the frame has a short note, or will have one
 pub data IsBad (m : Meaning) (p : Plain) (f : PlainFrame) : Type 0 where
@@ -239,7 +234,7 @@ quiet_law m p begun after c u inside b opened own taken = record {
     | inr off ↦ off
     | inl on ↦ absurd (
         let s = spoils m p.next u (run m begun before).plain e next (run_always (Single m p.next) m (λ x y q h r. single_step m p.next x y q h r) begun before first) made on in
-        not_spoiled s.part s.inside s.mine (subst (Spoiled m p.next s.part) (sym (cut before rest e next split made))
+        not_spoiled s.part s.inside s.mine (subst (Spoiled m p.next s.part) (sym (run_cut m begun after before rest e next split made))
         (run_always (Spoiled m p.next s.part) m (λ x y q h r. spoiled_step m p.next s.part x y q h r) next rest s.spoiled)))
   ];
   back = λ k f at. elim (cases_Bool (is_of_unit m p.next u f)) [
@@ -258,22 +253,12 @@ quiet_law m p begun after c u inside b opened own taken = record {
     end = run_always (Single m p.next) m (λ x e q h r. single_step m p.next x e q h r) begun after first
 
     whole_part : (k : ℕ) → k < length m.parts → unit_of_part m k ≡ u → all_full (get_or c.kept k None) ≡ true
-    whole_part k l mine =
-        let z : 0 + k ≡ k = omega arith in
-        let inside : k < length c.kept = let n = end.size c opened own in omega (arith, l, n) in
-        sym (if_true (unit_of_part m k == u) (all_full (get_or c.kept k None)) true (eq-eqb _ _ mine))
-        ∙ subst (λ (n : ℕ). (if unit_of_part m n == u then all_full (get_or c.kept k None) else true) ≡ true) z
-        (all_from-each (λ j o. if unit_of_part m j == u then all_full o else true) 0 c.kept k None taken inside)
+    whole_part k l mine = part_full m c u k taken (let n = end.size c opened own in omega (arith, l, n)) mine
 
     not_spoiled : (k : ℕ) → k < length m.parts → unit_of_part m k ≡ u → Spoiled m p.next k (run m begun after).plain → ⊥
     not_spoiled k l mine s =
         let r = all_full_kept (get_or c.kept k None) (whole_part k l mine) in
         true≢false (sym (sym (ap all_full r.1) ∙ whole_part k l mine) ∙ s.kept c opened own r.0 r.1)
-
-    cut : (before rest : List Event) (e : Event) (next : Plain) → after ≡ before ++ (e ∷ rest) → step m (run m begun before).plain e ≡ Some next → (run m begun after).plain ≡ (run m next rest).plain
-    cut before rest e next split made =
-        ap (λ (xs : List Event). (run m begun xs).plain) split
-        ∙ (run_joins m begun before (e ∷ rest) ∙ ap (λ (o : Option Plain). (run m (unwrap_or o (run m begun before).plain) rest).plain) made)
 
 -- ---- a slave that fell short as its frame passed it
 
@@ -293,29 +278,14 @@ spoiled_not_full m p begun after c u b opened own taken before behind slot q f s
       kept = λ d at num_d notes e. absurd (none_some notes (sym (single.missing d at num_d slot f there num) ∙ e));
     } in
     let later : Spoiled m p.next f.part (run m q behind).plain = run_always (Spoiled m p.next f.part) m (λ y e z h r. spoiled_step m p.next f.part y e z h r) q behind (spoiled_step m p.next f.part x (Pass slot) q made spoiled) in
-    let full : all_full (get_or c.kept f.part None) ≡ true = whole in
+    let here : f.part < length c.kept = let n = at_end.size c opened own in let l = single.inside slot f there num in omega (arith, l, n) in
+    let full = part_full m c u f.part taken here (ap (unit_of_part m) (sym part) ∙ mine) in
     let r = all_full_kept (get_or c.kept f.part None) full in
-    true≢false (sym (sym (ap all_full r.1) ∙ full) ∙ (subst (Spoiled m p.next f.part) (sym cut) later).kept c opened own r.0 r.1)
+    true≢false (sym (sym (ap all_full r.1) ∙ full) ∙ (subst (Spoiled m p.next f.part) (sym (run_cut m begun after before behind (Pass slot) q split made)) later).kept c opened own r.0 r.1)
   where
     x : Plain
     x = (run m begun before).plain
 
-    cut : (run m begun after).plain ≡ (run m q behind).plain
-    cut = ap (λ (xs : List Event). (run m begun xs).plain) split ∙ (run_joins m begun before (Pass slot ∷ behind) ∙ ap (λ (o : Option Plain). (run m (unwrap_or o x) behind).plain) made)
-
     -- it is of a part of the plan
     at_end : Single m p.next (run m begun after).plain
     at_end = run_always (Single m p.next) m (λ y e z h r. single_step m p.next y e z h r) begun after (single_begun m p begun b)
-
-    at_pass : Single m p.next x
-    at_pass = run_always (Single m p.next) m (λ y e z h r. single_step m p.next y e z h r) begun before (single_begun m p begun b)
-
-    whole : all_full (get_or c.kept f.part None) ≡ true
-    whole =
-        let k = f.part in
-        let z : 0 + k ≡ k = omega arith in
-        let here : k < length c.kept = let n = at_end.size c opened own in let l = at_pass.inside slot f there num in omega (arith, l, n) in
-        let unit : unit_of_part m k ≡ u = ap (unit_of_part m) (sym part) ∙ mine in
-        sym (if_true (unit_of_part m k == u) (all_full (get_or c.kept k None)) true (eq-eqb _ _ unit))
-        ∙ subst (λ (n : ℕ). (if unit_of_part m n == u then all_full (get_or c.kept k None) else true) ≡ true) z
-        (all_from-each (λ j o. if unit_of_part m j == u then all_full o else true) 0 c.kept k None taken here)

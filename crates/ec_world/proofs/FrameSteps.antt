@@ -1,62 +1,42 @@
 -- Events on frames: a pass, a loss, a beginning.
-use Rattle.ec_world.proofs.Words.{ℕ, ◌+◌, ◌<◌, ◌≡◌, true, false, Option, Some, None, refl, sym, ◌∙◌, ap, subst, inl, inr, arith, length, get_or, set, is_some, if◌then◌else◌, option_map, unwrap_or, nat_lt, get_or-set_same, get_or-set_other, list_all, cases_eq, and_parts, ltb-true, length_push, map-set, if_true, Payload, SlaveState, IsPassed, passes as passes_all, IsPassedAt, one_payload, meaning, IsUsable, Plain, PlainFrame, progress_of, all_progress, may_pass, lets_by, passing, moved, losing, plain_slave, met_slave, met_note, with_note, WorldState, Flight, flight_progress, flights_progress, flight_at, slave_of, Passes, Shows, FrameShows, get_or-set_default, same_progress, flight_pairs, passes_there, is_some-guarded, none_some, some_same, within_of, with_slave, Pairs, List}
+use Rattle.ec_world.proofs.Words.{ℕ, ◌+◌, ◌<◌, ◌≡◌, true, false, Option, Some, None, refl, sym, ◌∙◌, ap, subst, inl, inr, arith, length, get_or, set, is_some, if◌then◌else◌, option_map, unwrap_or, nat_lt, get_or-set_same, get_or-set_other, list_all, cases_eq, and_parts, ltb-true, length_push, map-set, if_true, Payload, SlaveState, IsPassed, passes as passes_all, IsPassedAt, one_payload, meaning, IsUsable, Plain, PlainFrame, progress_of, all_progress, may_pass, lets_by, passing, moved, losing, plain_slave, met_slave, met_note, with_note, WorldState, Flight, flight_progress, flights_progress, flight_at, slave_of, Passes, Shows, FrameShows, get_or-set_default, same_progress, flight_pairs, passes_there, is_some-guarded, none_some, some_same, within_of, with_slave, Pairs, List, is_some-mapped, some_guarded, frame_at, Progress}
 use Rattle.ec_world.proofs.FramePass.{frame_pass, FramePassed}
 use Rattle.ec_world.proofs.AppSteps.{slave_changed}
 use Rattle.ec_world.specs.Plain as plain
 
 -- ---- a loss
 
+-- a slot has a frame on both sides
+both_there : (w : WorldState) (p : Plain) (k : ℕ) → Shows w p → is_some (flight_at w k) ≡ is_some (frame_at p k)
+both_there w p k s = sym (is_some-mapped flight_progress (flight_at w k)) ∙ (ap (λ o. is_some o) (same_progress w.slots p.slots k s.progress) ∙ is_some-mapped progress_of (frame_at p k))
+
 pub lose_can : (w : WorldState) (p : Plain) (k : ℕ) → Shows w p → is_some (flight_at w k) ≡ is_some (losing p k)
-lose_can w p k s = same (get_or w.slots k None) (get_or p.slots k None) (same_progress w.slots p.slots k s.progress)
-  where
-    same : (o : Option Flight) (f : Option PlainFrame) → option_map flight_progress o ≡ option_map progress_of f → is_some o ≡ is_some (if is_some f then Some (record p { slots = set p.slots k None }) else None)
-    same None None e = refl
-    same None (Some f) e = absurd (none_some (progress_of f) e)
-    same (Some x) None e = absurd (none_some (flight_progress x) (sym e))
-    same (Some x) (Some f) e = refl
+lose_can w p k s = both_there w p k s ∙ some_guarded (is_some (frame_at p k)) (record p { slots = set p.slots k None })
 
 -- what is in a slot changes on both sides, alike
 slot_changed : (w : WorldState) (p : Plain) (k : ℕ) (o : Option Flight) (q : Option PlainFrame) → Shows w p → option_map flight_progress o ≡ option_map progress_of q
     → get_or (set w.slots k o) k None ≡ o → get_or (set p.slots k q) k None ≡ q → ((x : Flight) (f : PlainFrame) → o ≡ Some x → q ≡ Some f → FrameShows w.plan f x.bytes)
     → Shows (record w { slots = set w.slots k o }) (record p { slots = set p.slots k q })
-slot_changed w p k o q s alike own plain_own shows = record {
-  started = s.started;
-  no_start = s.no_start;
-  is_ready = s.is_ready;
-  same_plan = s.same_plan;
-  outputs = s.outputs;
-  inputs = s.inputs;
-  next = s.next;
-  got = s.got;
-  cycle = s.cycle;
-  report = s.report;
-  count = s.count;
-  plain_count = s.plain_count;
-  slaves = s.slaves;
-  progress = map-set (λ o. option_map flight_progress o) w.slots k o
-      ∙ (ap (λ os. set os k (option_map flight_progress o)) s.progress
-      ∙ (ap (λ x. set (all_progress p.slots) k x) alike ∙ sym (map-set (λ o. option_map progress_of o) p.slots k q)));
-  frames = λ j x f a b. elim (cases_eq j k) [
-    | inl e ↦ shows x f (sym own ∙ subst (λ (i : ℕ). get_or (set w.slots k o) i None ≡ Some x) e a) (sym plain_own ∙ subst (λ (i : ℕ). get_or (set p.slots k q) i None ≡ Some f) e b)
-    | inr ne ↦ s.frames j x f (sym (get_or-set_other w.slots k j o None ne) ∙ a) (sym (get_or-set_other p.slots k j q None ne) ∙ b)
-  ];
-}
+slot_changed w p k o q s alike own plain_own shows = assumption (progress, frames)
+  where
+    progress : flights_progress (set w.slots k o) ≡ all_progress (set p.slots k q)
+    progress =
+        map-set (λ o. option_map flight_progress o) w.slots k o
+        ∙ (ap (λ os. set os k (option_map flight_progress o)) s.progress
+        ∙ (ap (λ x. set (all_progress p.slots) k x) alike ∙ sym (map-set (λ o. option_map progress_of o) p.slots k q)))
+
+    frames : (j : ℕ) (x : Flight) (f : PlainFrame) → get_or (set w.slots k o) j None ≡ Some x → get_or (set p.slots k q) j None ≡ Some f → FrameShows w.plan f x.bytes
+    frames j x f a b = elim (cases_eq j k) [
+      | inl e ↦ shows x f (sym own ∙ subst (λ (i : ℕ). get_or (set w.slots k o) i None ≡ Some x) e a) (sym plain_own ∙ subst (λ (i : ℕ). get_or (set p.slots k q) i None ≡ Some f) e b)
+      | inr ne ↦ s.frames j x f (sym (get_or-set_other w.slots k j o None ne) ∙ a) (sym (get_or-set_other p.slots k j q None ne) ∙ b)
+    ]
 
 pub emptied_shows : (w : WorldState) (p : Plain) (k : ℕ) → Shows w p → Shows (record w { slots = set w.slots k None }) (record p { slots = set p.slots k None })
 emptied_shows w p k s = slot_changed w p k None None s refl (get_or-set_default w.slots k None) (get_or-set_default p.slots k None) (λ x f a b. absurd (none_some x a))
 
 pub lose_shows : (w : WorldState) (p : Plain) (k : ℕ) → Shows w p → is_some (flight_at w k) ≡ true → Shows (record w { slots = set w.slots k None }) (unwrap_or (losing p k) p)
 lose_shows w p k s e = subst (λ (q : Plain). Shows (record w { slots = set w.slots k None }) q)
-    (sym (made (get_or p.slots k None) (same (get_or w.slots k None) (get_or p.slots k None) (same_progress w.slots p.slots k s.progress) e))) (emptied_shows w p k s)
-  where
-    same : (o : Option Flight) (f : Option PlainFrame) → option_map flight_progress o ≡ option_map progress_of f → is_some o ≡ true → is_some f ≡ true
-    same None f e x = absurd (let z : false ≡ true = x in cc)
-    same (Some x) None e y = absurd (none_some (flight_progress x) (sym e))
-    same (Some x) (Some f) e y = refl
-
-    made : (o : Option PlainFrame) → is_some o ≡ true → unwrap_or (if is_some o then Some (record p { slots = set p.slots k None }) else None) p ≡ record p { slots = set p.slots k None }
-    made None e = absurd (let z : false ≡ true = e in cc)
-    made (Some f) e = refl
+    (sym (ap (λ (o : Option Plain). unwrap_or o p) (if_true _ _ _ (sym (both_there w p k s) ∙ e)))) (emptied_shows w p k s)
 
 -- ---- a pass
 
@@ -73,10 +53,7 @@ pass_made w p k s = pass_can w p k s ∙ sym (is_some-guarded _ (moved (meaning 
 
 -- a flight goes as its plain frame does
 pub same_way : (x : Flight) (g : PlainFrame) → x.number ≡ g.number → x.part ≡ g.part → x.passed ≡ length g.notes → flight_progress x ≡ progress_of g
-same_way x g number part passed =
-    ap (λ (n : ℕ). record { number = n; part = x.part; passed = x.passed }) number
-    ∙ (ap (λ (n : ℕ). record { number = g.number; part = n; passed = x.passed }) part
-    ∙ ap (λ (n : ℕ). record { number = g.number; part = g.part; passed = n }) passed)
+same_way x g number part passed = rw (number, part, passed) refl
 
 -- a frame passes its next slave: what the slave leaves of it, and it of the slave
 pub record HasMet (w : WorldState) (p : Plain) (k : ℕ) (w2 : WorldState) (x : Flight) (bytes : List ℕ) : Type 0 where
@@ -128,10 +105,8 @@ pass_shows w p k w2 sound s can pass =
     let w4 = record w { slaves = set w.slaves t met.after; slots = set w.slots k (Some x2) } in
     let is : w2 ≡ w4 = pass.is ∙ ap (λ ss. record w { slaves = ss; slots = set w.slots k (Some x2) }) met.slaves in
     let stands : flight_progress x2 ≡ progress_of (with_note f n)
-    = ap (λ a. record { number = a; part = x.part; passed = x.passed + 1 }) met.both.number
-    ∙ (ap (λ a. record { number = f.number; part = a; passed = x.passed + 1 }) met.both.part
-    ∙ (ap (λ a. record { number = f.number; part = f.part; passed = a + 1 }) met.both.passed
-    ∙ ap (λ a. record { number = f.number; part = f.part; passed = a }) (sym (length_push f.notes n)))) in
+    = ap (λ (r : Progress). record { number = r.number; part = r.part; passed = r.passed + 1 }) (same_way x f met.both.number met.both.part met.both.passed)
+    ∙ ap (λ (a : ℕ). record { number = f.number; part = f.part; passed = a }) (sym (length_push f.notes n)) in
     subst (λ (y : WorldState). Shows y (unwrap_or (passing m p k) p)) (sym is)
     (subst (λ (o : Option Plain). Shows w4 (unwrap_or o p)) (sym made)
     (slot_changed (with_slave w t met.after) (plain.with_slave p t (met_slave m t f q)) k (Some x2) (Some (with_note f n)) (slave_changed w p t met.after (met_slave m t f q) s met.one.shows met.here) (ap (λ y. Some y) stands)

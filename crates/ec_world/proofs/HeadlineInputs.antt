@@ -1,70 +1,49 @@
 -- The headline of a close, of what a world's calls show.
-use Rattle.ec_world.proofs.Words.{ℕ, zero, suc, ◌+◌, ◌*◌, ◌<◌, ◌≤◌, ◌≡◌, ◌≢◌, ◌==◌, ◌||◌, Bool, true, false, Option, Some, None, refl, sym, ◌∙◌, ap, subst, inl, inr, arith, List, [], ◌∷◌, ◌++◌, length, map, get_or, is_some, if◌then◌else◌, option_map, slice_get, get_or-map as get_or-mapped, option_map_or, AllByRecursion, bit_at, cases_Bool, cases_lt, cases_eq, and_from, or_left, or_right, or_cases, lt-ltb, ltb-true, eq-eqb, true≢false, append_assoc, list_get_or-map as get_or-map, length-replicate, bit_at_above, slice_get-get_or, bit, bits_number, bytes_of_bits, if_true, if_false, bits_number-lt, bit_at-bits_number, Identity, Buffer, SlaveState, inputs_of, Direction, Out, In, SlaveRow, Contents, Variable, Share, SlavePlan, PartPlan, has_outs, has_ins, predicted, unit_of_part as unit_of_plain, IsLinked, is_out, image_from, placed, IsPair, AreItsLinks, Meaning, Linked, meaning, share_of, in_source, slave_at as settings_of, PlanState, plan_of, part_of, part_at, no_part, IsUsable, IsInImage, HasBit, IsPlaced, linked_inputs, variables_are_placed, linked_bits_are_there, plan_sound, links_are_the_tables, lists_units, bits_are_apart, ReportState, MasterState, OpenCycle, value_at, value_of, Event, Begin, Pass, Lose, Close, Progress, Plain, PlainSlave, PlainFrame, Health, Working, Faulted, Reset, Note, Other, Short, Full, Cycle, unit_full, giving, step, run, frame_at, plain_slave, progress_of, met_note, WorldState, slave_of, is_up, ByStart, GivesUp, Closes, IsStep, IsAs, Shows, CyclesShow, IsRun, IsNew, plain_of, IsNoted, IsMissed as IsMissedPlain, NotBack, FellShort as FellShortAt, FallsShort, IsClosedAs, IsNotedAt, IsBegun as IsBegunPlain, PromisesIsQuiet as IsQuiet, unit_of_slave, is_of_unit, holds_of_unit, IsMade, HeadlineIsBegun as IsBegun, HasLost, IsUnderWay, HadTrouble, IsInOp, progress_at, variable_bit, output_bits, input_bits, GivesLess, unit_of, headline_unit_of_part as unit_of_part, Says, IsRead, HeadlineIsTaken as IsTaken, HeadlineFellShort as FellShort, Cause, ByLoss, ByEarlyClose, ByFallingShort, HeadlineIsMissed as IsMissed, ListsUnits, CloseShows, HeadlineLaw, EachIsPromised, same_progress, none_some, some_same, plain_frame}
+use Rattle.ec_world.proofs.Words.{ℕ, zero, suc, ◌+◌, ◌*◌, ◌<◌, ◌≤◌, ◌≡◌, ◌≢◌, ◌==◌, ◌||◌, Bool, true, false, Option, Some, None, refl, sym, ◌∙◌, ap, subst, inl, inr, arith, List, [], ◌∷◌, ◌++◌, length, map, get_or, is_some, if◌then◌else◌, option_map, slice_get, get_or-map as get_or-mapped, option_map_or, AllByRecursion, bit_at, cases_Bool, cases_lt, cases_eq, and_from, or_left, or_right, or_cases, lt-ltb, ltb-true, eq-eqb, true≢false, append_assoc, list_get_or-map as get_or-map, length-replicate, bit_at_above, slice_get-get_or, bit, bits_number, bytes_of_bits, if_true, if_false, bits_number-lt, bit_at-bits_number, Identity, Buffer, SlaveState, inputs_of, Direction, Out, In, SlaveRow, Contents, Variable, Share, SlavePlan, PartPlan, has_outs, has_ins, predicted, unit_of_part as unit_of_plain, IsLinked, is_out, image_from, placed, IsPair, AreItsLinks, Meaning, Linked, meaning, share_of, in_source, slave_at as settings_of, PlanState, plan_of, part_of, part_at, no_part, IsUsable, IsInImage, HasBit, IsPlaced, linked_inputs, variables_are_placed, linked_bits_are_there, plan_sound, links_are_the_tables, lists_units, bits_are_apart, ReportState, MasterState, OpenCycle, value_at, value_of, Event, Begin, Pass, Lose, Close, Progress, Plain, PlainSlave, PlainFrame, Health, Working, Faulted, Reset, Note, Other, Short, Full, Cycle, unit_full, giving, step, run, frame_at, plain_slave, progress_of, met_note, WorldState, slave_of, is_up, ByStart, GivesUp, Closes, IsStep, IsAs, Shows, CyclesShow, IsRun, IsNew, plain_of, IsNoted, IsMissed as IsMissedPlain, NotBack, FellShort as FellShortAt, FallsShort, IsClosedAs, IsNotedAt, IsBegun as IsBegunPlain, PromisesIsQuiet as IsQuiet, unit_of_slave, is_of_unit, holds_of_unit, IsMade, HeadlineIsBegun as IsBegun, HasLost, IsUnderWay, HadTrouble, IsInOp, progress_at, variable_bit, output_bits, input_bits, GivesLess, unit_of, headline_unit_of_part as unit_of_part, Says, IsRead, HeadlineIsTaken as IsTaken, HeadlineFellShort as FellShort, Cause, ByLoss, ByEarlyClose, ByFallingShort, HeadlineIsMissed as IsMissed, ListsUnits, CloseShows, HeadlineLaw, EachIsPromised, same_progress, none_some, some_same, plain_frame, some_of, HeadlineShows}
+use Rattle.ec_world.proofs.CloseLaws.{unit_is as part_unit}
+use Rattle.ec_world.proofs.Origins.{made_later, preceded}
 use Rattle.ec_link.specs.Sound as link
 use Rattle.ec_world.proofs.Knowing.{share_is}
 use Rattle.ec_world.proofs.MasterSteps.{OpenBoth, open_both}
 use Rattle.ec_world.proofs.StepLaws.{runs_show, runs_join, steps_show}
 use Rattle.ec_world.proofs.Promising.{inputs_law, notes_law}
 use Rattle.ec_world.proofs.Published.{published_law}
-use Rattle.ec_world.proofs.Headlines.{bit_past, shown_bit, MadeAt, made_at, made_later, run_plan, Sees, sees, PassedOn, passed_on, op_works, works_op, part_is, free_slots, outs_are, ins_are, state_in, state_is, health_is, Cut, cut, headline_outputs}
+use Rattle.ec_world.proofs.Headlines.{bit_past, shown_bit, MadeAt, made_at, run_plan, Sees, sees, PassedOn, passed_on, op_works, works_op, part_is, free_slots, outs_are, ins_are, state_in, state_is, health_is, cut, headline_outputs, row_of}
 use Rattle.ec_world.proofs.Since.{BeganAt, are_begun, begun_of, begun_on}
-use Rattle.ec_world.proofs.Disturbed.{in_parts, quiet_law, spoiled_not_full}
+use Rattle.ec_world.proofs.Disturbed.{in_parts, quiet_law, spoiled_not_full, in_op_whole}
 use Rattle.ec_world.proofs.Quiet.{Away}
 use Rattle.ec_world.proofs.Located.{Place, IsKept, OnItsWay, Lost, LostAt, located}
 use Rattle.ec_world.proofs.Sized.{run_same}
-use Rattle.ec_world.proofs.Troubles.{without_start, extended, preceded, falls}
+use Rattle.ec_world.proofs.Troubles.{without_start, extended, falls}
 
 -- ---- events behind the beginning of a cycle
 
 pub made_by : (old : WorldState) (plan : PlanState) → old.plan ≡ plan → (p : Plain) (events : List Event) (new : WorldState) (count : ℕ) (xs : List Event) (e : Event) (ys : List Event) (q : Plain)
     → IsUsable plan → Shows old p → IsRun old events new count → events ≡ xs ++ (e ∷ ys) → step (meaning plan) (run (meaning plan) p xs).plain e ≡ Some q → MadeAt (meaning plan) old p events xs e ys q new
-made_by old plan same = subst (λ (x : PlanState). (p : Plain) (events : List Event) (new : WorldState) (count : ℕ) (xs : List Event) (e : Event) (ys : List Event) (q : Plain)
-    → IsUsable x → Shows old p → IsRun old events new count → events ≡ xs ++ (e ∷ ys) → step (meaning x) (run (meaning x) p xs).plain e ≡ Some q → MadeAt (meaning x) old p events xs e ys q new) same
-    (λ p events new count xs e ys q sound s h split does. made_at old p events new count xs e ys q sound s h split does)
-
-same_triple : (a b c x y z : ℕ) → a ≡ x → b ≡ y → c ≡ z → (let f : Progress = record { number = a; part = b; passed = c } in let g : Progress = record { number = x; part = y; passed = z } in f ≡ g)
-same_triple a b c x y z number part passed =
-    ap (λ (n : ℕ). record { number = n; part = b; passed = c }) number
-    ∙ (ap (λ (n : ℕ). record { number = x; part = n; passed = c }) part
-    ∙ ap (λ (n : ℕ). record { number = x; part = y; passed = n }) passed)
+made_by old plan same p events new count xs e ys q sound s h split does =
+    subst (λ (x : PlanState). MadeAt (meaning x) old p events xs e ys q new) same (made_at old p events new count xs e ys q (subst IsUsable (sym same) sound) s h split
+    (subst (λ (x : PlanState). step (meaning x) (run (meaning x) p xs).plain e ≡ Some q) (sym same) does))
 
 -- ---- the inputs of a slave
-
-full_short : (v : List ℕ) → Full v ≡ Short → ⊥
-full_short v e = cc
-
-full_other : (v : List ℕ) → Full v ≡ Other → ⊥
-full_other v e = cc
 
 -- a slave with inputs that was noted whole wasn't reset
 noted_on : (m : Meaning) (s : ℕ) (f : PlainFrame) (q : PlainSlave) (v : List ℕ) → Full v ≡ met_note m s f q → has_ins (share_of m s) ≡ true → q.health ≢ Reset
 noted_on m s f q v is ins reset = elim (cases_Bool ((share_of m s).part == f.part)) [
-  | inr off ↦ full_other v (is ∙ if_false _ _ _ off)
-  | inl on ↦ full_short v (is ∙ (if_true _ _ _ on ∙ (ap (giving (share_of m s) q) reset ∙ if_true _ _ _ (or_right (has_outs (share_of m s)) _ ins))))
+  | inr off ↦ cc (is ∙ if_false _ _ _ off)
+  | inl on ↦ cc (is ∙ (if_true _ _ _ on ∙ (ap (giving (share_of m s) q) reset ∙ if_true _ _ _ (or_right (has_outs (share_of m s)) _ ins))))
 ]
 
 pub inputs_held : (i : ℕ) (x : SlavePlan) (s : SlaveState) (q : PlainSlave) (h : Health) → IsAs i x s q h → h ≢ Reset → inputs_of s ≡ q.inputs.published
 inputs_held i x s q Reset a ne = absurd (ne refl)
 inputs_held i x s q _ a ne = ap (λ (b : Buffer). b.published) a.process.inputs
 
-pub short_works : (m : Meaning) (s : ℕ) (q : PlainSlave) → FallsShort m s q → q.health ≢ Working
-short_works m s q (inl x) w = let z : Working ≡ Reset = sym w ∙ x.0 in cc
-short_works m s q (inr x) w = let z : Working ≡ Faulted = sym w ∙ x.0 in cc
-
 -- ---- the plan
-
-pub part_unit : (plan : PlanState) (k : ℕ) → unit_of_plain (meaning plan) k ≡ (part_at plan.parts k).unit
-part_unit plan k = get_or-mapped (λ (x : PartPlan). x.unit) plan.parts k no_part
-
-no_row : SlaveRow
-no_row = record { name = []; type_place = 0; serial = 0; outputs = []; inputs = []; unit = 0 }
 
 pub slave_unit : (t : Contents) → link.IsSound t (plan_of t) → (s : ℕ) → s < length (plan_of t).slaves → unit_of t s ≡ unit_of_slave (meaning (plan_of t)) s
 slave_unit t sound s l =
-    let row = get_or t.slaves s no_row in
-    let there : slice_get t.slaves s ≡ Some row = slice_get-get_or t.slaves s no_row (let x = sound.as_many in omega (arith, l, x)) in
-    ap (λ o. option_map_or (λ (r : SlaveRow). r.unit) o 0) there
-    ∙ (sym (sound.each s row there).unit
+    let row = row_of t sound s l in
+    ap (λ o. option_map_or (λ (r : SlaveRow). r.unit) o 0) row.1
+    ∙ (sym (sound.each s row.0 row.1).unit
     ∙ (ap (λ (h : Share). (part_at (plan_of t).parts h.part).unit) (sym (share_is (plan_of t) s))
     ∙ sym (part_unit (plan_of t) (share_of (meaning (plan_of t)) s).part)))
 
@@ -141,17 +120,14 @@ module _ (t : Contents) (ids : List Identity) (old : WorldState) (events : List 
   closed = inputs_law w p c v s.still_usable s.shown both.is does
 
   -- the beginning
-  no_frame : (j : ℕ) → frame_at first j ≡ None
-  no_frame j = free_slots s.ready.slots j
-
   b : BeganAt M first s.after c.number
-  b = (are_begun M first s.after no_frame refl).cycle c both.is
+  b = (are_begun M first s.after (free_slots s.ready.slots) refl).cycle c both.is
 
   abbrev pb : Plain
   pb = (run M first b.before).plain
 
   is_begun : IsBegunPlain M pb b.begun
-  is_begun = begun_of M first s.after c.number no_frame b
+  is_begun = begun_of M first s.after c.number (free_slots s.ready.slots) b
 
   on : p ≡ (run M b.begun b.behind).plain
   on = begun_on M first s.after c.number b
@@ -180,7 +156,7 @@ module _ (t : Contents) (ids : List Identity) (old : WorldState) (events : List 
   variables_v = ap (λ (x : PlanState). x.variables) same_plan ∙ variables_w
 
   sized : length w.master.inputs ≡ bytes_of_bits (plan_of t).in_bits
-  sized = run_same old events w made h ∙ (ap (λ (x : WorldState). length x.master.inputs) n.is ∙ length-replicate {A = ℕ} (bytes_of_bits (plan_of t).in_bits) 0)
+  sized = (run_same old events w made h).0 ∙ (ap (λ (x : WorldState). length x.master.inputs) n.is ∙ length-replicate {A = ℕ} (bytes_of_bits (plan_of t).in_bits) 0)
 
   -- a linked bit of an input variable
   pub record BitIn (x y i o : ℕ) : Type 0 where
@@ -235,7 +211,7 @@ module _ (t : Contents) (ids : List Identity) (old : WorldState) (events : List 
         event = mp.made;
         frame = same_progress mp.made.at.slots (run M b.begun np.before).plain.slots np.slot mp.at_shows.progress
             ∙ (ap (option_map progress_of) np.there
-            ∙ ap (λ (f : Progress). Some f) (same_triple np.frame.number np.frame.part (length np.frame.notes) c.number k i (np.number_is ∙ b.number_is) np.part_is np.meets));
+            ∙ rw (np.number_is, b.number_is, np.part_is, np.meets) refl);
         shows = mp.at_shows;
         plan = mp.at_plan ∙ (mb.next_plan ∙ to_w);
       }
@@ -347,7 +323,7 @@ module _ (t : Contents) (ids : List Identity) (old : WorldState) (events : List 
       own = ap (λ (z : Meaning). (share_of z i).part) same_meaning ∙ (told.0 ∙ np.part_is)
 
       no_op : IsInOp x i → ⊥
-      no_op op = short_works M i q told.1 (op_works x (run M b.begun np.before).plain i at.shows here_x op)
+      no_op op = in_op_whole M i q (op_works x (run M b.begun np.before).plain i at.shows here_x op) told.1
 
       less : GivesLess t x i
       less = by told.1
@@ -410,10 +386,6 @@ module _ (t : Contents) (ids : List Identity) (old : WorldState) (events : List 
   usable_next : IsUsable mb.made.next.plan
   usable_next = subst IsUsable (sym mb.next_plan) s.usable
 
-  some_of : {X : Type 0} (o : Option X) → true ≡ is_some o → (x : X) × (o ≡ Some x)
-  some_of None e = absurd (let z : true ≡ false = e in cc)
-  some_of (Some x) e = (x, refl)
-
   seen_ : (e : Event) (x : IsMade mb.made.next mb.made.behind w e) → Seen_ e x
   seen_ e x =
       let P = (run M b.begun x.before).plain in
@@ -421,7 +393,7 @@ module _ (t : Contents) (ids : List Identity) (old : WorldState) (events : List 
       let shows : Shows x.at P = subst (λ (z : PlanState). Shows x.at (run (meaning z) b.begun x.before).plain) mb.next_plan at_next in
       let plan : x.at.plan ≡ s.ready.plan = run_plan mb.made.next x.before x.at x.first b.begun usable_next x.to_it mb.next_shows ∙ mb.next_plan in
       let one = steps_show x.at e x.next true (subst IsUsable (sym plan) s.usable) x.step in
-      let made_one = some_of (step (meaning x.at.plan) P e) (one.made_is P shows) in
+      let made_one = some_of (step (meaning x.at.plan) P e) (sym (one.made_is P shows)) in
       record {
         split = sym mb.behind_is ∙ x.split;
         next = made_one.0;
@@ -510,13 +482,11 @@ module _ (t : Contents) (ids : List Identity) (old : WorldState) (events : List 
   -- ---- a bit without a link
 
   free_bit : (x y : ℕ) → ((i o : ℕ) → IsLinked t In x y i o → ⊥) → variable_bit v x y ≡ variable_bit w x y
-  free_bit x y none = by (slice_get w.master.plan.variables x) refl
+  free_bit x y none = subst (λ (z : WorldState). variable_bit z x y ≡ variable_bit w x y) (sym closed.rest) (by (slice_get w.master.plan.variables x) refl)
     where
-      outputs : v.master.outputs ≡ w.master.outputs
-      outputs = ap (λ (z : WorldState). z.master.outputs) closed.rest
-
-      there_too : slice_get v.master.plan.variables x ≡ slice_get w.master.plan.variables x
-      there_too = ap (λ (z : PlanState). slice_get z.variables x) same_plan
+      -- the master then
+      after : MasterState
+      after = record w.master { inputs = v.master.inputs; cycle = None }
 
       same_bit : (g : Variable) → slice_get w.master.plan.variables x ≡ Some g → is_out g.direction ≡ false → y < g.bits → bit v.master.inputs (g.from + y) ≡ bit w.master.inputs (g.from + y)
       same_bit g e way few = elim (cases_lt (g.from + y) (8 * length w.master.inputs)) [
@@ -555,18 +525,16 @@ module _ (t : Contents) (ids : List Identity) (old : WorldState) (events : List 
                   in_t : (z : ℕ) (a : Variable) → slice_get w.master.plan.variables z ≡ Some a → slice_get (plan_of t).variables z ≡ Some a
                   in_t z a e = ap (λ vs. slice_get vs z) (sym variables_w) ∙ e
 
-      by : (o : Option Variable) → slice_get w.master.plan.variables x ≡ o → variable_bit v x y ≡ variable_bit w x y
-      by None e = ap (λ o. bit_at (value_at v.master o) y == 1) (there_too ∙ e) ∙ sym (ap (λ o. bit_at (value_at w.master o) y == 1) e)
-      by (Some g) e = ap (λ o. bit_at (value_at v.master o) y == 1) (there_too ∙ e) ∙ (one ∙ sym (ap (λ o. bit_at (value_at w.master o) y == 1) e))
+      by : (o : Option Variable) → slice_get w.master.plan.variables x ≡ o → (bit_at (value_at after (slice_get w.master.plan.variables x)) y == 1) ≡ variable_bit w x y
+      by None e = ap (λ o. bit_at (value_at after o) y == 1) e ∙ sym (ap (λ o. bit_at (value_at w.master o) y == 1) e)
+      by (Some g) e = ap (λ o. bit_at (value_at after o) y == 1) e ∙ (one ∙ sym (ap (λ o. bit_at (value_at w.master o) y == 1) e))
         where
-          one : (bit_at (value_of v.master g) y == 1) ≡ (bit_at (value_of w.master g) y == 1)
+          one : (bit_at (value_of after g) y == 1) ≡ (bit_at (value_of w.master g) y == 1)
           one = elim (cases_Bool (is_out g.direction)) [
-            | inl out ↦
-                ap (λ xs. bit_at (bits_number xs g.from g.bits) y == 1) (if_true _ _ _ out ∙ outputs)
-                ∙ sym (ap (λ xs. bit_at (bits_number xs g.from g.bits) y == 1) (if_true _ _ _ out))
+            | inl out ↦ rw out refl
             | inr way ↦ elim (cases_lt y g.bits) [
-              | inl few ↦ value_bit v.master g y few way ∙ (same_bit g e way few ∙ sym (value_bit w.master g y few way))
-              | inr high ↦ ap (λ z. z == 1) (high_bit v.master g y high) ∙ sym (ap (λ z. z == 1) (high_bit w.master g y high))
+              | inl few ↦ value_bit after g y few way ∙ (same_bit g e way few ∙ sym (value_bit w.master g y few way))
+              | inr high ↦ ap (λ z. z == 1) (high_bit after g y high ∙ sym (high_bit w.master g y high))
             ]
           ]
 
@@ -619,17 +587,8 @@ headline_law t ids old events w made n h up _ v does = tt
 
 pub each_promised : (t : Contents) (identities : List Identity) (first : WorldState) (past : List Event) (old : WorldState) (count : ℕ) (events : List Event) (new : WorldState) (made : ℕ) → IsNew t identities first
     → IsRun first past old count → IsRun old events new made → EachIsPromised t first past old events new
-each_promised t ids first past old count events new made n h g before e behind split = record {
-  at = c.at;
-  next = c.next;
-  made = c.one;
-  count = c.first;
-  rest = c.rest;
-  to_it = c.to_it;
-  step = c.step;
-  onward = c.onward;
-  shows = λ yes up. headline_law t ids first (past ++ before) c.at (count + c.first) n (runs_join first past old count before c.at c.first h c.to_it) up e c.next (subst (λ (b : Bool). IsStep c.at e c.next b) yes c.step);
-}
-  where
-    c : Cut old before e behind new
-    c = cut old before e behind new made (subst (λ (xs : List Event). IsRun old xs new made) split g)
+each_promised t ids first past old count events new made n h g before e behind split =
+    let c = cut old before e behind new made (subst (λ (xs : List Event). IsRun old xs new made) split g) in
+    let shows : c.one ≡ true → is_up c.at.start ≡ true → HeadlineShows t first (past ++ before) c.at e c.next
+    = λ yes up. headline_law t ids first (past ++ before) c.at (count + c.first) n (runs_join first past old count before c.at c.first h c.to_it) up e c.next (subst (λ (b : Bool). IsStep c.at e c.next b) yes c.step) in
+    search (c, shows)

@@ -1,15 +1,15 @@
 -- A linked bit of a variable, as a bit of the image.
-use Rattle.ec_world.proofs.Words.{ℕ, ◌+◌, ◌*◌, ◌/◌, ◌%◌, ◌≤◌, ◌≡◌, ◌==◌, false, ◌∙◌, ap, arith, List, length, get_or, if◌then◌else◌, slice_get, zero, suc, ◌<◌, ◌≢◌, ◌⊎◌, ◌&&◌, Bool, true, Option, Some, None, refl, sym, subst, inl, inr, [], ◌∷◌, ◌++◌, map, set, replicate, is_some, option_map, unwrap_or, nat_lt, get_or-set_same, get_or-set_other, bit_at, get_or_past, append_assoc, set-get_or, bit_at-zero, bit, bytes_of_bits, bit_at-bits_number, Direction, Contents, Variable, is_out, IsLinked, image_from, image, HasBit, output_manager, plan_of, PlanState, part_of, variables_are_placed, linked_bits_are_there, value_at, WorldState, Flight, slave_of, no_slave, flight_at, flight_progress, is_up, Passes, IsStep, variable_bit, IsMade, HeadlineIsBegun as IsBegun, HadTrouble, IsInOp, progress_at, output_bits, input_bits, ShowsLinked, PassShows, option_map_or, cases_Bool, cases_lt, and_from, and_left, eqb-true, eq-eqb, lt-ltb, le-ltb, true≢false, slice_get-get_or, slice_get_within, if_true, if_false, Identity, SyncManagerSettings, is_set, is_buffered, Init, SafeOp, Op, Buffer, SyncManager, no_manager, Al, switched_on, SlaveState, manager_at, with_memory, with_outputs, with_published, outputs_shown, Out, SlaveRow, object_bits, Share, SlavePlan, Gave, has_outs, compile_fault, AreItsLinks, Meaning, meaning, share_of, out_source, slave_at as settings_of, no_slave_plan, IsUsable, listed, plan_sound, plan_usable, links_are_the_tables, trouble_at, AreStartable, are-plans, Event, Begin, Pass, Progress, Plain, PlainSlave, PlainFrame, Health, Working, Faulted, Reset, step, run, frame_at, plain_slave, linked_outputs, progress_of, given_by, given_in, slave_left, IsAs, IsWorking, Shows, IsRun, IsNew, new_world, plain_of, AreLinked, some_same, within_of, State}
+use Rattle.ec_world.proofs.Words.{ℕ, ◌+◌, ◌*◌, ◌/◌, ◌%◌, ◌≤◌, ◌≡◌, ◌==◌, false, ◌∙◌, ap, arith, List, length, get_or, if◌then◌else◌, slice_get, zero, suc, ◌<◌, ◌≢◌, ◌⊎◌, ◌&&◌, Bool, true, Option, Some, None, refl, sym, subst, inl, inr, [], ◌∷◌, ◌++◌, map, set, replicate, is_some, option_map, unwrap_or, nat_lt, get_or-set_same, get_or-set_other, bit_at, get_or_past, append_assoc, set-get_or, bit_at-zero, bit, bytes_of_bits, bit_at-bits_number, Direction, Contents, Variable, is_out, IsLinked, image_from, image, HasBit, output_manager, plan_of, PlanState, part_of, variables_are_placed, linked_bits_are_there, value_at, WorldState, Flight, slave_of, no_slave, flight_at, flight_progress, is_up, Passes, IsStep, variable_bit, IsMade, HeadlineIsBegun as IsBegun, HadTrouble, IsInOp, progress_at, output_bits, input_bits, ShowsLinked, PassShows, option_map_or, cases_Bool, cases_lt, and_from, and_left, eqb-true, eq-eqb, lt-ltb, le-ltb, true≢false, slice_get-get_or, slice_get_within, if_true, if_false, Identity, SyncManagerSettings, is_set, is_buffered, Init, SafeOp, Op, Buffer, SyncManager, no_manager, Al, switched_on, SlaveState, manager_at, with_memory, with_outputs, with_published, outputs_shown, Out, SlaveRow, object_bits, Share, SlavePlan, Gave, has_outs, compile_fault, AreItsLinks, Meaning, meaning, share_of, out_source, slave_at as settings_of, no_slave_plan, IsUsable, listed, plan_sound, plan_usable, links_are_the_tables, trouble_at, AreStartable, are-plans, Event, Begin, Pass, Progress, Plain, PlainSlave, PlainFrame, Health, Working, Faulted, Reset, step, run, frame_at, plain_slave, linked_outputs, progress_of, given_by, given_in, slave_left, IsAs, IsWorking, Shows, IsRun, IsNew, new_world, plain_of, AreLinked, some_same, within_of, State, Rising}
 use Rattle.ec_table.specs.Sound as table
 use Rattle.ec_link.specs.Sound as link
 use Rattle.ec_world.proofs.FrameSteps.{has_met, same_way}
 use Rattle.ec_world.proofs.Knowing.{share_is}
-use Rattle.ec_world.proofs.Mapped.{for_bits, some_bits, no_bits, set_for_outs, unset, third_held, holds_mapped}
+use Rattle.ec_world.proofs.Mapped.{for_bits, some_bits, no_bits, unset, third_held, holds_mapped, set_for_outs}
 use Rattle.ec_world.proofs.StepLaws.{runs_show, runs_join, steps_show}
 use Rattle.ec_world.proofs.Whole.{new-rises, new-low}
 use Rattle.ec_world.proofs.Promising.{linked as linked_exactly}
 use Rattle.ec_world.proofs.Histories.{snapshots_law}
-use Rattle.ec_world.proofs.Origins.{Origin, none_flagged, started}
+use Rattle.ec_world.proofs.Origins.{none_flagged, started, made_later, Started}
 use Rattle.ec_world.proofs.Since.{BeganAt, are_begun, begun_of, begun_on}
 
 -- no bit past the end
@@ -98,32 +98,12 @@ made_at old p events new count xs e ys q sound s h split does =
       next_shows = subst (λ o. Shows c.next (unwrap_or o x)) here (one.shown x at);
     }
 
--- events before the run
-abbrev pub made_later : (old : WorldState) (done : List Event) (mid : WorldState) (count : ℕ) (events : List Event) (new : WorldState) (e : Event) (all : List Event) → all ≡ done ++ events → IsRun old done mid count → IsMade mid events new e → IsMade old all new e
-made_later old done mid count events new e all is h b = record {
-  before = done ++ b.before;
-  behind = b.behind;
-  split = is ∙ (ap (λ (xs : List Event). done ++ xs) b.split ∙ sym (append_assoc done b.before (e ∷ b.behind)));
-  at = b.at;
-  next = b.next;
-  first = count + b.first;
-  rest = b.rest;
-  to_it = runs_join old done mid count b.before b.at b.first h b.to_it;
-  step = b.step;
-  onward = b.onward;
-}
-
 -- ---- what holds of a world that is Ready
 
 pub record Sees (t : Contents) (old : WorldState) (events : List Event) (w : WorldState) : Type 0 where
-  pub before : List Event
-  pub after : List Event
-  pub split : events ≡ before ++ after
-  pub ready : WorldState
-  pub first : ℕ
-  pub rest : ℕ
-  pub to_ready : IsRun old before ready first
-  pub onward : IsRun ready after w rest
+  pub flags : List Bool
+  pub start : Started old events w flags
+  pub open start use {before, after, split, ready, first, rest, to_ready, onward}
   pub plan_is : ready.plan ≡ plan_of t
   pub usable : IsUsable ready.plan
   pub shows : Shows ready (plain_of ready)
@@ -132,9 +112,6 @@ pub record Sees (t : Contents) (old : WorldState) (events : List Event) (w : Wor
   pub still_usable : IsUsable w.plan
   pub told : (i : ℕ) → i < length ready.plan.slaves → ((plain_slave (plain_of ready) i).health ≡ Working) ⊎ HadTrouble old before ready i
 
-no_flag : (n i : ℕ) → trouble_at (replicate n false) i ≡ true → ⊥
-no_flag n i e = true≢false (sym e ∙ none_flagged n i)
-
 pub sees : (t : Contents) (identities : List Identity) (old : WorldState) (events : List Event) (w : WorldState) (made : ℕ) → IsNew t identities old → IsRun old events w made → is_up w.start ≡ true → Sees t old events w
 sees t ids old events w made n h up =
     let plan = plan_of t in
@@ -142,34 +119,26 @@ sees t ids old events w made n h up =
     let planned : AreStartable plan.slaves = record { each = (are-plans t n.sound n.accepted).planned } in
     let many : length ids ≡ length plan.slaves = let x = n.one_each in let y = (plan_sound t n.sound n.accepted).as_many in omega (arith, x, y) in
     let flags : List Bool = replicate (length plan.slaves) false in
-    let run : IsRun (new_world plan ids) events w made = subst (λ (x : WorldState). IsRun x events w made) n.is h in
-    let s = started events (new_world plan ids) w made flags sound planned (new-rises plan ids sound planned many) (new-low plan ids) run up in
-    let ready_usable : IsUsable s.ready.plan = subst IsUsable (sym s.plan_is) sound in
-    let kept : w.plan ≡ plan = run_plan s.ready s.after w s.rest (plain_of s.ready) ready_usable s.onward s.is_ready.shows ∙ s.plan_is in
+    let old_plan : old.plan ≡ plan = ap (λ (x : WorldState). x.plan) n.is in
+    let s = started events old w made flags (subst IsUsable (sym old_plan) sound) (subst (λ (x : PlanState). AreStartable x.slaves) (sym old_plan) planned)
+    (subst (Rising flags) (sym n.is) (new-rises plan ids sound planned many)) (ap (λ (x : WorldState). is_up x.start) n.is ∙ new-low plan ids) h up in
+    let is : s.ready.plan ≡ plan = s.plan_is ∙ old_plan in
+    let usable : IsUsable s.ready.plan = subst IsUsable (sym is) sound in
+    let kept : w.plan ≡ plan = run_plan s.ready s.after w s.rest (plain_of s.ready) usable s.onward s.is_ready.shows ∙ is in
     record {
-      before = s.before;
-      after = s.after;
-      split = s.split;
-      ready = s.ready;
-      first = s.first;
-      rest = s.rest;
-      to_ready = subst (λ (x : WorldState). IsRun x s.before s.ready s.first) (sym n.is) s.to_ready;
-      onward = s.onward;
-      plan_is = s.plan_is;
-      usable = ready_usable;
+      flags = flags;
+      start = s;
+      plan_is = is;
+      usable = usable;
       shows = s.is_ready.shows;
-      shown = (runs_show s.ready s.after w s.rest ready_usable s.onward).shown (plain_of s.ready) s.is_ready.shows;
+      shown = (runs_show s.ready s.after w s.rest usable s.onward).shown (plain_of s.ready) s.is_ready.shows;
       plan_kept = kept;
       still_usable = subst IsUsable (sym kept) sound;
       told = λ i l. elim (s.is_ready.told i l) [
         | inl works ↦ inl works
-        | inr flag ↦ inr (from n.is s.before s.ready flags i (s.origin i flag) (length plan.slaves) refl)
+        | inr flag ↦ elim (s.origin i flag) [ inl none ↦ absurd (true≢false (sym none.0 ∙ none_flagged (length plan.slaves) i)) | inr had ↦ inr had ]
       ];
     }
-  where
-    from : {x y : WorldState} → x ≡ y → (b : List Event) (r : WorldState) (flags : List Bool) (i : ℕ) → Origin y b r flags i → (n : ℕ) → flags ≡ replicate n false → HadTrouble x b r i
-    from {x} {y} e b r flags i (inr h) n is = subst (λ (z : WorldState). HadTrouble z b r i) (sym e) h
-    from {x} {y} e b r flags i (inl h) n is = absurd (no_flag n i (sym (ap (λ fs. trouble_at fs i) is) ∙ h.0))
 
 -- ---- a pass
 
@@ -333,23 +302,22 @@ part_is plan s l =
     ap (λ o. option_map_or (λ (x : SlavePlan). x.share.part) o 0) (slice_get-get_or plan.slaves s no_slave_plan l)
     ∙ ap (λ (h : Share). h.part) (sym (share_is plan s))
 
-no_row : SlaveRow
-no_row = record { name = []; type_place = 0; serial = 0; outputs = []; inputs = []; unit = 0 }
+-- the row of a slave
+pub row_of : (t : Contents) → link.IsSound t (plan_of t) → (s : ℕ) → s < length (plan_of t).slaves → (row : SlaveRow) × (slice_get t.slaves s ≡ Some row)
+row_of t sound s l =
+    let row : SlaveRow = get_or t.slaves s (record { name = []; type_place = 0; serial = 0; outputs = []; inputs = []; unit = 0 }) in
+    (row, slice_get-get_or t.slaves s _ (let x = sound.as_many in omega (arith, l, x)))
 
 pub outs_are : (t : Contents) → link.IsSound t (plan_of t) → (s : ℕ) → s < length (plan_of t).slaves → (settings_of (plan_of t) s).share.outs ≡ output_bits t s
-outs_are t sound s l = (sound.each s (get_or t.slaves s no_row) (slice_get-get_or t.slaves s no_row (let x = sound.as_many in omega (arith, l, x)))).outs
+outs_are t sound s l = let r = row_of t sound s l in (sound.each s r.0 r.1).outs
 
 pub ins_are : (t : Contents) → link.IsSound t (plan_of t) → (s : ℕ) → s < length (plan_of t).slaves → (settings_of (plan_of t) s).share.ins ≡ input_bits t s
-ins_are t sound s l = (sound.each s (get_or t.slaves s no_row) (slice_get-get_or t.slaves s no_row (let x = sound.as_many in omega (arith, l, x)))).ins
+ins_are t sound s l = let r = row_of t sound s l in (sound.each s r.0 r.1).ins
 
 pub free_slots : {X Y : Type 0} (os : List X) (k : ℕ) → (let none : Option Y = None in get_or (map (λ (o : X). none) os) k none) ≡ None
 free_slots [] k = refl
 free_slots (o ∷ os) zero = refl
 free_slots (o ∷ os) (suc k) = free_slots os k
-
--- what a bit of the outputs is, by its link
-bit_of_source : (image : List ℕ) (o : Option ℕ) (b : ℕ) → o ≡ Some b → unwrap_or (option_map (bit image) o) false ≡ bit image b
-bit_of_source image o b e = ap (λ x. unwrap_or (option_map (bit image) x) false) e
 
 -- ---- a slave that shows its linked bits
 
@@ -366,7 +334,7 @@ shows_linked t fine free plan is source v u here variables shown nothing = recor
       let source_is : out_source plan.out_links u i ≡ Some (image_from t.variables x + c) = (links.outputs u i (image_from t.variables x + c)).1 (record { variable = x; bit = c; linked = l; image_is = refl }) in
       ap (λ ys. bit ys i) (shown some)
       ∙ (fits.each i inside
-      ∙ (bit_of_source source.master.outputs (out_source plan.out_links u i) (image_from t.variables x + c) source_is
+      ∙ (ap (λ o. unwrap_or (option_map (bit source.master.outputs) o) false) source_is
       ∙ sym (shown_bit t source Out x c (linked_bits_are_there t free Out x c u i l) variables)));
   unlinked = λ i none. elim (cases_lt 0 (settings_of plan u).share.outs) [
     | inl some ↦ ap (λ ys. bit ys i) (shown some) ∙ elim (cases_lt i (8 * length value)) [
@@ -444,11 +412,8 @@ headline_outputs t ids old events w made n h up k v does f at = subst (λ (g : P
     q = plain_slave p u
 
     -- the beginning
-    no_frame : (j : ℕ) → frame_at first j ≡ None
-    no_frame j = free_slots s.ready.slots j
-
     b : BeganAt (meaning s.ready.plan) first s.after g.number
-    b = (are_begun (meaning s.ready.plan) first s.after no_frame refl).frames k g o.there
+    b = (are_begun (meaning s.ready.plan) first s.after (free_slots s.ready.slots) refl).frames k g o.there
 
     made_begin : MadeAt (meaning s.ready.plan) s.ready first s.after b.before Begin b.behind b.begun w
     made_begin = made_at s.ready first s.after w s.rest b.before Begin b.behind b.begun s.usable s.shows s.onward b.split b.begins
@@ -464,7 +429,7 @@ headline_outputs t ids old events w made n h up k v does f at = subst (λ (g : P
 
     snapshot : g.snapshot ≡ image_then
     snapshot =
-        snapshots_law (meaning s.ready.plan) (run (meaning s.ready.plan) first b.before).plain b.begun b.behind (begun_of (meaning s.ready.plan) first s.after g.number no_frame b)
+        snapshots_law (meaning s.ready.plan) (run (meaning s.ready.plan) first b.before).plain b.begun b.behind (begun_of (meaning s.ready.plan) first s.after g.number (free_slots s.ready.slots) b)
         k g (ap (λ (x : Plain). frame_at x k) (sym (begun_on (meaning s.ready.plan) first s.after g.number b)) ∙ o.there) (sym b.number_is)
         ∙ sym made_begin.at_shows.outputs
 
@@ -482,13 +447,7 @@ headline_outputs t ids old events w made n h up k v does f at = subst (λ (g : P
     value = linked_outputs m u g.snapshot
 
     showing_in : IsInOp w u → part_of (plan_of t) u ≡ g.part → Showing w.plan u (slave_of w u) value (slave_of v u)
-    showing_in op own = showing w.plan u (slave_of w u) q value (slave_of v u) s.still_usable o.here as_working left
-      where
-        works : q.health ≡ Working
-        works = op_works w p u s.shown o.here op
-
-        as_working : IsWorking u (settings_of w.plan u) (slave_of w u) q
-        as_working = subst (λ (x : Health). IsAs u (settings_of w.plan u) (slave_of w u) q x) works (s.shown.slaves u o.here)
-
-        left : slave_of v u ≡ (if nat_lt 0 (settings_of w.plan u).share.outs then with_outputs (slave_of w u) value else slave_of w u)
-        left = o.slave ∙ (in_op_left m u g q (slave_of w u) works (sym part_here ∙ own) ∙ ap (λ (z : ℕ). if nat_lt 0 z then with_outputs (slave_of w u) value else slave_of w u) share)
+    showing_in op own =
+        let works : q.health ≡ Working = op_works w p u s.shown o.here op in
+        showing w.plan u (slave_of w u) q value (slave_of v u) s.still_usable o.here (subst (λ (x : Health). IsAs u (settings_of w.plan u) (slave_of w u) q x) works (s.shown.slaves u o.here))
+        (o.slave ∙ (in_op_left m u g q (slave_of w u) works (sym part_here ∙ own) ∙ ap (λ (z : ℕ). if nat_lt 0 z then with_outputs (slave_of w u) value else slave_of w u) share))

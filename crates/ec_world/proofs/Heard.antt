@@ -1,5 +1,6 @@
 -- What the frames of a cycle hear of the slaves' AL status, over a world's run; and the AL word of a report.
 use Rattle.ec_world.proofs.Words.{ℕ, zero, suc, ◌+◌, ◌*◌, ◌^◌, ◌<◌, ◌≡◌, ◌⊎◌, ◌==◌, ◌&&◌, not, Bool, true, false, Option, Some, None, refl, sym, ◌∙◌, ap, subst, inl, inr, arith, List, [], ◌∷◌, ◌++◌, length, map, get_or, set, is_some, option_map, nat_lt, slice_get, slice_index, bit_or, fold, cases_lt, and_parts, eqb-true, false≢true, append_assoc, length_push, length-map, list_get_or-map as get_or-map, fold-append, get_or-append_seam, get_or-append, Identity, Payload, IsFrame, bare_payload, one_payload, Contents, ExpectedCounters, Meaning, meaning, PlanState, plan_of, part_at, IsUsable, plan_sound, last_number, KeptPart, nones, kept_of, bytes_at, joined, word_of_kept, report_of, sent_datagrams, MasterState, OpenCycle, IsAnswer, IsTaken, Event, StartNext, Set, Begin, Pass, Lose, Return, Close, Serve, AppPut, AppGet, Fault, ResetSlave, Plain, Cycle, run, frame_at, may_return, WorldState, Flight, slave_of, flight_at, flight_progress, flights_progress, flights_from, awaits, is_up, can_start, ByStart, StartReturns, Returns, GivesUp, Closes, Passes, Begins, IsStep, Shows, CyclesShow, IsRun, IsNew, plain_of, HeadlineIsBegun as IsBegun, HeadlineHasPassed as HasPassed, said_by, IsHeard, AreHeard, PartSays, IsNotBack, IsBack, WordShows, WordLaw, OpWordLaw, flight_pairs, none_some, some_same, none_in}
+use Rattle.ec_world.proofs.Origins.{made_later}
 use Rattle.ec_world.proofs.FramePass.{FrameBrings, frame_word}
 use Rattle.ec_world.proofs.ReturnStep.{answer_tells}
 use Rattle.ec_world.proofs.Stepping.{next-there}
@@ -7,7 +8,7 @@ use Rattle.ec_world.proofs.Histories.{AreBelow, filled_has, set_has, set_at, beg
 use Rattle.ec_world.proofs.MasterSteps.{OpenBoth, open_both}
 use Rattle.ec_world.proofs.Since.{BeganAt, are_begun, begun_of}
 use Rattle.ec_world.proofs.StepLaws.{steps_show, runs_show, run_more}
-use Rattle.ec_world.proofs.Headlines.{MadeAt, made_at, made_later, run_plan, Sees, sees, free_slots}
+use Rattle.ec_world.proofs.Headlines.{MadeAt, made_at, run_plan, Sees, sees, free_slots}
 
 -- ---- frames as a cycle begins
 
@@ -58,13 +59,6 @@ module _ (base : WorldState) (all : List Event) (last : WorldState) (number : �
         subst (λ (i : ℕ). IsHeard base all last number k i (get_or (words ++ (x ∷ [])) i 0)) here
         (subst (λ (y : ℕ). IsHeard base all last number k (length words) y) (sym (get_or-append_seam words x [] 0)) one))
   ]
-
-  stays : (n : ℕ) (w v : WorldState) → v.slots ≡ w.slots → v.master ≡ w.master → Hearing n w → Hearing n v
-  stays n w v slots master h = record {
-    past = let x = h.past in let y = ap (λ (m : MasterState). m.next) master in omega (arith, x, y);
-    frames = λ j f at. h.frames j f (ap (λ os. get_or os j None) (sym slots) ∙ at);
-    kept = λ c at. h.kept c (sym (ap (λ (m : MasterState). m.cycle) master) ∙ at);
-  }
 
   -- where a frame is gone
   emptied : (n : ℕ) (w : WorldState) (k : ℕ) → Hearing n w → (j : ℕ) (f : Flight) → get_or (set w.slots k None) j None ≡ Some f → Carries f
@@ -119,11 +113,8 @@ module _ (base : WorldState) (all : List Event) (last : WorldState) (number : �
 
   passed : (n : ℕ) (w : WorldState) (k : ℕ) (v : WorldState) (p : Plain) (before behind : List Event) (first rest : ℕ) → all ≡ before ++ (Pass k ∷ behind) → IsRun base before w first → IsStep w (Pass k) v true → IsRun v behind last rest
       → IsUsable w.plan → Shows w p → Hearing n w → Hearing n v
-  passed n w k v p before behind first rest split to does on sound s h = record {
-    past = let a = h.past in let b = ap (λ (y : WorldState). y.master.next) pass.is in omega (arith, a, b);
-    frames = λ j f at. set_has Carries w.slots k (Some moved) (λ y same. subst Carries (some_same moved y same) carried) h.frames j f (ap (λ (y : WorldState). get_or y.slots j None) (sym pass.is) ∙ at);
-    kept = λ c at. h.kept c (sym (ap (λ (y : WorldState). y.master.cycle) pass.is) ∙ at);
-  }
+  passed n w k v p before behind first rest split to does on sound s h =
+      subst (Hearing n) (sym pass.is) (assumption (h, set_has Carries w.slots k (Some moved) (λ y same. subst Carries (some_same moved y same) carried) h.frames))
     where
       pass : Passes w k v
       pass = does.happens refl
@@ -218,45 +209,22 @@ module _ (base : WorldState) (all : List Event) (last : WorldState) (number : �
       false≢true (sym (ap not s.started) ∙ low)
 
   closed : (n : ℕ) (w v : WorldState) → Closes w v → Hearing n w → Hearing n v
-  closed n w v x h = record {
-    past = let a = h.past in let b = ap (λ (y : WorldState). y.master.next) x.is in omega (arith, a, b);
-    frames = λ j f at. h.frames j f (ap (λ (y : WorldState). get_or y.slots j None) (sym x.is) ∙ at);
-    kept = λ c at. absurd (none_some c (sym (ap (λ (y : WorldState). y.master.cycle) x.is) ∙ at));
-  }
+  closed n w v x h = subst (Hearing n) (sym x.is) (record { past = h.past; frames = h.frames; kept = λ c at. absurd (none_some c at) })
 
   happened : (n : ℕ) (w : WorldState) (e : Event) (v : WorldState) (p : Plain) (before behind : List Event) (first rest : ℕ) → all ≡ before ++ (e ∷ behind) → IsRun base before w first → IsStep w e v true → IsRun v behind last rest
       → IsUsable w.plan → length w.plan.slaves ≡ n → Shows w p → Hearing n w → Hearing n v
   happened n w StartNext v p before behind first rest split to does on sound many s h = absurd (up_starts w p s (sym does.can))
-  happened n w (Set i x) v p before behind first rest split to does on sound many s h =
-      let is = does.happens refl in
-      record {
-        past = let a = h.past in let b = ap (λ (y : WorldState). y.master.next) is in omega (arith, a, b);
-        frames = λ j f at. h.frames j f (ap (λ (y : WorldState). get_or y.slots j None) (sym is) ∙ at);
-        kept = λ c at. h.kept c (sym (ap (λ (y : WorldState). y.master.cycle) is) ∙ at);
-      }
   happened n w Begin v p before behind first rest split to does on sound many s h = begun_other n w v (does.happens refl) h
   happened n w (Pass k) v p before behind first rest split to does on sound many s h = passed n w k v p before behind first rest split to does on sound s h
   happened n w (Lose k) v p before behind first rest split to does on sound many s h =
-      let is = does.happens refl in
-      record {
-        past = let a = h.past in let b = ap (λ (y : WorldState). y.master.next) is in omega (arith, a, b);
-        frames = λ j f at. emptied n w k h j f (ap (λ (y : WorldState). get_or y.slots j None) (sym is) ∙ at);
-        kept = λ c at. h.kept c (sym (ap (λ (y : WorldState). y.master.cycle) is) ∙ at);
-      }
+      subst (Hearing n) (sym (does.happens refl)) (assumption (h, emptied n w k h))
   happened n w (Return k) v p before behind first rest split to does on sound many s h =
       returned n w k v p (sym does.can) (subst (λ (b : Bool). ByStart b (StartReturns w k v) (Returns w k v)) s.no_start (does.happens refl)) sound many s h
   happened n w Close v p before behind first rest split to does on sound many s h =
       closed n w v (subst (λ (b : Bool). ByStart b (GivesUp w v) (Closes w v)) s.no_start (does.happens refl)) h
-  happened n w (Serve i) v p before behind first rest split to does on sound many s h =
-      let is = does.happens refl in stays n w v (ap (λ (y : WorldState). y.slots) is) (ap (λ (y : WorldState). y.master) is) h
-  happened n w (AppPut i k x) v p before behind first rest split to does on sound many s h =
-      let is = (does.happens refl).is in stays n w v (ap (λ (y : WorldState). y.slots) is) (ap (λ (y : WorldState). y.master) is) h
-  happened n w (AppGet i k) v p before behind first rest split to does on sound many s h =
-      let is = (does.happens refl).is in stays n w v (ap (λ (y : WorldState). y.slots) is) (ap (λ (y : WorldState). y.master) is) h
-  happened n w (Fault i) v p before behind first rest split to does on sound many s h =
-      let is = does.happens refl in stays n w v (ap (λ (y : WorldState). y.slots) is) (ap (λ (y : WorldState). y.master) is) h
-  happened n w (ResetSlave i) v p before behind first rest split to does on sound many s h =
-      let is = does.happens refl in stays n w v (ap (λ (y : WorldState). y.slots) is) (ap (λ (y : WorldState). y.master) is) h
+  happened n w (AppPut i k x) v p before behind first rest split to does on sound many s h = subst (Hearing n) (sym (does.happens refl).is) (assumption h)
+  happened n w (AppGet i k) v p before behind first rest split to does on sound many s h = subst (Hearing n) (sym (does.happens refl).is) (assumption h)
+  happened n w _ v p before behind first rest split to does on sound many s h = subst (Hearing n) (sym (does.happens refl)) (assumption h)
 
   stepped : (n : ℕ) (w : WorldState) (e : Event) (v : WorldState) (one : Bool) (p : Plain) (before behind : List Event) (first rest : ℕ) → all ≡ before ++ (e ∷ behind) → IsRun base before w first → IsStep w e v one → IsRun v behind last rest
       → IsUsable w.plan → length w.plan.slaves ≡ n → Shows w p → Hearing n w → Hearing n v
@@ -294,29 +262,20 @@ module _ (t : Contents) (ids : List Identity) (old : WorldState) (events : List 
   abbrev start : Plain
   start = plain_of s.ready
 
-  shown : Shows w (run M start s.after).plain
-  shown = (runs_show s.ready s.after w s.rest s.usable s.onward).shown start s.shows
-
-  w_plan : w.plan ≡ plan_of t
-  w_plan = run_plan s.ready s.after w s.rest start s.usable s.onward s.shows ∙ s.plan_is
-
   closes : Closes w v
-  closes = subst (λ (b : Bool). ByStart b (GivesUp w v) (Closes w v)) shown.no_start (does.happens refl)
+  closes = subst (λ (b : Bool). ByStart b (GivesUp w v) (Closes w v)) s.shown.no_start (does.happens refl)
 
   abbrev c : OpenCycle
   c = closes.cycle
 
   both : OpenBoth w.plan c (run M start s.after).plain.cycle
-  both = open_both w.plan c (run M start s.after).plain.cycle (subst (λ (o : Option OpenCycle). CyclesShow w.plan o (run M start s.after).plain.cycle) closes.is_open shown.cycle)
+  both = open_both w.plan c (run M start s.after).plain.cycle (subst (λ (o : Option OpenCycle). CyclesShow w.plan o (run M start s.after).plain.cycle) closes.is_open s.shown.cycle)
 
   abbrev q : Cycle
   q = both.cycle
 
-  no_frame : (j : ℕ) → frame_at start j ≡ None
-  no_frame j = free_slots s.ready.slots j
-
   b : BeganAt M start s.after q.number
-  b = (are_begun M start s.after no_frame refl).cycle q both.is
+  b = (are_begun M start s.after (free_slots s.ready.slots) refl).cycle q both.is
 
   mb : MadeAt M s.ready start s.after b.before Begin b.behind b.begun w
   mb = made_at s.ready start s.after w s.rest b.before Begin b.behind b.begun s.usable s.shows s.onward b.split b.begins
@@ -332,7 +291,7 @@ module _ (t : Contents) (ids : List Identity) (old : WorldState) (events : List 
 
   first : Hearing mb.made.next mb.made.behind w q.number (length t.slaves) mb.made.next
   first = begun_own mb.made.next mb.made.behind w q.number (length t.slaves) mb.made.at mb.made.next (run M start b.before).plain (mb.made.step.happens refl) begun.number_is mb.at_shows
-      (begun_below M (run M start b.before).plain b.begun (begun_of M start s.after q.number no_frame b))
+      (begun_below M (run M start b.before).plain b.begun (begun_of M start s.after q.number (free_slots s.ready.slots) b))
 
   heard : Hearing mb.made.next mb.made.behind w q.number (length t.slaves) w
   heard = hears mb.made.next mb.made.behind w q.number (length t.slaves) mb.made.behind [] mb.made.next 0 mb.made.rest b.begun refl (refl, refl) mb.made.onward
@@ -354,7 +313,7 @@ module _ (t : Contents) (ids : List Identity) (old : WorldState) (events : List 
     report = report_of w.master.plan c.kept;
     reported = ap (λ (x : WorldState). x.report) closes.is;
     words = map word_of_kept c.kept;
-    count = length-map c.kept word_of_kept ∙ (both.shows.each_part ∙ ap (λ (x : PlanState). length x.parts) w_plan);
+    count = length-map c.kept word_of_kept ∙ (both.shows.each_part ∙ ap (λ (x : PlanState). length x.parts) s.plan_kept);
     each = λ k l. part k (let z = length-map c.kept word_of_kept in omega (arith, l, z));
     word = refl;
   }

@@ -1,5 +1,6 @@
 -- What holds over runs of the plain machine: frames keep the image of their beginning, and slaves in OP stay there.
 use Rattle.ec_world.proofs.Words.{ℕ, zero, suc, ◌+◌, ◌<◌, ◌≤◌, ◌≡◌, ◌≢◌, ◌⊎◌, ◌==◌, ◌&&◌, Bool, true, false, Option, Some, None, refl, sym, ◌∙◌, ap, subst, inl, inr, arith, List, [], ◌∷◌, ◌++◌, length, map, get_or, set, is_none, if◌then◌else◌, unwrap_or, slice_get, get_or-set_same, get_or-set_other, length-set, list_all, and_parts, cases_Bool, eqb-true, cases_eq, cases_lt, append-nil, append_assoc, get_or_past, if_true, if_false, Meaning, nones, Event, Begin, Pass, Fault, ResetSlave, Plain, PlainSlave, PlainFrame, Note, Cycle, step, run, frame_at, plain_slave, no_plain_slave, keeping, filled, new_frames, with_note, met_note, Working, Faulted, Reset, IsBegun, SnapshotsLaw, WorkingLaw, none_some, some_same}
+use Rattle.ec_world.proofs.Ways.{at_set}
 use Rattle.ec_world.proofs.Tracing.{guarded, Leaves, Stays, Begins, Moves, Loses, Returns, Closes, leaves, Treats, Same, Uses, Fails, Resets, treats, mapped}
 
 -- ---- a run by its steps
@@ -18,6 +19,12 @@ run_keeps R m ok h p (e ∷ es) all r = run_keeps R m ok h (unwrap_or (step m p 
 pub run_joins : (m : Meaning) (p : Plain) (xs ys : List Event) → (run m p (xs ++ ys)).plain ≡ (run m (run m p xs).plain ys).plain
 run_joins m p [] ys = refl
 run_joins m p (x ∷ xs) ys = run_joins m (unwrap_or (step m p x) p) xs ys
+
+-- a run past one of its events
+pub run_cut : (m : Meaning) (p : Plain) (es before behind : List Event) (e : Event) (q : Plain) → es ≡ before ++ (e ∷ behind) → step m (run m p before).plain e ≡ Some q → (run m p es).plain ≡ (run m q behind).plain
+run_cut m p es before behind e q split made =
+    ap (λ (xs : List Event). (run m p xs).plain) split
+    ∙ (run_joins m p before (e ∷ behind) ∙ ap (λ (o : Option Plain). (run m (unwrap_or o (run m p before).plain) behind).plain) made)
 
 -- what each event of a run keeps, told with the events before it, the run keeps
 pub run_tells : (R : List Event → Plain → Type 0) (m : Meaning) (p : Plain) (es : List Event)
@@ -92,35 +99,28 @@ as_many number k image (u ∷ us) = ap (λ (n : ℕ). suc n) (as_many number (k 
 -- the slots after one was set
 pub set_has : {X : Type 0} (R : X → Type 0) (os : List (Option X)) (j : ℕ) (o : Option X) → ((x : X) → o ≡ Some x → R x) → ((k : ℕ) (x : X) → get_or os k None ≡ Some x → R x)
     → (k : ℕ) (x : X) → get_or (set os j o) k None ≡ Some x → R x
-set_has R [] j o own old k x e = old k x e
-set_has R (u ∷ os) zero o own old zero x e = own x e
-set_has R (u ∷ os) zero o own old (suc k) x e = old (suc k) x e
-set_has R (u ∷ os) (suc j) o own old zero x e = old 0 x e
-set_has R (u ∷ os) (suc j) o own old (suc k) x e = set_has R os j o own (λ i y q. old (suc i) y q) k x e
+set_has R os j o own old k x e = elim (at_set os j k o None) [ inl same ↦ old k x (sym same ∙ e) | inr new ↦ own x (sym new.1 ∙ e) ]
 
 -- a list after one of its elements was set
 pub set_at : {X : Type 0} (R : ℕ → X → Type 0) (os : List (Option X)) (j : ℕ) (x : X) → R j x → ((k : ℕ) (y : X) → get_or os k None ≡ Some y → R k y)
     → (k : ℕ) (y : X) → get_or (set os j (Some x)) k None ≡ Some y → R k y
-set_at R [] j x new old k y e = old k y e
-set_at R (o ∷ os) zero x new old zero y e = subst (R 0) (some_same x y e) new
-set_at R (o ∷ os) zero x new old (suc k) y e = old (suc k) y e
-set_at R (o ∷ os) (suc j) x new old zero y e = old 0 y e
-set_at R (o ∷ os) (suc j) x new old (suc k) y e = set_at (λ i. R (suc i)) os j x new (λ i z q. old (suc i) z q) k y e
+set_at R os j x new old k y e = elim (at_set os j k (Some x) None) [
+  | inl same ↦ old k y (sym same ∙ e)
+  | inr own ↦ subst (λ (i : ℕ). R i y) (sym own.0) (subst (R j) (some_same x y (sym own.1 ∙ e)) new)
+]
 
--- a frame that comes back leaves the number of the cycle
+-- a frame that comes back leaves what keeping its notes leaves
+pub keeping_leaves : {X : Type 0} (h : Cycle → X) (g : PlainFrame) (c : Cycle) → (g.number ≡ c.number → h (record c { kept = set c.kept g.part (Some g.notes) }) ≡ h c) → h (keeping g c) ≡ h c
+keeping_leaves h g c same = elim (cases_Bool ((g.number == c.number) && is_none (get_or c.kept g.part None))) [
+  | inl on ↦ ap h (if_true _ _ _ on) ∙ same (eqb-true _ _ (and_parts (g.number == c.number) _ on).0)
+  | inr off ↦ ap h (if_false _ _ _ off)
+]
+
 pub keeping_length : (g : PlainFrame) (c : Cycle) → length (keeping g c).kept ≡ length c.kept
-keeping_length g c = go ((g.number == c.number) && is_none (get_or c.kept g.part None))
-  where
-    go : (b : Bool) → length (if b then record c { kept = set c.kept g.part (Some g.notes) } else c).kept ≡ length c.kept
-    go true = length-set c.kept g.part (Some g.notes)
-    go false = refl
+keeping_length g c = keeping_leaves (λ (x : Cycle). length x.kept) g c (λ own. length-set c.kept g.part (Some g.notes))
 
 pub keeping_number : (g : PlainFrame) (c : Cycle) → (keeping g c).number ≡ c.number
-keeping_number g c = go ((g.number == c.number) && is_none (get_or c.kept g.part None))
-  where
-    go : (b : Bool) → (if b then record c { kept = set c.kept g.part (Some g.notes) } else c).number ≡ c.number
-    go true = refl
-    go false = refl
+keeping_number g c = keeping_leaves (λ (x : Cycle). x.number) g c (λ own. refl)
 
 -- what is kept of the parts of a cycle, after a frame came back to it
 pub kept_on : (R : ℕ → List Note → Type 0) (number : ℕ) (g : PlainFrame) (c : Cycle) → (g.number ≡ number → R g.part g.notes) → c.number ≡ number
@@ -206,7 +206,7 @@ begun_below m p begun b = subst (λ (x : Plain). (k : ℕ) (f : PlainFrame) → 
 pub snapshots_law : SnapshotsLaw
 snapshots_law m p begun after b = (run_keeps (Carry p.next p.outputs) m any_event (same_step p.next p.outputs m) begun after (all_any after) first).same
   where
-    below : (k : ℕ) (f : PlainFrame) → frame_at p k ≡ Some f → f.number < p.next
+    below : AreBelow p
     below = begun_below m p begun b
 
     slots : begun.slots ≡ filled (new_frames p.next p.outputs 0 m.parts) p.slots
@@ -228,16 +228,9 @@ snapshots_law m p begun after b = (run_keeps (Carry p.next p.outputs) m any_even
 
 -- ---- slaves in OP stay there
 
-used_health : (qs : List PlainSlave) (t : ℕ) (y : PlainSlave) (s : ℕ) → y.health ≡ (get_or qs t no_plain_slave).health
-    → (get_or (set qs t y) s no_plain_slave).health ≡ (get_or qs s no_plain_slave).health
-used_health [] t y s e = refl
-used_health (q ∷ qs) zero y zero e = e
-used_health (q ∷ qs) zero y (suc s) e = refl
-used_health (q ∷ qs) (suc t) y zero e = refl
-used_health (q ∷ qs) (suc t) y (suc s) e = used_health qs t y s e
-
-other_health : (qs : List PlainSlave) (t : ℕ) (y : PlainSlave) (s : ℕ) → s ≢ t → (get_or (set qs t y) s no_plain_slave).health ≡ (get_or qs s no_plain_slave).health
-other_health qs t y s ne = ap (λ (x : PlainSlave). x.health) (get_or-set_other qs t s y no_plain_slave ne)
+-- what an element that is set has as the old one had, each has
+pub used : {X : Type 0} (g : PlainSlave → X) (qs : List PlainSlave) (t : ℕ) (y : PlainSlave) (s : ℕ) → g y ≡ g (get_or qs t no_plain_slave) → g (get_or (set qs t y) s no_plain_slave) ≡ g (get_or qs s no_plain_slave)
+used g qs t y s e = elim (at_set qs t s y no_plain_slave) [ inl same ↦ ap g same | inr new ↦ ap g new.1 ∙ (e ∙ ap (λ (n : ℕ). g (get_or qs n no_plain_slave)) (sym new.0)) ]
 
 -- what an event makes of one slave: its health stays, or it was a fault of it, or a reset
 pub data Became (e : Event) (s : ℕ) (old new : PlainSlave) : Type 0 where
@@ -251,27 +244,16 @@ became m p e q s h = by (treats m p e q h)
     in_slaves : (qs : List PlainSlave) → q.slaves ≡ qs → (plain_slave q s).health ≡ (get_or qs s no_plain_slave).health
     in_slaves qs is = ap (λ (xs : List PlainSlave). (get_or xs s no_plain_slave).health) is
 
-    -- of the slave that was set, and of none past the last
-    own_slave : (t : ℕ) (y : PlainSlave) → q.slaves ≡ set p.slaves t y → s ≡ t → ((plain_slave q s).health ≡ (plain_slave p s).health) ⊎ ((plain_slave q s).health ≡ y.health)
-    own_slave t y is same = elim (cases_lt s (length p.slaves)) [
-      | inl inside ↦ inr (in_slaves (set p.slaves t y) is ∙ (ap (λ (n : ℕ). (get_or (set p.slaves t y) n no_plain_slave).health) same
-          ∙ ap (λ (x : PlainSlave). x.health) (get_or-set_same p.slaves t y no_plain_slave (omega (arith, inside, same)))))
-      | inr past ↦ inl (in_slaves (set p.slaves t y) is ∙ ap (λ (x : PlainSlave). x.health) (get_or_past (set p.slaves t y) s no_plain_slave (omega (arith, past, length-set p.slaves t y)) ∙ sym (get_or_past p.slaves s no_plain_slave past)))
-    ]
-
     by : Treats m p e q → Became e s (plain_slave p s) (plain_slave q s)
     by (Same is) = Rests (in_slaves p.slaves is)
-    by (Uses t y is own) = Rests (in_slaves (set p.slaves t y) is ∙ used_health p.slaves t y s own)
-    by (Fails t y own is now before) = elim (cases_eq s t) [
-      | inr ne ↦ Rests (in_slaves (set p.slaves t y) is ∙ other_health p.slaves t y s ne)
-      | inl same ↦ elim (own_slave t y is same) [
-        | inl stays ↦ Rests stays
-        | inr it ↦ HasFailed (own ∙ ap (λ (n : ℕ). Fault n) (sym same)) (it ∙ now) (ap (λ (n : ℕ). (plain_slave p n).health) same ∙ before)
-      ]
+    by (Uses t y is own) = Rests (in_slaves (set p.slaves t y) is ∙ used (λ (x : PlainSlave). x.health) p.slaves t y s own)
+    by (Fails t y own is now before) = elim (at_set p.slaves t s y no_plain_slave) [
+      | inl same ↦ Rests (in_slaves (set p.slaves t y) is ∙ ap (λ (x : PlainSlave). x.health) same)
+      | inr new ↦ HasFailed (own ∙ ap (λ (n : ℕ). Fault n) (sym new.0)) (in_slaves (set p.slaves t y) is ∙ (ap (λ (x : PlainSlave). x.health) new.1 ∙ now)) (ap (λ (n : ℕ). (plain_slave p n).health) new.0 ∙ before)
     ]
-    by (Resets t y own is now) = elim (cases_eq s t) [
-      | inr ne ↦ Rests (in_slaves (set p.slaves t y) is ∙ other_health p.slaves t y s ne)
-      | inl same ↦ elim (own_slave t y is same) [ inl stays ↦ Rests stays | inr it ↦ HasRestarted (own ∙ ap (λ (n : ℕ). ResetSlave n) (sym same)) (it ∙ now) ]
+    by (Resets t y own is now) = elim (at_set p.slaves t s y no_plain_slave) [
+      | inl same ↦ Rests (in_slaves (set p.slaves t y) is ∙ ap (λ (x : PlainSlave). x.health) same)
+      | inr new ↦ HasRestarted (own ∙ ap (λ (n : ℕ). ResetSlave n) (sym new.0)) (in_slaves (set p.slaves t y) is ∙ (ap (λ (x : PlainSlave). x.health) new.1 ∙ now))
     ]
 
 pub health_kept : (m : Meaning) (p : Plain) (e : Event) (q : Plain) (s : ℕ) → step m p e ≡ Some q → e ≢ Fault s → e ≢ ResetSlave s → (plain_slave q s).health ≡ (plain_slave p s).health

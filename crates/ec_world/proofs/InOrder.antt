@@ -1,36 +1,12 @@
 -- Frames keep their order: an older frame passes each slave first.
-use Rattle.ec_world.proofs.Words.{ℕ, zero, suc, ◌<◌, ◌≤◌, ◌≡◌, ◌⊎◌, ◌==◌, nat_lt, true, Option, Some, None, refl, sym, ◌∙◌, ap, subst, inl, inr, arith, List, [], ◌∷◌, ◌++◌, length, get_or, set, slice_get, option_map, list_all, cases_lt, and_parts, or_cases, ltb-true, eqb-true, length_push, if_true, Meaning, meaning, IsUsable, Event, Pass, Progress, Plain, PlainFrame, step, run, frame_at, plain_slave, filled, new_frames, with_note, met_note, progress_of, is_older, lets_by, may_pass, flights_progress, Shows, plain_of, OrderLaw, none_some, some_same, plain_frame}
+use Rattle.ec_world.proofs.Words.{ℕ, zero, suc, ◌<◌, ◌≤◌, ◌≡◌, ◌⊎◌, ◌==◌, nat_lt, true, Option, Some, None, refl, sym, ◌∙◌, ap, subst, inl, inr, arith, List, [], ◌∷◌, ◌++◌, length, get_or, set, slice_get, option_map, list_all, cases_lt, and_parts, or_cases, ltb-true, eqb-true, length_push, if_true, Meaning, meaning, IsUsable, Event, Pass, Progress, Plain, PlainFrame, step, run, frame_at, plain_slave, filled, new_frames, with_note, met_note, progress_of, is_older, lets_by, may_pass, flights_progress, Shows, plain_of, OrderLaw, none_some, some_same, plain_frame, first_same, rest_same}
+use Rattle.ec_world.proofs.Ways.{at_set}
+use Rattle.ec_world.proofs.Single.{filled_was, left_there}
 use Rattle.ec_world.proofs.Tracing.{Leaves, Stays, Begins, Moves, Loses, Returns, Closes, leaves}
 use Rattle.ec_world.proofs.Histories.{run_always, run_joins, new_one, AreBelow, below_step, next_left}
 use Rattle.ec_world.proofs.Calm.{get_mapped}
 use Rattle.ec_world.proofs.StepLaws.{runs_show}
-use Rattle.ec_world.proofs.Headlines.{run_plan, Sees, sees, free_slots}
-
--- a slot of the filled ones has one of the new frames, or what it had
-filled_either : (fs : List PlainFrame) (os : List (Option PlainFrame)) {number : ℕ} → ((i : ℕ) (x : PlainFrame) → slice_get fs i ≡ Some x → x.number ≡ number)
-    → (k : ℕ) (f : PlainFrame) → get_or (filled fs os) k None ≡ Some f → (f.number ≡ number) ⊎ (get_or os k None ≡ Some f)
-filled_either fs [] new k f e = absurd (none_some f e)
-filled_either [] (o ∷ os) new k f e = inr e
-filled_either (g ∷ fs) (None ∷ os) new zero f e = inl (new 0 f e)
-filled_either (g ∷ fs) (None ∷ os) new (suc k) f e = filled_either fs os (λ i x there. new (suc i) x there) k f e
-filled_either (g ∷ fs) (Some h ∷ os) new zero f e = inr e
-filled_either (g ∷ fs) (Some h ∷ os) new (suc k) f e = filled_either (g ∷ fs) os new k f e
-
-set_either : (os : List (Option PlainFrame)) (j : ℕ) (o : Option PlainFrame) (k : ℕ) (f : PlainFrame) → get_or (set os j o) k None ≡ Some f → ((k ≡ j) × (o ≡ Some f)) ⊎ (get_or os k None ≡ Some f)
-set_either [] j o k f e = inr e
-set_either (u ∷ os) zero o zero f e = inl (refl, e)
-set_either (u ∷ os) zero o (suc k) f e = inr e
-set_either (u ∷ os) (suc j) o zero f e = inr e
-set_either (u ∷ os) (suc j) o (suc k) f e = elim (set_either os j o k f e) [
-  | inl x ↦ inl (ap (λ (n : ℕ). suc n) x.0, x.1)
-  | inr x ↦ inr x
-]
-
-left_old : (os : List (Option PlainFrame)) (j k : ℕ) (f : PlainFrame) → get_or (set os j None) k None ≡ Some f → get_or os k None ≡ Some f
-left_old os j k f e = elim (set_either os j None k f e) [
-  | inl x ↦ absurd (none_some f x.1)
-  | inr x ↦ x
-]
+use Rattle.ec_world.proofs.Headlines.{Sees, sees, free_slots}
 
 -- ---- a frame that was there is where it was, and no further
 
@@ -51,17 +27,11 @@ stayed_step base m p e q h c = record { past = omega (arith, c.past, next_left m
     by : Leaves m p e q → (k : ℕ) (f : PlainFrame) → frame_at q k ≡ Some f → f.number < base.next → Was base k f
     by (Stays slots next cycle) k f at low = c.each k f (ap (λ os. get_or os k None) (sym slots) ∙ at) low
     by (Closes slots next cycle) k f at low = c.each k f (ap (λ os. get_or os k None) (sym slots) ∙ at) low
-    by (Begins is_begin slots next cycle slaves room) k f at low = slot k f (new_or_old k f (ap (λ os. get_or os k None) (sym slots) ∙ at)) low
-      where
-        new_or_old : (k : ℕ) (f : PlainFrame) → get_or (filled (new_frames p.next p.outputs 0 m.parts) p.slots) k None ≡ Some f → (f.number ≡ p.next) ⊎ (frame_at p k ≡ Some f)
-        new_or_old k f at = filled_either (new_frames p.next p.outputs 0 m.parts) p.slots (λ i x there. (new_one p.next 0 p.outputs m.parts i x there).number_is) k f at
-
-        slot : (k : ℕ) (f : PlainFrame) → (f.number ≡ p.next) ⊎ (frame_at p k ≡ Some f) → f.number < base.next → Was base k f
-        slot k f (inl new) low = absurd (let x = c.past in omega (arith, x, new, low))
-        slot k f (inr old) low = c.each k f old low
-    by (Moves j g own there inside is) k f at low = elim (set_either p.slots j (Some moved_on) k f (ap (λ (z : Plain). frame_at z k) (sym is) ∙ at)) [
-      | inr old ↦ c.each k f old low
-      | inl new ↦ moved k f new.0 (some_same moved_on f new.1) low
+    by (Begins is_begin slots next cycle slaves room) k f at low = c.each k f (filled_was (λ (g : PlainFrame). g.number < base.next) (new_frames p.next p.outputs 0 m.parts) p.slots
+        (λ i x there few. let a = c.past in let b = (new_one p.next 0 p.outputs m.parts i x there).number_is in omega (arith, a, b, few)) k f (ap (λ os. get_or os k None) (sym slots) ∙ at) low) low
+    by (Moves j g own there inside is) k f at low = elim (at_set p.slots j k (Some moved_on) None) [
+      | inl same ↦ c.each k f (sym same ∙ (ap (λ (z : Plain). frame_at z k) (sym is) ∙ at)) low
+      | inr new ↦ moved k f new.0 (some_same moved_on f (sym new.1 ∙ (ap (λ (z : Plain). frame_at z k) (sym is) ∙ at))) low
     ]
       where
         moved_on : PlainFrame
@@ -70,15 +40,11 @@ stayed_step base m p e q h c = record { past = omega (arith, c.past, next_left m
         moved : (k : ℕ) (f : PlainFrame) → k ≡ j → moved_on ≡ f → f.number < base.next → Was base k f
         moved k f same is_f low =
             let w = c.each k g (ap (λ (n : ℕ). frame_at p n) same ∙ there) (let e = ap (λ (x : PlainFrame). x.number) is_f in omega (arith, e, low)) in
-            record {
-              frame = w.frame;
-              there = w.there;
-              number_is = w.number_is ∙ ap (λ (x : PlainFrame). x.number) is_f;
-              part_is = w.part_is ∙ ap (λ (x : PlainFrame). x.part) is_f;
-              behind = let a = w.behind in let b = length_push g.notes (met_note m (length g.notes) g (plain_slave p (length g.notes))) in let d = ap (λ (x : PlainFrame). length x.notes) is_f in omega (arith, a, b, d);
-            }
-    by (Loses j own is) k f at low = c.each k f (left_old p.slots j k f (ap (λ (z : Plain). frame_at z k) (sym is) ∙ at)) low
-    by (Returns j g there is all) k f at low = c.each k f (left_old p.slots j k f (ap (λ (z : Plain). frame_at z k) (sym is) ∙ at)) low
+            let n = met_note m (length g.notes) g (plain_slave p (length g.notes)) in
+            let more : length w.frame.notes ≤ length (g.notes ++ (n ∷ [])) = let a = w.behind in let b = length_push g.notes n in omega (arith, a, b) in
+            subst (Was base k) is_f (record { frame = w.frame; there = w.there; number_is = w.number_is; part_is = w.part_is; behind = more })
+    by (Loses j own is) k f at low = c.each k f (left_there p.slots j k f (ap (λ (z : Plain). frame_at z k) (sym is) ∙ at)).0 low
+    by (Returns j g there is all) k f at low = c.each k f (left_there p.slots j k f (ap (λ (z : Plain). frame_at z k) (sym is) ∙ at)).0 low
 
 -- ---- prefixes of one list
 
@@ -86,14 +52,8 @@ prefix : (xs ys a b : List Event) → xs ++ a ≡ ys ++ b → length ys ≤ leng
 prefix xs [] a b e l = (xs, refl)
 prefix [] (y ∷ ys) a b e l = absurd (omega (arith, l))
 prefix (x ∷ xs) (y ∷ ys) a b e l =
-    let r = prefix xs ys a b (tails x y (xs ++ a) (ys ++ b) e) (omega (arith, l)) in
-    (r.0, ap (λ (z : Event). z ∷ xs) (heads x y (xs ++ a) (ys ++ b) e) ∙ ap (λ (zs : List Event). y ∷ zs) r.1)
-  where
-    heads : (x y : Event) (us vs : List Event) → x ∷ us ≡ y ∷ vs → x ≡ y
-    heads x y us vs q = cc
-
-    tails : (x y : Event) (us vs : List Event) → x ∷ us ≡ y ∷ vs → us ≡ vs
-    tails x y us vs q = cc
+    let r = prefix xs ys a b (rest_same x y (xs ++ a) (ys ++ b) e) (omega (arith, l)) in
+    (r.0, ap (λ (z : Event). z ∷ xs) (first_same x y (xs ++ a) (ys ++ b) e) ∙ ap (λ (zs : List Event). y ∷ zs) r.1)
 
 all_get : (f : Progress) (os : List (Option Progress)) (k : ℕ) → list_all (lets_by f) os ≡ true → lets_by f (get_or os k None) ≡ true
 all_get f [] k h = refl
@@ -121,15 +81,6 @@ order_law t ids old events w made n h up more v count on number part other k s x
     p : Plain
     p = (run (meaning e.ready.plan) (plain_of e.ready) e.after).plain
 
-    shown : Shows w p
-    shown = (runs_show e.ready e.after w e.rest e.usable e.onward).shown (plain_of e.ready) e.shows
-
-    plan_is : w.plan ≡ e.ready.plan
-    plan_is = run_plan e.ready e.after w e.rest (plain_of e.ready) e.usable e.onward e.shows
-
-    usable : IsUsable w.plan
-    usable = subst IsUsable (sym plan_is) e.usable
-
     m : Meaning
     m = meaning w.plan
 
@@ -137,10 +88,10 @@ order_law t ids old events w made n h up more v count on number part other k s x
     P es = (run m p es).plain
 
     at_x : Shows x.event.at (P x.event.before)
-    at_x = (runs_show w x.event.before x.event.at x.event.first usable x.event.to_it).shown p shown
+    at_x = (runs_show w x.event.before x.event.at x.event.first e.still_usable x.event.to_it).shown p e.shown
 
     at_y : Shows y.event.at (P y.event.before)
-    at_y = (runs_show w y.event.before y.event.at y.event.first usable y.event.to_it).shown p shown
+    at_y = (runs_show w y.event.before y.event.at y.event.first e.still_usable y.event.to_it).shown p e.shown
 
     base : Plain
     base = P y.event.before

@@ -1,7 +1,7 @@
 -- What a slave that shows a plain slave does with a cyclic frame, and what it shows then.
-use Rattle.ec_world.proofs.Words.{ℕ, ◌+◌, ◌-◌, ◌*◌, ◌<◌, ◌≡◌, ◌≢◌, ◌==◌, ◌||◌, Bool, true, false, Some, None, refl, sym, ◌∙◌, ap, subst, inl, inr, arith, if◌then◌else◌, List, [], ◌∷◌, length, nat_lt, slice_index, bit_at, map-set_same, get_or-map, length-replicate, length-map, cases_Bool, cases_eq, cases_lt, and_from, and_left, and_right, lt-ltb, le-ltb, eq-eqb, ne_eqb, both_ways, listed, bytes_of_bits, within, zeros, length-overlay, if_true, if_false, within_parts, FmmuSettings, fmmu_of, SyncManager, no_manager, may_read, may_write, publishing, Place, inside_place, target, source, readers, writers, SlaveState, manager_at, fmmus_of, power_on, IsMapped, takes, gives, with_outputs, with_published, Area, Misses, outputs_published, switched_on, Share, Gave, has_outs, has_ins, nothing_given, Meaning, share_of, slave_at, no_slave_plan, area_of, area_at, place_of_part, meaning, IsLaid, PlanState, part_at, SlavePlan, AreListed, IsUsable, PlainSlave, PlainFrame, Health, Working, Faulted, Reset, Note, Other, Short, Full, linked_outputs, giving, met_note, met_slave, taking, Holds, IsWorking, IsFaulted, IsReset, IsAs, SlaveShows, GaveAs, given_by, given_in, slave_left}
+use Rattle.ec_world.proofs.Words.{ℕ, ◌+◌, ◌-◌, ◌*◌, ◌<◌, ◌≡◌, ◌≢◌, ◌==◌, ◌||◌, Bool, true, false, Some, None, refl, sym, ◌∙◌, ap, subst, inl, inr, arith, if◌then◌else◌, List, [], ◌∷◌, length, nat_lt, slice_index, bit_at, map-set_same, get_or-map, length-replicate, length-map, cases_Bool, cases_eq, cases_lt, and_from, and_left, and_right, lt-ltb, le-ltb, eq-eqb, ne_eqb, both_ways, listed, bytes_of_bits, within, zeros, length-overlay, if_true, if_false, within_parts, FmmuSettings, fmmu_of, SyncManager, no_manager, may_read, may_write, publishing, Place, inside_place, target, source, readers, writers, SlaveState, manager_at, fmmus_of, power_on, IsMapped, takes, gives, with_outputs, with_published, Area, Misses, outputs_published, switched_on, Share, Gave, has_outs, has_ins, nothing_given, Meaning, share_of, slave_at, no_slave_plan, area_of, area_at, place_of_part, meaning, IsLaid, PlanState, part_at, SlavePlan, AreListed, IsUsable, PlainSlave, PlainFrame, Health, Working, Faulted, Reset, Note, Other, Short, Full, linked_outputs, giving, met_note, met_slave, taking, Holds, IsWorking, IsFaulted, IsReset, IsAs, SlaveShows, GaveAs, given_by, given_in, slave_left, ◌&&◌, IsOfLength, HoldsData}
 use Rattle.ec_world.proofs.ProcessPass.{Acts, Does, Acting, Missing, Knows}
-use Rattle.ec_world.proofs.Mapped.{outs_enabled, ins_enabled, locked_denies, holds_mapped, third_held, fourth_held}
+use Rattle.ec_world.proofs.Mapped.{outs_enabled, ins_enabled, locked_denies, holds_mapped, third_held, fourth_held, still_holds, still_quiet}
 
 -- ---- notes and shares
 
@@ -18,35 +18,23 @@ gave_as h q Reset = go (has_outs h) (has_ins h) refl refl
     go false false x y = ap (λ b. record { wrote = b; read = false }) (sym x) ∙ ap (λ b. record { wrote = has_outs h; read = b }) (sym y)
     go _ _ x y = record { wrote = omega arith; read = omega arith; less = rw (x, y) (omega arith) }
 
-full_other : (v : List ℕ) → Full v ≢ Other
-full_other v e = cc
-
-short_other : Short ≢ Other
-short_other e = cc
-
 not_other : (h : Share) (q : PlainSlave) (x : Health) → giving h q x ≢ Other
-not_other h q Working = full_other q.inputs.published
-not_other h q Faulted = elim (has_outs h) as (λ b. (if b then Short else Full q.inputs.published) ≢ Other) [ true ↦ short_other | false ↦ full_other q.inputs.published ]
-not_other h q Reset = elim (has_outs h || has_ins h) as (λ b. (if b then Short else Full q.inputs.published) ≢ Other) [ true ↦ short_other | false ↦ full_other q.inputs.published ]
-
-full_same : (v w : List ℕ) → Full v ≡ Full w → w ≡ v
-full_same v w e = cc
-
-short_full : (w : List ℕ) → Short ≡ Full w → ⊥
-short_full w e = cc
+not_other h q Working = λ e. cc e
+not_other h q Faulted = elim (has_outs h) as (λ b. (if b then Short else Full q.inputs.published) ≢ Other) [ true ↦ λ e. cc e | false ↦ λ e. cc e ]
+not_other h q Reset = elim (has_outs h || has_ins h) as (λ b. (if b then Short else Full q.inputs.published) ≢ Other) [ true ↦ λ e. cc e | false ↦ λ e. cc e ]
 
 full_of : (h : Share) (q : PlainSlave) (x : Health) (w : List ℕ) → giving h q x ≡ Full w → 0 < h.ins → (w ≡ q.inputs.published) × ((given_by h x).read ≡ true)
-full_of h q Working w e l = (full_same q.inputs.published w e, lt-ltb 0 h.ins l)
+full_of h q Working w e l = (cc e, lt-ltb 0 h.ins l)
 full_of h q Faulted w e l = (go (has_outs h) e, lt-ltb 0 h.ins l)
   where
     go : (b : Bool) → (if b then Short else Full q.inputs.published) ≡ Full w → w ≡ q.inputs.published
-    go true e = absurd (short_full w e)
-    go false e = full_same q.inputs.published w e
+    go true e = absurd (cc e)
+    go false e = cc e
 full_of h q Reset w e l = absurd (go (has_outs h) (has_ins h) (lt-ltb 0 h.ins l) e)
   where
     go : (b r : Bool) → r ≡ true → (if b || r then Short else Full q.inputs.published) ≡ Full w → ⊥
-    go true r z e = short_full w e
-    go false true z e = short_full w e
+    go true r z e = cc e
+    go false true z e = cc e
     go false false z e = both_ways false refl z
 
 -- ---- slaves that map nothing here
@@ -105,16 +93,11 @@ other_misses m area place k s t laid l ne h =
 pub share_is : (plan : PlanState) (t : ℕ) → share_of (meaning plan) t ≡ (slave_at plan t).share
 share_is plan t = get_or-map (λ (s : SlavePlan). s.share) plan.slaves t no_slave_plan
 
-takes_is : (a : Area) (s : SlaveState) (n : ℕ) → a.outs ≡ n → (0 < n → may_write (manager_at s.managers 2) ≡ true) → takes s a ≡ nat_lt 0 n
-takes_is a s n e may = elim (cases_lt 0 n) [
-  | inl l ↦ and_from _ _ (lt-ltb 0 a.outs (omega arith)) (may l) ∙ sym (lt-ltb 0 n l)
-  | inr z ↦ and_left _ _ (le-ltb 0 a.outs (omega arith)) ∙ sym (le-ltb 0 n z)
-]
-
-gives_is : (a : Area) (s : SlaveState) (n : ℕ) → a.ins ≡ n → (0 < n → may_read (manager_at s.managers 3) ≡ true) → gives s a ≡ nat_lt 0 n
-gives_is a s n e may = elim (cases_lt 0 n) [
-  | inl l ↦ and_from _ _ (lt-ltb 0 a.ins (omega arith)) (may l) ∙ sym (lt-ltb 0 n l)
-  | inr z ↦ and_left _ _ (le-ltb 0 a.ins (omega arith)) ∙ sym (le-ltb 0 n z)
+-- bits that the share has, where the manager lets them pass
+let_by : (bits n : ℕ) (may : Bool) → bits ≡ n → (0 < n → may ≡ true) → (nat_lt 0 bits && may) ≡ nat_lt 0 n
+let_by bits n may e h = elim (cases_lt 0 n) [
+  | inl l ↦ and_from _ _ (lt-ltb 0 bits (omega arith)) (h l) ∙ sym (lt-ltb 0 n l)
+  | inr z ↦ and_left _ _ (le-ltb 0 bits (omega arith)) ∙ sym (le-ltb 0 n z)
 ]
 
 module _ (plan : PlanState) (t : ℕ) (f : PlainFrame) (q : PlainSlave) (s : SlaveState) (sound : IsUsable plan) (b : t < length plan.slaves) where
@@ -139,8 +122,8 @@ module _ (plan : PlanState) (t : ℕ) (f : PlainFrame) (q : PlainSlave) (s : Sla
   working_acts : IsWorking t pl s q → Acts s (area_of pl) (given_by h Working) q.inputs.published
   working_acts w = record {
     mapped = holds_mapped t pl s w.holds fits;
-    takes_is = takes_is (area_of pl) s h.outs outs_is (λ l. (outs_enabled (manager_at s.managers 2) pl.share.outs pl.kind.out_start (let e = outs_is in omega arith) fits.out_fits (third_held t pl s w.holds fits) w.out_unlocked).0);
-    gives_is = gives_is (area_of pl) s h.ins ins_is (λ l. (ins_enabled (manager_at s.managers 3) pl.share.ins pl.kind.in_start (let e = ins_is in omega arith) fits.in_fits (fourth_held t pl s w.holds fits) w.in_unlocked).0);
+    takes_is = let_by pl.share.outs h.outs (may_write (manager_at s.managers 2)) outs_is (λ l. (outs_enabled (manager_at s.managers 2) pl.share.outs pl.kind.out_start (let e = outs_is in omega arith) fits.out_fits (third_held t pl s w.holds fits) w.out_unlocked).0);
+    gives_is = let_by pl.share.ins h.ins (may_read (manager_at s.managers 3)) ins_is (λ l. (ins_enabled (manager_at s.managers 3) pl.share.ins pl.kind.in_start (let e = ins_is in omega arith) fits.in_fits (fourth_held t pl s w.holds fits) w.in_unlocked).0);
     inputs_is = ap (λ b. b.published) w.process.inputs;
   }
 
@@ -148,7 +131,7 @@ module _ (plan : PlanState) (t : ℕ) (f : PlainFrame) (q : PlainSlave) (s : Sla
   faulted_acts w = record {
     mapped = holds_mapped t pl s w.holds fits;
     takes_is = and_right _ _ (locked_denies (manager_at s.managers 2) w.out_locked).0;
-    gives_is = gives_is (area_of pl) s h.ins ins_is (λ l. (ins_enabled (manager_at s.managers 3) pl.share.ins pl.kind.in_start (let e = ins_is in omega arith) fits.in_fits (fourth_held t pl s w.holds fits) w.in_unlocked).0);
+    gives_is = let_by pl.share.ins h.ins (may_read (manager_at s.managers 3)) ins_is (λ l. (ins_enabled (manager_at s.managers 3) pl.share.ins pl.kind.in_start (let e = ins_is in omega arith) fits.in_fits (fourth_held t pl s w.holds fits) w.in_unlocked).0);
     inputs_is = ap (λ b. b.published) w.process.inputs;
   }
 
@@ -188,47 +171,28 @@ module _ (plan : PlanState) (t : ℕ) (f : PlainFrame) (q : PlainSlave) (s : Sla
           given = subst (λ (n : Note). GaveAs h n (given_in m t f q)) (sym note) gave;
           in_part = λ e. absurd (ne e);
           elsewhere = λ x. note;
-          full = λ v x l. absurd (full_other v (sym x ∙ note));
+          full = λ v x l. absurd (cc (sym x ∙ note));
         }
   ]
 
   -- ---- what it shows then
 
-  two : Holds t pl s → 2 < length s.managers
-  two w = let e = length-map s.managers (λ m. m.settings) in let x = ap length w.managers in let y = ap length fits.managers in omega arith
-
-  mail_kept : (v : List ℕ) (n : ℕ) → 2 < length s.managers → (manager_at (with_outputs s v).managers n).mail ≡ (manager_at s.managers n).mail
-  mail_kept v n l = elim (cases_eq n 2) [
-    | inl e ↦ subst (λ (k : ℕ). (manager_at (with_outputs s v).managers k).mail ≡ (manager_at s.managers k).mail) (sym e) (ap (λ (x : SyncManager). x.mail) ((outputs_published s v).own l))
-    | inr ne ↦ ap (λ (x : SyncManager). x.mail) ((outputs_published s v).others n ne)
-  ]
-
   working_left : (v : List ℕ) → length v ≡ bytes_of_bits pl.share.outs → IsWorking t pl s q → IsWorking t pl (with_outputs s v) (record q { outputs = publishing q.outputs v })
   working_left v e w =
-      let l = two w.holds in
+      let l : 2 < length s.managers = let x = (holds_mapped t pl s w.holds fits).four in omega (arith, x) in
       let own = (outputs_published s v).own l in
       let fourth = (outputs_published s v).others 3 (omega arith) in
-      record {
-        holds = record {
-          kind = w.holds.kind;
-          station = w.holds.station;
-          fmmus = w.holds.fmmus;
-          managers = map-set_same (λ (x : SyncManager). x.settings) s.managers 2 (with_published (manager_at s.managers 2) v) no_manager refl ∙ w.holds.managers;
-          outputs = w.holds.outputs;
-          inputs = w.holds.inputs;
-        };
-        quiet = record { no_request = w.quiet.no_request; no_read = w.quiet.no_read; no_message = λ n. mail_kept v n l ∙ w.quiet.no_message n };
-        process = record {
-          outputs = ap (λ (x : SyncManager). x.buffer) own ∙ ap (λ b. publishing b v) w.process.outputs;
-          inputs = ap (λ (x : SyncManager). x.buffer) fourth ∙ w.process.inputs;
-          out_bytes = record { published = e; draft = w.process.out_bytes.draft };
-          in_bytes = w.process.in_bytes;
-        };
-        state = w.state;
-        no_error = w.no_error;
-        out_unlocked = ap (λ (x : SyncManager). x.locked) own ∙ w.out_unlocked;
-        in_unlocked = ap (λ (x : SyncManager). x.locked) fourth ∙ w.in_unlocked;
-      }
+      let m : SyncManager = with_published (manager_at s.managers 2) v in
+      let bytes : IsOfLength (bytes_of_bits pl.share.outs) (publishing q.outputs v) = record { published = e; draft = w.process.out_bytes.draft } in
+      let held : HoldsData pl (with_outputs s v) (record q { outputs = publishing q.outputs v })
+      = assumption (ap (λ (x : SyncManager). x.buffer) own ∙ ap (λ b. publishing b v) w.process.outputs, ap (λ (x : SyncManager). x.buffer) fourth ∙ w.process.inputs, bytes) in
+      assumption (
+        still_holds t pl s s.al 2 m refl w.holds,
+        still_quiet s s.al 2 m l refl (w.quiet.no_message 2) w.quiet,
+        held,
+        ap (λ (x : SyncManager). x.locked) own ∙ w.out_unlocked,
+        ap (λ (x : SyncManager). x.locked) fourth ∙ w.in_unlocked,
+      )
 
   long : length (linked_outputs m t f.snapshot) ≡ bytes_of_bits pl.share.outs
   long = length-overlay (zeros (bytes_of_bits h.outs)) _ ∙ (length-replicate (bytes_of_bits h.outs) 0 ∙ ap bytes_of_bits (sym outs_is))

@@ -78,8 +78,6 @@ pub mod Turns
 pub mod TurnLaws
 -- the slaves of a new world are devices of their types
 pub mod ComingUp
--- what the plain machine makes whole, a world that shows it makes whole
-pub mod CycleGoes
 -- a world at rest makes a cycle whole
 pub mod CycleMade
 -- frames keep their order

@@ -1,8 +1,8 @@
 -- Where the frames of an open cycle are: kept, on their way, or lost in an event since the cycle began.
 use Rattle.ec_world.proofs.Words.{ℕ, ◌+◌, ◌<◌, ◌≤◌, ◌≡◌, ◌==◌, ◌&&◌, Option, Some, None, refl, sym, ◌∙◌, ap, subst, inl, inr, arith, List, [], ◌∷◌, ◌++◌, length, get_or, set, is_none, option_map, get_or-set_same, get_or-set_other, cases_Bool, cases_eq, and_from, eq-eqb, length-map, append_assoc, if_true, if_false, Meaning, nones, Event, Begin, Lose, Plain, PlainFrame, Note, Cycle, step, run, frame_at, plain_slave, keeping, new_frames, with_note, met_note, none_some, some_same, cycle_begun, some_or}
-use Rattle.ec_world.proofs.Tracing.{mapped, guarded, Leaves, Stays, Begins, Moves, Loses, Returns, Closes, leaves}
-use Rattle.ec_world.proofs.Histories.{run_tells, filled_holds, new_at, as_many, keeping_number, next_left, keeping_length}
-use Rattle.ec_world.proofs.Quiet.{IsAway, Away, moved_away}
+use Rattle.ec_world.proofs.Tracing.{mapped, guarded, Leaves, Stays, Begins, Moves, Loses, Returns, Closes, leaves, room_there}
+use Rattle.ec_world.proofs.Histories.{run_tells, keeping_number, next_left, keeping_length}
+use Rattle.ec_world.proofs.Quiet.{IsAway, Away, moved_away, new_away}
 
 -- the frame of part k was lost on the way
 pub record LostAt (m : Meaning) (begun : Plain) (number : ℕ) (done : List Event) (k : ℕ) : Type 0 where
@@ -26,17 +26,9 @@ pub record Located (m : Meaning) (begun : Plain) (number : ℕ) (done : List Eve
   pub each : (c : Cycle) → p.cycle ≡ Some c → c.number ≡ number → (k : ℕ) → k < length c.kept → Place m begun number done p.slots c.kept k
 
 later_lost : (m : Meaning) (begun : Plain) (number : ℕ) (done : List Event) (e : Event) (k : ℕ) → LostAt m begun number done k → LostAt m begun number (done ++ (e ∷ [])) k
-later_lost m begun number done e k h = record {
-  before = h.before;
-  slot = h.slot;
-  behind = h.behind ++ (e ∷ []);
-  split = ap (λ (xs : List Event). xs ++ (e ∷ [])) h.split ∙ append_assoc h.before (Lose h.slot ∷ h.behind) (e ∷ []);
-  next = h.next;
-  made = h.made;
-  frame = h.frame;
-  there = h.there;
-  is = h.is;
-}
+later_lost m begun number done e k h =
+    let split : done ++ (e ∷ []) ≡ h.before ++ (Lose h.slot ∷ (h.behind ++ (e ∷ []))) = ap (λ (xs : List Event). xs ++ (e ∷ [])) h.split ∙ append_assoc h.before (Lose h.slot ∷ h.behind) (e ∷ []) in
+    search (h, split)
 
 later_place : (m : Meaning) (begun : Plain) (number : ℕ) (done : List Event) (e : Event) (slots : List (Option PlainFrame)) (kept : List (Option (List Note))) (k : ℕ)
     → Place m begun number done slots kept k → Place m begun number (done ++ (e ∷ [])) slots kept k
@@ -130,29 +122,16 @@ located_step m begun number done e q h c = record { past = omega (arith, c.past,
             subst (λ (z : Cycle). P (set p.slots j None) z.kept k) r.is (come r.value k few num (now.each r.value r.there num k few))
 
 located_begun : (m : Meaning) (p begun : Plain) → step m p Begin ≡ Some begun → Located m begun p.next [] begun
-located_begun m p begun h = by (leaves m p Begin begun h)
+located_begun m p begun h = record {
+  past = let next = ap (λ (x : Plain). x.next) is in omega (arith, next);
+  each = λ d at own k l. OnItsWay (subst (λ (x : Plain). Away p.next k x.slots) is (
+      let same = some_same _ d (ap (λ (x : Plain). x.cycle) is ∙ at) in
+      let few : k < length m.parts = let n = ap (λ (x : Cycle). length x.kept) same in let z = length-map {A = ℕ} {B = Option (List Note)} m.parts (λ v. None) in omega (arith, l, n, z) in
+      new_away m p k few (room_there m p begun h)));
+}
   where
     is : cycle_begun m p ≡ begun
     is = guarded _ _ begun h
-
-    made : length m.parts ≤ nones p.slots → Located m begun p.next [] begun
-    made room = record {
-      past = let next = ap (λ (x : Plain). x.next) is in omega (arith, next);
-      each = λ d at own k l. OnItsWay (subst (λ (x : Plain). Away p.next k x.slots) is
-          (let same = some_same _ d (ap (λ (x : Plain). x.cycle) is ∙ at) in
-          let few : k < length m.parts = let n = ap (λ (x : Cycle). length x.kept) same in let z = length-map {A = ℕ} {B = Option (List Note)} m.parts (λ v. None) in omega (arith, l, n, z) in
-          let f = new_at p.next 0 p.outputs m.parts k few in
-          let r = filled_holds (new_frames p.next p.outputs 0 m.parts) p.slots k _ (omega (arith, room, as_many p.next 0 p.outputs m.parts)) f in
-          record { slot = r.0; frame = _; there = r.1; is = record { number_is = refl; part_is = omega arith } }));
-    }
-
-    by : Leaves m p Begin begun → Located m begun p.next [] begun
-    by (Stays slots next cycle) = absurd (let n = ap (λ (x : Plain). x.next) is in omega (arith, next, n))
-    by (Closes slots next cycle) = absurd (let n = ap (λ (x : Plain). x.next) is in omega (arith, next, n))
-    by (Begins is_begin slots next cycle slaves room) = made room
-    by (Moves j g own there inside q) = absurd (let n = ap (λ (x : Plain). x.next) is in let o = ap (λ (x : Plain). x.next) q in omega (arith, o, n))
-    by (Loses j own q) = absurd (let n = ap (λ (x : Plain). x.next) is in let o = ap (λ (x : Plain). x.next) q in omega (arith, o, n))
-    by (Returns j g there q all) = absurd (let n = ap (λ (x : Plain). x.next) is in let o = ap (λ (x : Plain). x.next) q in omega (arith, o, n))
 
 pub located : (m : Meaning) (p begun : Plain) (after : List Event) → step m p Begin ≡ Some begun → Located m begun p.next after (run m begun after).plain
 located m p begun after h = run_tells (Located m begun p.next) m begun after

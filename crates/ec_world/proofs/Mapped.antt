@@ -1,5 +1,5 @@
 -- The sync managers of process data, as a plan sets them.
-use Rattle.ec_world.proofs.Words.{ℕ, ◌+◌, ◌*◌, ◌<◌, ◌≡◌, ◌&&◌, not, true, false, Some, refl, ◌∙◌, ap, arith, if◌then◌else◌, List, [], ◌∷◌, map, Bool, Option, sym, subst, inl, inr, length, get_or, position_from, and_from, and_left, and_right, lt-ltb, le-leb, ne_eqb, eq-eqb, cases_Bool, both_ways, bytes_of_bits, if_true, if_false, within_true, SyncManagerSettings, no_settings, is_set, is_mailbox, span, ram_start, ram_end, SyncManager, may_read, may_write, may_app_put, may_app_get, no_manager, governs, governor, process_manager, has_byte, FitsRam, AreListed, output_manager, input_manager, get_or-map, length-map, no_fmmu, target, source, readers, writers, read_set_is_run, write_set_is_run, SlaveState, manager_at, fmmus, IsMapped, IsBufferAt, SlavePlan, area_of, link_fmmu_of as fmmu_of, Holds}
+use Rattle.ec_world.proofs.Words.{ℕ, ◌+◌, ◌*◌, ◌<◌, ◌≡◌, ◌&&◌, not, true, false, Some, refl, ◌∙◌, ap, arith, if◌then◌else◌, List, [], ◌∷◌, map, Bool, Option, sym, subst, inl, inr, length, get_or, position_from, and_from, and_left, and_right, lt-ltb, le-leb, ne_eqb, eq-eqb, cases_Bool, both_ways, bytes_of_bits, if_true, if_false, within_true, SyncManagerSettings, no_settings, is_set, is_mailbox, span, ram_start, ram_end, SyncManager, may_read, may_write, may_app_put, may_app_get, no_manager, governs, governor, process_manager, has_byte, FitsRam, AreListed, output_manager, input_manager, get_or-map, length-map, no_fmmu, target, source, readers, writers, read_set_is_run, write_set_is_run, SlaveState, manager_at, fmmus, IsMapped, IsBufferAt, SlavePlan, area_of, link_fmmu_of as fmmu_of, Holds, is_buffered, buffer_length, cases_lt, Al, map-set_same, None, IsQuiet, cases_eq, get_or-set_same, get_or-set_other, set}
 
 -- set for so many bits
 abbrev pub for_bits : ℕ → ℕ → ℕ → SyncManagerSettings
@@ -22,6 +22,15 @@ set_for_ins bits start l fits = let f = fits l in and_from _ _ (lt-ltb 0 (bytes_
 pub unset : is_set no_settings ≡ false
 unfolding is_set
 unset = refl
+
+-- its buffer has room for the bits
+pub buffer_long : (bits start control : ℕ) → (0 < bits → is_set (for_bits bits start control) ≡ true) → is_buffered (for_bits bits start control) ≡ true → buffer_length (process_manager start bits control) ≡ bytes_of_bits bits
+buffer_long bits start control set buffered = elim (cases_lt 0 bits) [
+  | inl l ↦ ap buffer_length (some_bits bits start control l) ∙ if_true _ _ _ (and_from _ _ (set l) buffered)
+  | inr z ↦
+      let none : bits ≡ 0 = omega arith in
+      ap buffer_length (no_bits bits start control none) ∙ (if_false _ _ _ (and_left _ _ unset) ∙ ap bytes_of_bits (sym none))
+]
 
 -- ---- who governs
 
@@ -68,6 +77,21 @@ third_held i p s h a = settings_held i p s 2 h ∙ ap (λ xs. get_or xs 2 no_set
 
 pub fourth_held : (i : ℕ) (p : SlavePlan) (s : SlaveState) → Holds i p s → AreListed p → (manager_at s.managers 3).settings ≡ input_manager p
 fourth_held i p s h a = settings_held i p s 3 h ∙ ap (λ xs. get_or xs 3 no_settings) a.managers
+
+-- another value of a manager, with the same settings and no message, leaves what a slave holds, and leaves it quiet
+pub still_holds : (i : ℕ) (p : SlavePlan) (s : SlaveState) (a : Al) (n : ℕ) (m : SyncManager) → m.settings ≡ (manager_at s.managers n).settings → Holds i p s
+    → Holds i p (record s { al = a; managers = set s.managers n m })
+still_holds i p s a n m e h = assumption (map-set_same (λ (x : SyncManager). x.settings) s.managers n m no_manager e ∙ h.managers)
+
+pub still_quiet : (s : SlaveState) (a : Al) (n : ℕ) (m : SyncManager) → n < length s.managers → a.requested ≡ s.al.requested → m.mail ≡ None → IsQuiet s
+    → IsQuiet (record s { al = a; managers = set s.managers n m })
+still_quiet s a n m l same none q = assumption (same ∙ q.no_request, mail)
+  where
+    mail : (k : ℕ) → (manager_at (set s.managers n m) k).mail ≡ None
+    mail k = elim (cases_eq k n) [
+      | inl e ↦ ap (λ (j : ℕ). (manager_at (set s.managers n m) j).mail) e ∙ (ap (λ (x : SyncManager). x.mail) (get_or-set_same s.managers n m no_manager l) ∙ none)
+      | inr ne ↦ ap (λ (x : SyncManager). x.mail) (get_or-set_other s.managers n k m no_manager ne) ∙ q.no_message k
+    ]
 
 has_own : (bits start control k : ℕ) → is_set (for_bits bits start control) ≡ true → k < bytes_of_bits bits → has_byte (for_bits bits start control) (start + k) ≡ true
 has_own bits start control k set l = and_from _ _ set (within_true start (span (for_bits bits start control)) (start + k) (omega arith) (longer (is_mailbox (for_bits bits start control))))

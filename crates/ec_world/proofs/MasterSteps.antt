@@ -1,5 +1,5 @@
 -- Events of the master: a variable set, a cycle begun, a frame that comes back, a cycle closed.
-use Rattle.ec_world.proofs.Words.{ℕ, zero, suc, ◌+◌, ◌-◌, ◌^◌, ◌<◌, ◌≡◌, ◌&&◌, Bool, true, false, Option, Some, None, refl, sym, ◌∙◌, ap, subst, arith, List, [], ◌∷◌, length, map, get_or, is_some, is_none, slice_get, if◌then◌else◌, option_map, unwrap_or, nat_lt, nat_le, and_parts, ltb-true, length-map, is_out, with_number, if_true, IsFrame, bare_payload, Variable, PlanState, meaning, IsUsable, KeptPart, nones, inputs_closed, report_of, ReportState, sent_datagrams, MasterState, OpenCycle, closed, cycle_limit, holds_value, value_put, variable_set, Plain, PlainFrame, Note, Cycle, progress_of, all_progress, filled, new_frames, setting, beginning, closing, WorldState, Flight, flight_progress, flights_progress, flights_from, can_begin, Begins, Closes, Shows, CyclesShow, CycleShows, said, CountersPredicted, FrameShows, theres, nones-alike, none_some, some_same, same_slots, cycle_begun, none_in}
+use Rattle.ec_world.proofs.Words.{ℕ, zero, suc, ◌+◌, ◌-◌, ◌^◌, ◌<◌, ◌≡◌, ◌&&◌, Bool, true, false, Option, Some, None, refl, sym, ◌∙◌, ap, subst, arith, List, [], ◌∷◌, length, map, get_or, is_some, is_none, slice_get, if◌then◌else◌, option_map, unwrap_or, nat_lt, nat_le, and_parts, ltb-true, length-map, is_out, with_number, if_true, IsFrame, bare_payload, Variable, PlanState, meaning, IsUsable, KeptPart, nones, inputs_closed, report_of, ReportState, sent_datagrams, MasterState, OpenCycle, closed, cycle_limit, holds_value, value_put, variable_set, Plain, PlainFrame, Note, Cycle, progress_of, all_progress, filled, new_frames, setting, beginning, closing, WorldState, Flight, flight_progress, flights_progress, flights_from, can_begin, Begins, Closes, Shows, CyclesShow, CycleShows, said, CountersPredicted, FrameShows, theres, nones-alike, none_some, some_same, same_slots, cycle_begun, none_in, some_guarded, is_some-mapped}
 use Rattle.ec_world.proofs.Filling.{filled-map, filled-both}
 use Rattle.ec_world.proofs.Fresh.{fresh, fresh_shows}
 use Rattle.ec_world.proofs.CloseLaws.{inputs_same, report_said, counters_predicted}
@@ -25,11 +25,7 @@ cycles_alike plan _ _ h = refl
 
 set_made : (p : Plain) (value : ℕ) (o : Option Variable) → holds_value value o ≡ is_some (setting p value o)
 set_made p value None = refl
-set_made p value (Some v) = go (is_out v.direction && nat_lt value (2 ^ v.bits))
-  where
-    go : (b : Bool) → b ≡ is_some (if b then Some (record p { outputs = with_number p.outputs v.from v.bits value }) else None)
-    go true = refl
-    go false = refl
+set_made p value (Some v) = some_guarded (is_out v.direction && nat_lt value (2 ^ v.bits)) (record p { outputs = with_number p.outputs v.from v.bits value })
 
 set_is : (p : Plain) (value : ℕ) (o : Option Variable) → holds_value value o ≡ true → unwrap_or (setting p value o) p ≡ record p { outputs = value_put p.outputs value o }
 set_is p value None e = refl
@@ -55,11 +51,7 @@ begin_made : (w : WorldState) (p : Plain) → Shows w p
 begin_made w p s =
     let parts : length (meaning w.plan).parts ≡ length w.plan.parts = length-map w.plan.parts (λ k. k.unit) in
     let free : nones p.slots ≡ nones w.slots = sym (nones-alike w.slots p.slots (same_slots w.slots p.slots s.progress)) in
-    ap (λ b. b && (nat_le (length (meaning w.plan).parts) (nones p.slots) && nat_lt p.next (2 ^ 64 - 1))) (not_same w.master.cycle p.cycle s.cycle)
-    ∙ (ap (λ n. is_none w.master.cycle && (nat_le n (nones p.slots) && nat_lt p.next (2 ^ 64 - 1))) parts
-    ∙ (ap (λ n. is_none w.master.cycle && (nat_le (length w.plan.parts) n && nat_lt p.next (2 ^ 64 - 1))) free
-    ∙ (ap (λ n. is_none w.master.cycle && (nat_le (length w.plan.parts) (nones w.slots) && nat_lt n (2 ^ 64 - 1))) (sym s.next)
-    ∙ ap (λ b. b && (is_none w.master.cycle && (nat_le (length w.plan.parts) (nones w.slots) && nat_lt w.master.next cycle_limit))) (sym s.is_ready))))
+    rw (not_same w.master.cycle p.cycle s.cycle, parts, free, s.next, s.is_ready) refl
   where
     not_same : (o : Option OpenCycle) (q : Option Cycle) → CyclesShow w.plan o q → is_none q ≡ is_none o
     not_same None None h = refl
@@ -68,11 +60,8 @@ begin_made w p s =
     not_same (Some c) (Some q) h = refl
 
 pub begin_can : (w : WorldState) (p : Plain) → Shows w p → can_begin w ≡ is_some (beginning (meaning w.plan) p)
-begin_can w p s = sym (begin_made w p s) ∙ go (is_none p.cycle && (nat_le (length (meaning w.plan).parts) (nones p.slots) && nat_lt p.next (2 ^ 64 - 1)))
-  where
-    go : (b : Bool) → b ≡ is_some (if b then Some (cycle_begun (meaning w.plan) p) else None)
-    go true = refl
-    go false = refl
+begin_can w p s = sym (begin_made w p s)
+    ∙ some_guarded (is_none p.cycle && (nat_le (length (meaning w.plan).parts) (nones p.slots) && nat_lt p.next (2 ^ 64 - 1))) (cycle_begun (meaning w.plan) p)
 
 abbrev nothing : (Z : Type 0) → {X : Type 0} → X → Option Z
 nothing Z x = None
@@ -118,54 +107,36 @@ begin_shows w p w2 sound s can begins =
     let plan_parts : length w.master.plan.parts ≡ length w.plan.parts = ap (λ (x : PlanState). length x.parts) s.same_plan in
     let as_many : length c.frames ≡ length m.parts = b.count ∙ (plan_parts ∙ sym parts) in
     let fits : w.master.next < 2 ^ 64 - 1 = ltb-true _ _ (and_parts (nat_le (length w.plan.parts) (nones w.slots)) _ (and_parts (is_none w.master.cycle) _ (and_parts w.master.is_ready _ can).1).1).1 in
-    subst (λ (x : WorldState). Shows x (unwrap_or (beginning m p) p)) (sym is) (subst (λ (o : Option Plain). Shows w3 (unwrap_or o p)) (sym made) (record {
-      started = s.started;
-      no_start = s.no_start;
-      is_ready = s.is_ready;
-      same_plan = s.same_plan;
-      outputs = s.outputs;
-      inputs = s.inputs;
-      next = ap (λ n. n + 1) s.next;
-      got = s.got;
-      cycle = record {
-        number = b.number ∙ s.next;
-        number_fits = let e = s.next in omega arith;
-        each_part = ap length b.kept ∙ (length-map w.master.plan.parts (nothing KeptPart) ∙ plan_parts);
-        same_parts = ap theres b.kept ∙ none_there KeptPart (List Note) w.master.plan.parts m.parts (plan_parts ∙ sym parts);
-        kept = λ k part notes a z. absurd (none_in m.parts k notes z);
-      };
-      report = s.report;
-      count = s.count;
-      plain_count = s.plain_count;
-      slaves = s.slaves;
-      progress =
-          filled-map flight_progress (flights_from w.master.next 0 c.frames) w.slots
-          ∙ (ap (λ fs. filled fs (flights_progress w.slots)) (same_start w.master.next 0 p.outputs c.frames m.parts as_many)
-          ∙ (ap (λ os. filled (map progress_of (new_frames w.master.next p.outputs 0 m.parts)) os) s.progress
-          ∙ (ap (λ n. filled (map progress_of (new_frames n p.outputs 0 m.parts)) (all_progress p.slots)) s.next
-          ∙ sym (filled-map progress_of (new_frames p.next p.outputs 0 m.parts) p.slots))));
-      frames = filled-both (λ x f. FrameShows w.plan f x.bytes) (flights_from w.master.next 0 c.frames) (new_frames p.next p.outputs 0 m.parts) w.slots p.slots
-          (many_flights w.master.next 0 p.outputs c.frames m.parts as_many ∙ ap (λ n. length (new_frames n p.outputs 0 m.parts)) s.next)
-          (same_slots w.slots p.slots s.progress)
-          (subst (λ (n : ℕ). (i : ℕ) (x : Flight) (y : PlainFrame) → slice_get (flights_from w.master.next 0 c.frames) i ≡ Some x → slice_get (new_frames n p.outputs 0 m.parts) i ≡ Some y → FrameShows w.plan y x.bytes) s.next
-          (new_both (λ x f. FrameShows w.plan f x.bytes) w.master.next 0 p.outputs c.frames m.parts (λ i l.
-          let k : 0 + i ≡ i = omega arith in
-          subst (λ (n : ℕ). FrameShows w.plan (fresh w.master.next n p.outputs) (get_or c.frames i [])) (sym k)
-          (fresh_shows w.plan w.master.next i p.outputs (get_or c.frames i []) sound (omega arith) (omega arith)
-          (subst (λ (x : PlanState). IsFrame (get_or c.frames i []) (bare_payload (sent_datagrams x w.master.next i p.outputs))) s.same_plan
-          (subst (λ (image : List ℕ). IsFrame (get_or c.frames i []) (bare_payload (sent_datagrams w.master.plan w.master.next i image))) s.outputs
-          (b.frames i (let e = b.count in omega arith))))))))
-          s.frames;
-    }))
+    let cycle : CycleShows w.plan c (record { number = p.next; kept = map (λ u. None) m.parts }) = record {
+      number = b.number ∙ s.next;
+      number_fits = let e = s.next in omega arith;
+      each_part = ap length b.kept ∙ (length-map w.master.plan.parts (nothing KeptPart) ∙ plan_parts);
+      same_parts = ap theres b.kept ∙ none_there KeptPart (List Note) w.master.plan.parts m.parts (plan_parts ∙ sym parts);
+      kept = λ k part notes a z. absurd (none_in m.parts k notes z);
+    } in
+    let progress : flights_progress slots ≡ all_progress p2.slots
+    = filled-map flight_progress (flights_from w.master.next 0 c.frames) w.slots
+    ∙ (ap (λ fs. filled fs (flights_progress w.slots)) (same_start w.master.next 0 p.outputs c.frames m.parts as_many)
+    ∙ (ap (λ os. filled (map progress_of (new_frames w.master.next p.outputs 0 m.parts)) os) s.progress
+    ∙ (ap (λ n. filled (map progress_of (new_frames n p.outputs 0 m.parts)) (all_progress p.slots)) s.next
+    ∙ sym (filled-map progress_of (new_frames p.next p.outputs 0 m.parts) p.slots)))) in
+    let frames = filled-both (λ x f. FrameShows w.plan f x.bytes) (flights_from w.master.next 0 c.frames) (new_frames p.next p.outputs 0 m.parts) w.slots p.slots
+    (many_flights w.master.next 0 p.outputs c.frames m.parts as_many ∙ ap (λ n. length (new_frames n p.outputs 0 m.parts)) s.next)
+    (same_slots w.slots p.slots s.progress)
+    (subst (λ (n : ℕ). (i : ℕ) (x : Flight) (y : PlainFrame) → slice_get (flights_from w.master.next 0 c.frames) i ≡ Some x → slice_get (new_frames n p.outputs 0 m.parts) i ≡ Some y → FrameShows w.plan y x.bytes) s.next
+    (new_both (λ x f. FrameShows w.plan f x.bytes) w.master.next 0 p.outputs c.frames m.parts (λ i l.
+    let k : 0 + i ≡ i = omega arith in
+    subst (λ (n : ℕ). FrameShows w.plan (fresh w.master.next n p.outputs) (get_or c.frames i [])) (sym k)
+    (fresh_shows w.plan w.master.next i p.outputs (get_or c.frames i []) sound (omega arith) (omega arith)
+    (subst (λ (x : PlanState). IsFrame (get_or c.frames i []) (bare_payload (sent_datagrams x w.master.next i p.outputs))) s.same_plan
+    (subst (λ (image : List ℕ). IsFrame (get_or c.frames i []) (bare_payload (sent_datagrams w.master.plan w.master.next i image))) s.outputs
+    (b.frames i (let e = b.count in omega arith)))))))) s.frames in
+    subst (λ (x : WorldState). Shows x (unwrap_or (beginning m p) p)) (sym is) (subst (λ (o : Option Plain). Shows w3 (unwrap_or o p)) (sym made) (assumption (ap (λ n. n + 1) s.next, cycle, progress, frames)))
 
 -- ---- a cycle closed
 
 pub close_can : (w : WorldState) (p : Plain) → Shows w p → is_some w.master.cycle ≡ is_some (option_map (closing (meaning w.plan) p) p.cycle)
-close_can w p s = cycles_alike w.plan w.master.cycle p.cycle s.cycle ∙ sym (mapped (closing (meaning w.plan) p) p.cycle)
-  where
-    mapped : (f : Cycle → Plain) (o : Option Cycle) → is_some (option_map f o) ≡ is_some o
-    mapped f None = refl
-    mapped f (Some q) = refl
+close_can w p s = cycles_alike w.plan w.master.cycle p.cycle s.cycle ∙ sym (is_some-mapped (closing (meaning w.plan) p) p.cycle)
 
 pub close_shows : (w : WorldState) (p : Plain) (w2 : WorldState) → IsUsable w.plan → Shows w p → Closes w w2 → Shows w2 (unwrap_or (option_map (closing (meaning w.plan) p) p.cycle) p)
 close_shows w p w2 sound s closes =

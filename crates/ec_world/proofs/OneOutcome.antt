@@ -1,5 +1,5 @@
 -- A run of a new world has one outcome: its slots hold frames, and of a frame each event makes one thing.
-use Rattle.ec_world.proofs.Words.{ℕ, zero, suc, ◌+◌, ◌<◌, ◌≡◌, Bool, true, false, Option, Some, None, refl, sym, ◌∙◌, ap, subst, arith, List, [], ◌∷◌, length, map, get_or, set, slice_get, replicate, if◌then◌else◌, false≢true, ext_get_or, Got, Datagram, Payload, IsFrame, SlaveState, output_taken, IsPassedAt, numbered, datagram_of, StartState, IsStartTaken, IsOutstanding, action_of, second, sending, shape_sent, KeptPart, report_of, MasterState, OpenCycle, Begun, IsTaken, closed, Event, StartNext, Begin, Pass, Lose, Return, Close, AppPut, AppGet, filled, WorldState, Flight, slave_of, flight_at, flights_from, with_slave, resumed, ready_with, awaits, Happens, Begins, Passes, Returns, StartReturns, GivesUp, Closes, ByStart, IsStep, IsRun, slot_count, OneOutcomeLaw, none_some, some_same, rest_same}
+use Rattle.ec_world.proofs.Words.{ℕ, zero, suc, ◌+◌, ◌<◌, ◌≡◌, Bool, true, false, Option, Some, None, refl, sym, ◌∙◌, ap, subst, arith, List, [], ◌∷◌, length, map, get_or, set, slice_get, replicate, if◌then◌else◌, false≢true, ext_get_or, Got, Datagram, Payload, IsFrame, SlaveState, output_taken, IsPassedAt, numbered, datagram_of, StartState, IsStartTaken, IsOutstanding, action_of, second, sending, shape_sent, KeptPart, report_of, MasterState, OpenCycle, Begun, IsTaken, closed, Event, StartNext, Begin, Pass, Lose, Return, Close, AppPut, AppGet, filled, WorldState, Flight, slave_of, flight_at, flights_from, with_slave, resumed, ready_with, awaits, Happens, Begins, Passes, Returns, StartReturns, GivesUp, Closes, ByStart, IsStep, IsRun, slot_count, OneOutcomeLaw, none_some, some_same, rest_same, none_free}
 use Rattle.ec_world.proofs.Histories.{filled_has, set_has}
 
 -- ---- a frame that comes back
@@ -44,38 +44,31 @@ one_holds : (f : Flight) → HoldsFrame f → (i : ℕ) (x : Flight) → slice_g
 one_holds f h zero x e = subst HoldsFrame (some_same f x e) h
 one_holds f h (suc i) x e = absurd (none_some x e)
 
-in_slots : (w v : WorldState) (slots : List (Option Flight)) → v.slots ≡ slots → ((k : ℕ) (x : Flight) → get_or slots k None ≡ Some x → HoldsFrame x) → HoldsFrames v
-in_slots w v slots is h k x e = h k x (sym (ap (λ os. get_or os k None) is) ∙ e)
-
-left_holds : (w v : WorldState) (k : ℕ) → v.slots ≡ set w.slots k None → HoldsFrames w → HoldsFrames v
-left_holds w v k is h = in_slots w v (set w.slots k None) is (set_has HoldsFrame w.slots k None (λ x e. absurd (none_some x e)) h)
-
-kept_holds : (w v : WorldState) → v.slots ≡ w.slots → HoldsFrames w → HoldsFrames v
-kept_holds w v is h = in_slots w v w.slots is h
+left_holds : (w : WorldState) (k : ℕ) → HoldsFrames w → HoldsFrames (record w { slots = set w.slots k None })
+left_holds w k h = set_has HoldsFrame w.slots k None (λ x e. absurd (none_some x e)) h
 
 return_holds : (b : Bool) (old : WorldState) (k : ℕ) (new : WorldState) → ByStart b (StartReturns old k new) (Returns old k new) → HoldsFrames old → HoldsFrames new
-return_holds true old k new h = left_holds old new k (ap (λ (w : WorldState). w.slots) h.is)
-return_holds false old k new h = left_holds old new k (ap (λ (w : WorldState). w.slots) h.is)
+return_holds true old k new h all = subst HoldsFrames (sym h.is) (left_holds old k all)
+return_holds false old k new h all = subst HoldsFrames (sym h.is) (left_holds old k all)
 
 close_holds : (b : Bool) (old new : WorldState) → ByStart b (GivesUp old new) (Closes old new) → HoldsFrames old → HoldsFrames new
-close_holds true old new h = kept_holds old new (ap (λ (w : WorldState). w.slots) h)
-close_holds false old new h = kept_holds old new (ap (λ (w : WorldState). w.slots) h.is)
+close_holds true old new h all = subst HoldsFrames (sym h) all
+close_holds false old new h all = subst HoldsFrames (sym h.is) all
 
 happens_holds : (old : WorldState) (e : Event) (new : WorldState) → Happens old e new → HoldsFrames old → HoldsFrames new
-happens_holds old StartNext new h all =
-    in_slots old new _ (ap (λ (w : WorldState). w.slots) h.is) (filled_has HoldsFrame _ old.slots (one_holds _ (_, h.spelled)) all)
+happens_holds old StartNext new h all = subst HoldsFrames (sym h.is) (filled_has HoldsFrame _ old.slots (one_holds _ (_, h.spelled)) all)
 happens_holds old Begin new h all =
     let count = h.master.count in
-    in_slots old new _ (ap (λ (w : WorldState). w.slots) h.is) (filled_has HoldsFrame _ old.slots (flights_hold old.master.next 0 h.cycle.frames (λ i l. (_, h.master.frames i (omega (arith, l, count))))) all)
+    subst HoldsFrames (sym h.is) (filled_has HoldsFrame _ old.slots (flights_hold old.master.next 0 h.cycle.frames (λ i l. (_, h.master.frames i (omega (arith, l, count))))) all)
 happens_holds old (Pass k) new h all =
     let p = all k h.flight h.there in
-    in_slots old new _ (ap (λ (w : WorldState). w.slots) h.is) (set_has HoldsFrame old.slots k _ (λ x e. subst HoldsFrame (some_same _ x e) (_, h.passed.frame p.0 p.1)) all)
-happens_holds old (Lose k) new h all = left_holds old new k (ap (λ (w : WorldState). w.slots) h) all
+    subst HoldsFrames (sym h.is) (set_has HoldsFrame old.slots k _ (λ x e. subst HoldsFrame (some_same _ x e) (_, h.passed.frame p.0 p.1)) all)
+happens_holds old (Lose k) new h all = subst HoldsFrames (sym h) (left_holds old k all)
 happens_holds old (Return k) new h all = return_holds (awaits old.start) old k new h all
 happens_holds old Close new h all = close_holds (awaits old.start) old new h all
-happens_holds old (AppPut s i x) new h all = kept_holds old new (ap (λ (w : WorldState). w.slots) h.is) all
-happens_holds old (AppGet s i) new h all = kept_holds old new (ap (λ (w : WorldState). w.slots) h.is) all
-happens_holds old _ new h all = kept_holds old new (ap (λ (w : WorldState). w.slots) h) all
+happens_holds old (AppPut s i x) new h all = subst HoldsFrames (sym h.is) all
+happens_holds old (AppGet s i) new h all = subst HoldsFrames (sym h.is) all
+happens_holds old _ new h all = subst HoldsFrames (sym h) all
 
 step_holds : (old : WorldState) (e : Event) (new : WorldState) (one : Bool) → IsStep old e new one → HoldsFrames old → HoldsFrames new
 step_holds old e new true h all = happens_holds old e new (h.happens refl) all
@@ -88,15 +81,9 @@ begun_frames m n k c d x y =
     let a = x.count in
     ext_get_or [] c.frames d.frames (omega (arith, a, y.count)) (λ i l. bytes_one _ _ _ (x.frames i (omega (arith, l, a))) (y.frames i (omega (arith, l, a))))
 
-same_cycle : (c d : OpenCycle) → c.number ≡ d.number → c.frames ≡ d.frames → c.kept ≡ d.kept → c ≡ d
-same_cycle c d number frames kept =
-    ap (λ (n : ℕ). record { number = n; frames = c.frames; kept = c.kept }) number
-    ∙ (ap (λ (fs : List (List ℕ)). record { number = d.number; frames = fs; kept = c.kept }) frames
-    ∙ ap (λ (os : List (Option KeptPart)). record { number = d.number; frames = d.frames; kept = os }) kept)
-
 begun_one : (m n k : MasterState) (c d : OpenCycle) → Begun m n c → Begun m k d → n ≡ k
 begun_one m n k c d x y =
-    let same : c ≡ d = same_cycle c d (x.number ∙ sym y.number) (begun_frames m n k c d x y) (x.kept ∙ sym y.kept) in
+    let same : c ≡ d = rw (x.number ∙ sym y.number, begun_frames m n k c d x y, x.kept ∙ sym y.kept) refl in
     x.is ∙ (ap (λ (z : OpenCycle). record m { next = m.next + 1; cycle = Some z }) same ∙ sym y.is)
 
 begins_one : (old w v : WorldState) → Begins old w → Begins old v → w ≡ v
@@ -167,13 +154,6 @@ run_one (e ∷ es) old w v made count all h g =
     let r = run_one es h.0 w v h.2 g.2 (step_holds old e h.0 h.1 h.3 all) h.4 (subst (λ (x : WorldState). IsRun x es v g.2) mid g.4) in
     (r.0, h.5 ∙ (ap (λ (n : ℕ). (if h.1 then 1 else 0) + n) r.1 ∙ (ap (λ (b : Bool). (if b then 1 else 0) + g.2) (sym yes) ∙ sym g.5)))
 
--- ---- of a new world
-
-nothing : (n k : ℕ) (x : Flight) → get_or (replicate n None) k None ≡ Some x → ⊥
-nothing zero k x e = none_some x e
-nothing (suc n) zero x e = none_some x e
-nothing (suc n) (suc k) x e = nothing n k x e
-
 pub one_outcome : OneOutcomeLaw
 one_outcome t ids old n events w v made count h g =
-    run_one events old w v made count (subst HoldsFrames (sym n.is) (λ k x e. absurd (nothing slot_count k x e))) h g
+    run_one events old w v made count (subst HoldsFrames (sym n.is) (λ k x e. absurd (none_some x (sym (none_free slot_count k) ∙ e)))) h g

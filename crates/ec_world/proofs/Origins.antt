@@ -1,6 +1,7 @@
 -- A world that is Ready: the world in which its start-up ended, and where its slaves' troubles come from.
-use Rattle.ec_world.proofs.Words.{ℕ, zero, suc, ◌+◌, ◌≡◌, ◌⊎◌, ◌&&◌, Bool, true, false, refl, sym, ◌∙◌, ap, subst, inl, inr, List, [], ◌∷◌, ◌++◌, length, replicate, if◌then◌else◌, get_or-set_other, cases_Bool, cases_eq, both_ways, true≢false, if_true, if_false, PlanState, IsUsable, trouble_at, AreStartable, is_beginning, Event, StartNext, Fault, ResetSlave as Reset, WorldState, is_up, resumed, IsStep, IsRun, flags_after, flags_of, no_trouble, IsReadyWorld, Rising, HadTrouble, IsRunWithoutStart, begins_start, TroubleLaw}
+use Rattle.ec_world.proofs.Words.{ℕ, zero, suc, ◌+◌, ◌≡◌, ◌⊎◌, ◌&&◌, Bool, true, false, refl, sym, ◌∙◌, ap, subst, inl, inr, List, [], ◌∷◌, ◌++◌, length, replicate, if◌then◌else◌, get_or-set_other, cases_Bool, cases_eq, both_ways, true≢false, if_true, if_false, PlanState, IsUsable, trouble_at, AreStartable, is_beginning, Event, StartNext, Fault, ResetSlave as Reset, WorldState, is_up, resumed, IsStep, IsRun, flags_after, flags_of, no_trouble, IsReadyWorld, Rising, HadTrouble, IsRunWithoutStart, begins_start, TroubleLaw, IsMade, append_assoc}
 use Rattle.ec_world.proofs.Readies.{ready-world}
+use Rattle.ec_world.proofs.StepLaws.{runs_join}
 use Rattle.ec_world.proofs.Whole.{step-rises, step-plan}
 
 -- ---- flags
@@ -37,36 +38,37 @@ flagged_by false w e flags i h = inl (h, refl)
 abbrev pub Origin : WorldState → List Event → WorldState → List Bool → ℕ → Type 0
 Origin old es new flags i = ((trouble_at flags i ≡ true) × IsRunWithoutStart old es new) ⊎ HadTrouble old es new i
 
-pub more : (old : WorldState) (e : Event) (mid : WorldState) (one : Bool) (es : List Event) (new : WorldState) (i : ℕ) → IsStep old e mid one → HadTrouble mid es new i → HadTrouble old (e ∷ es) new i
-more old e mid one es new i step h = record {
-  event = h.event;
-  what = h.what;
-  made = record {
-    before = e ∷ h.made.before;
-    behind = h.made.behind;
-    split = ap (λ (xs : List Event). e ∷ xs) h.made.split;
-    at = h.made.at;
-    next = h.made.next;
-    first = (if one then 1 else 0) + h.made.first;
-    rest = h.made.rest;
-    to_it = (mid, one, h.made.first, step, h.made.to_it, refl);
-    step = h.made.step;
-    onward = h.made.onward;
-  };
-  since = h.since;
+-- the first event of a run
+abbrev pub made_first : (old : WorldState) (e : Event) (mid : WorldState) (es : List Event) (new : WorldState) (rest : ℕ) → IsStep old e mid true → IsRun mid es new rest → IsMade old (e ∷ es) new e
+made_first old e mid es new rest step run = record { before = []; behind = es; split = refl; at = old; next = mid; first = 0; rest = rest; to_it = (refl, refl); step = step; onward = run }
+
+-- events before the run
+abbrev pub made_later : (old : WorldState) (done : List Event) (mid : WorldState) (count : ℕ) (events : List Event) (new : WorldState) (e : Event) (all : List Event) → all ≡ done ++ events → IsRun old done mid count → IsMade mid events new e → IsMade old all new e
+made_later old done mid count events new e all is h b = record {
+  before = done ++ b.before;
+  behind = b.behind;
+  split = is ∙ (ap (λ (xs : List Event). done ++ xs) b.split ∙ sym (append_assoc done b.before (e ∷ b.behind)));
+  at = b.at;
+  next = b.next;
+  first = count + b.first;
+  rest = b.rest;
+  to_it = runs_join old done mid count b.before b.at b.first h b.to_it;
+  step = b.step;
+  onward = b.onward;
 }
+
+pub preceded : (done : List Event) (old mid : WorldState) (count : ℕ) (es : List Event) (new : WorldState) (i : ℕ) → IsRun old done mid count → HadTrouble mid es new i → HadTrouble old (done ++ es) new i
+preceded done old mid count es new i h t = record { event = t.event; what = t.what; made = made_later old done mid count es new t.event (done ++ es) refl h t.made; since = t.since }
+
+pub more : (old : WorldState) (e : Event) (mid : WorldState) (one : Bool) (es : List Event) (new : WorldState) (i : ℕ) → IsStep old e mid one → HadTrouble mid es new i → HadTrouble old (e ∷ es) new i
+more old e mid one es new i step = preceded (e ∷ []) old mid _ es new i (mid, one, 0, step, (refl, refl), refl)
 
 origin_more : (old : WorldState) (e : Event) (mid : WorldState) (one : Bool) (es : List Event) (new : WorldState) (rest : ℕ) (flags : List Bool) (i : ℕ) → IsStep old e mid one → IsRun mid es new rest
     → Origin mid es new (if one then flags_after old e flags else flags) i → Origin old (e ∷ es) new flags i
 origin_more old e mid one es new rest flags i step run (inr h) = inr (more old e mid one es new i step h)
 origin_more old e mid one es new rest flags i step run (inl h) = elim (flagged_by one old e flags i h.0) [
   | inl was ↦ inl (was.0, (mid, one, step, was.1, h.1))
-  | inr now ↦ inr (record {
-    event = e;
-    what = now.0;
-    made = record { before = []; behind = es; split = refl; at = old; next = mid; first = 0; rest = rest; to_it = (refl, refl); step = subst (IsStep old e mid) now.1 step; onward = run };
-    since = h.1;
-  })
+  | inr now ↦ inr (record { event = e; what = now.0; made = made_first old e mid es new rest (subst (IsStep old e mid) now.1 step) run; since = h.1 })
 ]
 
 -- ---- the world in which the start-up ended

@@ -1,5 +1,5 @@
 -- What a slave does with a logical datagram over its area, where it is known what it takes and gives.
-use Rattle.ec_world.proofs.Words.{ℕ, ◌+◌, ◌*◌, ◌<◌, ◌≡◌, Bool, true, false, refl, ◌∙◌, ap, arith, if◌then◌else◌, List, length, nat_lt, ◌&&◌, ◌%◌, ◌≤◌, ◌≢◌, ◌==◌, sym, subst, inl, inr, [], ◌∷◌, ◌++◌, mod-eq_of_lt, from_bool, Datagram, SyncManager, may_read, may_write, SlaveState, with_answer, Met, place_of, meets_logically, IsMapped, takes, gives, outputs_from, inputs_into, inputs_of, with_outputs, Area, Spans, exchange, mapped_kept, outputs_published, Gave, lwr_count, lrd_count, lrw_count, nothing_given, sum_of, cases_Bool, and_left, le-ltb, both_ways, eq-eqb, eqb-true, Lrd, Lwr, SlaveLrw as Lrw, if_true, if_false, Place, Misses, bit, meets, passes, Passed, logical_meet, misses, Meaning, share_of, IsLaid, PartPlan, process_datagram, process_datagrams, PlainSlave, PlainFrame, Note, Other, Full, linked_outputs, met_note, with_note, GaveAs, ShowsData, given_in, slave_left}
+use Rattle.ec_world.proofs.Words.{ℕ, ◌+◌, ◌*◌, ◌<◌, ◌≡◌, Bool, true, false, refl, ◌∙◌, ap, arith, if◌then◌else◌, List, length, nat_lt, ◌&&◌, ◌%◌, ◌≤◌, ◌≢◌, ◌==◌, sym, subst, inl, inr, [], ◌∷◌, ◌++◌, mod-eq_of_lt, from_bool, Datagram, SyncManager, may_read, may_write, SlaveState, with_answer, Met, place_of, meets_logically, IsMapped, takes, gives, outputs_from, inputs_into, inputs_of, with_outputs, Area, Spans, exchange, mapped_kept, outputs_published, Gave, lwr_count, lrd_count, lrw_count, nothing_given, sum_of, cases_Bool, and_left, le-ltb, both_ways, eq-eqb, eqb-true, Lrd, Lwr, SlaveLrw as Lrw, if_true, if_false, Place, Misses, bit, meets, passes, Passed, logical_meet, misses, Meaning, share_of, IsLaid, PartPlan, process_datagram, process_datagrams, PlainSlave, PlainFrame, Note, Other, Full, linked_outputs, met_note, with_note, GaveAs, ShowsData, given_in, slave_left, from_bool-lt}
 use Rattle.ec_world.proofs.DataLaws.{outputs_are, Took, took, Meets, data_passed, same_place}
 
 -- a mapped slave that takes and gives this, and these inputs
@@ -70,18 +70,14 @@ pub sum_of-le : (f : Gave → ℕ) → ((g : Gave) → f g ≤ 3) → (gs : List
 sum_of-le f h [] = omega arith
 sum_of-le f h (g ∷ gs) = let e = sum_of-le f h gs in let a = h g in omega arith
 
-bool_le : (b : Bool) → from_bool b ≤ 1
-bool_le true = omega arith
-bool_le false = omega arith
-
 pub lwr_le : (g : Gave) → lwr_count g ≤ 3
-lwr_le g = let a = bool_le g.wrote in omega arith
+lwr_le g = let a = from_bool-lt g.wrote in omega arith
 
 pub lrd_le : (g : Gave) → lrd_count g ≤ 3
-lrd_le g = let a = bool_le g.read in omega arith
+lrd_le g = let a = from_bool-lt g.read in omega arith
 
 pub lrw_le : (g : Gave) → lrw_count g ≤ 3
-lrw_le g = let a = bool_le g.wrote in let b = bool_le g.read in omega arith
+lrw_le g = let a = from_bool-lt g.wrote in let b = from_bool-lt g.read in omega arith
 
 -- no counter wraps among 64 slaves
 counted : (f : Gave → ℕ) (gs : List Gave) (g : Gave) → ((g : Gave) → f g ≤ 3) → length gs < 64 → (sum_of f gs + f g) % 65536 ≡ sum_of f (gs ++ (g ∷ []))
@@ -206,9 +202,7 @@ module _ (m : Meaning) (area : ℕ → Area) (place : ℕ → Place) (part : Par
       (small lwr_count gave lwr_le many) (small lrd_count gave lrd_le many) (small lrw_count gave lrw_le many) in
       let same : slave_left m t f q s ≡ s = if_false _ _ _ (ap (λ g. g.wrote) none) in
       let counts : counting part f.number sent returned (sum_of lwr_count gave) (sum_of lrd_count gave) (sum_of lrw_count gave) ≡ process_datagrams part f.number sent returned (gave ++ (g ∷ []))
-      = ap (λ w. counting part f.number sent returned w (sum_of lrd_count gave) (sum_of lrw_count gave)) (zero_more lwr_count refl)
-      ∙ (ap (λ r. counting part f.number sent returned (sum_of lwr_count (gave ++ (g ∷ []))) r (sum_of lrw_count gave)) (zero_more lrd_count refl)
-      ∙ ap (λ b. counting part f.number sent returned (sum_of lwr_count (gave ++ (g ∷ []))) (sum_of lrd_count (gave ++ (g ∷ []))) b) (zero_more lrw_count refl)) in
+      = rw (zero_more lwr_count refl, zero_more lrd_count refl, zero_more lrw_count refl) refl in
       record {
         sent = sent;
         returned = returned;

@@ -3,7 +3,7 @@ use Rattle.ec_world.proofs.Words.{ℕ, suc, ◌+◌, ◌*◌, ◌<◌, ◌≡◌
 use Rattle.ec_world.proofs.FrameSteps.{has_met, same_way}
 use Rattle.ec_world.proofs.Knowing.{share_is}
 use Rattle.ec_world.proofs.MasterSteps.{open_both}
-use Rattle.ec_world.proofs.CloseLaws.{inputs_same, report_said, counted, all_full_kept, full_or}
+use Rattle.ec_world.proofs.CloseLaws.{inputs_same, report_said, counted, all_full_kept, full_or, part_full}
 
 -- ---- a pass
 
@@ -56,9 +56,6 @@ outputs_law old p k f new sound s there working h =
 
 -- ---- notes
 
-full_same : (v w : List ℕ) → Full v ≡ Full w → v ≡ w
-full_same v w e = cc
-
 short_of : (m : Meaning) (s : ℕ) (q : PlainSlave) (h : Health) → q.health ≡ h → giving (share_of m s) q h ≡ Short → FallsShort m s q
 short_of m s q Working e n = absurd (cc n)
 short_of m s q Faulted e n = elim (cases_Bool (has_outs (share_of m s))) [
@@ -72,10 +69,10 @@ short_of m s q Reset e n = elim (cases_Bool (has_outs (share_of m s) || has_ins 
 
 full_if : (b : Bool) (v w : List ℕ) → (if b then Short else Full w) ≡ Full v → v ≡ w
 full_if true v w e = absurd (cc e)
-full_if false v w e = sym (full_same w v e)
+full_if false v w e = cc e
 
 full_of : (m : Meaning) (s : ℕ) (q : PlainSlave) (h : Health) (v : List ℕ) → giving (share_of m s) q h ≡ Full v → v ≡ q.inputs.published
-full_of m s q Working v n = sym (full_same q.inputs.published v n)
+full_of m s q Working v n = cc n
 full_of m s q Faulted v n = full_if (has_outs (share_of m s)) v q.inputs.published n
 full_of m s q Reset v n = full_if (has_outs (share_of m s) || has_ins (share_of m s)) v q.inputs.published n
 
@@ -161,11 +158,7 @@ noted plan c q i sound h l on =
     let part : k ≡ (slave_at plan i.slave).share.part = ap (λ (x : Share). x.part) (share_is plan i.slave) in
     let len : length c.kept ≡ length q.kept = sym (length-map c.kept (λ o. is_some o)) ∙ (ap length h.same_parts ∙ length-map q.kept (λ o. is_some o)) in
     let inside : k < length q.kept = let x = h.each_part in let y = sound.in_parts i.slave l in omega (arith, x, y, part, len) in
-    let z : 0 + k ≡ k = omega arith in
-    let own : all_full (get_or q.kept k None) ≡ true
-    = sym (if_true (unit_of_part m k == u) (all_full (get_or q.kept k None)) true (eq-eqb u u refl))
-    ∙ subst (λ (n : ℕ). (if unit_of_part m n == u then all_full (get_or q.kept k None) else true) ≡ true) z
-    (all_from-each (λ j o. if unit_of_part m j == u then all_full o else true) 0 q.kept k None on inside) in
+    let own = part_full m q u k on inside refl in
     let notes = all_full_kept (get_or q.kept k None) own in
     let kept = there_too c.kept q.kept k notes.0 h.same_parts notes.1 in
     let shows = h.kept k kept.0 notes.0 kept.1 notes.1 in

@@ -26,21 +26,9 @@ pub record Traced (m : Meaning) (begun : Plain) (number : ℕ) (done : List Even
 
 -- with one event more
 later : (m : Meaning) (begun : Plain) (number : ℕ) (done : List Event) (e : Event) (k s : ℕ) (n : Note) → IsNotedAt m begun number done k s n → IsNotedAt m begun number (done ++ (e ∷ [])) k s n
-later m begun number done e k s n h = record {
-  before = h.before;
-  slot = h.slot;
-  behind = h.behind ++ (e ∷ []);
-  split = ap (λ (xs : List Event). xs ++ (e ∷ [])) h.split ∙ append_assoc h.before (Pass h.slot ∷ h.behind) (e ∷ []);
-  next = h.next;
-  made = h.made;
-  frame = h.frame;
-  there = h.there;
-  number_is = h.number_is;
-  part_is = h.part_is;
-  meets = h.meets;
-  is = h.is;
-  published = h.published;
-}
+later m begun number done e k s n h =
+    let split : done ++ (e ∷ []) ≡ h.before ++ (Pass h.slot ∷ (h.behind ++ (e ∷ []))) = ap (λ (xs : List Event). xs ++ (e ∷ [])) h.split ∙ append_assoc h.before (Pass h.slot ∷ h.behind) (e ∷ []) in
+    search (h, split)
 
 still_traced : (m : Meaning) (begun : Plain) (number : ℕ) (done : List Event) (e : Event) (p : Plain) → Traced m begun number done p → Traced m begun number (done ++ (e ∷ [])) p
 still_traced m begun number done e p h = record {
@@ -109,13 +97,10 @@ traced_begun m p begun b = record {
   past = let next = ap (λ (x : Plain). x.next) is in omega (arith, next);
   frames = λ j f at. filled_has (λ (g : PlainFrame). g.number ≡ p.next → AreNoted m begun p.next [] g.part g.notes) (new_frames p.next p.outputs 0 m.parts) p.slots
       (λ i g there own s n told. absurd (none_some n (ap (λ ns. slice_get ns s) (sym (new_one p.next 0 p.outputs m.parts i g there).notes) ∙ told)))
-      (λ i g there own. absurd (let x = below i g there in omega (arith, x, own))) j f (ap (λ (x : Plain). frame_at x j) is ∙ at);
+      (λ i g there own. absurd (let x = begun_below m p begun b i g there in omega (arith, x, own))) j f (ap (λ (x : Plain). frame_at x j) is ∙ at);
   kept = λ d at own k notes back. absurd (none_in m.parts k notes (ap (λ (x : Cycle). get_or x.kept k None) (some_same _ d (ap (λ (x : Plain). x.cycle) is ∙ at)) ∙ back));
 }
   where
-    below : (k : ℕ) (f : PlainFrame) → frame_at p k ≡ Some f → f.number < p.next
-    below = begun_below m p begun b
-
     is : cycle_begun m p ≡ begun
     is = guarded _ _ begun b.begins
 

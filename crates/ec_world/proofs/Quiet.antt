@@ -1,6 +1,6 @@
 -- A cycle that is quiet for a unit takes it: its frames note whole shares, and each of its parts is kept or still on its way.
-use Rattle.ec_world.proofs.Words.{ℕ, zero, suc, ◌+◌, ◌<◌, ◌≤◌, ◌≡◌, ◌≢◌, ◌⊎◌, ◌==◌, ◌&&◌, ◌||◌, Bool, true, false, Option, Some, None, refl, sym, ◌∙◌, ap, subst, inl, inr, arith, List, [], ◌∷◌, ◌++◌, length, get_or, set, is_none, if◌then◌else◌, option_map, get_or-set_same, get_or-set_other, length-set, list_all, list_any, cases_Bool, cases_eq, and_parts, and_from, or_right, eqb-true, eq-eqb, le-leb, true≢false, length-map, length_push, if_true, if_false, Meaning, share_of, has_outs, has_ins, unit_of_part, nones, all_from, Event, Begin, Lose, Fault, ResetSlave, Plain, PlainSlave, PlainFrame, Faulted, Reset, Note, Short, Cycle, step, run, frame_at, plain_slave, keeping, filled, new_frames, met_note, is_full, all_full, IsBegun, FallsShort, TakenLaw, unit_of_slave, holds_of_unit, still_comes, is_awaited, disturbs, none_some, some_same, cycle_begun, none_in, some_or}
-use Rattle.ec_world.proofs.Tracing.{mapped, guarded, Leaves, Stays, Begins, Moves, Loses, Returns, Closes, leaves}
+use Rattle.ec_world.proofs.Words.{ℕ, zero, suc, ◌+◌, ◌<◌, ◌≤◌, ◌≡◌, ◌≢◌, ◌⊎◌, ◌==◌, ◌&&◌, ◌||◌, Bool, true, false, Option, Some, None, refl, sym, ◌∙◌, ap, subst, inl, inr, arith, List, [], ◌∷◌, ◌++◌, length, get_or, set, is_none, if◌then◌else◌, option_map, get_or-set_same, get_or-set_other, length-set, list_all, list_any, cases_Bool, cases_eq, and_parts, and_from, or_right, eqb-true, eq-eqb, le-leb, true≢false, length-map, length_push, if_true, if_false, Meaning, share_of, has_outs, has_ins, unit_of_part, nones, all_from, Event, Begin, Lose, Fault, ResetSlave, Plain, PlainSlave, PlainFrame, Faulted, Reset, Note, Short, Cycle, step, run, frame_at, plain_slave, keeping, filled, new_frames, met_note, is_full, all_full, IsBegun, FallsShort, TakenLaw, unit_of_slave, holds_of_unit, still_comes, is_awaited, disturbs, none_some, some_same, cycle_begun, none_in, some_or, list_any_at, list_all-append, within_of}
+use Rattle.ec_world.proofs.Tracing.{mapped, guarded, Leaves, Stays, Begins, Moves, Loses, Returns, Closes, leaves, room_there}
 use Rattle.ec_world.proofs.Histories.{run_tells, begun_below, filled_has, filled_holds, new_one, new_at, as_many, set_at, keeping_number, count_kept, frames_left, next_left, passed_on, Rests, HasFailed, HasRestarted, became}
 use Rattle.ec_world.proofs.Promising.{notes_law}
 
@@ -36,6 +36,12 @@ moved_away number k (o ∷ os) (suc j) g y at num part zero f there a = record {
 moved_away number k (o ∷ os) (suc j) g y at num part (suc i) f there a =
     let r = moved_away number k os j g y at num part i f there a in
     record { slot = suc r.slot; frame = r.frame; there = r.there; is = r.is }
+
+-- the frame of part k, as its cycle begins
+pub new_away : (m : Meaning) (p : Plain) (k : ℕ) → k < length m.parts → length m.parts ≤ nones p.slots → Away p.next k (filled (new_frames p.next p.outputs 0 m.parts) p.slots)
+new_away m p k l room =
+    let r = filled_holds (new_frames p.next p.outputs 0 m.parts) p.slots k _ (omega (arith, room, as_many p.next 0 p.outputs m.parts)) (new_at p.next 0 p.outputs m.parts k l) in
+    record { slot = r.0; frame = _; there = r.1; is = record { number_is = refl; part_is = omega arith } }
 
 -- another frame's slot becoming free leaves it away
 pub left_away : (number k : ℕ) (os : List (Option PlainFrame)) (j : ℕ) → ((f : PlainFrame) → get_or os j None ≡ Some f → IsAway number k f → ⊥) → Away number k os → Away number k (set os j None)
@@ -85,9 +91,7 @@ whole_full m s f q whole = full_note (met_note m s f q) (λ e. let r = (notes_la
 -- ---- a frame that is awaited
 
 any_at : {X : Type 0} (t : Option X → Bool) (os : List (Option X)) (k : ℕ) (x : X) → get_or os k None ≡ Some x → t (Some x) ≡ true → list_any t os ≡ true
-any_at t [] k x e h = absurd (none_some x e)
-any_at t (o ∷ os) zero x e h = ap (λ y. t y || list_any t os) e ∙ ap (λ (b : Bool). b || list_any t os) h
-any_at t (o ∷ os) (suc k) x e h = or_right (t o) (list_any t os) (any_at t os k x e h)
+any_at t os k x e h = list_any_at t os k None (within_of os k x e) (ap t e ∙ h)
 
 awaited : (m : Meaning) (number s : ℕ) (p : Plain) (k : ℕ) (f : PlainFrame) → frame_at p k ≡ Some f → f.number ≡ number → (share_of m s).part ≡ f.part → length f.notes ≤ s → is_awaited m number s p ≡ true
 awaited m number s p k f at num part le = any_at (still_comes m number s) p.slots k f at
@@ -100,8 +104,7 @@ IsAhead m p f = (s : ℕ) → length f.notes ≤ s → s < length p.slaves → (
 -- ---- a unit while nothing disturbs it
 
 all_push : (ns : List Note) (n : Note) → list_all is_full ns ≡ true → is_full n ≡ true → list_all is_full (ns ++ (n ∷ [])) ≡ true
-all_push [] n h e = and_from (is_full n) true e refl
-all_push (x ∷ ns) n h e = let b = and_parts (is_full x) (list_all is_full ns) h in and_from (is_full x) (list_all is_full (ns ++ (n ∷ []))) b.0 (all_push ns n b.1 e)
+all_push ns n h e = list_all-append is_full ns (n ∷ []) ∙ and_from (list_all is_full ns) _ h (and_from (is_full n) true e refl)
 
 -- what is kept of the unit's parts is full, and each of them is kept or on its way
 pub record Complete (m : Meaning) (number u : ℕ) (slots : List (Option PlainFrame)) (c : Cycle) : Type 0 where
@@ -234,38 +237,22 @@ peaceful_step m number u p e q ok h c = record {
             subst (Complete m number u (set p.slots j None)) r.is (kept_more m number u p.slots j g r.value there (c.full j g there) num (c.cycle r.value r.there num))
 
 peaceful_begun : (m : Meaning) (p begun : Plain) (u : ℕ) → IsBegun m p begun → ((s : ℕ) → s < length p.slaves → unit_of_slave m s ≡ u → FallsShort m s (plain_slave p s) → ⊥) → Peaceful m p.next u begun
-peaceful_begun m p begun u b whole = by (leaves m p Begin begun b.begins)
+peaceful_begun m p begun u b whole = record {
+  past = let next = ap (λ (x : Plain). x.next) is in omega (arith, next);
+  ahead = λ k f at num mine s le l part short. whole s (let n = ap (λ (x : Plain). length x.slaves) is in omega (arith, l, n)) (ap (unit_of_part m) part ∙ mine)
+      (subst (λ (x : Plain). FallsShort m s (plain_slave x s)) (sym is) short);
+  full = λ k f at. filled_has (λ (g : PlainFrame). g.number ≡ p.next → unit_of_part m g.part ≡ u → list_all is_full g.notes ≡ true) (new_frames p.next p.outputs 0 m.parts) p.slots
+      (λ i g there own mine. ap (list_all is_full) (new_one p.next 0 p.outputs m.parts i g there).notes)
+      (λ i g there own mine. absurd (let x = begun_below m p begun b i g there in omega (arith, x, own))) k f (ap (λ (x : Plain). frame_at x k) is ∙ at);
+  cycle = λ d at own. subst (λ os. Complete m p.next u os d) (ap (λ (x : Plain). x.slots) is)
+      (subst (Complete m p.next u (filled (new_frames p.next p.outputs 0 m.parts) p.slots)) (some_same _ d (ap (λ (x : Plain). x.cycle) is ∙ at)) (record {
+        full = λ k notes e mine. absurd (none_in m.parts k notes e);
+        each = λ k l mine. inr (new_away m p k (omega (arith, l, length-map {A = ℕ} {B = Option (List Note)} m.parts (λ v. None))) (room_there m p begun b.begins));
+      }));
+}
   where
-    below : (k : ℕ) (f : PlainFrame) → frame_at p k ≡ Some f → f.number < p.next
-    below = begun_below m p begun b
-
     is : cycle_begun m p ≡ begun
     is = guarded _ _ begun b.begins
-
-    made : length m.parts ≤ nones p.slots → Peaceful m p.next u begun
-    made room = record {
-      past = let next = ap (λ (x : Plain). x.next) is in omega (arith, next);
-      ahead = λ k f at num mine s le l part short. whole s (let n = ap (λ (x : Plain). length x.slaves) is in omega (arith, l, n)) (ap (unit_of_part m) part ∙ mine)
-          (subst (λ (x : Plain). FallsShort m s (plain_slave x s)) (sym is) short);
-      full = λ k f at. filled_has (λ (g : PlainFrame). g.number ≡ p.next → unit_of_part m g.part ≡ u → list_all is_full g.notes ≡ true) (new_frames p.next p.outputs 0 m.parts) p.slots
-          (λ i g there own mine. ap (list_all is_full) (new_one p.next 0 p.outputs m.parts i g there).notes)
-          (λ i g there own mine. absurd (let x = below i g there in omega (arith, x, own))) k f (ap (λ (x : Plain). frame_at x k) is ∙ at);
-      cycle = λ d at own. subst (λ os. Complete m p.next u os d) (ap (λ (x : Plain). x.slots) is)
-          (subst (Complete m p.next u (filled (new_frames p.next p.outputs 0 m.parts) p.slots)) (some_same _ d (ap (λ (x : Plain). x.cycle) is ∙ at)) (record {
-            full = λ k notes e mine. absurd (none_in m.parts k notes e);
-            each = λ k l mine. inr (let f = new_at p.next 0 p.outputs m.parts k (omega (arith, l, length-map {A = ℕ} {B = Option (List Note)} m.parts (λ v. None))) in
-                let r = filled_holds (new_frames p.next p.outputs 0 m.parts) p.slots k _ (omega (arith, room, as_many p.next 0 p.outputs m.parts)) f in
-                record { slot = r.0; frame = _; there = r.1; is = record { number_is = refl; part_is = omega arith } });
-          }));
-    }
-
-    by : Leaves m p Begin begun → Peaceful m p.next u begun
-    by (Stays slots next cycle) = absurd (let n = ap (λ (x : Plain). x.next) is in omega (arith, next, n))
-    by (Closes slots next cycle) = absurd (let n = ap (λ (x : Plain). x.next) is in omega (arith, next, n))
-    by (Begins is_begin slots next cycle slaves room) = made room
-    by (Moves j g own there inside q) = absurd (let n = ap (λ (x : Plain). x.next) is in let o = ap (λ (x : Plain). x.next) q in omega (arith, o, n))
-    by (Loses j own q) = absurd (let n = ap (λ (x : Plain). x.next) is in let o = ap (λ (x : Plain). x.next) q in omega (arith, o, n))
-    by (Returns j g there q all) = absurd (let n = ap (λ (x : Plain). x.next) is in let o = ap (λ (x : Plain). x.next) q in omega (arith, o, n))
 
 -- a test that each place passes
 all_places : (t : ℕ → Option (List Note) → Bool) (k : ℕ) (xs : List (Option (List Note))) → ((i : ℕ) → i < length xs → t (k + i) (get_or xs i None) ≡ true) → all_from t k xs ≡ true

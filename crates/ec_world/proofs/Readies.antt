@@ -1,16 +1,11 @@
 -- A world whose start-up is ready shows a plain state.
-use Rattle.ec_world.proofs.Words.{ℕ, zero, suc, ◌<◌, ◌≡◌, ◌⊎◌, Bool, true, false, Option, Some, None, refl, sym, ◌∙◌, ap, subst, inl, inr, arith, List, [], ◌∷◌, length, map, get_or, option_map, get_or-map as get_or-mapped, cases_lt, and_from, and_left, ext_get_or, get_or_past, list_get_or-map as get_or-map, length-map, length-replicate, bytes_of_bits, if_true, if_false, no_settings, no_fmmu, Identity, SlaveKind, Buffer, emptied_buffer, SyncManager, no_manager, buffer_length, Init, Al as AlMachine, switched_on, SlaveState, manager_at, power_on, SlavePlan, slave_at as settings_of, AreListed, input_manager, IsUsable, listed, IsStartable, end_of, Phase, Idle, Ready, IsOfKind, unviewed, Config, OpenCycle, ReportState, fmmus-held, Starting, trouble_at, no_plan, kind_at, Starts, Between, UnderWay, Adrift, Over, IsReady, AreStartable, ends_of, HoldsAll, Shown, ready-shown, PlainSlave, Health, Working, Faulted, Reset, no_plain_slave, plain_slave, all_progress, WorldState, Flight, no_slave, slave_of, flights_progress, is_up, phase_ready, phase_awaits, Holds, IsQuiet, HoldsData, IsAs, SlaveShows, CyclesShow, said, AreWhole, SlotsHold, seen_of, Rising, health_of, plain_slave_of, plain_of, ShowsZeros, IsReadyWorld, none_some}
+use Rattle.ec_world.proofs.Words.{ℕ, zero, suc, ◌<◌, ◌≡◌, ◌⊎◌, Bool, true, false, Option, Some, None, refl, sym, ◌∙◌, ap, subst, inl, inr, arith, List, [], ◌∷◌, length, map, get_or, option_map, get_or-map as get_or-mapped, cases_lt, and_from, and_left, ext_get_or, get_or_past, list_get_or-map as get_or-map, length-map, length-replicate, bytes_of_bits, if_true, if_false, no_settings, no_fmmu, Identity, SlaveKind, Buffer, emptied_buffer, SyncManager, no_manager, buffer_length, Init, Al as AlMachine, switched_on, SlaveState, manager_at, power_on, SlavePlan, slave_at as settings_of, AreListed, input_manager, IsUsable, listed, IsStartable, end_of, Phase, Idle, Ready, IsOfKind, unviewed, Config, OpenCycle, ReportState, fmmus-held, Starting, trouble_at, no_plan, kind_at, Starts, Between, UnderWay, Adrift, Over, IsReady, AreStartable, ends_of, HoldsAll, Shown, ready-shown, PlainSlave, Health, Working, Faulted, Reset, no_plain_slave, plain_slave, all_progress, WorldState, Flight, no_slave, slave_of, flights_progress, is_up, phase_ready, phase_awaits, Holds, IsQuiet, HoldsData, IsAs, SlaveShows, CyclesShow, said, AreWhole, SlotsHold, seen_of, Rising, health_of, plain_slave_of, plain_of, ShowsZeros, IsReadyWorld, none_some, PlainFrame, FrameShows, ReportShows, flight_at}
 use Rattle.ec_bringup.specs.Runs as rise
-use Rattle.ec_world.proofs.Mapped.{some_bits, no_bits, set_for_ins, unset, third_held, fourth_held}
-use Rattle.ec_world.proofs.AppSteps.{out_length}
+use Rattle.ec_world.proofs.Mapped.{third_held, fourth_held, buffer_long, set_for_ins}
+use Rattle.ec_world.proofs.AppSteps.{out_length, state_on}
 
 in_length : (p : SlavePlan) → AreListed p → buffer_length (input_manager p) ≡ bytes_of_bits p.share.ins
-in_length p a = elim (cases_lt 0 p.share.ins) [
-  | inl l ↦ ap buffer_length (some_bits p.share.ins p.kind.in_start 0x20 l) ∙ if_true _ _ _ (and_from _ _ (set_for_ins p.share.ins p.kind.in_start l a.in_fits) refl)
-  | inr z ↦
-      let none : p.share.ins ≡ 0 = omega arith in
-      ap buffer_length (no_bits p.share.ins p.kind.in_start 0x20 none) ∙ (if_false _ _ _ (and_left _ _ unset) ∙ ap bytes_of_bits (sym none))
-]
+in_length p a = buffer_long p.share.ins p.kind.in_start 0x20 (λ l. set_for_ins p.share.ins p.kind.in_start l a.in_fits) refl
 
 -- ---- one slave
 
@@ -22,9 +17,6 @@ on-zeros : (kind : SlaveKind) (identity : Identity) → ShowsZeros (plain_slave_
 on-zeros kind identity = subst (λ (ms : List SyncManager). ShowsZeros (manager_at ms 2).buffer) (sym (switched_on kind identity).managers) (shows-zeros no_manager.buffer (buffer_length no_settings) refl)
 
 module _ (i : ℕ) (p : SlavePlan) (s : SlaveState) (listed : AreListed p) (good : IsStartable p) (slave : IsOfKind p.kind s) (fit : AreWhole s) where
-  four-managers : length p.managers ≡ 4
-  four-managers = ap length listed.managers
-
   held : HoldsAll i p s → Holds i p s
   held h =
       let c = h.configured in
@@ -35,7 +27,7 @@ module _ (i : ℕ) (p : SlavePlan) (s : SlaveState) (listed : AreListed p) (good
         kind = slave.kind_is;
         station = c.station_is;
         fmmus = fmmus-held i (end_of p) s good.readable c ∙ (ap (λ fs. get_or fs 0 no_fmmu ∷ get_or fs 1 no_fmmu ∷ get_or fs 2 no_fmmu ∷ get_or fs 3 no_fmmu ∷ []) listed.fmmus ∙ sym listed.fmmus);
-        managers = ext_get_or no_settings (map (λ (m : SyncManager). m.settings) s.managers) p.managers (many ∙ sym four-managers) (λ n l. own n (let f = many in omega (arith, l, f)));
+        managers = ext_get_or no_settings (map (λ (m : SyncManager). m.settings) s.managers) p.managers (many ∙ sym (ap length listed.managers)) (λ n l. own n (let f = many in omega (arith, l, f)));
         outputs = h.outs;
         inputs = h.ins;
       }
@@ -63,32 +55,15 @@ module _ (i : ℕ) (p : SlavePlan) (s : SlaveState) (listed : AreListed p) (good
         in_bytes = record { published = g.published ∙ ins; draft = λ d e. g.draft d e ∙ ins };
       }
 
-  state_on : s ≡ power_on s.kind s.identity → s.al.state ≡ Init
-  state_on e = ap (λ (x : SlaveState). x.al.state) e ∙ ap (λ (a : AlMachine). a.state) (switched_on s.kind s.identity).al
-
   shown-as : (h : Health) → health_of s.al.state ≡ h → IsAs i p s (plain_slave_of s) h → SlaveShows i p s (plain_slave_of s)
   shown-as h e q = subst (λ (x : Health). IsAs i p s (plain_slave_of s) x) (sym e) q
 
   pub slave-shows : (flag : Bool) → Shown i p flag s → SlaveShows i p s (plain_slave_of s)
-  slave-shows flag (rise.Working h) = shown-as Working (ap health_of h.in_op.state_is) (record {
-    holds = held h.holds;
-    quiet = quiet-of h.holds h.in_op.no_request;
-    process = values h.holds;
-    state = h.in_op.state_is;
-    no_error = h.in_op.no_error;
-    out_unlocked = h.unlocked 2 (omega arith);
-    in_unlocked = h.unlocked 3 (omega arith);
-  })
-  slave-shows flag (rise.Faulted t h) = shown-as Faulted (ap health_of h.state) (record {
-    holds = held h.holds;
-    quiet = quiet-of h.holds h.no_request;
-    process = values h.holds;
-    state = h.state;
-    error = h.error;
-    out_locked = h.locked;
-    in_unlocked = h.unlocked 3 (omega arith) (omega arith);
-  })
-  slave-shows flag (rise.WasReset t h) = shown-as Reset (ap health_of (state_on h)) (record { kind = slave.kind_is; as_on = h })
+  slave-shows flag (rise.Working h) = shown-as Working (ap health_of h.in_op.state_is)
+      (assumption (held h.holds, quiet-of h.holds h.in_op.no_request, values h.holds, h.unlocked 2 (omega arith), h.unlocked 3 (omega arith)))
+  slave-shows flag (rise.Faulted t h) = shown-as Faulted (ap health_of h.state)
+      (assumption (held h.holds, quiet-of h.holds h.no_request, values h.holds, h.unlocked 3 (omega arith) (omega arith)))
+  slave-shows flag (rise.WasReset t h) = shown-as Reset (ap health_of (state_on s h)) (record { kind = slave.kind_is; as_on = h })
 
   pub slave-told : (flag : Bool) → Shown i p flag s → (health_of s.al.state ≡ Working) ⊎ (flag ≡ true)
   slave-told flag (rise.Working h) = inl (ap health_of h.in_op.state_is)
@@ -114,9 +89,6 @@ up-ready _ e = absurd (let z : false ≡ true = e in cc)
 
 ready-slot : (ends : ℕ → Config) (v : Starting) → Starts ends v → v.start.phase ≡ Ready → v.slot ≡ None
 ready-slot ends v h e = elim h.instant [ Between b ↦ b.empty | UnderWay b ↦ absurd (cc (sym b.sent ∙ e)) | Adrift b ↦ b.empty | Over b ↦ absurd (cc (sym b.failed ∙ e)) | IsReady b ↦ b.empty ]
-  where
-    idle-ready : Idle ≡ Ready → ⊥
-    idle-ready q = cc
 
 pub ready-world : (flags : List Bool) (w : WorldState) → IsUsable w.plan → AreStartable w.plan.slaves → Rising flags w → is_up w.start ≡ true → IsReadyWorld flags w
 ready-world flags w sound planned r up =
@@ -130,25 +102,14 @@ ready-world flags w sound planned r up =
     = λ i l. subst (λ (ps : List SlavePlan). IsOfKind (kind_at ps i) (slave_of w i)) r.same_plan (r.starts.slaves.each i (omega (arith, l, ap length r.same_plan))) in
     let at : (i : ℕ) → i < length w.plan.slaves → plain_slave (plain_of w) i ≡ plain_slave_of (slave_of w i)
     = λ i l. get_or-map plain_slave_of w.slaves i no_slave no_plain_slave (omega (arith, l, as_many)) in
+    let slaves : (i : ℕ) → i < length w.plan.slaves → SlaveShows i (settings_of w.plan i) (slave_of w i) (plain_slave (plain_of w) i)
+    = λ i l. subst (SlaveShows i (settings_of w.plan i) (slave_of w i)) (sym (at i l))
+    (slave-shows i (settings_of w.plan i) (slave_of w i) (listed w.plan sound i l) (planned.each i l) (kind i l) (r.fit i) (trouble_at flags i) (shown i l)) in
+    let cycle : CyclesShow w.plan w.master.cycle None = subst (λ (o : Option OpenCycle). CyclesShow w.plan o None) (sym r.no_cycle) tt in
+    let report : ReportShows w.plan w.report None = record { same = ap (λ (o : Option ReportState). option_map said o) r.no_report; counters = λ x e. absurd (none_some x (sym r.no_report ∙ e)) } in
+    let frames : (k : ℕ) (flight : Flight) (f : PlainFrame) → flight_at w k ≡ Some flight → get_or (plain_of w).slots k None ≡ Some f → FrameShows w.plan f flight.bytes = λ k flight f e q. absurd (none_some flight (sym (none k) ∙ e)) in
     record {
-      shows = record {
-        started = up;
-        no_start = ap (λ (p : Phase). phase_awaits p) ready;
-        is_ready = r.master_ready ∙ up;
-        same_plan = r.master_plan;
-        outputs = refl;
-        inputs = refl;
-        next = refl;
-        got = refl;
-        cycle = subst (λ (o : Option OpenCycle). CyclesShow w.plan o None) (sym r.no_cycle) tt;
-        report = record { same = ap (λ (o : Option ReportState). option_map said o) r.no_report; counters = λ x e. absurd (none_some x (sym r.no_report ∙ e)) };
-        count = as_many;
-        plain_count = length-map w.slaves plain_slave_of ∙ as_many;
-        slaves = λ i l. subst (SlaveShows i (settings_of w.plan i) (slave_of w i)) (sym (at i l))
-            (slave-shows i (settings_of w.plan i) (slave_of w i) (listed w.plan sound i l) (planned.each i l) (kind i l) (r.fit i) (trouble_at flags i) (shown i l));
-        progress = no-frames w.slots none;
-        frames = λ k flight f e q. absurd (none_some flight (sym (none k) ∙ e));
-      };
+      shows = assumption (ap (λ (p : Phase). phase_awaits p) ready, r.master_ready ∙ up, r.master_plan, cycle, report, length-map w.slaves plain_slave_of ∙ as_many, slaves, no-frames w.slots none, frames);
       told = λ i l. subst (λ (q : PlainSlave). (q.health ≡ Working) ⊎ (trouble_at flags i ≡ true)) (sym (at i l))
           (slave-told i (settings_of w.plan i) (slave_of w i) (listed w.plan sound i l) (planned.each i l) (kind i l) (r.fit i) (trouble_at flags i) (shown i l));
       zeros = λ i l. subst (λ (q : PlainSlave). ShowsZeros q.outputs) (sym (at i l))

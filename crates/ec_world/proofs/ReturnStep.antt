@@ -26,14 +26,7 @@ pub record Returned (plan : PlanState) (old new : MasterState) (o : Option Cycle
   pub cycle : CyclesShow plan new.cycle o
 
 unchanged : (plan : PlanState) (old new : MasterState) (o : Option Cycle) → new ≡ old → CyclesShow plan old.cycle o → Returned plan old new o
-unchanged plan old new o e h = record {
-  is_ready = ap (λ (m : MasterState). m.is_ready) e;
-  same_plan = ap (λ (m : MasterState). m.plan) e;
-  outputs = ap (λ (m : MasterState). m.outputs) e;
-  inputs = ap (λ (m : MasterState). m.inputs) e;
-  next = ap (λ (m : MasterState). m.next) e;
-  cycle = subst (λ (m : MasterState). CyclesShow plan m.cycle o) (sym e) h;
-}
+unchanged plan old new o e h = subst (λ (m : MasterState). Returned plan old m o) (sym e) (assumption h)
 
 module _ (plan : PlanState) (old new : MasterState) (f : PlainFrame) (bytes : List ℕ) (is_kept : Bool) (sound : IsUsable plan) (same_plan : old.plan ≡ plan)
     (shows : FrameShows plan f bytes) (all : length f.notes ≡ length plan.slaves) (taken : IsTaken old bytes is_kept new) where
@@ -65,26 +58,21 @@ module _ (plan : PlanState) (old new : MasterState) (f : PlainFrame) (bytes : Li
       let there : KeptShows plan f.part f.notes kept = subst (λ (p : PlanState). KeptShows plan f.part f.notes (kept_of (part_at p.parts f.part) shows.payload.datagrams)) (sym same_plan) (kept_shows plan f shows.payload.datagrams sound shows.shows all) in
       let inside : f.part < length c.kept = let x = h.each_part in let y = shows.shows.part_there in omega arith in
       let len : length q.kept ≡ length c.kept = sym (length-map q.kept (λ o. is_some o)) ∙ (ap length (sym h.same_parts) ∙ length-map c.kept (λ o. is_some o)) in
-      record {
-        is_ready = ap (λ (m : MasterState). m.is_ready) e;
-        same_plan = ap (λ (m : MasterState). m.plan) e;
-        outputs = ap (λ (m : MasterState). m.outputs) e;
-        inputs = ap (λ (m : MasterState). m.inputs) e;
-        next = ap (λ (m : MasterState). m.next) e;
-        cycle = subst (λ (m : MasterState). CyclesShow plan m.cycle (Some (record q { kept = set q.kept f.part (Some f.notes) }))) (sym e) (record {
-          number = h.number;
-          number_fits = h.number_fits;
-          each_part = length-set c.kept f.part (Some kept) ∙ h.each_part;
-          same_parts = map-set (λ o. is_some o) c.kept f.part (Some kept) ∙ (ap (λ bs. set bs f.part true) h.same_parts ∙ sym (map-set (λ o. is_some o) q.kept f.part (Some f.notes)));
-          kept = λ j part notes a b. elim (cases_eq j f.part) [
-            | inl same ↦
-                let a2 : kept ≡ part = some_same kept part (sym (get_or-set_same c.kept f.part (Some kept) None inside) ∙ subst (λ (i : ℕ). get_or (set c.kept f.part (Some kept)) i None ≡ Some part) same a) in
-                let b2 : f.notes ≡ notes = some_same f.notes notes (sym (get_or-set_same q.kept f.part (Some f.notes) None (omega arith)) ∙ subst (λ (i : ℕ). get_or (set q.kept f.part (Some f.notes)) i None ≡ Some notes) same b) in
-                subst (λ (i : ℕ). KeptShows plan i notes part) (sym same) (subst (λ (x : KeptPart). KeptShows plan f.part notes x) a2 (subst (λ (ns : List Note). KeptShows plan f.part ns kept) b2 there))
-            | inr ne ↦ h.kept j part notes (sym (get_or-set_other c.kept f.part j (Some kept) None ne) ∙ a) (sym (get_or-set_other q.kept f.part j (Some f.notes) None ne) ∙ b)
-          ];
-        });
-      }
+      let parts : (j : ℕ) (part : KeptPart) (notes : List Note) → get_or (set c.kept f.part (Some kept)) j None ≡ Some part → get_or (set q.kept f.part (Some f.notes)) j None ≡ Some notes → KeptShows plan j notes part
+      = λ j part notes a b. elim (cases_eq j f.part) [
+        | inl same ↦
+            let a2 : kept ≡ part = some_same kept part (sym (get_or-set_same c.kept f.part (Some kept) None inside) ∙ subst (λ (i : ℕ). get_or (set c.kept f.part (Some kept)) i None ≡ Some part) same a) in
+            let b2 : f.notes ≡ notes = some_same f.notes notes (sym (get_or-set_same q.kept f.part (Some f.notes) None (omega arith)) ∙ subst (λ (i : ℕ). get_or (set q.kept f.part (Some f.notes)) i None ≡ Some notes) same b) in
+            subst (λ (i : ℕ). KeptShows plan i notes part) (sym same) (subst (λ (x : KeptPart). KeptShows plan f.part notes x) a2 (subst (λ (ns : List Note). KeptShows plan f.part ns kept) b2 there))
+        | inr ne ↦ h.kept j part notes (sym (get_or-set_other c.kept f.part j (Some kept) None ne) ∙ a) (sym (get_or-set_other q.kept f.part j (Some f.notes) None ne) ∙ b)
+      ] in
+      let cycle : CycleShows plan (record c { kept = set c.kept f.part (Some kept) }) (record q { kept = set q.kept f.part (Some f.notes) })
+      = assumption (
+        length-set c.kept f.part (Some kept) ∙ h.each_part,
+        parts,
+        map-set (λ o. is_some o) c.kept f.part (Some kept) ∙ (ap (λ bs. set bs f.part true) h.same_parts ∙ sym (map-set (λ o. is_some o) q.kept f.part (Some f.notes))),
+      ) in
+      subst (λ (m : MasterState). Returned plan old m (Some (record q { kept = set q.kept f.part (Some f.notes) }))) (sym e) (assumption cycle)
 
   -- nothing else is kept
   refuses : (c : OpenCycle) (q : Cycle) → old.cycle ≡ Some c → CycleShows plan c q → ((f.number == q.number) && is_none (get_or q.kept f.part None)) ≡ false → new ≡ old

@@ -1,5 +1,7 @@
 -- Every event keeps a world that starts up one.
-use Rattle.ec_world.proofs.Words.{ℕ, zero, suc, ◌+◌, ◌<◌, ◌≤◌, ◌≡◌, ◌≢◌, ◌==◌, ◌||◌, not, Bool, true, false, Option, Some, None, refl, sym, ◌∙◌, ap, subst, inl, inr, arith, if◌then◌else◌, List, [], ◌∷◌, length, set, get_or, option_map, is_some, nat_lt, unwrap_or, AllByRecursion, cases_Bool, cases_eq, both_ways, and_parts, eqb-true, ltb-true, length-set, list_get_or-set_same as get_or-set_same, list_get_or-set_other as get_or-set_other, State, Op, Datagram, IsDatagram, Payload, with_datagrams, bare_payload, SlaveState, power_on, passes, Passed, slave_met, datagram_met, input_put, output_got, output_taken, Got, served, faulted, SlavePlan, nones, MasterState, OpenCycle, IsAnswer, readied, numbered, frame_of, datagram_of, StartError, Lost, StartState, action_of, sending, begun, taken, given_up_by, second, Phase, Idle, Sent, Ready, Failed, Config, Starting, Carried, trouble_at, Starts, Between, UnderWay, Adrift, Over, IsReady, IsCarried, AreStartable, ends_of, flags_sent, with_begun, with_slave_at, SendsNext, PassesOne, LosesOne, ReturnsOne, Strays, ClosesOne, BringupServes as Serves, PutsOne, GetsOne, Faults, Resets, taken-plan, happens-starts, begun-starts, frame-passes, Event, StartNext, Set, Begin, Pass, Lose, Return, Close, Serve, AppPut, AppGet, Fault, ResetSlave, filled, may_pass, may_return, WorldState, Flight, no_slave, slave_of, flight_at, flight_progress, flights_progress, is_up, awaits, phase_awaits, phase_ready, is_slave, can_happen, resumed, ready_with, ByStart, Sends, Passes, Returns, StartReturns, GivesUp, Closes, Happens, with_slave, AreWhole, flags_after, IsInSlot, SlotsHold, seen_of, Rising, stay_whole, on_whole, get_or-set_default, none_some, some_same, variable_set, filled-none, filled-length}
+use Rattle.ec_world.proofs.Words.{ℕ, zero, suc, ◌+◌, ◌<◌, ◌≤◌, ◌≡◌, ◌≢◌, ◌==◌, ◌||◌, not, Bool, true, false, Option, Some, None, refl, sym, ◌∙◌, ap, subst, inl, inr, arith, if◌then◌else◌, List, [], ◌∷◌, length, set, get_or, option_map, is_some, nat_lt, unwrap_or, AllByRecursion, cases_Bool, cases_eq, both_ways, and_parts, eqb-true, ltb-true, length-set, list_get_or-set_same as get_or-set_same, list_get_or-set_other as get_or-set_other, State, Op, Datagram, IsDatagram, Payload, with_datagrams, bare_payload, SlaveState, power_on, passes, Passed, slave_met, datagram_met, input_put, output_got, output_taken, Got, served, faulted, SlavePlan, nones, MasterState, OpenCycle, IsAnswer, readied, numbered, frame_of, datagram_of, StartError, Lost, StartState, action_of, sending, begun, taken, given_up_by, second, Phase, Idle, Sent, Ready, Failed, Config, Starting, Carried, trouble_at, Starts, Between, UnderWay, Adrift, Over, IsReady, IsCarried, AreStartable, ends_of, flags_sent, with_begun, with_slave_at, SendsNext, PassesOne, LosesOne, ReturnsOne, Strays, ClosesOne, BringupServes as Serves, PutsOne, GetsOne, Faults, Resets, taken-plan, happens-starts, begun-starts, frame-passes, Event, StartNext, Set, Begin, Pass, Lose, Return, Close, Serve, AppPut, AppGet, Fault, ResetSlave, filled, may_pass, may_return, WorldState, Flight, no_slave, slave_of, flight_at, flight_progress, flights_progress, is_up, awaits, phase_awaits, phase_ready, is_slave, can_happen, resumed, ready_with, ByStart, Sends, Passes, Returns, StartReturns, GivesUp, Closes, Happens, with_slave, AreWhole, flags_after, IsInSlot, SlotsHold, seen_of, Rising, stay_whole, on_whole, get_or-set_default, none_some, some_same, variable_set, filled-none, filled-length, set-get_or, some_of}
+use Rattle.ec_world.proofs.Turning.{second-good}
+use Rattle.ec_world.proofs.Ways.{at_set}
 use Rattle.ec_al.specs.Al as al
 
 -- ---- slots
@@ -49,16 +51,7 @@ the-one slots k flight c i e = elim (cases_eq k 0) [
 -- ---- slaves
 
 all-set : (P : SlaveState → Type 0) (ss : List SlaveState) (k : ℕ) (t : SlaveState) → ((i : ℕ) → P (get_or ss i no_slave)) → P t → (i : ℕ) → P (get_or (set ss k t) i no_slave)
-all-set P [] k t h p i = h i
-all-set P (s ∷ ss) zero t h p zero = p
-all-set P (s ∷ ss) zero t h p (suc i) = h (suc i)
-all-set P (s ∷ ss) (suc k) t h p zero = h zero
-all-set P (s ∷ ss) (suc k) t h p (suc i) = all-set P ss k t (λ j. h (suc j)) p i
-
-same-flag : (flags : List Bool) (k : ℕ) → set flags k (trouble_at flags k) ≡ flags
-same-flag [] k = refl
-same-flag (f ∷ flags) zero = refl
-same-flag (f ∷ flags) (suc k) = ap (λ fs. f ∷ fs) (same-flag flags k)
+all-set P ss k t h p i = elim (at_set ss k i t no_slave) [ inl old ↦ subst P (sym old) (h i) | inr new ↦ subst P (sym new.1) p ]
 
 module _ (flags : List Bool) (w : WorldState) (r : Rising flags w) where
   here : (k : ℕ) → is_slave w k ≡ true → k < length w.start.plan
@@ -68,35 +61,13 @@ module _ (flags : List Bool) (w : WorldState) (r : Rising flags w) where
   pub settled : (now : List Bool) (slaves : List SlaveState) (slots : List (Option Flight)) (slot : Option Carried) (g : Option ℕ)
       → Starts (ends_of w.plan.slaves) (record { start = w.start; slaves = slaves; troubles = now; slot = slot }) → SlotsHold slots slot → 0 < length slots
       → ((i : ℕ) → AreWhole (get_or slaves i no_slave)) → Rising now (record w { slaves = slaves; slots = slots; got = g })
-  settled now slaves slots slot g starts hold some fit = record {
-    same_plan = r.same_plan;
-    slot = slot;
-    starts = starts;
-    slots = hold;
-    some_slots = some;
-    fit = fit;
-    master_plan = r.master_plan;
-    no_cycle = r.no_cycle;
-    master_ready = r.master_ready;
-    no_report = r.no_report;
-  }
+  settled now slaves slots slot g starts hold some fit = search (r, starts, hold, some, fit)
 
   -- the start-up, the master and the slots change
   pub restarted : (now : List Bool) (s : StartState) (m : MasterState) (slots : List (Option Flight)) (slot : Option Carried) → s.plan ≡ w.start.plan
       → Starts (ends_of w.plan.slaves) (record { start = s; slaves = w.slaves; troubles = now; slot = slot }) → SlotsHold slots slot → 0 < length slots
       → m.plan ≡ w.plan → m.cycle ≡ None → m.is_ready ≡ is_up s → Rising now (record w { start = s; master = m; slots = slots })
-  restarted now s m slots slot same starts hold some plan cycle ready = record {
-    same_plan = same ∙ r.same_plan;
-    slot = slot;
-    starts = starts;
-    slots = hold;
-    some_slots = some;
-    fit = r.fit;
-    master_plan = plan;
-    no_cycle = cycle;
-    master_ready = ready;
-    no_report = r.no_report;
-  }
+  restarted now s m slots slot same starts hold some plan cycle ready = search (same ∙ r.same_plan, starts, hold, some, plan, cycle, ready, r)
 
   -- one slave becomes t, and its flag b
   changed : (k : ℕ) (t : SlaveState) (b : Bool) (g : Option ℕ) → AreWhole t → Starts (ends_of w.plan.slaves) (with_slave_at (seen_of w flags r.slot) k t b)
@@ -105,7 +76,7 @@ module _ (flags : List Bool) (w : WorldState) (r : Rising flags w) where
 
   unflagged : (k : ℕ) (t : SlaveState) (g : Option ℕ) → AreWhole t → Starts (ends_of w.plan.slaves) (with_slave_at (seen_of w flags r.slot) k t (trouble_at flags k))
       → Rising flags (record (with_slave w k t) { got = g })
-  unflagged k t g fit starts = subst (λ (fs : List Bool). Rising fs (record (with_slave w k t) { got = g })) (same-flag flags k) (changed k t (trouble_at flags k) g fit starts)
+  unflagged k t g fit starts = subst (λ (fs : List Bool). Rising fs (record (with_slave w k t) { got = g })) (set-get_or flags k false) (changed k t (trouble_at flags k) g fit starts)
 
   serve-rises : (k : ℕ) → is_slave w k ≡ true → Rising flags (with_slave w k (served (slave_of w k)))
   serve-rises k e = unflagged k (served (slave_of w k)) w.got (stay_whole (slave_of w k) (r.fit k)).served
@@ -149,15 +120,8 @@ module _ (flags : List Bool) (w : WorldState) (r : Rising flags w) where
       subst (λ (n : ℕ). Rising flags (record w { slots = set w.slots n None })) (sym (the-one w.slots k flight c holds e).place)
       (with-none (set w.slots 0 None) (set-some 0 None) (emptied w.slots holds.others) (happens-starts (ends_of w.plan.slaves) (seen (Some c)) _ (LosesOne c refl refl) starts))
 
-  some-flight : (k : ℕ) → is_some (flight_at w k) ≡ true → (flight : Flight) × (flight_at w k ≡ Some flight)
-  some-flight k e = go (flight_at w k) refl e
-    where
-      go : (o : Option Flight) → flight_at w k ≡ o → is_some o ≡ true → (flight : Flight) × (flight_at w k ≡ Some flight)
-      go None q z = absurd (let x : false ≡ true = z in cc)
-      go (Some f) q z = (f, q)
-
   lose-rises : (k : ℕ) → is_some (flight_at w k) ≡ true → Rising flags (record w { slots = set w.slots k None })
-  lose-rises k e = let f = some-flight k e in lose-by r.slot k f.0 r.starts r.slots f.1
+  lose-rises k e = let f = some_of (flight_at w k) e in lose-by r.slot k f.0 r.starts r.slots f.1
 
   pass-by : (slot : Option Carried) (k : ℕ) (w2 : WorldState) → Starts (ends_of w.plan.slaves) (seen slot) → SlotsHold w.slots slot → Passes w k w2 → ((flight : Flight) → flight_at w k ≡ Some flight → flight.passed < length w.slaves) → Rising flags w2
   pass-by None k w2 starts holds p few = absurd (none_some p.flight (sym (holds k) ∙ p.there))
@@ -344,9 +308,6 @@ module _ (flags : List Bool) (w : WorldState) (r : Rising flags w) (low : is_up 
   goes-on (Sent n) e off planned none = absurd (both_ways _ off (ap (λ (q : Phase). phase_awaits q) e))
   goes-on Ready e off planned none = absurd (both_ways _ low (ap (λ (q : Phase). phase_ready q) e))
   goes-on (Failed f) e off planned none = anew f planned
-
-  second-good : (ds : List Datagram) (number : ℕ) (d : Datagram) → AllByRecursion IsDatagram ds → ds ≡ numbered number 0 ∷ d ∷ [] → IsDatagram d
-  second-good ds number d h e = let q : AllByRecursion IsDatagram (numbered number 0 ∷ d ∷ []) = subst (AllByRecursion IsDatagram) e h in q.1.0
 
   sends-by : (s : StartState) (w2 : WorldState) → s ≡ resumed w.start w.start.phase → Goes s → ((k : ℕ) → get_or w.slots k None ≡ None) → Sends w w2 → Rising (flags_sent s flags) w2
   sends-by s w2 same g none h =

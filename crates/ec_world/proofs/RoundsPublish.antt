@@ -5,19 +5,6 @@ use Rattle.ec_world.proofs.Tracing.{guarded_map, all_passed_by}
 use Rattle.ec_world.proofs.Histories.{set_has, health_kept, count_kept}
 use Rattle.ec_world.proofs.Calm.{is_round}
 
--- ---- a frame comes back
-
-record Back (p : Plain) (k : ℕ) (q : Plain) : Type 0 where
-  pub frame : PlainFrame
-  pub there : frame_at p k ≡ Some frame
-  pub is : q ≡ record p { cycle = option_map (keeping frame) p.cycle; slots = set p.slots k None }
-  pub all : length frame.notes ≡ length p.slaves
-
-came_back : (m : Meaning) (p : Plain) (k : ℕ) (q : Plain) → step m p (Return k) ≡ Some q → Back p k q
-came_back m p k q e =
-    let r = guarded_map _ (λ f. record p { cycle = option_map (keeping f) p.cycle; slots = set p.slots k None }) (frame_at p k) q e in
-    record { frame = r.value; there = r.there; is = sym r.is; all = all_passed_by p k q _ _ refl e r.value r.there }
-
 -- ---- a slave that a frame meets
 
 outputs_met : (m : Meaning) (s : ℕ) (f : PlainFrame) (q : PlainSlave) → has_outs (share_of m s) ≡ true → q.health ≡ Working → (share_of m s).part ≡ f.part → (met_slave m s f q).outputs.published ≡ linked_outputs m s f.snapshot
@@ -118,19 +105,19 @@ module _ (m : Meaning) (s : ℕ) (image : List ℕ) (outs : has_outs (share_of m
         state = subst (λ (z : Plain). Comes m s z ⊎ ((plain_slave z s).outputs.published ≡ linked_outputs m s image)) x.is (pass_state p k f x.there h);
       }
   publishes_step p (Return k) q r does h =
-      let x = came_back m p k q does in
+      let x = guarded_map _ (λ f. record p { cycle = option_map (keeping f) p.cycle; slots = set p.slots k None }) (frame_at p k) q does in
       record {
         here = let l = h.here in let n = ap (λ (z : Plain). length z.slaves) x.is in omega (arith, l, n);
-        works = ap (λ (z : Plain). (plain_slave z s).health) x.is ∙ h.works;
-        carry = λ j g there. set_has (λ (y : PlainFrame). y.snapshot ≡ image) p.slots k None (λ y no. absurd (none_some y no)) h.carry j g (sym (ap (λ (z : Plain). frame_at z j) x.is) ∙ there);
+        works = sym (ap (λ (z : Plain). (plain_slave z s).health) x.is) ∙ h.works;
+        carry = λ j g there. set_has (λ (y : PlainFrame). y.snapshot ≡ image) p.slots k None (λ y no. absurd (none_some y no)) h.carry j g (ap (λ (z : Plain). frame_at z j) x.is ∙ there);
         state = elim h.state [
-          | inr done ↦ inr (ap (λ (z : Plain). (plain_slave z s).outputs.published) x.is ∙ done)
+          | inr done ↦ inr (sym (ap (λ (z : Plain). (plain_slave z s).outputs.published) x.is) ∙ done)
           | inl c ↦ elim (cases_eq c.slot k) [
-            | inr ne ↦ inl (record { slot = c.slot; frame = c.frame; there = ap (λ (z : Plain). frame_at z c.slot) x.is ∙ (get_or-set_other p.slots k c.slot None None ne ∙ c.there); own = c.own; before = c.before })
+            | inr ne ↦ inl (record { slot = c.slot; frame = c.frame; there = sym (ap (λ (z : Plain). frame_at z c.slot) x.is) ∙ (get_or-set_other p.slots k c.slot None None ne ∙ c.there); own = c.own; before = c.before })
             | inl same ↦ absurd (
-                let one : c.frame ≡ x.frame = some_same c.frame x.frame (sym c.there ∙ (ap (λ (n : ℕ). frame_at p n) same ∙ x.there)) in
+                let one : c.frame ≡ x.value = some_same c.frame x.value (sym c.there ∙ (ap (λ (n : ℕ). frame_at p n) same ∙ x.there)) in
                 let size = ap (λ (y : PlainFrame). length y.notes) one in
-                omega (arith, c.before, h.here, size, x.all))
+                omega (arith, c.before, h.here, size, all_passed_by p k q _ does x.value x.there))
           ]
         ];
       }

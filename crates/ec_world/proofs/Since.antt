@@ -1,7 +1,7 @@
 -- Each frame on its way, and each open cycle, goes back to the event that began it.
 use Rattle.ec_world.proofs.Words.{ℕ, ◌≡◌, Option, Some, None, refl, sym, ◌∙◌, ap, subst, List, [], ◌∷◌, ◌++◌, unwrap_or, append_assoc, Meaning, Event, Begin, Plain, PlainFrame, Cycle, step, run, frame_at, IsBegun, HasNoFrame, none_some}
 use Rattle.ec_world.proofs.Tracing.{Leaves, leaves}
-use Rattle.ec_world.proofs.Histories.{run_tells, run_joins, keeping_number, frames_left, cycle_left}
+use Rattle.ec_world.proofs.Histories.{run_tells, keeping_number, frames_left, cycle_left, run_cut}
 
 -- the cycle with this number was begun on the way
 pub record BeganAt (m : Meaning) (first : Plain) (done : List Event) (number : ℕ) : Type 0 where
@@ -17,14 +17,9 @@ pub record AreBegun (m : Meaning) (first : Plain) (done : List Event) (p : Plain
   pub cycle : (c : Cycle) → p.cycle ≡ Some c → BeganAt m first done c.number
 
 later : (m : Meaning) (first : Plain) (done : List Event) (e : Event) (n : ℕ) → BeganAt m first done n → BeganAt m first (done ++ (e ∷ [])) n
-later m first done e n b = record {
-  before = b.before;
-  behind = b.behind ++ (e ∷ []);
-  split = ap (λ (xs : List Event). xs ++ (e ∷ [])) b.split ∙ append_assoc b.before (Begin ∷ b.behind) (e ∷ []);
-  begun = b.begun;
-  begins = b.begins;
-  number_is = b.number_is;
-}
+later m first done e n b =
+    let split : done ++ (e ∷ []) ≡ b.before ++ (Begin ∷ (b.behind ++ (e ∷ []))) = ap (λ (xs : List Event). xs ++ (e ∷ [])) b.split ∙ append_assoc b.before (Begin ∷ b.behind) (e ∷ []) in
+    search (b, split)
 
 still : (m : Meaning) (first : Plain) (done : List Event) (e : Event) (p : Plain) → AreBegun m first done p → AreBegun m first (done ++ (e ∷ [])) p
 still m first done e p h = record {
@@ -72,6 +67,4 @@ begun_of m first done n free b = record { first = first; no_frame = free; before
 
 -- the run goes on from the beginning
 pub begun_on : (m : Meaning) (first : Plain) (done : List Event) (n : ℕ) (b : BeganAt m first done n) → (run m first done).plain ≡ (run m b.begun b.behind).plain
-begun_on m first done n b =
-    ap (λ (xs : List Event). (run m first xs).plain) b.split
-    ∙ (run_joins m first b.before (Begin ∷ b.behind) ∙ ap (λ (o : Option Plain). (run m (unwrap_or o (run m first b.before).plain) b.behind).plain) b.begins)
+begun_on m first done n b = run_cut m first done b.before b.behind Begin b.begun b.split b.begins

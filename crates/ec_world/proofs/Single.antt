@@ -1,12 +1,13 @@
 -- Of each part of a cycle there is at most one frame: in its slot, kept, or lost.
-use Rattle.ec_world.proofs.Words.{ℕ, zero, suc, ◌+◌, ◌<◌, ◌≤◌, ◌≡◌, ◌≢◌, ◌==◌, ◌&&◌, Bool, true, false, Option, Some, None, refl, sym, ◌∙◌, ap, subst, arith, List, [], ◌∷◌, length, map, get_or, set, is_none, if◌then◌else◌, slice_get, get_or-set_other, and_parts, eqb-true, length-map, Meaning, Event, Plain, PlainFrame, Note, Cycle, step, frame_at, plain_slave, keeping, filled, new_frames, with_note, met_note, IsBegun, none_some, some_same, cycle_begun}
+use Rattle.ec_world.proofs.Words.{ℕ, zero, suc, ◌+◌, ◌<◌, ◌≤◌, ◌≡◌, ◌≢◌, ◌==◌, ◌&&◌, Bool, true, false, Option, Some, None, refl, sym, ◌∙◌, ap, subst, arith, List, [], ◌∷◌, length, map, get_or, set, is_none, if◌then◌else◌, slice_get, get_or-set_other, and_parts, eqb-true, length-map, Meaning, Event, Plain, PlainFrame, Note, Cycle, step, frame_at, plain_slave, keeping, filled, new_frames, with_note, met_note, IsBegun, none_some, some_same, cycle_begun, get_or-set_default, inl, inr}
+use Rattle.ec_world.proofs.Ways.{at_set}
 use Rattle.ec_world.proofs.Tracing.{mapped, guarded, Leaves, Stays, Begins, Moves, Loses, Returns, Closes, leaves}
-use Rattle.ec_world.proofs.Histories.{begun_below, filled_has, new_one, keeping_number, keeping_length}
+use Rattle.ec_world.proofs.Histories.{begun_below, filled_has, new_one, keeping_number, keeping_length, keeping_leaves}
 
 -- ---- slots
 
 -- what isn't new was there
-filled_was : {X : Type 0} (R : X → Type 0) (fs : List X) (os : List (Option X)) → ((i : ℕ) (x : X) → slice_get fs i ≡ Some x → R x → ⊥)
+pub filled_was : {X : Type 0} (R : X → Type 0) (fs : List X) (os : List (Option X)) → ((i : ℕ) (x : X) → slice_get fs i ≡ Some x → R x → ⊥)
     → (k : ℕ) (x : X) → get_or (filled fs os) k None ≡ Some x → R x → get_or os k None ≡ Some x
 filled_was R fs [] new k x e r = absurd (none_some x e)
 filled_was R [] (o ∷ os) new k x e r = e
@@ -17,11 +18,9 @@ filled_was R (f ∷ fs) (Some g ∷ os) new (suc k) x e r = filled_was R (f ∷ 
 
 -- what is there after a slot was freed was there, in another slot
 pub left_there : (os : List (Option PlainFrame)) (j i : ℕ) (f : PlainFrame) → get_or (set os j None) i None ≡ Some f → (get_or os i None ≡ Some f) × (i ≢ j)
-left_there [] j i f e = absurd (none_some f e)
-left_there (o ∷ os) zero zero f e = absurd (none_some f e)
-left_there (o ∷ os) zero (suc i) f e = (e, λ z. omega (arith, z))
-left_there (o ∷ os) (suc j) zero f e = (e, λ z. omega (arith, z))
-left_there (o ∷ os) (suc j) (suc i) f e = let r = left_there os j i f e in (r.0, λ z. r.1 (omega (arith, z)))
+left_there os j i f e =
+    let ne : i ≢ j = λ z. none_some f (sym (ap (λ (n : ℕ). get_or (set os j None) n None) z ∙ get_or-set_default os j None) ∙ e) in
+    (sym (get_or-set_other os j i None None ne) ∙ e, ne)
 
 -- a frame of its part and cycle was in the slot
 pub record WasIn (os : List (Option PlainFrame)) (i : ℕ) (f : PlainFrame) : Type 0 where
@@ -32,18 +31,12 @@ pub record WasIn (os : List (Option PlainFrame)) (i : ℕ) (f : PlainFrame) : Ty
 
 was_in : (os : List (Option PlainFrame)) (j : ℕ) (g y : PlainFrame) → get_or os j None ≡ Some g → y.number ≡ g.number → y.part ≡ g.part
     → (i : ℕ) (f : PlainFrame) → get_or (set os j (Some y)) i None ≡ Some f → WasIn os i f
-was_in [] j g y at num part i f e = absurd (none_some f e)
-was_in (o ∷ os) zero g y at num part zero f e = record {
-  frame = g;
-  there = at;
-  number_is = sym num ∙ ap (λ (x : PlainFrame). x.number) (some_same y f e);
-  part_is = sym part ∙ ap (λ (x : PlainFrame). x.part) (some_same y f e);
-}
-was_in (o ∷ os) zero g y at num part (suc i) f e = record { frame = f; there = e; number_is = refl; part_is = refl }
-was_in (o ∷ os) (suc j) g y at num part zero f e = record { frame = f; there = e; number_is = refl; part_is = refl }
-was_in (o ∷ os) (suc j) g y at num part (suc i) f e =
-    let r = was_in os j g y at num part i f e in
-    record { frame = r.frame; there = r.there; number_is = r.number_is; part_is = r.part_is }
+was_in os j g y at num part i f e = elim (at_set os j i (Some y) None) [
+  | inl same ↦ record { frame = f; there = sym same ∙ e; number_is = refl; part_is = refl }
+  | inr new ↦
+      let own = some_same y f (sym new.1 ∙ e) in
+      record { frame = g; there = ap (λ (n : ℕ). get_or os n None) new.0 ∙ at; number_is = sym num ∙ ap (λ (x : PlainFrame). x.number) own; part_is = sym part ∙ ap (λ (x : PlainFrame). x.part) own }
+]
 
 -- ---- new frames
 
@@ -90,12 +83,7 @@ pub record Single (m : Meaning) (number : ℕ) (p : Plain) : Type 0 where
 
 -- a frame that comes back leaves the other parts
 keeping_other : (g : PlainFrame) (c : Cycle) (n : ℕ) → (g.number ≡ c.number → n ≡ g.part → ⊥) → get_or (keeping g c).kept n None ≡ get_or c.kept n None
-keeping_other g c n ne = go ((g.number == c.number) && is_none (get_or c.kept g.part None)) refl
-  where
-    go : (b : Bool) → ((g.number == c.number) && is_none (get_or c.kept g.part None)) ≡ b
-        → get_or (if b then record c { kept = set c.kept g.part (Some g.notes) } else c).kept n None ≡ get_or c.kept n None
-    go true on = get_or-set_other c.kept g.part n (Some g.notes) None (ne (eqb-true _ _ (and_parts (g.number == c.number) _ on).0))
-    go false off = refl
+keeping_other g c n ne = keeping_leaves (λ (x : Cycle). get_or x.kept n None) g c (λ own. get_or-set_other c.kept g.part n (Some g.notes) None (ne own))
 
 -- each frame was there before, with its number and its part, and the cycle is the same
 single_kept : (m : Meaning) (number : ℕ) (p q : Plain) → Single m number p → p.next ≤ q.next → p.cycle ≡ q.cycle → ((i : ℕ) (f : PlainFrame) → frame_at q i ≡ Some f → WasIn p.slots i f) → Single m number q
@@ -168,10 +156,10 @@ single_step m number p e q h c = by (leaves m p e q h)
         same_number : (d x : Cycle) → keeping g x ≡ d → d.number ≡ number → x.number ≡ number
         same_number d x e mine = sym (keeping_number g x) ∙ (ap (λ (y : Cycle). y.number) e ∙ mine)
 
-none_all : (xs : List ℕ) (k : ℕ) (o : Option (List Note)) → get_or (map (λ x. None) xs) k None ≡ o → o ≡ None
-none_all [] k o e = sym e
-none_all (x ∷ xs) zero o e = sym e
-none_all (x ∷ xs) (suc k) o e = none_all xs k o e
+none_all : (xs : List ℕ) (k : ℕ) → (let none : Option (List Note) = None in get_or (map (λ x. none) xs) k none) ≡ None
+none_all [] k = refl
+none_all (x ∷ xs) zero = refl
+none_all (x ∷ xs) (suc k) = none_all xs k
 
 -- a cycle as it begins
 pub single_begun : (m : Meaning) (p begun : Plain) → IsBegun m p begun → Single m p.next begun
@@ -183,7 +171,7 @@ single_begun m p begun b = record {
   once = λ i j f g ef eg. once_new p.next 0 p.outputs m.parts p.slots old i j f g (ap (λ (x : Plain). frame_at x i) is ∙ ef) (ap (λ (x : Plain). frame_at x j) is ∙ eg);
   size = λ d at own. ap (λ (x : Cycle). length x.kept) (sym (some_same _ d (ap (λ (x : Plain). x.cycle) is ∙ at))) ∙ length-map {A = ℕ} {B = Option (List Note)} m.parts (λ v. None);
   missing = λ d at own i f here num.
-      ap (λ (x : Cycle). get_or x.kept f.part None) (sym (some_same _ d (ap (λ (x : Plain). x.cycle) is ∙ at))) ∙ none_all m.parts f.part _ refl;
+      ap (λ (x : Cycle). get_or x.kept f.part None) (sym (some_same _ d (ap (λ (x : Plain). x.cycle) is ∙ at))) ∙ none_all m.parts f.part;
 }
   where
     old : IsForeign p.next p.slots

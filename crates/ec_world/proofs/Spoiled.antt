@@ -1,14 +1,15 @@
 -- What the headline names as a cause does keep a unit from being taken.
 use Rattle.ec_world.proofs.Words.{ℕ, ◌+◌, ◌<◌, ◌≡◌, Bool, true, false, Some, None, refl, sym, ◌∙◌, ap, subst, inl, inr, arith, List, [], ◌∷◌, ◌++◌, length, is_some, if◌then◌else◌, get_or-set_same, unwrap_or, zero, suc, ◌==◌, Option, get_or, set, option_map, cases_Bool, and_from, lt-ltb, eq-eqb, true≢false, Identity, SafeOp, Op, if_true, faults, SlaveState, faulted, Contents, Share, unit_of_part as unit_of_plain, has_outs, Meaning, meaning, share_of, slave_at as settings_of, PlanState, plan_of, plan_sound, Event, Begin, Lose, Close, Fault, Pass, Return, ResetSlave, Progress, Faulted, Cycle, unit_full, step, run, plain_slave, with_slot, Plain, PlainSlave, PlainFrame, Health, Working, Reset, Full, frame_at, no_plain_slave, moved, keeping, new_frames, met_slave, taking, may_pass, may_return, all_progress, progress_of, linked_outputs, WorldState, slave_of, no_slave, flight_at, is_up, is_slave, with_slave, IsStep, PromisesIsQuiet as IsQuiet, is_of_unit, holds_of_unit, unit_of_slave, IsNoted, IsNotedAt, disturbs, unit_of, headline_unit_of_part as unit_of_part, output_bits, IsInOp, variable_bit, input_bit, ShowsLinked, IsSpoiled, LossLaw, EarlyLaw, ShortLaw, cycle_of, Rests, IsExchanged, UndisturbedLaw, list_all, length-map, bit, Buffer, publishing, outputs_shown, inputs_of, In, PartPlan, image_from, IsLinked, IsUsable, IsAs, IsRun, none_some}
+use Rattle.ec_world.proofs.CloseLaws.{unit_is as part_unit}
 use Rattle.ec_al.specs.Al as al
 use Rattle.ec_world.proofs.Knowing.{share_is}
 use Rattle.ec_world.proofs.StepLaws.{runs_join}
-use Rattle.ec_world.proofs.Disturbed.{in_parts, quiet_law}
+use Rattle.ec_world.proofs.Disturbed.{in_parts, quiet_law, in_op_whole}
 use Rattle.ec_world.proofs.Headlines.{health_is, outs_are, op_works, ShownAs, shown_as, shows_linked}
-use Rattle.ec_world.proofs.HeadlineInputs.{part_unit, slave_unit, short_works, inputs_held, BitIn, bit_in}
+use Rattle.ec_world.proofs.HeadlineInputs.{slave_unit, inputs_held, BitIn, bit_in}
 use Rattle.ec_world.proofs.AtRest.{Comes, comes_of, IsFree, free_of, Beginning, beginning, is_begun, rounds, going, AtClose, at_close, told_of, FrameOf, frame_of, left_over, get_nones}
-use Rattle.ec_world.proofs.Tracing.{guarded_map}
-use Rattle.ec_world.proofs.Histories.{run_keeps, filled_has, new_one, health_kept}
+use Rattle.ec_world.proofs.Tracing.{guarded_map, met_leaves}
+use Rattle.ec_world.proofs.Histories.{run_keeps, filled_has, new_one, health_kept, used}
 use Rattle.ec_world.proofs.Published.{published_law}
 use Rattle.ec_world.proofs.Quiet.{taken_law}
 use Rattle.ec_world.proofs.Calm.{Slots, get_mapped, is_round, rounds_round, round_there}
@@ -173,34 +174,11 @@ short_law t ids w r s l some v made run_on = record {
 
 -- ---- rounds leave inputs
 
-met_inputs : (m : Meaning) (t : ℕ) (f : PlainFrame) (q : PlainSlave) → (met_slave m t f q).inputs ≡ q.inputs
-met_inputs m t f q = by ((share_of m t).part == f.part)
-  where
-    taken : (h : Health) → (taking m t f q h).inputs ≡ q.inputs
-    taken Faulted = refl
-    taken Reset = refl
-    taken Working = go (has_outs (share_of m t))
-      where
-        go : (b : Bool) → (if b then record q { outputs = publishing q.outputs (linked_outputs m t f.snapshot) } else q).inputs ≡ q.inputs
-        go true = refl
-        go false = refl
-
-    by : (b : Bool) → (if b then taking m t f q q.health else q).inputs ≡ q.inputs
-    by true = taken q.health
-    by false = refl
-
-used_inputs : (qs : List PlainSlave) (t : ℕ) (y : PlainSlave) (s : ℕ) → y.inputs ≡ (get_or qs t no_plain_slave).inputs → (get_or (set qs t y) s no_plain_slave).inputs ≡ (get_or qs s no_plain_slave).inputs
-used_inputs [] t y s e = refl
-used_inputs (q ∷ qs) zero y zero e = e
-used_inputs (q ∷ qs) zero y (suc s) e = refl
-used_inputs (q ∷ qs) (suc t) y zero e = refl
-used_inputs (q ∷ qs) (suc t) y (suc s) e = used_inputs qs t y s e
-
 round_inputs : (m : Meaning) (s : ℕ) (p : Plain) (e : Event) (q : Plain) → is_round e ≡ true → step m p e ≡ Some q → (plain_slave q s).inputs ≡ (plain_slave p s).inputs
 round_inputs m s p (Pass k) q r h =
     let x = guarded_map (may_pass (length p.slaves) (all_progress p.slots) (option_map progress_of (frame_at p k))) (moved m p k) (frame_at p k) q h in
     let t = length x.value.notes in
-    sym (ap (λ (y : Plain). (plain_slave y s).inputs) x.is) ∙ used_inputs p.slaves t (met_slave m t x.value (plain_slave p t)) s (met_inputs m t x.value (plain_slave p t))
+    sym (ap (λ (y : Plain). (plain_slave y s).inputs) x.is) ∙ used (λ (y : PlainSlave). y.inputs) p.slaves t (met_slave m t x.value (plain_slave p t)) s (met_leaves (λ (y : PlainSlave). y.inputs) m t x.value (plain_slave p t) (λ b. refl))
 round_inputs m s p (Return k) q r h =
     let x = guarded_map (may_return (length p.slaves) (option_map progress_of (frame_at p k))) (λ f. record p { cycle = option_map (keeping f) p.cycle; slots = set p.slots k None }) (frame_at p k) q h in
     sym (ap (λ (y : Plain). (plain_slave y s).inputs) x.is)
@@ -257,7 +235,7 @@ module _ (t : Contents) (ids : List Identity) (w : WorldState) (r : Rests t ids 
 
   quiet : (u : ℕ) → IsQuiet m p b.begun (rounds t) u
   quiet u = record {
-    whole = λ i l mine short. short_works m i (plain_slave p i) short (works i l);
+    whole = λ i l mine short. in_op_whole m i (plain_slave p i) (works i l) short;
     undisturbed = λ before behind e next split does. calm m p.next u (run m b.begun before).plain e (round_there before behind e (subst (λ (es : List Event). list_all is_round es ≡ true) split (rounds_round N 0 K))).1;
     back = λ k f at. absurd (none_some f (sym (empty_after k) ∙ at));
   }

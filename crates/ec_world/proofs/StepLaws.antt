@@ -1,5 +1,5 @@
 -- One event, and runs of events.
-use Rattle.ec_world.proofs.Words.{ℕ, ◌<◌, ◌≡◌, ◌&&◌, ◌||◌, not, Bool, true, false, Option, Some, None, refl, sym, ◌∙◌, ap, subst, inl, inr, length, is_some, if◌then◌else◌, unwrap_or, ◌+◌, ◌++◌, arith, List, [], ◌∷◌, cases_Bool, cases_lt, both_ways, and_parts, and_left, listed, if_true, power_on, slave_at, meaning, IsUsable, Event, StartNext, Set, Begin, Pass, Lose, Return, Close, Serve, AppPut, AppGet, Fault, ResetSlave, Plain, PlainSlave, step, plain_slave, is_working, failing, restarting, at_slave, run, WorldState, awaits, ByStart, Returns, Closes, can_start, can_happen, Happens, is_slave, slave_of, StartReturns, GivesUp, with_slave, IsStep, is_up, ready_with, resumed, served, faulted, Shows, StepsShow, IsRun, RunsShow, RunsJoin, PlanState, SlavePlan, Phase, Failed, StartState, asked, begun, IsStartTaken, plans_stay, MasterState, readied, master_plan, AreOfPlan, IsAnswered, IsTakenIn, IsHandedIn}
+use Rattle.ec_world.proofs.Words.{ℕ, ◌<◌, ◌≡◌, ◌&&◌, ◌||◌, not, Bool, true, false, Option, Some, None, refl, sym, ◌∙◌, ap, subst, inl, inr, length, is_some, if◌then◌else◌, unwrap_or, ◌+◌, ◌++◌, arith, List, [], ◌∷◌, cases_Bool, cases_lt, both_ways, and_parts, and_left, listed, if_true, power_on, slave_at, meaning, IsUsable, Event, StartNext, Set, Begin, Pass, Lose, Return, Close, Serve, AppPut, AppGet, Fault, ResetSlave, Plain, PlainSlave, step, plain_slave, is_working, failing, restarting, at_slave, run, WorldState, awaits, ByStart, Returns, Closes, can_start, can_happen, Happens, is_slave, slave_of, StartReturns, GivesUp, with_slave, IsStep, is_up, ready_with, resumed, served, faulted, Shows, StepsShow, IsRun, RunsShow, RunsJoin, PlanState, SlavePlan, Phase, Failed, StartState, asked, begun, IsStartTaken, plans_stay, MasterState, readied, master_plan, AreOfPlan, IsAnswered, IsTakenIn, IsHandedIn, none_if, some_guarded}
 use Rattle.ec_al.specs.Al as al
 use Rattle.ec_world.specs.Plain as plain
 use Rattle.ec_world.proofs.FrameSteps.{lose_can, lose_shows, pass_made, pass_shows}
@@ -30,10 +30,6 @@ slave_here w p t s e = elim (cases_lt t (length w.plan.slaves)) [ inl l ↦ l | 
 
 abbrev fault_plain : Plain → ℕ → PlainSlave → Option Plain
 fault_plain p t q = if is_working q.health then Some (plain.with_slave p t (failing q)) else None
-
-some_guarded : {X : Type 0} (b : Bool) (x : X) → b ≡ is_some (if b then Some x else None)
-some_guarded true x = refl
-some_guarded false x = refl
 
 fault_can : (w : WorldState) (p : Plain) (t : ℕ) → IsUsable w.plan → Shows w p → (is_slave w t && al.is_operational (slave_of w t).al.state) ≡ is_some (at_slave p t (fault_plain p t))
 fault_can w p t sound s = both_let w p t (al.is_operational (slave_of w t).al.state) (fault_plain p t) s (λ l.
@@ -93,10 +89,6 @@ event_shows w p (ResetSlave t) w2 sound s can h =
     let l = slave_here w p t s can in
     subst (λ (y : WorldState). Shows y (unwrap_or (step (meaning w.plan) p (ResetSlave t)) p)) (sym h)
     (subst (λ (o : Option Plain). Shows (with_slave w t (power_on (slave_of w t).kind (slave_of w t).identity)) (unwrap_or o p)) (sym (at_there w p t (λ q. Some (plain.with_slave p t (restarting q))) s l)) (reset_shows w p t s l))
-
-none_if : (o : Option Plain) (p : Plain) → is_some o ≡ false → unwrap_or o p ≡ p
-none_if None p e = refl
-none_if (Some q) p e = absurd (let z : true ≡ false = e in cc)
 
 -- one event
 pub steps_show : StepsShow

@@ -1,5 +1,6 @@
 -- Steps of a world, from what the calls of its parts say.
-use Rattle.ec_world.proofs.Words.{ℕ, ◌<◌, ◌≡◌, ◌==◌, ◌&&◌, not, Bool, true, false, Option, Some, None, refl, sym, ◌∙◌, ap, subst, arith, List, [], ◌∷◌, length, set, is_some, slice_get, option_map, unwrap_or, nat_lt, if◌then◌else◌, IsTrue, ◌↔◌, list_all, lt-ltb, ltb-true, ne_eqb, and_parts, set-get_or, slice_get-get_or, get_or_from_slice_get, State, Init, PreOp, SafeOp, Op, Got, faults, SlaveState, input_put, output_got, output_taken, faulted, PlanState, IsFrame, Datagram, bare_payload, frame_of, StartState, IsStartTaken, action_of, begun, asked, asked_by, next_frame, next_frame_by, sending, last_number, NumbersSpent, Phase, Idle, Sent, Ready, Failed, Send, Ended, ReportState, nones, MasterState, IsTaken, StartNext, Pass, Return, AppPut, AppGet, Fault, Progress, may_pass, may_return, lets_by, filled, IsAnswered, IsTakenIn, IsHandedIn, ByStart, StartReturns, Returns, can_start, awaits, is_up, phase_awaits, phase_ready, ready_with, resumed, WorldState, Flight, IsStep, no_slave, slave_of, with_slave, flight_at, flight_progress, flights_progress, HavePassed, some_same}
+use Rattle.ec_world.proofs.Words.{ℕ, ◌<◌, ◌≡◌, ◌==◌, ◌&&◌, not, Bool, true, false, Option, Some, None, refl, sym, ◌∙◌, ap, subst, arith, List, [], ◌∷◌, length, set, is_some, slice_get, option_map, unwrap_or, nat_lt, if◌then◌else◌, IsTrue, ◌↔◌, list_all, lt-ltb, ltb-true, ne_eqb, and_parts, set-get_or, slice_get-get_or, get_or_from_slice_get, State, Init, PreOp, SafeOp, Op, Got, faults, SlaveState, input_put, output_got, output_taken, faulted, PlanState, IsFrame, Datagram, bare_payload, frame_of, StartState, IsStartTaken, action_of, begun, asked, asked_by, next_frame, next_frame_by, sending, last_number, NumbersSpent, Phase, Idle, Sent, Ready, Failed, Send, Ended, ReportState, nones, MasterState, IsTaken, StartNext, Pass, Return, AppPut, AppGet, Fault, Progress, may_pass, may_return, lets_by, filled, IsAnswered, IsTakenIn, IsHandedIn, ByStart, StartReturns, Returns, can_start, awaits, is_up, phase_awaits, phase_ready, ready_with, resumed, WorldState, Flight, IsStep, no_slave, slave_of, with_slave, flight_at, flight_progress, flights_progress, HavePassed, some_same, some_if, none_if, none_mapped}
+use Rattle.ec_world.proofs.Tracing.{mapped}
 use Rattle.ec_al.specs.Al as al
 
 -- ---- a slave's own events
@@ -16,56 +17,41 @@ lent w s t e = sym (get_or_from_slice_get w.slaves s t no_slave e)
 
 pub put-step : (w : WorldState) (s i x : ℕ) (made : Bool) (old t : SlaveState) → s < length w.slaves → slice_get w.slaves s ≡ Some old
     → made ≡ is_some (input_put old i x) → t ≡ unwrap_or (input_put old i x) old → IsStep w (AppPut s i x) (with_slave w s t) made
-put-step w s i x made old t l there granted after = go (input_put (slave_of w s) i x) refl
-    (subst (λ (y : SlaveState). made ≡ is_some (input_put y i x)) (lent w s old there) granted)
-    (subst (λ (y : SlaveState). t ≡ unwrap_or (input_put y i x) y) (lent w s old there) after)
-  where
-    go : (o : Option SlaveState) → input_put (slave_of w s) i x ≡ o → made ≡ is_some (input_put (slave_of w s) i x) → t ≡ unwrap_or (input_put (slave_of w s) i x) (slave_of w s)
-        → IsStep w (AppPut s i x) (with_slave w s t) made
-    go None q g a = record {
-      can = g ∙ sym (there-is s (length w.slaves) (is_some (input_put (slave_of w s) i x)) l);
-      happens = λ m. absurd (let z : false ≡ true = sym (ap is_some q) ∙ (sym g ∙ m) in cc);
-      refused = λ m. same-slave w s t (a ∙ ap (λ (z : Option SlaveState). unwrap_or z (slave_of w s)) q);
-    }
-    go (Some y) q g a = record {
-      can = g ∙ sym (there-is s (length w.slaves) (is_some (input_put (slave_of w s) i x)) l);
-      happens = λ m. record { slave = t; put = q ∙ ap (λ z. Some z) (sym (a ∙ ap (λ (z : Option SlaveState). unwrap_or z (slave_of w s)) q)); is = refl };
-      refused = λ m. absurd (let z : false ≡ true = sym m ∙ (g ∙ ap is_some q) in cc);
+put-step w s i x made old t l there granted after =
+    let o = input_put (slave_of w s) i x in
+    let e = lent w s old there in
+    let g : made ≡ is_some o = subst (λ (y : SlaveState). made ≡ is_some (input_put y i x)) e granted in
+    let a : t ≡ unwrap_or o (slave_of w s) = subst (λ (y : SlaveState). t ≡ unwrap_or (input_put y i x) y) e after in
+    record {
+      can = g ∙ sym (there-is s (length w.slaves) (is_some o) l);
+      happens = λ m. record { slave = t; put = some_if o (slave_of w s) (sym g ∙ m) ∙ ap (λ z. Some z) (sym a); is = refl };
+      refused = λ m. same-slave w s t (a ∙ none_if o (slave_of w s) (sym g ∙ m));
     }
 
 pub get-step : (w : WorldState) (s i b : ℕ) (old t : SlaveState) → s < length w.slaves → slice_get w.slaves s ≡ Some old
     → Some b ≡ option_map (λ (g : Got). g.byte) (output_got old i) → t ≡ output_taken old (output_got old i)
     → IsStep w (AppGet s i) (record (with_slave w s t) { got = Some b }) true
-get-step w s i b old t l there byte after = go (output_got (slave_of w s) i) refl
-    (subst (λ (y : SlaveState). Some b ≡ option_map (λ (g : Got). g.byte) (output_got y i)) (lent w s old there) byte)
-    (subst (λ (y : SlaveState). t ≡ output_taken y (output_got y i)) (lent w s old there) after)
-  where
-    go : (o : Option Got) → output_got (slave_of w s) i ≡ o → Some b ≡ option_map (λ (g : Got). g.byte) (output_got (slave_of w s) i) → t ≡ output_taken (slave_of w s) (output_got (slave_of w s) i)
-        → IsStep w (AppGet s i) (record (with_slave w s t) { got = Some b }) true
-    go None q e a = absurd (let z : Some b ≡ None = e ∙ ap (λ (o : Option Got). option_map (λ (g : Got). g.byte) o) q in cc)
-    go (Some g) q e a =
-        let same : b ≡ g.byte = some_same b g.byte (e ∙ ap (λ (o : Option Got). option_map (λ (g : Got). g.byte) o) q) in
-        let left : t ≡ output_taken (slave_of w s) (Some g) = a ∙ ap (λ (o : Option Got). output_taken (slave_of w s) o) q in
-        record {
-          can = sym (there-is s (length w.slaves) (is_some (output_got (slave_of w s) i)) l ∙ ap is_some q);
-          happens = λ m. record { got = g; read = q; is = ap (λ (y : SlaveState). record (with_slave w s y) { got = Some b }) left ∙ ap (λ (n : ℕ). record (with_slave w s (output_taken (slave_of w s) (Some g))) { got = Some n }) same };
-          refused = λ m. absurd (let z : true ≡ false = m in cc);
-        }
+get-step w s i b old t l there byte after =
+    let e = lent w s old there in
+    let r = mapped (λ (g : Got). g.byte) (output_got (slave_of w s) i) b (sym (subst (λ (y : SlaveState). Some b ≡ option_map (λ (g : Got). g.byte) (output_got y i)) e byte)) in
+    let left : t ≡ output_taken (slave_of w s) (Some r.value) = subst (λ (y : SlaveState). t ≡ output_taken y (output_got y i)) e after ∙ ap (λ (o : Option Got). output_taken (slave_of w s) o) r.there in
+    record {
+      can = sym (there-is s (length w.slaves) (is_some (output_got (slave_of w s) i)) l ∙ ap is_some r.there);
+      happens = λ m. record { got = r.value; read = r.there; is = ap (λ (y : SlaveState). record (with_slave w s y) { got = Some b }) left ∙ ap (λ (n : ℕ). record (with_slave w s (output_taken (slave_of w s) (Some r.value))) { got = Some n }) (sym r.is) };
+      refused = λ m. absurd (let z : true ≡ false = m in cc);
+    }
 
 pub no-get-step : (w : WorldState) (s i : ℕ) (old t : SlaveState) → s < length w.slaves → slice_get w.slaves s ≡ Some old
     → None ≡ option_map (λ (g : Got). g.byte) (output_got old i) → t ≡ output_taken old (output_got old i)
     → IsStep w (AppGet s i) (with_slave w s t) false
-no-get-step w s i old t l there byte after = go (output_got (slave_of w s) i) refl
-    (subst (λ (y : SlaveState). None ≡ option_map (λ (g : Got). g.byte) (output_got y i)) (lent w s old there) byte)
-    (subst (λ (y : SlaveState). t ≡ output_taken y (output_got y i)) (lent w s old there) after)
-  where
-    go : (o : Option Got) → output_got (slave_of w s) i ≡ o → None ≡ option_map (λ (g : Got). g.byte) (output_got (slave_of w s) i) → t ≡ output_taken (slave_of w s) (output_got (slave_of w s) i)
-        → IsStep w (AppGet s i) (with_slave w s t) false
-    go (Some g) q e a = absurd (let z : None ≡ Some g.byte = e ∙ ap (λ (o : Option Got). option_map (λ (g : Got). g.byte) o) q in cc)
-    go None q e a = record {
-      can = sym (there-is s (length w.slaves) (is_some (output_got (slave_of w s) i)) l ∙ ap is_some q);
+no-get-step w s i old t l there byte after =
+    let e = lent w s old there in
+    let none : output_got (slave_of w s) i ≡ None
+    = none_mapped (λ (g : Got). g.byte) (output_got (slave_of w s) i) (sym (subst (λ (y : SlaveState). None ≡ option_map (λ (g : Got). g.byte) (output_got y i)) e byte)) in
+    record {
+      can = sym (there-is s (length w.slaves) (is_some (output_got (slave_of w s) i)) l ∙ ap is_some none);
       happens = λ m. absurd (let z : false ≡ true = m in cc);
-      refused = λ m. same-slave w s t (a ∙ ap (λ (o : Option Got). output_taken (slave_of w s) o) q);
+      refused = λ m. same-slave w s t (subst (λ (y : SlaveState). t ≡ output_taken y (output_got y i)) e after ∙ ap (λ (o : Option Got). output_taken (slave_of w s) o) none);
     }
 
 pub fault-step : (w : WorldState) (s : ℕ) (made : Bool) (old t : SlaveState) → s < length w.slaves → slice_get w.slaves s ≡ Some old
@@ -139,28 +125,22 @@ pub return-step : (w : WorldState) (k : ℕ) (payload : List ℕ) (t : StartStat
     → IsStep w (Return k) (returned w t n slots) true
 return-step w k payload t n slots may bytes handed empty = go (flight_at w k) refl
   where
-    answered : (f : Flight) → flight_at w k ≡ Some f → IsAnswered w.start w.master payload t n → StartReturns w k (returned w t n slots)
-    answered f q h = record {
+    by : (f : Flight) → flight_at w k ≡ Some f → (b : Bool) → ByStart b (IsAnswered w.start w.master payload t n) (IsTakenIn w.start w.master payload t n)
+        → ByStart b (StartReturns w k (returned w t n slots)) (Returns w k (returned w t n slots))
+    by f q true h = record {
       flight = f;
       there = q;
       is_kept = h.is_kept;
       start = subst (λ (xs : List ℕ). IsStartTaken w.start xs h.is_kept t) (bytes f q) h.start;
       is = ap (λ (m : MasterState). returned w t m slots) h.master ∙ ap (λ (xs : List (Option Flight)). returned w t (ready_with w.master t) xs) empty;
     }
-
-    taken : (f : Flight) → flight_at w k ≡ Some f → IsTakenIn w.start w.master payload t n → Returns w k (returned w t n slots)
-    taken f q h = record {
+    by f q false h = record {
       flight = f;
       there = q;
       is_kept = h.is_kept;
       master = subst (λ (xs : List ℕ). IsTaken w.master xs h.is_kept n) (bytes f q) h.master;
       is = ap (λ (s : StartState). returned w s n slots) h.start ∙ ap (λ (xs : List (Option Flight)). returned w w.start n xs) empty;
     }
-
-    by : (f : Flight) → flight_at w k ≡ Some f → (b : Bool) → ByStart b (IsAnswered w.start w.master payload t n) (IsTakenIn w.start w.master payload t n)
-        → ByStart b (StartReturns w k (returned w t n slots)) (Returns w k (returned w t n slots))
-    by f q true h = answered f q h
-    by f q false h = taken f q h
 
     go : (o : Option Flight) → flight_at w k ≡ o → IsStep w (Return k) (returned w t n slots) true
     go None q = absurd (let z : false ≡ true = sym (ap (λ (o : Option Flight). may_return (length w.slaves) (option_map flight_progress o)) q) ∙ may in cc)

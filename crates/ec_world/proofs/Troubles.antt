@@ -2,7 +2,7 @@
 use Rattle.ec_world.proofs.Words.{ℕ, ◌+◌, ◌≡◌, ◌≢◌, ◌⊎◌, ◌&&◌, Bool, true, false, Option, Some, None, refl, sym, ◌∙◌, ap, subst, inl, inr, List, [], ◌∷◌, ◌++◌, is_some, unwrap_or, append_assoc, Meaning, meaning, PlanState, IsUsable, Event, StartNext, Fault, ResetSlave, Plain, Health, Working, Faulted, Reset, step, run, plain_slave, WorldState, IsStep, Shows, IsRun, StepShows, HadTrouble, IsRunWithoutStart, begins_start}
 use Rattle.ec_world.proofs.Histories.{Rests, HasFailed, HasRestarted, became}
 use Rattle.ec_world.proofs.StepLaws.{runs_join, steps_show}
-use Rattle.ec_world.proofs.Origins.{more}
+use Rattle.ec_world.proofs.Origins.{more, made_first}
 
 -- ---- a Ready world begins no start-up
 
@@ -39,16 +39,11 @@ extended old done mid es new made i run without h = record {
   since = joined h.made.behind es h.made.next mid new h.since without;
 }
 
-pub preceded : (done : List Event) (old mid : WorldState) (count : ℕ) (es : List Event) (new : WorldState) (i : ℕ) → IsRun old done mid count → HadTrouble mid es new i → HadTrouble old (done ++ es) new i
-preceded [] old mid count es new i h t = subst (λ (w : WorldState). HadTrouble w es new i) h.0 t
-preceded (e ∷ done) old mid count es new i h t = more old e h.0 h.1 (done ++ es) new i h.3 (preceded done h.0 mid h.2 es new i h.4 t)
-
 -- ---- who doesn't work any more
 
 works_or : (h : Health) → (h ≡ Working) ⊎ (h ≢ Working)
 works_or Working = inl refl
-works_or Faulted = inr (λ e. let z : Faulted ≡ Working = e in cc)
-works_or Reset = inr (λ e. let z : Reset ≡ Working = e in cc)
+works_or _ = inr (λ e. cc e)
 
 stopped : (m : Meaning) (p : Plain) (e : Event) (q : Plain) (i : ℕ) → step m p e ≡ Some q → (plain_slave p i).health ≡ Working → (plain_slave q i).health ≢ Working → (e ≡ Fault i) ⊎ (e ≡ ResetSlave i)
 stopped m p e q i h was bad = elim (became m p e q i h) [ Rests same ↦ absurd (bad (same ∙ was)) | HasFailed is now before ↦ inl is | HasRestarted is now ↦ inr is ]
@@ -79,17 +74,6 @@ falls (e ∷ es) old new made p i sound s h was bad = elim (works_or (plain_slav
     go (Some x) q stops = record {
       event = e;
       what = stopped (meaning old.plan) p e x i q was (λ z. stops (ap (λ y. (plain_slave (unwrap_or y p) i).health) q ∙ z));
-      made = record {
-        before = [];
-        behind = es;
-        split = refl;
-        at = old;
-        next = h.0;
-        first = 0;
-        rest = h.2;
-        to_it = (refl, refl);
-        step = subst (IsStep old e h.0) (one.made_is p s ∙ ap (λ o. is_some o) q) h.3;
-        onward = h.4;
-      };
+      made = made_first old e h.0 es new h.2 (subst (IsStep old e h.0) (one.made_is p s ∙ ap (λ o. is_some o) q) h.3) h.4;
       since = without_start es h.0 new h.2 _ usable (one.shown p s) h.4;
     }

@@ -1,34 +1,14 @@
 -- The events of a frame of a start-up: it is sent, it passes a slave, it comes back.
-use Rattle.ec_world.proofs.Words.{ℕ, zero, suc, ◌+◌, ◌<◌, ◌≡◌, ◌==◌, nat_lt, Bool, true, false, Option, Some, None, refl, sym, ◌∙◌, ap, subst, arith, List, [], ◌∷◌, ◌++◌, length, get_or, set, replicate, option_map, eq-eqb, lt-ltb, le-ltb, list_all, AllByRecursion, length-map, Datagram, IsDatagram, Payload, with_datagrams, bare_payload, SlaveState, passes, Passed, slave_met, datagram_met, served, nones, cycle_limit, numbered, frame_of, datagram_of, StartState, action_of, sending, taken, IsStartAnswer, second, all_passed, all_met, BringupRising as Rising, turned, IsRound, round, Carried, IsCarried, frame-passes, StartNext, Pass, Return, Progress, filled, may_pass, may_return, lets_by, is_older, WorldState, Flight, no_slave, slave_of, flight_at, flight_progress, flights_progress, can_happen, awaits, resumed, is_up, ready_with, ByStart, Sends, Passes, Returns, StartReturns, IsStep, some_same, length-append}
+use Rattle.ec_world.proofs.Words.{ℕ, zero, suc, ◌+◌, ◌<◌, ◌≡◌, ◌==◌, nat_lt, Bool, true, false, Option, Some, None, refl, sym, ◌∙◌, ap, subst, arith, List, [], ◌∷◌, ◌++◌, length, get_or, set, replicate, option_map, eq-eqb, lt-ltb, le-ltb, list_all, AllByRecursion, length-map, Datagram, IsDatagram, Payload, with_datagrams, bare_payload, SlaveState, passes, Passed, slave_met, datagram_met, served, nones, cycle_limit, numbered, frame_of, datagram_of, StartState, action_of, sending, taken, IsStartAnswer, second, all_passed, all_met, BringupRising as Rising, turned, IsRound, round, Carried, IsCarried, frame-passes, StartNext, Pass, Return, Progress, filled, may_pass, may_return, lets_by, is_older, WorldState, Flight, no_slave, slave_of, flight_at, flight_progress, flights_progress, can_happen, awaits, resumed, is_up, ready_with, ByStart, Sends, Passes, Returns, StartReturns, IsStep, some_same, length-append, filled-none, nones-all, get_or-append_seam, set-append_seam, length-replicate}
 
 -- ---- lists
-
-at-end : (pre : List SlaveState) (s : SlaveState) (ss : List SlaveState) → get_or (pre ++ (s ∷ ss)) (length pre) no_slave ≡ s
-at-end [] s ss = refl
-at-end (p ∷ pre) s ss = at-end pre s ss
-
-set-end : (pre : List SlaveState) (s t : SlaveState) (ss : List SlaveState) → set (pre ++ (s ∷ ss)) (length pre) t ≡ pre ++ (t ∷ ss)
-set-end [] s t ss = refl
-set-end (p ∷ pre) s t ss = ap (λ (xs : List SlaveState). p ∷ xs) (set-end pre s t ss)
 
 inside : (pre : List SlaveState) (s : SlaveState) (ss : List SlaveState) → nat_lt (length pre) (length (pre ++ (s ∷ ss))) ≡ true
 inside pre s ss =
     let lt : length pre < length (pre ++ (s ∷ ss)) = omega (arith, length-append pre (s ∷ ss)) in
     lt-ltb (length pre) (length (pre ++ (s ∷ ss))) lt
 
-pub push-one : (pre : List SlaveState) (s : SlaveState) (ss : List SlaveState) → pre ++ (s ∷ ss) ≡ (pre ++ (s ∷ [])) ++ ss
-push-one [] s ss = refl
-push-one (p ∷ pre) s ss = ap (λ (xs : List SlaveState). p ∷ xs) (push-one pre s ss)
-
-pub length-push : (pre : List SlaveState) (s : SlaveState) → length (pre ++ (s ∷ [])) ≡ length pre + 1
-length-push [] s = refl
-length-push (p ∷ pre) s = let e = length-push pre s in omega (arith, e)
-
 -- ---- the frame in its slot
-
-nones-all : (n : ℕ) → nones (replicate {A = Option Flight} n None) ≡ length (replicate {A = Option Flight} n None)
-nones-all zero = refl
-nones-all (suc n) = let e = nones-all n in omega (arith, e)
 
 none-in-way : (f : Progress) (n : ℕ) → list_all (lets_by f) (flights_progress (replicate n None)) ≡ true
 none-in-way f zero = refl
@@ -70,7 +50,7 @@ one-past n m c pre s ss u one i at e step =
     let p : Passes m 0 u = step.happens (step.can ∙ can) in
     let same : p.flight ≡ f = some_same p.flight f (sym p.there ∙ there) in
     let place : p.flight.passed ≡ length pre = ap (λ (x : Flight). x.passed) same ∙ at in
-    let own : slave_of m p.flight.passed ≡ s = ap (λ (k : ℕ). get_or m.slaves k no_slave) place ∙ (ap (λ (xs : List SlaveState). get_or xs (length pre) no_slave) e ∙ at-end pre s ss) in
+    let own : slave_of m p.flight.passed ≡ s = ap (λ (k : ℕ). get_or m.slaves k no_slave) place ∙ (ap (λ (xs : List SlaveState). get_or xs (length pre) no_slave) e ∙ get_or-append_seam pre s ss no_slave) in
     let car : IsCarried p.flight.bytes c = subst (λ (x : Flight). IsCarried x.bytes c) (sym same) i.carried in
     let load : Payload = car.payload in
     let x : SlaveState = slave_of m p.flight.passed in
@@ -81,10 +61,7 @@ one-past n m c pre s ss u one i at e step =
       start = ap (λ (w : WorldState). w.start) p.is;
       master = ap (λ (w : WorldState). w.master) p.is;
       slaves = p.passed.slaves load car.spelled
-          ∙ (ap (λ (y : Passed). set m.slaves p.flight.passed y.slave) met
-          ∙ (ap (λ (y : SlaveState). set m.slaves p.flight.passed (slave_met y c.datagram)) own
-          ∙ (ap (λ (k : ℕ). set m.slaves k (slave_met s c.datagram)) place
-          ∙ (ap (λ (xs : List SlaveState). set xs (length pre) (slave_met s c.datagram)) e ∙ set-end pre s (slave_met s c.datagram) ss))));
+          ∙ rw (met, own, place, e) (set-append_seam pre s ss (slave_met s c.datagram));
       slot = record {
         bytes = p.bytes;
         slots = ap (λ (w : WorldState). w.slots) p.is
@@ -100,12 +77,8 @@ one-past n m c pre s ss u one i at e step =
 
 -- ---- it is sent
 
-second-good : (ds : List Datagram) (number : ℕ) (d : Datagram) → AllByRecursion IsDatagram ds → ds ≡ numbered number 0 ∷ d ∷ [] → IsDatagram d
+pub second-good : (ds : List Datagram) (number : ℕ) (d : Datagram) → AllByRecursion IsDatagram ds → ds ≡ numbered number 0 ∷ d ∷ [] → IsDatagram d
 second-good ds number d h e = let q : AllByRecursion IsDatagram (numbered number 0 ∷ d ∷ []) = subst (AllByRecursion IsDatagram) e h in q.1.0
-
-none-filled : (n : ℕ) → filled {X = Flight} [] (replicate n None) ≡ replicate n None
-none-filled zero = refl
-none-filled (suc n) = refl
 
 -- a world that can send a frame, of a start-up that is then in this state
 pub record Sending (w : WorldState) (s : StartState) : Type 0 where
@@ -126,7 +99,7 @@ pub record IsOut (n : ℕ) (w : WorldState) (s : StartState) (u : WorldState) (o
 pub send-one : (n : ℕ) (w u : WorldState) (one : Bool) (s : StartState) → Sending w s → w.slots ≡ None ∷ replicate n None → IsStep w StartNext u one → IsOut n w s u one
 send-one n w u one s sends e step =
     let free : (nones w.slots == length w.slots) ≡ true
-    = ap (λ (os : List (Option Flight)). nones os == length os) e ∙ eq-eqb (nones (replicate {A = Option Flight} (suc n) None)) (length (replicate {A = Option Flight} (suc n) None)) (nones-all (suc n)) in
+    = ap (λ (os : List (Option Flight)). nones os == length os) e ∙ eq-eqb (nones (replicate {A = Option Flight} (suc n) None)) (length (replicate {A = Option Flight} (suc n) None)) (nones-all Flight (suc n) ∙ sym (length-replicate {A = Option Flight} (suc n) None)) in
     let can : can_happen w StartNext ≡ true = rw (sends.not_up, sends.none_awaited, free, lt-ltb w.start.next cycle_limit sends.few) refl in
     let p : Sends w u = step.happens (step.can ∙ can) in
     let f : Flight = record { bytes = p.bytes; number = w.start.next; part = 0; passed = 0 } in
@@ -143,7 +116,7 @@ send-one n w u one s sends e step =
         bytes = p.bytes;
         slots = ap (λ (x : WorldState). x.slots) p.is
             ∙ (ap (λ (os : List (Option Flight)). filled (f ∷ []) os) e
-            ∙ (ap (λ (os : List (Option Flight)). Some f ∷ os) (none-filled n)
+            ∙ (ap (λ (os : List (Option Flight)). Some f ∷ os) (filled-none (replicate n None))
             ∙ ap (λ (k : ℕ). Some (record { bytes = p.bytes; number = k; part = 0; passed = 0 }) ∷ replicate n None) (sym sends.next)));
         carried = record { payload = load; spelled = p.spelled; datagrams = told };
       };

@@ -1,6 +1,6 @@
 -- Turns of a start-up that nothing disturbs, in any order of the slaves' firmware steps behind the frame.
-use Rattle.ec_world.proofs.Words.{ℕ, zero, suc, ◌+◌, ◌<◌, ◌≡◌, nat_lt, Bool, true, false, if◌then◌else◌, None, refl, sym, ◌∙◌, ap, subst, arith, List, [], ◌∷◌, ◌++◌, length, get_or, set, map, replicate, length-set, ◌-◌, ◌≤◌, cond, take, Option, Some, is_none, option_map, position, lt-ltb, true≢false, le-ltb, ltb-true, ltb-false, length-replicate, Datagram, IsDatagram, SlaveState, slave_met, datagram_met, served, MasterState, datagram_of, StartState, action_of, sending, taken, Carried, all_passed, all_met, BringupRising as Rising, turned, Event, StartNext, Pass, Return, Serve, WorldState, no_slave, slave_of, ready_with, IsStep, with_slave, can_happen, Flight, flight_progress, flights_progress, IsRun, IsRest, NewWorldPasses as Passes, NewWorldReturns as Returns, Serves, Ends, IsTurn, rising_of, count_by, fold, position_or_len, Progress, nones, AreInUse, way_behind, length-append}
-use Rattle.ec_world.proofs.Turning.{InSlot, one-past, send-one, return-one, Sending, rising-by, push-one, length-push}
+use Rattle.ec_world.proofs.Words.{ℕ, zero, suc, ◌+◌, ◌<◌, ◌≡◌, nat_lt, Bool, true, false, if◌then◌else◌, None, refl, sym, ◌∙◌, ap, subst, arith, List, [], ◌∷◌, ◌++◌, length, get_or, set, map, replicate, length-set, ◌-◌, ◌≤◌, cond, take, Option, Some, is_none, option_map, position, lt-ltb, true≢false, le-ltb, ltb-true, ltb-false, length-replicate, Datagram, IsDatagram, SlaveState, slave_met, datagram_met, served, MasterState, datagram_of, StartState, action_of, sending, taken, Carried, all_passed, all_met, BringupRising as Rising, turned, Event, StartNext, Pass, Return, Serve, WorldState, no_slave, slave_of, ready_with, IsStep, with_slave, can_happen, Flight, flight_progress, flights_progress, IsRun, IsRest, NewWorldPasses as Passes, NewWorldReturns as Returns, Serves, Ends, IsTurn, rising_of, count_by, fold, position_or_len, Progress, nones, AreInUse, way_behind, length-append, length_push, append_assoc, append-nil, nones-all, all_none}
+use Rattle.ec_world.proofs.Turning.{InSlot, one-past, send-one, return-one, Sending, rising-by}
 use Rattle.ec_world.proofs.Filling.{nones_counted}
 
 -- ---- the slaves that the frame has passed: those that are marked have served since
@@ -81,11 +81,9 @@ one_served m s u one marks pre tail many free slaves step =
     let can : can_happen m (Serve s) ≡ true = ap (λ (xs : List SlaveState). nat_lt s (length xs)) slaves ∙ lt-ltb s (length (mixed marks pre ++ tail)) inside in
     record { made = step.can ∙ can; is = step.happens (step.can ∙ can) }
 
-now_served : (m u : WorldState) (s : ℕ) (one : Bool) (marks : List Bool) (pre tail : List SlaveState) → length marks ≡ length pre → get_or marks s true ≡ false
-    → m.slaves ≡ mixed marks pre ++ tail → OneServed m s u one → u.slaves ≡ mixed (set marks s true) pre ++ tail
-now_served m u s one marks pre tail many free slaves o =
-    ap (λ (x : WorldState). x.slaves) o.is
-    ∙ (ap (λ (xs : List SlaveState). set xs s (served (get_or xs s no_slave))) slaves ∙ mixed_set marks pre tail s many free)
+now_served : (m : WorldState) (s : ℕ) (marks : List Bool) (pre tail : List SlaveState) → length marks ≡ length pre → get_or marks s true ≡ false
+    → m.slaves ≡ mixed marks pre ++ tail → (with_slave m s (served (slave_of m s))).slaves ≡ mixed (set marks s true) pre ++ tail
+now_served m s marks pre tail many free slaves = ap (λ (xs : List SlaveState). set xs s (served (get_or xs s no_slave))) slaves ∙ mixed_set marks pre tail s many free
 
 -- ---- a turn
 
@@ -118,10 +116,6 @@ pub record HasTurned (n : ℕ) (w : WorldState) (s : StartState) (v : WorldState
   pub slots : v.slots ≡ None ∷ replicate n None
   pub master : v.master ≡ ready_with w.master v.start
 
-append_none : (xs : List SlaveState) → xs ++ [] ≡ xs
-append_none [] = refl
-append_none (x ∷ xs) = ap (λ (ys : List SlaveState). x ∷ ys) (append_none xs)
-
 -- what an event that is made leads to
 next : (e : Event) (es : List Event) (m v : WorldState) (all : Bool) (h : Goes (e ∷ es) m v all) → h.1 ≡ true → Goes es h.0 v all
 next e es m v all h made = onward ((v ≡ h.0) × (all ≡ false)) h.1 made h.3
@@ -130,14 +124,8 @@ back_goes : (n : ℕ) (w : WorldState) (s : StartState) (m v : WorldState) (mark
     → IsRest (length w.slaves) marks back es → back ≡ true → Back n w s m marks pre → Goes es m v all → (all ≡ true) × HasTurned n w s v
 back_goes n w s m v marks back pre es all (Serves ms bk k xs free rest) e b h =
     let o = one_served m k h.0 h.1 marks pre [] b.marked free b.slaves h.2 in
-    back_goes n w s h.0 v (set marks k true) back pre xs all rest e (record {
-      start = ap (λ (x : WorldState). x.start) o.is ∙ b.start;
-      marked = length-set marks k true ∙ b.marked;
-      slaves = now_served m h.0 k h.1 marks pre [] b.marked free b.slaves o;
-      met = b.met;
-      slots = ap (λ (x : WorldState). x.slots) o.is ∙ b.slots;
-      master = ap (λ (x : WorldState). x.master) o.is ∙ (b.master ∙ ap (λ (x : WorldState). ready_with w.master x.start) (sym o.is));
-    }) (next (Serve k) xs m v all h o.made)
+    back_goes n w s h.0 v (set marks k true) back pre xs all rest e (subst (λ (x : WorldState). Back n w s x (set marks k true) pre) (sym o.is)
+    (assumption (length-set marks k true ∙ b.marked, now_served m k marks pre [] b.marked free b.slaves))) (next (Serve k) xs m v all h o.made)
 back_goes n w s m v marks back pre es all (Ends ms served_all) e b h =
     let long : length w.slaves ≡ length pre = sym (length-replicate {A = Bool} (length w.slaves) true) ∙ (ap (λ (xs : List Bool). length xs) (sym served_all) ∙ b.marked) in
     let full : marks ≡ replicate (length pre) true = served_all ∙ ap (λ (k : ℕ). replicate k true) long in (
@@ -146,7 +134,7 @@ back_goes n w s m v marks back pre es all (Ends ms served_all) e b h =
         is = rising-by v.start (taken (sending s) (all_passed w.slaves (first s))) v.slaves (map served (all_met w.slaves (first s)))
             (ap (λ (x : WorldState). x.start) h.0 ∙ b.start)
             (ap (λ (x : WorldState). x.slaves) h.0
-            ∙ (b.slaves ∙ (append_none (mixed marks pre) ∙ (ap (λ (bs : List Bool). mixed bs pre) full ∙ (mixed_all pre ∙ ap (λ (xs : List SlaveState). map served xs) b.met)))));
+            ∙ (b.slaves ∙ (append-nil (mixed marks pre) ∙ (ap (λ (bs : List Bool). mixed bs pre) full ∙ (mixed_all pre ∙ ap (λ (xs : List SlaveState). map served xs) b.met)))));
         slots = ap (λ (x : WorldState). x.slots) h.0 ∙ b.slots;
         master = ap (λ (x : WorldState). x.master) h.0 ∙ (b.master ∙ ap (λ (x : WorldState). ready_with w.master x.start) (sym h.0));
       },
@@ -159,20 +147,11 @@ comes_back : (n : ℕ) (w : WorldState) (s : StartState) (m u : WorldState) (one
 comes_back n w s m u one marks pre (t ∷ tail) d l good b step = absurd (let a = b.marked in let c = b.many in omega (arith, a, c, l))
 comes_back n w s m u one marks pre [] d l good b step =
     let long : length pre ≡ length m.slaves
-    = sym (mixed_length marks pre b.marked) ∙ ap (λ (xs : List SlaveState). length xs) (sym (append_none (mixed marks pre)) ∙ sym b.slaves) in
+    = sym (mixed_length marks pre b.marked) ∙ ap (λ (xs : List SlaveState). length xs) (sym (append-nil (mixed marks pre)) ∙ sym b.slaves) in
     let slot : InSlot n m (record { number = s.next; passed = length pre; datagram = all_passed w.slaves (first s) })
     = subst (λ (x : Datagram). InSlot n m (record { number = s.next; passed = length pre; datagram = x })) b.ends b.slot in
-    let o = return-one n m s w.slaves (length pre) u one slot long b.start good step in (
-      o.made,
-      record {
-        start = o.start;
-        marked = b.marked;
-        slaves = o.slaves ∙ b.slaves;
-        met = sym (append_none pre) ∙ b.met;
-        slots = o.slots;
-        master = o.master ∙ ap (λ (x : MasterState). ready_with x u.start) b.master;
-      },
-    )
+    let o = return-one n m s w.slaves (length pre) u one slot long b.start good step in
+    (o.made, assumption (o.slaves ∙ b.slaves, sym (append-nil pre) ∙ b.met, o.master ∙ ap (λ (x : MasterState). ready_with x u.start) b.master, o, b.marked))
 
 -- the frame passes one slave more
 record HasGoneOn (n : ℕ) (w : WorldState) (s : StartState) (u : WorldState) (one : Bool) (marks : List Bool) : Type 0 where
@@ -189,7 +168,7 @@ goes_on n w s m u one marks pre (t ∷ tail) d l b step =
     let c : Carried = record { number = s.next; passed = length pre; datagram = d } in
     let o = one-past n m c (mixed marks pre) t tail u one b.slot (sym (mixed_length marks pre b.marked)) b.slaves step in
     let t2 : SlaveState = slave_met t d in
-    let z : length pre + 1 ≡ length (pre ++ (t2 ∷ [])) = sym (length-push pre t2) in
+    let z : length pre + 1 ≡ length (pre ++ (t2 ∷ [])) = sym (length_push pre t2) in
     record {
       made = o.made;
       pre = pre ++ (t2 ∷ []);
@@ -197,19 +176,15 @@ goes_on n w s m u one marks pre (t ∷ tail) d l b step =
       d = datagram_met t d;
       under = record {
         start = o.start ∙ b.start;
-        marked = length-mark marks ∙ (ap (λ (k : ℕ). k + 1) b.marked ∙ z);
-        slaves = o.slaves ∙ (push-one (mixed marks pre) t2 tail ∙ ap (λ (xs : List SlaveState). xs ++ tail) (sym (mixed_push marks pre t2 b.marked)));
+        marked = length_push marks false ∙ (ap (λ (k : ℕ). k + 1) b.marked ∙ z);
+        slaves = o.slaves ∙ (sym (append_assoc (mixed marks pre) (t2 ∷ []) tail) ∙ ap (λ (xs : List SlaveState). xs ++ tail) (sym (mixed_push marks pre t2 b.marked)));
         slot = subst (λ (k : ℕ). InSlot n u (record { number = s.next; passed = k; datagram = datagram_met t d })) z o.slot;
         ends = b.ends;
-        met = sym (push-one pre t2 (all_met tail (datagram_met t d))) ∙ b.met;
+        met = append_assoc pre (t2 ∷ []) (all_met tail (datagram_met t d)) ∙ b.met;
         many = let e = b.many in omega (arith, e, z);
         master = o.master ∙ b.master;
       };
     }
-  where
-    length-mark : (bs : List Bool) → length (bs ++ (false ∷ [])) ≡ length bs + 1
-    length-mark [] = refl
-    length-mark (x ∷ bs) = let e = length-mark bs in omega (arith, e)
 
 under_goes : (n : ℕ) (w : WorldState) (s : StartState) (m v : WorldState) (marks : List Bool) (back : Bool) (pre tail : List SlaveState) (d : Datagram) (es : List Event) (all : Bool)
     → IsDatagram (first s) → IsRest (length w.slaves) marks back es → back ≡ false → Under n w s m marks pre tail d → Goes es m v all → (all ≡ true) × HasTurned n w s v
@@ -221,16 +196,9 @@ under_goes n w s m v marks back pre tail d es all good (Returns ms xs l rest) e 
     back_goes n w s h.0 v marks true pre xs all rest refl o.1 (next (Return 0) xs m v all h o.0)
 under_goes n w s m v marks back pre tail d es all good (Serves ms bk k xs free rest) e b h =
     let o = one_served m k h.0 h.1 marks pre tail b.marked free b.slaves h.2 in
-    under_goes n w s h.0 v (set marks k true) back pre tail d xs all good rest e (record {
-      start = ap (λ (x : WorldState). x.start) o.is ∙ b.start;
-      marked = length-set marks k true ∙ b.marked;
-      slaves = now_served m h.0 k h.1 marks pre tail b.marked free b.slaves o;
-      slot = let i = b.slot in record { bytes = i.bytes; slots = ap (λ (x : WorldState). x.slots) o.is ∙ i.slots; carried = i.carried };
-      ends = b.ends;
-      met = b.met;
-      many = b.many;
-      master = ap (λ (x : WorldState). x.master) o.is ∙ b.master;
-    }) (next (Serve k) xs m v all h o.made)
+    let slot : InSlot n (with_slave m k (served (slave_of m k))) (record { number = s.next; passed = length pre; datagram = d }) = record { bytes = b.slot.bytes; slots = b.slot.slots; carried = b.slot.carried } in
+    under_goes n w s h.0 v (set marks k true) back pre tail d xs all good rest e (subst (λ (x : WorldState). Under n w s x (set marks k true) pre tail d) (sym o.is)
+    (assumption (length-set marks k true ∙ b.marked, now_served m k marks pre tail b.marked free b.slaves, slot))) (next (Serve k) xs m v all h o.made)
 under_goes n w s m v marks back pre tail d es all good (Ends ms served_all) e b h = absurd (true≢false e)
 
 -- from a world that can send the first frame of such a state
@@ -241,16 +209,8 @@ turn_goes n w s es v all can free turn h = go (subst (λ (xs : List Event). Goes
     go : Goes (StartNext ∷ turn.rest) w v all → (all ≡ true) × HasTurned n w s v
     go k =
         let o = send-one n w k.0 k.1 s can free k.2 in
-        under_goes n w s k.0 v [] false [] w.slaves (first s) turn.rest all o.good turn.goes refl (record {
-          start = o.start;
-          marked = refl;
-          slaves = o.slaves;
-          slot = o.slot;
-          ends = refl;
-          met = refl;
-          many = omega arith;
-          master = o.master;
-        }) (next StartNext turn.rest w v all k o.made)
+        let many : 0 + length w.slaves ≡ length w.slaves = omega arith in
+        under_goes n w s k.0 v [] false [] w.slaves (first s) turn.rest all o.good turn.goes refl (assumption (o, many)) (next StartNext turn.rest w v all k o.made)
 
 -- the same of a run
 pub turns_once : (n : ℕ) (w : WorldState) (s : StartState) (es : List Event) (v : WorldState) (made : ℕ) → Sending w s → w.slots ≡ None ∷ replicate n None
@@ -268,9 +228,7 @@ Slot = Option Flight
 -- ---- how many are free
 
 all_free : (xs : List Slot) → ((i : ℕ) → get_or xs i None ≡ None) → nones xs ≡ length xs
-all_free [] free = refl
-all_free (None ∷ xs) free = let e = all_free xs (λ i. free (suc i)) in omega (arith, e)
-all_free (Some f ∷ xs) free = absurd (let e : Some f ≡ None = free 0 in cc)
+all_free xs free = ap (λ (ys : List Slot). nones ys) (all_none xs free) ∙ nones-all Flight (length xs)
 
 count_first : (k : ℕ) (xs : List Slot) → k ≤ length xs → ((i : ℕ) → k ≤ i → get_or xs i None ≡ None) → nones xs ≡ (length xs - k) + nones (take k xs)
 count_first zero xs le free = let e = all_free xs (λ i. free i (omega arith)) in omega (arith, e)

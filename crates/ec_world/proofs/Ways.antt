@@ -97,7 +97,7 @@ pub record HasMoved (before : Option Flight) (f : Flight) : Type 0 where
   pub part : flight.part ≡ f.part
   pub passed : flight.passed ≤ f.passed
 
-at_set : {X : Type 0} (xs : List X) (j k : ℕ) (x d : X) → (get_or (set xs j x) k d ≡ get_or xs k d) ⊎ ((k ≡ j) × (get_or (set xs j x) k d ≡ x))
+pub at_set : {X : Type 0} (xs : List X) (j k : ℕ) (x d : X) → (get_or (set xs j x) k d ≡ get_or xs k d) ⊎ ((k ≡ j) × (get_or (set xs j x) k d ≡ x))
 at_set [] j k x d = inl refl
 at_set (y ∷ ys) zero zero x d = inr (refl, refl)
 at_set (y ∷ ys) zero (suc k) x d = inl refl

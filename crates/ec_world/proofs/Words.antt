@@ -2,11 +2,12 @@
 -- and the definitions of this crate.
 pub use Rattle.std.proofs.Common.{◌≡◌, ℕ, zero, suc, ◌<◌, ◌≤◌, ◌≢◌, ◌&&◌, Bool, true, false, Option, None, refl, sym, ◌∙◌, ap, subst, inl, inr, arith, List, [], ◌∷◌, length, get_or, set, is_some, option_and_then, nat_lt, length-set, get_or-set_same, get_or-set_other, ◌+◌, ◌==◌, not, Some, map, slice_set, if◌then◌else◌, option_map, unwrap_or, ◌-◌, ◌^◌, nat_le, ◌++◌, replicate, is_none, ◌||◌, ◌*◌, slice_get, ◌⊎◌, cond, position, drop, drop-cons, Result, Ok, Err, OnOk, is_err, slice_index, bit_or, ◌%◌, mod-eq_of_lt, ◌/◌, append-nil as common_append-nil, append_assoc as common_append_assoc, take, min}
 pub use Rattle.std.proofs.Math.ListN.{get_or-map, get_or-append}
-pub use Rattle.std.proofs.Math.Seq.{map-set_same, get_or-append_seam}
+pub use Rattle.std.proofs.Math.Seq.{set-append_seam, map-set_same, get_or-append_seam}
 pub use Rattle.std.proofs.lemmas.Bool.{cases_eq, cases_lt, and_from, and_left, and_parts, lt-ltb, le-ltb, both_ways, le-leb, eq-eqb, cases_Bool, eqb-true, and_cases, and_right, or_cases, or_left, leb-true, true≢false, ltb-true, ltb-false, or_right, false≢true, ne_eqb}
 pub use Rattle.std.proofs.lemmas.List.{length-map, length-replicate, set-get_or, length_push, map-set, length-append, get_or-map as list_get_or-map, append-nil, get_or_append_left, get_or_push, drop_all, append_assoc, get_or_past, ext_get_or, get_or-set_same as list_get_or-set_same, get_or-set_other as list_get_or-set_other, length-set as list_length-set, take-append-le, take_all, take_more}
 pub use Rattle.std.proofs.lemmas.List.Elements.{All-from_get_or}
 pub use Rattle.std.proofs.lemmas.List.Recursion.{is_count_by}
+pub use Rattle.std.proofs.lemmas.List.Folds.{list_all-append, list_any_at}
 pub use Rattle.std.proofs.lemmas.List.Sums.{fold-append}
 pub use Rattle.std.proofs.lemmas.Nat.Bits.{bit_at_above, bit_at-zero}
 pub use Rattle.std.proofs.lemmas.Option.{slice_get-get_or, slice_get_past, slice_get_within, get_or_from_slice_get}
@@ -17,7 +18,7 @@ pub use Rattle.std.specs.Prelude.{All, IsTrue, ◌↔◌}
 pub use Rattle.ec_bits.specs.Bits.{bytes_of_bits, zeros, within, bits_number, with_number}
 unfoldable pub use Rattle.ec_bits.specs.Bits.{bit}
 pub use Rattle.ec_bits.proofs.AnyLaws.{if_true, if_false, within_true, within_parts}
-pub use Rattle.ec_bits.proofs.BitLaws.{overlay_alike, bit-overlay, bit-zeros, length-overlay}
+pub use Rattle.ec_bits.proofs.BitLaws.{from_bool-lt, overlay_alike, bit-overlay, bit-zeros, length-overlay}
 pub use Rattle.ec_bits.proofs.Numbers.{bits_number-lt, bit_at-bits_number}
 pub use Rattle.ec_frame.proofs.Verdict.{one_payload}
 unfoldable pub use Rattle.ec_regs.specs.Managers.{is_set}
@@ -77,7 +78,7 @@ pub use Rattle.ec_cycle.proofs.ProcessBits.{outputs_by_source}
 pub use Rattle.ec_world.specs.AlWords.{said_by, IsHeard, AreHeard, PartSays, IsNotBack, IsBack, WordShows, WordLaw, OpWordLaw}
 pub use Rattle.ec_world.specs.Exchanging.{given_in, slave_left, given_by}
 pub use Rattle.ec_world.specs.FrameShows.{note_at, GaveAs, DatagramsShow, KeptShows, ShowsData, FrameShows, out_bit}
-pub use Rattle.ec_world.specs.Headline.{Says, IsMade, IsBegun as HeadlineIsBegun, HasLost, IsUnderWay, HadTrouble, IsInOp, progress_at, variable_bit, output_bits, input_bits, GivesLess, unit_of, unit_of_part as headline_unit_of_part, IsRead, IsTaken as HeadlineIsTaken, FellShort as HeadlineFellShort, Cause, ByLoss, ByEarlyClose, ByFallingShort, IsMissed as HeadlineIsMissed, ListsUnits, CloseShows, HeadlineLaw, EachIsPromised, ShowsLinked, PassShows, HasPassed as HeadlineHasPassed, IsRunWithoutStart, begins_start, input_bit}
+pub use Rattle.ec_world.specs.Headline.{HeadlineShows, Says, IsMade, IsBegun as HeadlineIsBegun, HasLost, IsUnderWay, HadTrouble, IsInOp, progress_at, variable_bit, output_bits, input_bits, GivesLess, unit_of, unit_of_part as headline_unit_of_part, IsRead, IsTaken as HeadlineIsTaken, FellShort as HeadlineFellShort, Cause, ByLoss, ByEarlyClose, ByFallingShort, IsMissed as HeadlineIsMissed, ListsUnits, CloseShows, HeadlineLaw, EachIsPromised, ShowsLinked, PassShows, HasPassed as HeadlineHasPassed, IsRunWithoutStart, begins_start, input_bit}
 pub use Rattle.ec_world.specs.Held.{AreFrames, cycle_frames, AreOfPlan, IsAnswered, IsTakenIn, IsHandedIn}
 pub use Rattle.ec_world.specs.Laws.{IsRun, BringsWord, notes_round, SlavesFrom, RoundTrip, word_past, in_op, CycleLaw, StepsShow, RunsShow, RunsJoin, StepShows}
 pub use Rattle.ec_world.specs.Lengths.{IsOfLength}
@@ -95,4 +96,4 @@ pub use Rattle.ec_world.specs.World.{WorldState, slave_of, no_slave, with_slave,
 pub use Rattle.ec_world.specs.declared.event.Event.{Event}
 pub use Rattle.ec_world.specs.declared.event.Event.TheVariants.{Begin, Close, Pass, Return, Lose, Fault, Reset as ResetSlave, StartNext, Set, Serve, AppPut, AppGet}
 pub use Rattle.ec_world.specs.declared.progress.Progress.{Progress}
-pub use Rattle.ec_world.proofs.Lists.{none_some, some_same, same_progress, all_none, all_from-each, all_from-alike, nones-alike, there_too, map-alike, all_each, theres, first_same, rest_same, get_or-set_default, flight_pairs, passes_there, is_some-guarded, within_of, same_slots, returns_there, same_truth, each_all, Pairs, plain_frame, cycle_begun, filled-none, filled-length, none_free, none_in, some_or}
+pub use Rattle.ec_world.proofs.Lists.{some_of, some_if, none_if, none_mapped, nones-all, is_some-mapped, some_guarded, none_some, some_same, same_progress, all_none, all_from-each, all_from-alike, nones-alike, there_too, map-alike, all_each, theres, first_same, rest_same, get_or-set_default, flight_pairs, passes_there, is_some-guarded, within_of, same_slots, returns_there, same_truth, each_all, Pairs, plain_frame, cycle_begun, filled-none, filled-length, none_free, none_in, some_or}
