@@ -1,9 +1,9 @@
 -- A firmware step of a slave for which nothing waits changes nothing.
-use Rattle.ec_world.proofs.Words.{◌≡◌, ℕ, zero, suc, ◌<◌, ◌≤◌, ◌≢◌, ◌&&◌, Bool, true, false, Option, None, refl, sym, ◌∙◌, ap, subst, inl, inr, arith, List, [], ◌∷◌, length, get_or, set, is_some, option_and_then, nat_lt, length-set, get_or-set_same, get_or-set_other, ◌+◌, ◌==◌, not, Some, map, slice_set, if◌then◌else◌, option_map, unwrap_or, SlaveState, manager_at, power_on, served, IsQuiet, Holds, IsWorking, IsFaulted, IsReset, IsAs, SlaveShows, HoldsData, map-set_same, cases_eq, cases_lt, and_from, and_left, and_parts, lt-ltb, le-ltb, both_ways, length-map, length-replicate, set-get_or, slice_get-get_or, slice_get_past, bytes_of_bits, zeros, if_true, if_false, emptied_buffer, Buffer, Got, app_written, app_read, drafted, draft_next, view_next, SyncManager, no_manager, empty_manager, buffer_length, Init, Identity, SlaveKind, Sii, switched_on, faults, SlavePlan, slave_at, AreListed, output_manager, Plain, PlainSlave, Health, Working, Faulted, Reset, plain_slave, no_plain_slave, is_working, failing, restarting, at_slave, is_reset, got_byte, WorldState, slave_of, no_slave, with_slave, Puts, Gets, faulted, Shows, none_some, some_same, listed, is_set, is_running, input_put, output_got, output_taken, with_manager, IsUsable, IsOfLength, MasterState, ReportState, CyclesShow, ReportShows}
+use Rattle.ec_world.proofs.Words.{◌≡◌, ℕ, zero, suc, ◌<◌, ◌≤◌, ◌≢◌, ◌&&◌, Bool, true, false, Option, None, refl, sym, ◌∙◌, ap, subst, inl, inr, arith, List, [], ◌∷◌, length, get_or, set, is_some, option_and_then, nat_lt, length-set, get_or-set_same, get_or-set_other, ◌+◌, ◌==◌, not, Some, slice_set, if◌then◌else◌, option_map, unwrap_or, SlaveState, manager_at, power_on, served, IsQuiet, Holds, IsWorking, IsFaulted, IsReset, IsAs, SlaveShows, HoldsData, cases_eq, cases_lt, and_left, and_parts, lt-ltb, le-ltb, both_ways, length-map, length-replicate, set-get_or, slice_get-get_or, slice_get_past, bytes_of_bits, zeros, if_true, if_false, emptied_buffer, Buffer, Got, app_written, app_read, drafted, draft_next, view_next, SyncManager, no_manager, empty_manager, buffer_length, Init, Identity, SlaveKind, Sii, switched_on, faults, SlavePlan, slave_at, AreListed, output_manager, Plain, PlainSlave, Health, Working, Faulted, Reset, plain_slave, no_plain_slave, is_working, failing, restarting, at_slave, is_reset, got_byte, WorldState, slave_of, no_slave, with_slave, Puts, Gets, faulted, Shows, none_some, some_same, listed, is_set, is_running, input_put, output_got, output_taken, with_manager, IsUsable, IsOfLength, MasterState, ReportState, CyclesShow, ReportShows}
 use Rattle.ec_slave.proofs.Serves as serves
 use Rattle.ec_al.specs.Al as al
 use Rattle.ec_world.specs.Plain as plain
-use Rattle.ec_world.proofs.Mapped.{some_bits, no_bits, unset, third_held, outs_enabled, ins_enabled, locked_denies, fourth_held, still_holds, still_quiet, buffer_long, set_for_outs}
+use Rattle.ec_world.proofs.Mapped.{no_bits, unset, third_held, outs_enabled, ins_enabled, locked_denies, fourth_held, still_holds, still_quiet, buffer_long, set_for_outs}
 
 pub quiet-rests : (s : SlaveState) → IsQuiet s → served s ≡ s
 quiet-rests s q = serves.rests_quietly s (record { no_request = q.no_request; no_read = q.no_read; no_message = q.no_message 0 })

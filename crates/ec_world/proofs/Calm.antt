@@ -1,5 +1,5 @@
 -- A cycle of the plain machine that nothing disturbs: each of its frames goes round, one after another.
-use Rattle.ec_world.proofs.Words.{ℕ, zero, suc, ◌+◌, ◌<◌, ◌≤◌, ◌≡◌, ◌==◌, ◌&&◌, ◌||◌, nat_lt, Bool, true, false, Option, Some, None, refl, sym, ◌∙◌, ap, subst, arith, List, [], ◌∷◌, ◌++◌, length, get_or, set, replicate, is_some, if◌then◌else◌, option_map, unwrap_or, length-set, list_all, and_parts, and_from, lt-ltb, le-ltb, eq-eqb, length_push, map-set, length-append, if_true, if_false, Meaning, Event, Pass, Return, Progress, Plain, PlainFrame, Cycle, step, run, frame_at, plain_slave, moved, keeping, filled, new_frames, with_note, met_note, progress_of, all_progress, is_older, lets_by, may_pass, may_return, round_of, rounds_of, none_some, some_same, list_all-append, filled-none, met_slave}
+use Rattle.ec_world.proofs.Words.{ℕ, zero, suc, ◌+◌, ◌<◌, ◌≤◌, ◌≡◌, nat_lt, Bool, true, false, Option, Some, None, refl, sym, ◌∙◌, ap, subst, arith, List, [], ◌∷◌, ◌++◌, length, get_or, set, replicate, is_some, if◌then◌else◌, option_map, unwrap_or, length-set, list_all, and_parts, and_from, lt-ltb, le-ltb, eq-eqb, length_push, map-set, length-append, if_true, if_false, Meaning, Event, Pass, Return, Progress, Plain, PlainFrame, Cycle, step, run, frame_at, plain_slave, moved, keeping, filled, new_frames, with_note, met_note, progress_of, all_progress, is_older, lets_by, may_pass, may_return, round_of, rounds_of, none_some, some_same, list_all-append, filled-none, met_slave}
 use Rattle.ec_world.proofs.Histories.{run_joins, keeping_number}
 
 -- ---- slots

@@ -1,5 +1,5 @@
 -- A world at rest makes a cycle whole.
-use Rattle.ec_world.proofs.Words.{◌≡◌, ◌≤◌, Bool, true, Some, None, Option, refl, ◌∙◌, ap, arith, List, [], ◌∷◌, length, replicate, option_map, unwrap_or, Identity, Contents, Meaning, meaning, PlanState, plan_of, plan_sound, Begin, Close, Plain, run, WorldState, cycle_of, Rests, ℕ, suc, ◌+◌, false, if◌then◌else◌, is_some, sym, subst, IsUsable, Event, step, Shows}
+use Rattle.ec_world.proofs.Words.{◌≡◌, ◌≤◌, Bool, true, None, refl, ◌∙◌, ap, arith, List, [], ◌∷◌, length, replicate, unwrap_or, Identity, Contents, Meaning, meaning, PlanState, plan_of, plan_sound, Plain, run, WorldState, cycle_of, Rests, ℕ, suc, ◌+◌, false, if◌then◌else◌, is_some, sym, subst, IsUsable, Event, step, Shows}
 use Rattle.ec_world.proofs.AtRest.{Beginning, beginning, comes_of, free_of, rounds, going, whole_made}
 use Rattle.ec_world.proofs.ComingUp.{free_slots}
 use Rattle.ec_world.proofs.StepLaws.{steps_show}

@@ -1,5 +1,5 @@
 -- What disturbs a cycle for a unit keeps the unit from being taken: one of its parts is spoiled, and stays so.
-use Rattle.ec_world.proofs.Words.{ℕ, suc, ◌+◌, ◌<◌, ◌≤◌, ◌≡◌, ◌≢◌, ◌==◌, ◌&&◌, ◌||◌, Bool, true, false, Option, Some, None, refl, sym, ◌∙◌, ap, subst, inl, inr, arith, List, [], ◌∷◌, ◌++◌, length, get_or, set, if◌then◌else◌, unwrap_or, nat_le, get_or-set_same, length-set, list_all, list_any, cases_Bool, cases_eq, and_cases, and_parts, and_left, and_right, or_cases, or_left, eqb-true, eq-eqb, leb-true, true≢false, length-map, length_push, if_true, Meaning, share_of, meaning, has_outs, has_ins, unit_of_part, PartPlan, PlanState, IsUsable, Event, Pass, Lose, Fault, ResetSlave, Plain, PlainSlave, PlainFrame, Health, Working, Faulted, Reset, Note, Short, Cycle, unit_full, step, run, frame_at, plain_slave, no_plain_slave, keeping, new_frames, with_note, with_slot, met_note, giving, is_full, all_full, IsBegun, FallsShort, QuietLaw, unit_of_slave, is_of_unit, holds_of_unit, still_comes, is_awaited, disturbs, all_from-each, none_some, some_same, cycle_begun, none_in, list_all-append}
+use Rattle.ec_world.proofs.Words.{ℕ, suc, ◌<◌, ◌≤◌, ◌≡◌, ◌==◌, ◌&&◌, ◌||◌, Bool, true, false, Option, Some, None, refl, sym, ◌∙◌, ap, subst, inl, inr, arith, List, [], ◌∷◌, ◌++◌, length, get_or, set, nat_le, get_or-set_same, length-set, list_all, list_any, cases_Bool, cases_eq, and_parts, and_left, and_right, or_cases, or_left, eqb-true, eq-eqb, leb-true, true≢false, length-map, length_push, if_true, Meaning, share_of, meaning, has_outs, has_ins, unit_of_part, PartPlan, PlanState, IsUsable, Event, Pass, Lose, Fault, ResetSlave, Plain, PlainSlave, PlainFrame, Health, Working, Faulted, Reset, Note, Short, Cycle, unit_full, step, run, frame_at, plain_slave, no_plain_slave, keeping, new_frames, with_note, with_slot, met_note, giving, is_full, all_full, IsBegun, FallsShort, QuietLaw, unit_of_slave, is_of_unit, holds_of_unit, still_comes, is_awaited, disturbs, none_some, some_same, cycle_begun, none_in, list_all-append}
 use Rattle.ec_world.proofs.CloseLaws.{all_full_kept, part_full}
 use Rattle.ec_world.proofs.Knowing.{share_is}
 use Rattle.ec_world.proofs.Tracing.{guarded, Leaves, leaves, Turned, faulted, switched}

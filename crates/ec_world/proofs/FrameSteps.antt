@@ -1,5 +1,5 @@
 -- Events on frames: a pass, a loss, a beginning.
-use Rattle.ec_world.proofs.Words.{ℕ, ◌+◌, ◌<◌, ◌≡◌, true, false, Option, Some, None, refl, sym, ◌∙◌, ap, subst, inl, inr, arith, length, get_or, set, is_some, if◌then◌else◌, option_map, unwrap_or, nat_lt, get_or-set_same, get_or-set_other, list_all, cases_eq, and_parts, ltb-true, length_push, map-set, if_true, Payload, SlaveState, IsPassed, passes as passes_all, IsPassedAt, one_payload, meaning, IsUsable, Plain, PlainFrame, progress_of, all_progress, may_pass, lets_by, passing, moved, losing, plain_slave, met_slave, met_note, with_note, WorldState, Flight, flight_progress, flights_progress, flight_at, slave_of, Passes, Shows, FrameShows, get_or-set_default, same_progress, flight_pairs, passes_there, is_some-guarded, none_some, some_same, within_of, with_slave, Pairs, List, is_some-mapped, some_guarded, frame_at, Progress}
+use Rattle.ec_world.proofs.Words.{ℕ, ◌+◌, ◌<◌, ◌≡◌, true, Option, Some, None, refl, sym, ◌∙◌, ap, subst, inl, inr, arith, length, get_or, set, is_some, option_map, unwrap_or, nat_lt, get_or-set_same, get_or-set_other, list_all, cases_eq, and_parts, ltb-true, length_push, map-set, if_true, Payload, SlaveState, IsPassed, passes as passes_all, IsPassedAt, one_payload, meaning, IsUsable, Plain, PlainFrame, progress_of, all_progress, may_pass, lets_by, passing, moved, losing, plain_slave, met_slave, met_note, with_note, WorldState, Flight, flight_progress, flights_progress, flight_at, slave_of, Passes, Shows, FrameShows, get_or-set_default, same_progress, flight_pairs, passes_there, is_some-guarded, none_some, some_same, within_of, with_slave, Pairs, List, is_some-mapped, some_guarded, frame_at, Progress}
 use Rattle.ec_world.proofs.FramePass.{frame_pass, FramePassed}
 use Rattle.ec_world.proofs.AppSteps.{slave_changed}
 use Rattle.ec_world.specs.Plain as plain

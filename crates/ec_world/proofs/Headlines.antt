@@ -1,11 +1,11 @@
 -- A linked bit of a variable, as a bit of the image.
-use Rattle.ec_world.proofs.Words.{ℕ, ◌+◌, ◌*◌, ◌/◌, ◌%◌, ◌≤◌, ◌≡◌, ◌==◌, false, ◌∙◌, ap, arith, List, length, get_or, if◌then◌else◌, slice_get, zero, suc, ◌<◌, ◌≢◌, ◌⊎◌, ◌&&◌, Bool, true, Option, Some, None, refl, sym, subst, inl, inr, [], ◌∷◌, ◌++◌, map, set, replicate, is_some, option_map, unwrap_or, nat_lt, get_or-set_same, get_or-set_other, bit_at, get_or_past, append_assoc, set-get_or, bit_at-zero, bit, bytes_of_bits, bit_at-bits_number, Direction, Contents, Variable, is_out, IsLinked, image_from, image, HasBit, output_manager, plan_of, PlanState, part_of, variables_are_placed, linked_bits_are_there, value_at, WorldState, Flight, slave_of, no_slave, flight_at, flight_progress, is_up, Passes, IsStep, variable_bit, IsMade, HeadlineIsBegun as IsBegun, HadTrouble, IsInOp, progress_at, output_bits, input_bits, ShowsLinked, PassShows, option_map_or, cases_Bool, cases_lt, and_from, and_left, eqb-true, eq-eqb, lt-ltb, le-ltb, true≢false, slice_get-get_or, slice_get_within, if_true, if_false, Identity, SyncManagerSettings, is_set, is_buffered, Init, SafeOp, Op, Buffer, SyncManager, no_manager, Al, switched_on, SlaveState, manager_at, with_memory, with_outputs, with_published, outputs_shown, Out, SlaveRow, object_bits, Share, SlavePlan, Gave, has_outs, compile_fault, AreItsLinks, Meaning, meaning, share_of, out_source, slave_at as settings_of, no_slave_plan, IsUsable, listed, plan_sound, plan_usable, links_are_the_tables, trouble_at, AreStartable, are-plans, Event, Begin, Pass, Progress, Plain, PlainSlave, PlainFrame, Health, Working, Faulted, Reset, step, run, frame_at, plain_slave, linked_outputs, progress_of, given_by, given_in, slave_left, IsAs, IsWorking, Shows, IsRun, IsNew, new_world, plain_of, AreLinked, some_same, within_of, State, Rising}
+use Rattle.ec_world.proofs.Words.{ℕ, ◌+◌, ◌*◌, ◌/◌, ◌%◌, ◌≤◌, ◌≡◌, ◌==◌, false, ◌∙◌, ap, arith, List, length, get_or, if◌then◌else◌, slice_get, zero, suc, ◌<◌, ◌≢◌, ◌⊎◌, ◌&&◌, Bool, true, Option, Some, None, refl, sym, subst, inl, inr, [], ◌∷◌, ◌++◌, map, set, replicate, is_some, option_map, unwrap_or, nat_lt, get_or-set_same, get_or-set_other, bit_at, get_or_past, set-get_or, bit_at-zero, bit, bytes_of_bits, bit_at-bits_number, Direction, Contents, Variable, is_out, IsLinked, image_from, HasBit, output_manager, plan_of, PlanState, part_of, variables_are_placed, linked_bits_are_there, value_at, WorldState, Flight, slave_of, no_slave, flight_at, flight_progress, is_up, Passes, IsStep, variable_bit, IsMade, HeadlineIsBegun as IsBegun, HadTrouble, IsInOp, progress_at, output_bits, input_bits, ShowsLinked, PassShows, option_map_or, cases_Bool, cases_lt, and_from, and_left, eqb-true, eq-eqb, lt-ltb, le-ltb, true≢false, slice_get-get_or, slice_get_within, if_true, if_false, Identity, SyncManagerSettings, is_set, is_buffered, Init, SafeOp, Op, Buffer, SyncManager, no_manager, Al, switched_on, SlaveState, manager_at, with_memory, with_outputs, with_published, outputs_shown, Out, SlaveRow, object_bits, Share, SlavePlan, Gave, has_outs, compile_fault, AreItsLinks, Meaning, meaning, share_of, out_source, slave_at as settings_of, no_slave_plan, IsUsable, listed, plan_sound, plan_usable, links_are_the_tables, AreStartable, are-plans, Event, Begin, Pass, Progress, Plain, PlainSlave, PlainFrame, Health, Working, Faulted, Reset, step, run, frame_at, plain_slave, linked_outputs, progress_of, given_by, given_in, slave_left, IsAs, IsWorking, Shows, IsRun, IsNew, plain_of, AreLinked, some_same, within_of, State, Rising}
 use Rattle.ec_table.specs.Sound as table
 use Rattle.ec_link.specs.Sound as link
 use Rattle.ec_world.proofs.FrameSteps.{has_met, same_way}
 use Rattle.ec_world.proofs.Knowing.{share_is}
 use Rattle.ec_world.proofs.Mapped.{for_bits, some_bits, no_bits, unset, third_held, holds_mapped, set_for_outs}
-use Rattle.ec_world.proofs.StepLaws.{runs_show, runs_join, steps_show}
+use Rattle.ec_world.proofs.StepLaws.{runs_show, steps_show}
 use Rattle.ec_world.proofs.Whole.{new-rises, new-low}
 use Rattle.ec_world.proofs.Promising.{linked as linked_exactly}
 use Rattle.ec_world.proofs.Histories.{snapshots_law}

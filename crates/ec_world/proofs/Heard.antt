@@ -1,5 +1,5 @@
 -- What the frames of a cycle hear of the slaves' AL status, over a world's run; and the AL word of a report.
-use Rattle.ec_world.proofs.Words.{ℕ, zero, suc, ◌+◌, ◌*◌, ◌^◌, ◌<◌, ◌≡◌, ◌⊎◌, ◌==◌, ◌&&◌, not, Bool, true, false, Option, Some, None, refl, sym, ◌∙◌, ap, subst, inl, inr, arith, List, [], ◌∷◌, ◌++◌, length, map, get_or, set, is_some, option_map, nat_lt, slice_get, slice_index, bit_or, fold, cases_lt, and_parts, eqb-true, false≢true, append_assoc, length_push, length-map, list_get_or-map as get_or-map, fold-append, get_or-append_seam, get_or-append, Identity, Payload, IsFrame, bare_payload, one_payload, Contents, ExpectedCounters, Meaning, meaning, PlanState, plan_of, part_at, IsUsable, plan_sound, last_number, KeptPart, nones, kept_of, bytes_at, joined, word_of_kept, report_of, sent_datagrams, MasterState, OpenCycle, IsAnswer, IsTaken, Event, StartNext, Set, Begin, Pass, Lose, Return, Close, Serve, AppPut, AppGet, Fault, ResetSlave, Plain, Cycle, run, frame_at, may_return, WorldState, Flight, slave_of, flight_at, flight_progress, flights_progress, flights_from, awaits, is_up, can_start, ByStart, StartReturns, Returns, GivesUp, Closes, Passes, Begins, IsStep, Shows, CyclesShow, IsRun, IsNew, plain_of, HeadlineIsBegun as IsBegun, HeadlineHasPassed as HasPassed, said_by, IsHeard, AreHeard, PartSays, IsNotBack, IsBack, WordShows, WordLaw, OpWordLaw, flight_pairs, none_some, some_same, none_in}
+use Rattle.ec_world.proofs.Words.{ℕ, zero, suc, ◌+◌, ◌*◌, ◌^◌, ◌<◌, ◌≡◌, ◌⊎◌, ◌==◌, ◌&&◌, not, Bool, true, false, Option, Some, None, refl, sym, ◌∙◌, ap, subst, inl, inr, arith, List, [], ◌∷◌, ◌++◌, length, map, get_or, set, is_some, option_map, nat_lt, slice_get, slice_index, bit_or, fold, cases_lt, and_parts, eqb-true, false≢true, append_assoc, length_push, length-map, list_get_or-map as get_or-map, fold-append, get_or-append_seam, get_or-append, Identity, Payload, IsFrame, bare_payload, one_payload, Contents, ExpectedCounters, Meaning, meaning, PlanState, part_at, IsUsable, plan_sound, last_number, KeptPart, nones, kept_of, bytes_at, joined, word_of_kept, report_of, sent_datagrams, MasterState, OpenCycle, IsAnswer, IsTaken, Event, StartNext, Begin, Pass, Lose, Return, Close, AppPut, AppGet, Plain, Cycle, run, may_return, WorldState, Flight, slave_of, flight_at, flight_progress, flights_progress, flights_from, awaits, is_up, can_start, ByStart, StartReturns, Returns, GivesUp, Closes, Passes, Begins, IsStep, Shows, CyclesShow, IsRun, IsNew, plain_of, HeadlineIsBegun as IsBegun, HeadlineHasPassed as HasPassed, said_by, IsHeard, AreHeard, PartSays, IsNotBack, IsBack, WordShows, WordLaw, OpWordLaw, flight_pairs, none_some, some_same, none_in}
 use Rattle.ec_world.proofs.Origins.{made_later}
 use Rattle.ec_world.proofs.FramePass.{FrameBrings, frame_word}
 use Rattle.ec_world.proofs.ReturnStep.{answer_tells}
@@ -7,8 +7,8 @@ use Rattle.ec_world.proofs.Stepping.{next-there}
 use Rattle.ec_world.proofs.Histories.{AreBelow, filled_has, set_has, set_at, begun_below}
 use Rattle.ec_world.proofs.MasterSteps.{OpenBoth, open_both}
 use Rattle.ec_world.proofs.Since.{BeganAt, are_begun, begun_of}
-use Rattle.ec_world.proofs.StepLaws.{steps_show, runs_show, run_more}
-use Rattle.ec_world.proofs.Headlines.{MadeAt, made_at, run_plan, Sees, sees, free_slots}
+use Rattle.ec_world.proofs.StepLaws.{steps_show, run_more}
+use Rattle.ec_world.proofs.Headlines.{MadeAt, made_at, Sees, sees, free_slots}
 
 -- ---- frames as a cycle begins
 

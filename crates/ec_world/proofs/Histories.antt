@@ -1,5 +1,5 @@
 -- What holds over runs of the plain machine: frames keep the image of their beginning, and slaves in OP stay there.
-use Rattle.ec_world.proofs.Words.{ℕ, zero, suc, ◌+◌, ◌<◌, ◌≤◌, ◌≡◌, ◌≢◌, ◌⊎◌, ◌==◌, ◌&&◌, Bool, true, false, Option, Some, None, refl, sym, ◌∙◌, ap, subst, inl, inr, arith, List, [], ◌∷◌, ◌++◌, length, map, get_or, set, is_none, if◌then◌else◌, unwrap_or, slice_get, get_or-set_same, get_or-set_other, length-set, list_all, and_parts, cases_Bool, eqb-true, cases_eq, cases_lt, append-nil, append_assoc, get_or_past, if_true, if_false, Meaning, nones, Event, Begin, Pass, Fault, ResetSlave, Plain, PlainSlave, PlainFrame, Note, Cycle, step, run, frame_at, plain_slave, no_plain_slave, keeping, filled, new_frames, with_note, met_note, Working, Faulted, Reset, IsBegun, SnapshotsLaw, WorkingLaw, none_some, some_same}
+use Rattle.ec_world.proofs.Words.{ℕ, zero, suc, ◌+◌, ◌<◌, ◌≤◌, ◌≡◌, ◌≢◌, ◌==◌, ◌&&◌, Bool, true, Option, Some, None, refl, sym, ◌∙◌, ap, subst, inl, inr, arith, List, [], ◌∷◌, ◌++◌, length, map, get_or, set, is_none, unwrap_or, slice_get, length-set, list_all, and_parts, cases_Bool, eqb-true, append-nil, append_assoc, if_true, if_false, Meaning, nones, Event, Begin, Pass, Fault, ResetSlave, Plain, PlainSlave, PlainFrame, Note, Cycle, step, run, frame_at, plain_slave, no_plain_slave, keeping, filled, new_frames, with_note, met_note, Working, Faulted, Reset, IsBegun, SnapshotsLaw, WorkingLaw, none_some, some_same}
 use Rattle.ec_world.proofs.Ways.{at_set}
 use Rattle.ec_world.proofs.Tracing.{guarded, Leaves, Stays, Begins, Moves, Loses, Returns, Closes, leaves, Treats, Same, Uses, Fails, Resets, treats, mapped}
 

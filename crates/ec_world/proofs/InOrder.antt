@@ -1,5 +1,5 @@
 -- Frames keep their order: an older frame passes each slave first.
-use Rattle.ec_world.proofs.Words.{ℕ, zero, suc, ◌<◌, ◌≤◌, ◌≡◌, ◌⊎◌, ◌==◌, nat_lt, true, Option, Some, None, refl, sym, ◌∙◌, ap, subst, inl, inr, arith, List, [], ◌∷◌, ◌++◌, length, get_or, set, slice_get, option_map, list_all, cases_lt, and_parts, or_cases, ltb-true, eqb-true, length_push, if_true, Meaning, meaning, IsUsable, Event, Pass, Progress, Plain, PlainFrame, step, run, frame_at, plain_slave, filled, new_frames, with_note, met_note, progress_of, is_older, lets_by, may_pass, flights_progress, Shows, plain_of, OrderLaw, none_some, some_same, plain_frame, first_same, rest_same}
+use Rattle.ec_world.proofs.Words.{ℕ, zero, suc, ◌<◌, ◌≤◌, ◌≡◌, ◌==◌, nat_lt, true, Option, Some, None, refl, sym, ◌∙◌, ap, subst, inl, inr, arith, List, [], ◌∷◌, ◌++◌, length, get_or, option_map, list_all, cases_lt, and_parts, or_cases, ltb-true, eqb-true, length_push, if_true, Meaning, meaning, Event, Pass, Progress, Plain, PlainFrame, step, run, frame_at, plain_slave, new_frames, with_note, met_note, progress_of, is_older, lets_by, may_pass, flights_progress, Shows, plain_of, OrderLaw, none_some, some_same, plain_frame, first_same, rest_same}
 use Rattle.ec_world.proofs.Ways.{at_set}
 use Rattle.ec_world.proofs.Single.{filled_was, left_there}
 use Rattle.ec_world.proofs.Tracing.{Leaves, Stays, Begins, Moves, Loses, Returns, Closes, leaves}

@@ -1,5 +1,5 @@
 -- What a slave that shows a plain slave does with a cyclic frame, and what it shows then.
-use Rattle.ec_world.proofs.Words.{ℕ, ◌+◌, ◌-◌, ◌*◌, ◌<◌, ◌≡◌, ◌≢◌, ◌==◌, ◌||◌, Bool, true, false, Some, None, refl, sym, ◌∙◌, ap, subst, inl, inr, arith, if◌then◌else◌, List, [], ◌∷◌, length, nat_lt, slice_index, bit_at, map-set_same, get_or-map, length-replicate, length-map, cases_Bool, cases_eq, cases_lt, and_from, and_left, and_right, lt-ltb, le-ltb, eq-eqb, ne_eqb, both_ways, listed, bytes_of_bits, within, zeros, length-overlay, if_true, if_false, within_parts, FmmuSettings, fmmu_of, SyncManager, no_manager, may_read, may_write, publishing, Place, inside_place, target, source, readers, writers, SlaveState, manager_at, fmmus_of, power_on, IsMapped, takes, gives, with_outputs, with_published, Area, Misses, outputs_published, switched_on, Share, Gave, has_outs, has_ins, nothing_given, Meaning, share_of, slave_at, no_slave_plan, area_of, area_at, place_of_part, meaning, IsLaid, PlanState, part_at, SlavePlan, AreListed, IsUsable, PlainSlave, PlainFrame, Health, Working, Faulted, Reset, Note, Other, Short, Full, linked_outputs, giving, met_note, met_slave, taking, Holds, IsWorking, IsFaulted, IsReset, IsAs, SlaveShows, GaveAs, given_by, given_in, slave_left, ◌&&◌, IsOfLength, HoldsData}
+use Rattle.ec_world.proofs.Words.{ℕ, ◌+◌, ◌-◌, ◌*◌, ◌<◌, ◌≡◌, ◌≢◌, ◌==◌, ◌||◌, Bool, true, false, Some, None, refl, sym, ◌∙◌, ap, subst, inl, inr, arith, if◌then◌else◌, List, [], ◌∷◌, length, nat_lt, slice_index, bit_at, get_or-map, length-replicate, length-map, cases_Bool, cases_eq, cases_lt, and_from, and_left, and_right, lt-ltb, le-ltb, eq-eqb, ne_eqb, both_ways, listed, bytes_of_bits, within, zeros, length-overlay, if_true, if_false, within_parts, FmmuSettings, fmmu_of, SyncManager, may_read, may_write, publishing, Place, inside_place, target, source, readers, writers, SlaveState, manager_at, fmmus_of, power_on, IsMapped, with_outputs, with_published, Area, Misses, outputs_published, switched_on, Share, Gave, has_outs, has_ins, nothing_given, Meaning, share_of, slave_at, no_slave_plan, area_of, area_at, place_of_part, meaning, IsLaid, PlanState, part_at, SlavePlan, AreListed, IsUsable, PlainSlave, PlainFrame, Health, Working, Faulted, Reset, Note, Other, Short, Full, linked_outputs, giving, met_note, met_slave, taking, IsWorking, IsFaulted, IsReset, IsAs, SlaveShows, GaveAs, given_by, given_in, slave_left, ◌&&◌, IsOfLength, HoldsData}
 use Rattle.ec_world.proofs.ProcessPass.{Acts, Does, Acting, Missing, Knows}
 use Rattle.ec_world.proofs.Mapped.{outs_enabled, ins_enabled, locked_denies, holds_mapped, third_held, fourth_held, still_holds, still_quiet}
 

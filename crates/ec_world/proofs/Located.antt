@@ -1,5 +1,5 @@
 -- Where the frames of an open cycle are: kept, on their way, or lost in an event since the cycle began.
-use Rattle.ec_world.proofs.Words.{ℕ, ◌+◌, ◌<◌, ◌≤◌, ◌≡◌, ◌==◌, ◌&&◌, Option, Some, None, refl, sym, ◌∙◌, ap, subst, inl, inr, arith, List, [], ◌∷◌, ◌++◌, length, get_or, set, is_none, option_map, get_or-set_same, get_or-set_other, cases_Bool, cases_eq, and_from, eq-eqb, length-map, append_assoc, if_true, if_false, Meaning, nones, Event, Begin, Lose, Plain, PlainFrame, Note, Cycle, step, run, frame_at, plain_slave, keeping, new_frames, with_note, met_note, none_some, some_same, cycle_begun, some_or}
+use Rattle.ec_world.proofs.Words.{ℕ, ◌<◌, ◌≡◌, ◌==◌, ◌&&◌, Option, Some, None, refl, sym, ◌∙◌, ap, subst, inl, inr, arith, List, [], ◌∷◌, ◌++◌, length, get_or, set, is_none, option_map, get_or-set_same, get_or-set_other, cases_Bool, cases_eq, and_from, eq-eqb, length-map, append_assoc, if_true, if_false, Meaning, Event, Begin, Lose, Plain, PlainFrame, Note, Cycle, step, run, frame_at, plain_slave, keeping, with_note, met_note, none_some, some_same, cycle_begun, some_or}
 use Rattle.ec_world.proofs.Tracing.{mapped, guarded, Leaves, Stays, Begins, Moves, Loses, Returns, Closes, leaves, room_there}
 use Rattle.ec_world.proofs.Histories.{run_tells, keeping_number, next_left, keeping_length}
 use Rattle.ec_world.proofs.Quiet.{IsAway, Away, moved_away, new_away}

@@ -1,5 +1,5 @@
 -- Events of the master: a variable set, a cycle begun, a frame that comes back, a cycle closed.
-use Rattle.ec_world.proofs.Words.{ℕ, zero, suc, ◌+◌, ◌-◌, ◌^◌, ◌<◌, ◌≡◌, ◌&&◌, Bool, true, false, Option, Some, None, refl, sym, ◌∙◌, ap, subst, arith, List, [], ◌∷◌, length, map, get_or, is_some, is_none, slice_get, if◌then◌else◌, option_map, unwrap_or, nat_lt, nat_le, and_parts, ltb-true, length-map, is_out, with_number, if_true, IsFrame, bare_payload, Variable, PlanState, meaning, IsUsable, KeptPart, nones, inputs_closed, report_of, ReportState, sent_datagrams, MasterState, OpenCycle, closed, cycle_limit, holds_value, value_put, variable_set, Plain, PlainFrame, Note, Cycle, progress_of, all_progress, filled, new_frames, setting, beginning, closing, WorldState, Flight, flight_progress, flights_progress, flights_from, can_begin, Begins, Closes, Shows, CyclesShow, CycleShows, said, CountersPredicted, FrameShows, theres, nones-alike, none_some, some_same, same_slots, cycle_begun, none_in, some_guarded, is_some-mapped}
+use Rattle.ec_world.proofs.Words.{ℕ, zero, suc, ◌+◌, ◌-◌, ◌^◌, ◌<◌, ◌≡◌, ◌&&◌, true, false, Option, Some, None, refl, sym, ◌∙◌, ap, subst, arith, List, [], ◌∷◌, length, map, get_or, is_some, is_none, slice_get, option_map, unwrap_or, nat_lt, nat_le, and_parts, ltb-true, length-map, is_out, with_number, if_true, IsFrame, bare_payload, Variable, PlanState, meaning, IsUsable, KeptPart, nones, inputs_closed, report_of, ReportState, sent_datagrams, MasterState, OpenCycle, closed, holds_value, value_put, variable_set, Plain, PlainFrame, Note, Cycle, progress_of, all_progress, filled, new_frames, setting, beginning, closing, WorldState, Flight, flight_progress, flights_progress, flights_from, can_begin, Begins, Closes, Shows, CyclesShow, CycleShows, said, CountersPredicted, FrameShows, theres, nones-alike, none_some, some_same, same_slots, cycle_begun, none_in, some_guarded, is_some-mapped}
 use Rattle.ec_world.proofs.Filling.{filled-map, filled-both}
 use Rattle.ec_world.proofs.Fresh.{fresh, fresh_shows}
 use Rattle.ec_world.proofs.CloseLaws.{inputs_same, report_said, counters_predicted}

@@ -1,5 +1,5 @@
 -- A run of a new world has one outcome: its slots hold frames, and of a frame each event makes one thing.
-use Rattle.ec_world.proofs.Words.{ℕ, zero, suc, ◌+◌, ◌<◌, ◌≡◌, Bool, true, false, Option, Some, None, refl, sym, ◌∙◌, ap, subst, arith, List, [], ◌∷◌, length, map, get_or, set, slice_get, replicate, if◌then◌else◌, false≢true, ext_get_or, Got, Datagram, Payload, IsFrame, SlaveState, output_taken, IsPassedAt, numbered, datagram_of, StartState, IsStartTaken, IsOutstanding, action_of, second, sending, shape_sent, KeptPart, report_of, MasterState, OpenCycle, Begun, IsTaken, closed, Event, StartNext, Begin, Pass, Lose, Return, Close, AppPut, AppGet, filled, WorldState, Flight, slave_of, flight_at, flights_from, with_slave, resumed, ready_with, awaits, Happens, Begins, Passes, Returns, StartReturns, GivesUp, Closes, ByStart, IsStep, IsRun, slot_count, OneOutcomeLaw, none_some, some_same, rest_same, none_free}
+use Rattle.ec_world.proofs.Words.{ℕ, zero, suc, ◌+◌, ◌<◌, ◌≡◌, Bool, true, false, Some, None, refl, sym, ◌∙◌, ap, subst, arith, List, [], ◌∷◌, length, map, get_or, set, slice_get, if◌then◌else◌, false≢true, ext_get_or, Got, Datagram, Payload, IsFrame, SlaveState, output_taken, IsPassedAt, numbered, datagram_of, StartState, IsStartTaken, IsOutstanding, action_of, second, sending, shape_sent, report_of, MasterState, OpenCycle, Begun, IsTaken, closed, Event, StartNext, Begin, Pass, Lose, Return, Close, AppPut, AppGet, filled, WorldState, Flight, slave_of, flight_at, flights_from, with_slave, resumed, ready_with, awaits, Happens, Begins, Passes, Returns, StartReturns, GivesUp, Closes, ByStart, IsStep, IsRun, slot_count, OneOutcomeLaw, none_some, some_same, rest_same, none_free}
 use Rattle.ec_world.proofs.Histories.{filled_has, set_has}
 
 -- ---- a frame that comes back

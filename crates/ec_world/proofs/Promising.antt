@@ -1,5 +1,5 @@
 -- What is promised to a user, of each world that shows a plain state.
-use Rattle.ec_world.proofs.Words.{ℕ, suc, ◌+◌, ◌*◌, ◌<◌, ◌≡◌, ◌==◌, ◌&&◌, ◌||◌, Bool, true, false, Option, Some, None, refl, sym, ◌∙◌, ap, subst, inl, inr, arith, List, [], ◌∷◌, length, get_or, is_some, if◌then◌else◌, option_map, option_and_then, unwrap_or, slice_get, get_or-set_same, get_or-set_other, length-set, list_all, cases_Bool, eqb-true, eq-eqb, length-map, length-replicate, slice_get-get_or, bit, zeros, bytes_of_bits, length-overlay, bit-overlay, bit-zeros, if_true, if_false, SlaveState, with_outputs, Share, has_outs, has_ins, whole_share, nothing_given, unit_of_part, Meaning, Linked, share_of, meaning, slave_at, IsUsable, PlanState, linked_inputs, ReportState, report_of, inputs_closed, all_from, OpenCycle, Plain, PlainSlave, PlainFrame, Health, Note, Other, Short, Full, Cycle, Working, Faulted, Reset, unit_full, all_full, is_full, Closed, giving, plain_slave, linked_outputs, inputs_taken, taken_bit, noted_bit, notes_of_part, Progress, WorldState, slave_of, no_slave, Passes, Closes, ByStart, GivesUp, given_by, given_in, slave_left, note_at, Shows, CycleShows, CyclesShow, AreLinked, has_outputs_for, IsPublished, OutputsLaw, FallsShort, NotesLaw, IsNoted, IsMissed, NotBack, FellShort, unit_of_slave, IsCounted, InputsLaw, all_from-each, all_each, there_too, some_same}
+use Rattle.ec_world.proofs.Words.{ℕ, suc, ◌+◌, ◌*◌, ◌<◌, ◌≡◌, ◌==◌, ◌&&◌, ◌||◌, Bool, true, false, Option, Some, None, refl, sym, ◌∙◌, ap, subst, inl, inr, arith, List, [], ◌∷◌, length, get_or, is_some, if◌then◌else◌, option_map, option_and_then, unwrap_or, slice_get, get_or-set_same, get_or-set_other, length-set, list_all, cases_Bool, eqb-true, length-map, length-replicate, slice_get-get_or, bit, zeros, bytes_of_bits, length-overlay, bit-overlay, bit-zeros, if_true, if_false, SlaveState, with_outputs, Share, has_outs, has_ins, whole_share, nothing_given, unit_of_part, Meaning, Linked, share_of, meaning, slave_at, IsUsable, PlanState, linked_inputs, ReportState, report_of, inputs_closed, all_from, OpenCycle, Plain, PlainSlave, PlainFrame, Health, Note, Other, Short, Full, Cycle, Working, Faulted, Reset, unit_full, all_full, is_full, Closed, giving, plain_slave, linked_outputs, inputs_taken, taken_bit, noted_bit, notes_of_part, Progress, WorldState, slave_of, no_slave, Passes, Closes, ByStart, GivesUp, given_by, given_in, slave_left, note_at, Shows, CycleShows, CyclesShow, AreLinked, has_outputs_for, IsPublished, OutputsLaw, FallsShort, NotesLaw, IsNoted, IsMissed, NotBack, FellShort, unit_of_slave, IsCounted, InputsLaw, all_each, there_too, some_same}
 use Rattle.ec_world.proofs.FrameSteps.{has_met, same_way}
 use Rattle.ec_world.proofs.Knowing.{share_is}
 use Rattle.ec_world.proofs.MasterSteps.{open_both}

@@ -1,5 +1,5 @@
 -- What a cycle keeps was noted as its frames passed: each note of a frame, and each that is kept, goes back to its pass.
-use Rattle.ec_world.proofs.Words.{ℕ, zero, suc, ◌+◌, ◌<◌, ◌≡◌, ◌⊎◌, Some, None, refl, sym, ◌∙◌, ap, subst, inl, inr, arith, List, [], ◌∷◌, ◌++◌, length, get_or, slice_get, append_assoc, Meaning, Event, Pass, Plain, PlainFrame, Note, Cycle, step, run, frame_at, plain_slave, new_frames, met_note, IsBegun, IsNotedAt, PublishedLaw, none_some, some_same, cycle_begun, none_in}
+use Rattle.ec_world.proofs.Words.{ℕ, zero, suc, ◌<◌, ◌≡◌, ◌⊎◌, Some, None, refl, sym, ◌∙◌, ap, subst, inl, inr, arith, List, [], ◌∷◌, ◌++◌, length, get_or, slice_get, append_assoc, Meaning, Event, Pass, Plain, PlainFrame, Note, Cycle, step, run, frame_at, plain_slave, new_frames, met_note, IsBegun, IsNotedAt, PublishedLaw, none_some, some_same, cycle_begun, none_in}
 use Rattle.ec_world.proofs.Tracing.{guarded, Leaves, leaves}
 use Rattle.ec_world.proofs.Promising.{notes_law}
 use Rattle.ec_world.proofs.Histories.{run_tells, begun_below, filled_has, new_one, keeping_number, frames_left, cycle_left, next_left, passed_on, kept_on}

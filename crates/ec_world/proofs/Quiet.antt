@@ -1,5 +1,5 @@
 -- A cycle that is quiet for a unit takes it: its frames note whole shares, and each of its parts is kept or still on its way.
-use Rattle.ec_world.proofs.Words.{ℕ, zero, suc, ◌+◌, ◌<◌, ◌≤◌, ◌≡◌, ◌≢◌, ◌⊎◌, ◌==◌, ◌&&◌, ◌||◌, Bool, true, false, Option, Some, None, refl, sym, ◌∙◌, ap, subst, inl, inr, arith, List, [], ◌∷◌, ◌++◌, length, get_or, set, is_none, if◌then◌else◌, option_map, get_or-set_same, get_or-set_other, length-set, list_all, list_any, cases_Bool, cases_eq, and_parts, and_from, or_right, eqb-true, eq-eqb, le-leb, true≢false, length-map, length_push, if_true, if_false, Meaning, share_of, has_outs, has_ins, unit_of_part, nones, all_from, Event, Begin, Lose, Fault, ResetSlave, Plain, PlainSlave, PlainFrame, Faulted, Reset, Note, Short, Cycle, step, run, frame_at, plain_slave, keeping, filled, new_frames, met_note, is_full, all_full, IsBegun, FallsShort, TakenLaw, unit_of_slave, holds_of_unit, still_comes, is_awaited, disturbs, none_some, some_same, cycle_begun, none_in, some_or, list_any_at, list_all-append, within_of}
+use Rattle.ec_world.proofs.Words.{ℕ, zero, suc, ◌+◌, ◌<◌, ◌≤◌, ◌≡◌, ◌≢◌, ◌⊎◌, ◌==◌, ◌&&◌, ◌||◌, Bool, true, false, Option, Some, None, refl, sym, ◌∙◌, ap, subst, inl, inr, arith, List, [], ◌∷◌, ◌++◌, length, get_or, set, is_none, if◌then◌else◌, option_map, get_or-set_same, get_or-set_other, length-set, list_all, list_any, cases_Bool, cases_eq, and_parts, and_from, eqb-true, eq-eqb, le-leb, true≢false, length-map, length_push, if_true, if_false, Meaning, share_of, has_outs, has_ins, unit_of_part, nones, all_from, Event, Lose, Fault, ResetSlave, Plain, PlainSlave, PlainFrame, Faulted, Reset, Note, Short, Cycle, step, run, frame_at, plain_slave, keeping, filled, new_frames, met_note, is_full, all_full, IsBegun, FallsShort, TakenLaw, unit_of_slave, holds_of_unit, still_comes, is_awaited, disturbs, none_some, some_same, cycle_begun, none_in, some_or, list_any_at, list_all-append, within_of}
 use Rattle.ec_world.proofs.Tracing.{mapped, guarded, Leaves, Stays, Begins, Moves, Loses, Returns, Closes, leaves, room_there}
 use Rattle.ec_world.proofs.Histories.{run_tells, begun_below, filled_has, filled_holds, new_one, new_at, as_many, set_at, keeping_number, count_kept, frames_left, next_left, passed_on, Rests, HasFailed, HasRestarted, became}
 use Rattle.ec_world.proofs.Promising.{notes_law}

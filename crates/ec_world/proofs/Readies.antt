@@ -1,5 +1,5 @@
 -- A world whose start-up is ready shows a plain state.
-use Rattle.ec_world.proofs.Words.{ℕ, zero, suc, ◌<◌, ◌≡◌, ◌⊎◌, Bool, true, false, Option, Some, None, refl, sym, ◌∙◌, ap, subst, inl, inr, arith, List, [], ◌∷◌, length, map, get_or, option_map, get_or-map as get_or-mapped, cases_lt, and_from, and_left, ext_get_or, get_or_past, list_get_or-map as get_or-map, length-map, length-replicate, bytes_of_bits, if_true, if_false, no_settings, no_fmmu, Identity, SlaveKind, Buffer, emptied_buffer, SyncManager, no_manager, buffer_length, Init, Al as AlMachine, switched_on, SlaveState, manager_at, power_on, SlavePlan, slave_at as settings_of, AreListed, input_manager, IsUsable, listed, IsStartable, end_of, Phase, Idle, Ready, IsOfKind, unviewed, Config, OpenCycle, ReportState, fmmus-held, Starting, trouble_at, no_plan, kind_at, Starts, Between, UnderWay, Adrift, Over, IsReady, AreStartable, ends_of, HoldsAll, Shown, ready-shown, PlainSlave, Health, Working, Faulted, Reset, no_plain_slave, plain_slave, all_progress, WorldState, Flight, no_slave, slave_of, flights_progress, is_up, phase_ready, phase_awaits, Holds, IsQuiet, HoldsData, IsAs, SlaveShows, CyclesShow, said, AreWhole, SlotsHold, seen_of, Rising, health_of, plain_slave_of, plain_of, ShowsZeros, IsReadyWorld, none_some, PlainFrame, FrameShows, ReportShows, flight_at}
+use Rattle.ec_world.proofs.Words.{ℕ, zero, suc, ◌<◌, ◌≡◌, ◌⊎◌, Bool, true, false, Option, Some, None, refl, sym, ◌∙◌, ap, subst, inl, inr, arith, List, [], ◌∷◌, length, map, get_or, option_map, get_or-map as get_or-mapped, ext_get_or, get_or_past, list_get_or-map as get_or-map, length-map, length-replicate, bytes_of_bits, no_settings, no_fmmu, Identity, SlaveKind, Buffer, emptied_buffer, SyncManager, no_manager, buffer_length, switched_on, SlaveState, manager_at, power_on, SlavePlan, slave_at as settings_of, AreListed, input_manager, IsUsable, listed, IsStartable, end_of, Phase, Ready, IsOfKind, unviewed, Config, OpenCycle, ReportState, fmmus-held, Starting, trouble_at, no_plan, kind_at, Starts, Between, UnderWay, Adrift, Over, IsReady, AreStartable, ends_of, HoldsAll, Shown, ready-shown, PlainSlave, Health, Working, Faulted, Reset, no_plain_slave, plain_slave, all_progress, WorldState, Flight, no_slave, slave_of, flights_progress, is_up, phase_ready, phase_awaits, Holds, IsQuiet, HoldsData, IsAs, SlaveShows, CyclesShow, said, AreWhole, SlotsHold, seen_of, Rising, health_of, plain_slave_of, plain_of, ShowsZeros, IsReadyWorld, none_some, PlainFrame, FrameShows, ReportShows, flight_at}
 use Rattle.ec_bringup.specs.Runs as rise
 use Rattle.ec_world.proofs.Mapped.{third_held, fourth_held, buffer_long, set_for_ins}
 use Rattle.ec_world.proofs.AppSteps.{out_length, state_on}

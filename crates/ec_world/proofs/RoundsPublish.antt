@@ -1,6 +1,6 @@
 -- Frames that go round: as the frame of its part passes a slave in OP, the slave publishes the linked outputs of the image that
 -- the frame was made of, and no other frame changes that.
-use Rattle.ec_world.proofs.Words.{ℕ, ◌<◌, ◌≤◌, ◌≡◌, ◌≢◌, ◌⊎◌, ◌==◌, true, false, Some, None, refl, sym, ◌∙◌, ap, subst, inl, inr, arith, List, length, get_or, set, option_map, get_or-set_same, get_or-set_other, cases_Bool, cases_eq, eqb-true, eq-eqb, true≢false, length_push, if_true, if_false, Meaning, share_of, has_outs, Event, Pass, Return, Fault, ResetSlave as Reset, Plain, PlainSlave, PlainFrame, Health, Working, step, frame_at, plain_slave, no_plain_slave, met_slave, met_note, taking, with_note, linked_outputs, moved, keeping, may_pass, all_progress, progress_of, none_some, some_same, within_of}
+use Rattle.ec_world.proofs.Words.{ℕ, ◌<◌, ◌≤◌, ◌≡◌, ◌≢◌, ◌⊎◌, ◌==◌, true, Some, None, sym, ◌∙◌, ap, subst, inl, inr, arith, List, length, get_or, set, option_map, get_or-set_same, get_or-set_other, cases_Bool, cases_eq, eqb-true, eq-eqb, true≢false, length_push, if_true, if_false, Meaning, share_of, has_outs, Event, Pass, Return, Fault, ResetSlave as Reset, Plain, PlainSlave, PlainFrame, Health, Working, step, frame_at, plain_slave, no_plain_slave, met_slave, met_note, taking, with_note, linked_outputs, moved, keeping, may_pass, all_progress, progress_of, none_some, some_same, within_of}
 use Rattle.ec_world.proofs.Tracing.{guarded_map, all_passed_by}
 use Rattle.ec_world.proofs.Histories.{set_has, health_kept, count_kept}
 use Rattle.ec_world.proofs.Calm.{is_round}

@@ -1,5 +1,5 @@
 -- Each frame on its way, and each open cycle, goes back to the event that began it.
-use Rattle.ec_world.proofs.Words.{ℕ, ◌≡◌, Option, Some, None, refl, sym, ◌∙◌, ap, subst, List, [], ◌∷◌, ◌++◌, unwrap_or, append_assoc, Meaning, Event, Begin, Plain, PlainFrame, Cycle, step, run, frame_at, IsBegun, HasNoFrame, none_some}
+use Rattle.ec_world.proofs.Words.{ℕ, ◌≡◌, Some, None, refl, sym, ◌∙◌, ap, subst, List, [], ◌∷◌, ◌++◌, append_assoc, Meaning, Event, Begin, Plain, PlainFrame, Cycle, step, run, frame_at, IsBegun, HasNoFrame, none_some}
 use Rattle.ec_world.proofs.Tracing.{Leaves, leaves}
 use Rattle.ec_world.proofs.Histories.{run_tells, keeping_number, frames_left, cycle_left, run_cut}
 

@@ -1,5 +1,5 @@
 -- Of each part of a cycle there is at most one frame: in its slot, kept, or lost.
-use Rattle.ec_world.proofs.Words.{ℕ, zero, suc, ◌+◌, ◌<◌, ◌≤◌, ◌≡◌, ◌≢◌, ◌==◌, ◌&&◌, Bool, true, false, Option, Some, None, refl, sym, ◌∙◌, ap, subst, arith, List, [], ◌∷◌, length, map, get_or, set, is_none, if◌then◌else◌, slice_get, get_or-set_other, and_parts, eqb-true, length-map, Meaning, Event, Plain, PlainFrame, Note, Cycle, step, frame_at, plain_slave, keeping, filled, new_frames, with_note, met_note, IsBegun, none_some, some_same, cycle_begun, get_or-set_default, inl, inr}
+use Rattle.ec_world.proofs.Words.{ℕ, zero, suc, ◌+◌, ◌<◌, ◌≤◌, ◌≡◌, ◌≢◌, Option, Some, None, refl, sym, ◌∙◌, ap, subst, arith, List, [], ◌∷◌, length, map, get_or, set, slice_get, get_or-set_other, length-map, Meaning, Event, Plain, PlainFrame, Note, Cycle, step, frame_at, plain_slave, keeping, filled, new_frames, with_note, met_note, IsBegun, none_some, some_same, cycle_begun, get_or-set_default, inl, inr}
 use Rattle.ec_world.proofs.Ways.{at_set}
 use Rattle.ec_world.proofs.Tracing.{mapped, guarded, Leaves, Stays, Begins, Moves, Loses, Returns, Closes, leaves}
 use Rattle.ec_world.proofs.Histories.{begun_below, filled_has, new_one, keeping_number, keeping_length, keeping_leaves}

@@ -1,5 +1,5 @@
 -- Steps of a world, from what the calls of its parts say.
-use Rattle.ec_world.proofs.Words.{ℕ, ◌<◌, ◌≡◌, ◌==◌, ◌&&◌, not, Bool, true, false, Option, Some, None, refl, sym, ◌∙◌, ap, subst, arith, List, [], ◌∷◌, length, set, is_some, slice_get, option_map, unwrap_or, nat_lt, if◌then◌else◌, IsTrue, ◌↔◌, list_all, lt-ltb, ltb-true, ne_eqb, and_parts, set-get_or, slice_get-get_or, get_or_from_slice_get, State, Init, PreOp, SafeOp, Op, Got, faults, SlaveState, input_put, output_got, output_taken, faulted, PlanState, IsFrame, Datagram, bare_payload, frame_of, StartState, IsStartTaken, action_of, begun, asked, asked_by, next_frame, next_frame_by, sending, last_number, NumbersSpent, Phase, Idle, Sent, Ready, Failed, Send, Ended, ReportState, nones, MasterState, IsTaken, StartNext, Pass, Return, AppPut, AppGet, Fault, Progress, may_pass, may_return, lets_by, filled, IsAnswered, IsTakenIn, IsHandedIn, ByStart, StartReturns, Returns, can_start, awaits, is_up, phase_awaits, phase_ready, ready_with, resumed, WorldState, Flight, IsStep, no_slave, slave_of, with_slave, flight_at, flight_progress, flights_progress, HavePassed, some_same, some_if, none_if, none_mapped}
+use Rattle.ec_world.proofs.Words.{ℕ, ◌<◌, ◌≡◌, ◌==◌, ◌&&◌, not, Bool, true, false, Option, Some, None, refl, sym, ◌∙◌, ap, subst, arith, List, [], ◌∷◌, length, set, is_some, slice_get, option_map, unwrap_or, nat_lt, if◌then◌else◌, IsTrue, ◌↔◌, list_all, lt-ltb, ltb-true, ne_eqb, and_parts, set-get_or, slice_get-get_or, get_or_from_slice_get, State, Init, PreOp, SafeOp, Op, Got, faults, SlaveState, input_put, output_got, output_taken, faulted, PlanState, IsFrame, Datagram, bare_payload, frame_of, StartState, IsStartTaken, action_of, begun, asked, asked_by, next_frame, next_frame_by, sending, last_number, NumbersSpent, Phase, Idle, Sent, Ready, Failed, Send, Ended, ReportState, nones, MasterState, IsTaken, StartNext, Pass, Return, AppPut, AppGet, Fault, Progress, may_pass, may_return, lets_by, filled, IsAnswered, IsTakenIn, IsHandedIn, ByStart, StartReturns, Returns, can_start, awaits, is_up, phase_awaits, phase_ready, ready_with, resumed, WorldState, Flight, IsStep, no_slave, slave_of, with_slave, flight_at, flight_progress, flights_progress, HavePassed, some_if, none_if, none_mapped}
 use Rattle.ec_world.proofs.Tracing.{mapped}
 use Rattle.ec_al.specs.Al as al
 

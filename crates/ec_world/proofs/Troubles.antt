@@ -1,5 +1,5 @@
 -- A slave that is not in OP any more had a fault or a reset, and no start-up began since.
-use Rattle.ec_world.proofs.Words.{ℕ, ◌+◌, ◌≡◌, ◌≢◌, ◌⊎◌, ◌&&◌, Bool, true, false, Option, Some, None, refl, sym, ◌∙◌, ap, subst, inl, inr, List, [], ◌∷◌, ◌++◌, is_some, unwrap_or, append_assoc, Meaning, meaning, PlanState, IsUsable, Event, StartNext, Fault, ResetSlave, Plain, Health, Working, Faulted, Reset, step, run, plain_slave, WorldState, IsStep, Shows, IsRun, StepShows, HadTrouble, IsRunWithoutStart, begins_start}
+use Rattle.ec_world.proofs.Words.{ℕ, ◌+◌, ◌≡◌, ◌≢◌, ◌⊎◌, ◌&&◌, Bool, true, false, Option, Some, None, refl, sym, ◌∙◌, ap, subst, inl, inr, List, [], ◌∷◌, ◌++◌, is_some, unwrap_or, append_assoc, Meaning, meaning, PlanState, IsUsable, Event, StartNext, Fault, ResetSlave, Plain, Health, Working, step, run, plain_slave, WorldState, IsStep, Shows, IsRun, StepShows, HadTrouble, IsRunWithoutStart, begins_start}
 use Rattle.ec_world.proofs.Histories.{Rests, HasFailed, HasRestarted, became}
 use Rattle.ec_world.proofs.StepLaws.{runs_join, steps_show}
 use Rattle.ec_world.proofs.Origins.{more, made_first}
