@@ -49,11 +49,11 @@ impl<'p> Control<'p> {
         ensures { IfOk result (λ c. c ≡ new_control (plan_of machine.now)) }
     {
         let plan = machine.plan();
-        let master = Master::new(alloc, plan)?;
+        let startup = Startup::new(plan, 0);
         Ok(Control {
             plan,
-            startup: Startup::new(plan, 0),
-            master,
+            startup,
+            master: Master::new(alloc, plan)?,
             report: None,
         })
     }

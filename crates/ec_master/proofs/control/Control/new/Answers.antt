@@ -9,8 +9,8 @@ new-requires c = few-of c.args.machine.now c.plan-plan.result.now c.plan-plan.en
 
 pub invariant_of-result : goal.invariant_of-result
 invariant_of-result c =
-    held_new c.plan-plan.result.now c.in_ok-startup.startup c.in_ok-new.field-0 (few-of c.args.machine.now c.plan-plan.result.now c.plan-plan.ensures.table c.plan-plan.ensures.accepted c.plan-plan.ensures.value)
-    c.in_ok-startup.ensures c.in_ok-new.ensures
+    held_new c.plan-plan.result.now c.new-startup.result c.in_ok-new.field-0 (few-of c.args.machine.now c.plan-plan.result.now c.plan-plan.ensures.table c.plan-plan.ensures.accepted c.plan-plan.ensures.value)
+    c.new-startup.ensures c.in_ok-new.ensures
 
 pub returns : goal.returns
-returns c = new_is c.plan-plan.result.now c.in_ok-startup.startup c.in_ok-new.field-0 c.in_ok-startup.ensures c.in_ok-new.ensures ∙ ap new_control c.plan-plan.ensures.value
+returns c = new_is c.plan-plan.result.now c.new-startup.result c.in_ok-new.field-0 c.new-startup.ensures c.in_ok-new.ensures ∙ ap new_control c.plan-plan.ensures.value
