@@ -1,25 +1,21 @@
-//! The program's worked rows, over memory.
+//! What needs streams that fail, sockets that are held, arguments of a system, or calls of parts of the program. What a run over
+//! memory prints and tells stands as cases in `crates/ecat_cases/data/`.
 
 mod explains;
 mod helps;
-mod lives;
+mod inputs;
 mod loops;
-mod masters;
-mod plans;
 mod programs;
 mod segments;
 mod serials;
-mod sims;
-mod tables;
 
 use ec_commands::{App, print_text, run_command};
-use std::alloc::{AllocError, Global};
+use ec_examples::THREE_SLAVES;
 use std::fs::Files;
 use std::io;
 use std::io::{ErrorKind, Read, Write};
 use std::net::Net;
 use std::process::Abort;
-use std::test::Fail;
 use std::time::Clock;
 
 const FRAME: &str = "0e100701000030010200000000000000";
@@ -94,19 +90,8 @@ impl Write for Narrow {
     }
 }
 
-/// Runs the program with an application, and answers the exit status. It promises nothing, so what calls it is quickly checked.
-fn run_with<H: AllocGlobal + Net + Files + Clock, R: Read, W: Write, F: Write>(
-    rt: &H,
-    args: &[&str],
-    input: &mut R,
-    output: &mut W,
-    faults: &mut F,
-    app: &mut dyn App,
-) -> u8 {
-    run_command(rt, args, input, output, faults, app)
-}
-
-/// The same with an application that does nothing.
+/// Runs the program with an application that does nothing, and answers the exit status. It promises nothing, so what calls it is
+/// quickly checked.
 fn run_args<H: AllocGlobal + Net + Files + Clock, R: Read, W: Write, F: Write>(
     rt: &H,
     args: &[&str],
@@ -114,7 +99,7 @@ fn run_args<H: AllocGlobal + Net + Files + Clock, R: Read, W: Write, F: Write>(
     output: &mut W,
     faults: &mut F,
 ) -> u8 {
-    run_with(rt, args, input, output, faults, &mut Idle)
+    run_command(rt, args, input, output, faults, &mut Idle)
 }
 
 /// How a run of the program ended: its exit status, what it printed and what it told.
@@ -142,332 +127,9 @@ fn run_in_memory<H: AllocGlobal + Net + Files + Clock>(
     }
 }
 
-/// A run of the program: its args and its input, how it ends, what it prints and what it tells.
-#[derive(Clone, Copy, Drop)]
-struct Run<'a> {
-    args: &'a [&'a str],
-    input: &'a [u8],
-    status: u8,
-    printed: &'a str,
-    told: &'a str,
-}
-
-/// Compares how a run ended, by its exit status, what it printed and what it told.
-fn assert_ended(rt: &impl Abort, args: &[&str], ended: &Ended, wanted: (u8, &str, &str)) {
-    let (status, printed, told) = wanted;
-    assert_eq!(rt;
-        (
-            ended.status,
-            ended.printed.as_slice(),
-            ended.told.as_slice()
-        ),
-        (status, printed.as_bytes(), told.as_bytes()),
-        "{args:?}"
-    );
-}
-
-/// Runs the program, and compares how it ends.
-fn expect_run<H: AllocGlobal + Net + Files + Clock + Abort>(rt: &H, run: Run) {
-    let ended = run_in_memory(rt, run.args, run.input);
-    assert_ended(rt, run.args, &ended, (run.status, run.printed, run.told));
-}
-
-/// A row without its blanks, and with a blank for a `_`.
-fn unspaced(alloc: Global, row: &str) -> Result<String, AllocError> {
-    let digits = row.replace(alloc, " ", "")?;
-    digits.replace(alloc, "_", " ")
-}
-
-/// A row with so many bytes of zeros for a `*`.
-fn filled(alloc: Global, row: &str, zeros: usize) -> Result<String, AllocError> {
-    let zeros = "00".repeat(alloc, zeros)?;
-    row.replace(alloc, "*", zeros.as_str())
-}
-
-/// The hex digits of a row: without its blanks, with so many bytes of zeros for a `*`, and with a
-/// blank for a `_`.
-fn digits(alloc: Global, row: &str, zeros: usize) -> Result<String, AllocError> {
-    let digits = unspaced(alloc, row)?;
-    filled(alloc, digits.as_str(), zeros)
-}
-
-/// What `ecat pass` is given: number of slaves, bytes of zeros, frame; and the frame as it comes back,
-/// or what is told.
-type Pass<'a> = (&'a str, usize, &'a str, Result<&'a str, &'a str>);
-
-const PASSES: [Pass; 8] = [
-    // a broadcast read of the AL status past three slaves, and past none
-    (
-        "3",
-        0,
-        "0e10 0701 0000 3001 0200 0000 0000 0000",
-        Ok("0e10 0701 0300 3001 0200 0000 0100 0300"),
-    ),
-    (
-        "0",
-        0,
-        "0e10 0701 0000 3001 0200 0000 0000 0000",
-        Ok("0e10 0701 0000 3001 0200 0000 0000 0000"),
-    ),
-    // the third slave gets station address 0x1001, by position
-    (
-        "3",
-        0,
-        "0E10 0201 FEFF 1000 0200 0000 0110 0000",
-        Ok("0e10 0201 0100 1000 0200 0000 0110 0100"),
-    ),
-    // the last byte of the memory, and one past it
-    (
-        "1",
-        0,
-        "0e10 0601 0000 ff2f 0200 0000 aabb 0000",
-        Ok("0e10 0601 0000 ff2f 0200 0000 00bb 0300"),
-    ),
-    // the first slave reads, the others write
-    (
-        "3",
-        0,
-        "0e10 0d01 ffff 0010 0200 0000 5aa5 0000",
-        Ok("0e10 0d01 0200 0010 0200 0000 0000 0300"),
-    ),
-    // two datagrams: a station address for the first slave, and its AL status by that address
-    (
-        "3",
-        0,
-        "1c10 0207 0000 1000 0280 0000 0110 0000 0408 0110 3001 0200 0000 ffff 0000",
-        Ok("1c10 0207 0300 1000 0280 0000 0110 0100 0408 0110 3001 0200 0000 0100 0100"),
-    ),
-    // what follows the datagrams is left
-    (
-        "3",
-        30,
-        "0e10 0701 0000 3001 0200 0000 0000 0000 *",
-        Ok("0e10 0701 0300 3001 0200 0000 0100 0300 *"),
-    ),
-    // Memory suffices for the most slaves and the longest payload: a broadcast read of 1458 bytes of
-    // plain memory, all zeros, which each of 64 slaves counts.
-    (
-        "64",
-        1458,
-        "be15 0701 0000 0010 b205 0000 * 0000",
-        Ok("be15 0701 4000 0010 b205 0000 * 4000"),
-    ),
-];
-
-const REFUSED_PASSES: [Pass; 11] = [
-    (
-        "3",
-        0,
-        "0d10 0701 0000 3001 0200 0000 0000 0000",
-        Err("4 BadLength"),
-    ),
-    (
-        "3",
-        0,
-        "0e10 0701 0000 3001 ff07 0000 0000 0000",
-        Err("4 BadLength"),
-    ),
-    (
-        "3",
-        0,
-        "0e10 0701 0000 3001 0280 0000 0000 0000",
-        Err("5 BadMore"),
-    ),
-    (
-        "3",
-        0,
-        "0e10 0f01 0000 3001 0200 0000 0000 0000",
-        Err("6 BadCommand"),
-    ),
-    (
-        "3",
-        0,
-        "0e20 0701 0000 3001 0200 0000 0000 0000",
-        Err("3 BadType"),
-    ),
-    (
-        "3",
-        0,
-        "bf15 0701 0000 3001 0200 0000 0000 0000",
-        Err("7 TooLong"),
-    ),
-    ("3", 0, "0e1", Err("40 BadHex")),
-    ("3", 0, "0e10 zz", Err("40 BadHex")),
-    ("3", 0, "0e10_0701", Err("40 BadHex")),
-    // as many bytes as a payload has, and one more
-    ("3", 1472, "*", Err("3 BadType")),
-    ("3", 1473, "*", Err("7 TooLong")),
-];
-
-/// Runs `ecat pass` with these args, and compares what is printed, or what is told.
-fn expect_line<H: AllocGlobal + Net + Files + Clock + Abort>(
-    rt: &H,
-    slaves: &str,
-    hex: &str,
-    is_printed: bool,
-    line: &str,
-) {
-    let (status, printed, told) = if is_printed {
-        (0, line, "")
-    } else {
-        (3, "", line)
-    };
-    let args = ["ecat", "pass", "--slaves", slaves, hex];
-    let run = Run {
-        args: &args,
-        input: b"",
-        status,
-        printed,
-        told,
-    };
-    expect_run(rt, run);
-}
-
-/// The line that `ecat pass` prints or tells.
-fn line_of(alloc: Global, zeros: usize, back: Result<&str, &str>) -> Result<String, AllocError> {
-    let mut line = match back {
-        Ok(back) => digits(alloc, back, zeros)?,
-        Err(refusal) => format!(in alloc; "ecat: {refusal}")?,
-    };
-    line.push('\n')?;
-    Ok(line)
-}
-
-/// How `ecat pass` ends: with what it prints, or with what it tells.
-fn expect_pass<H: AllocGlobal + Net + Files + Clock + Abort>(
-    rt: &H,
-    pass: Pass,
-) -> Result<(), Fail> {
-    let (slaves, zeros, sent, back) = pass;
-    let sent = digits(rt.alloc(), sent, zeros)?;
-    let line = line_of(rt.alloc(), zeros, back)?;
-    expect_line(rt, slaves, sent.as_str(), back.is_ok(), line.as_str());
-    Ok(())
-}
-
-#[test]
-fn prints_the_frame_as_it_comes_back(rt: HostRuntime) -> Result<(), Fail> {
-    for pass in PASSES {
-        expect_pass(&rt, pass)?;
-    }
-    Ok(())
-}
-
-#[test]
-fn refuses_what_is_no_frame(rt: HostRuntime) -> Result<(), Fail> {
-    for pass in REFUSED_PASSES {
-        expect_pass(&rt, pass)?;
-    }
-    for bytes in 0..16 {
-        let cut = FRAME.get(..2 * bytes).expect(&rt, "a cut");
-        expect_pass(&rt, ("3", 0, cut, Err("2 Short")))?;
-    }
-    Ok(())
-}
-
 /// Whether one text stands in another.
 fn holds(text: &[u8], part: &[u8]) -> bool {
     (0..text.len()).any(|from| text.get(from..).is_some_and(|rest| rest.starts_with(part)))
-}
-
-/// Runs args that are at fault, or ask for help: what is printed or told, and not both, begins with
-/// one text and holds another.
-fn expect_usage<H: AllocGlobal + Net + Files + Clock + Abort>(
-    rt: &H,
-    args: &[&str],
-    status: u8,
-    begins: &str,
-    line: &str,
-) {
-    let ended = run_in_memory(rt, args, b"");
-    let (told, kept) = if status == 0 {
-        (ended.printed.as_slice(), ended.told.as_slice())
-    } else {
-        (ended.told.as_slice(), ended.printed.as_slice())
-    };
-    let usage = told.starts_with(begins.as_bytes()) && holds(told, line.as_bytes());
-    assert_eq!(rt;
-        (ended.status, usage, kept.len()),
-        (status, true, 0),
-        "{args:?}"
-    );
-}
-
-#[test]
-fn tells_a_fault_of_the_args(rt: HostRuntime) {
-    let too_many = ["ecat", "pass", "--slaves", "65", FRAME];
-    let missing = "error: the following required arguments were not provided:";
-    for (args, begins, line) in [
-        (too_many.as_slice(), "error: invalid value '65'", ""),
-        (
-            &["ecat", "frob"],
-            "error: unrecognized subcommand 'frob'",
-            "",
-        ),
-        (&["ecat"], "error: 'ecat' requires a subcommand", ""),
-        (
-            &["ecat", "pass"],
-            missing,
-            "Usage: ecat pass --slaves <N> <HEX>",
-        ),
-        (
-            &["ecat", "loop"],
-            missing,
-            "Usage: ecat loop --cycles <N> [--capture <FILE>] [--explain] < TABLE",
-        ),
-        (
-            &["ecat", "plan", "a.toml"],
-            "error: unexpected argument 'a.toml'",
-            "ecat plan [--header] [--explain] < TABLE",
-        ),
-        (
-            &["ecat", "sim", "a.toml"],
-            "error: unexpected argument 'a.toml'",
-            "ecat sim [--live] [--capture <FILE>] [--explain] < TABLE_AND_SCRIPT",
-        ),
-        (
-            &["ecat", "decode", "07"],
-            "error: unexpected argument '07'",
-            "ecat decode [--table <FILE>] [--explain] < PAYLOADS",
-        ),
-        (
-            &["ecat", "segment"],
-            missing,
-            "--frames <N> [--port <P> | --descriptor <N>] [--full] [--idle <SECONDS>] [--capture <FILE>] [--explain] < TABLE",
-        ),
-        (
-            &["ecat", "master", "127.0.0.1:34980"],
-            "error: unexpected argument '127.0.0.1:34980'",
-            "ecat master [--to <ADDRESS:PORT> | --descriptor <N>] [--patience <MS>] [--capture <FILE>] [--explain] < TABLE_AND_LINES",
-        ),
-    ] {
-        expect_usage(&rt, args, 2, begins, line);
-    }
-}
-
-#[test]
-fn prints_the_help_that_is_asked_for(rt: HostRuntime) {
-    for (args, begins, line) in [
-        (
-            ["ecat", "--help"].as_slice(),
-            "An EtherCAT master",
-            "3  refused: standard error has a line",
-        ),
-        (&["ecat", "help", "pass"], "Passes a frame", ""),
-        (&["ecat", "--version"], "ecat 0.1.0\n", ""),
-        (
-            &["ecat", "plan", "--help"],
-            "",
-            "44 SplitVariable PLACE     of an input variable",
-        ),
-        (
-            &["ecat", "pass", "--help"],
-            "",
-            "40 BadHex      HEX isn't pairs of hex digits",
-        ),
-    ] {
-        expect_usage(&rt, args, 0, begins, line);
-    }
 }
 
 /// Runs the program on an output that takes nothing.
@@ -488,7 +150,7 @@ fn expect_full_output<H: AllocGlobal + Net + Files + Clock + Abort>(
 fn tells_a_full_output(rt: HostRuntime) {
     let pass = ["ecat", "pass", "--slaves", "3", FRAME];
     expect_full_output(&rt, &pass, b"");
-    let table = tables::THREE_SLAVES.as_bytes();
+    let table = THREE_SLAVES.as_bytes();
     expect_full_output(&rt, &["ecat", "plan"], table);
 }
 

@@ -1,7 +1,6 @@
-//! The helps beside what they speak of: a help lists the refusals that its command tells by number and name, and no others, and
-//! each limit of an argument as it is kept.
+//! The helps beside what they speak of: a help lists the refusals that its command tells by number and name, and no others.
 
-use crate::tests::{expect_usage, holds, run_in_memory};
+use crate::tests::{holds, run_in_memory};
 use ec_commands::{Refusal, Refused, ScriptError};
 use ec_device::Device;
 use ec_frame::FrameError;
@@ -203,61 +202,4 @@ fn helps_list_the_refusals(rt: HostRuntime) -> Result<(), Fail> {
     expect_listed(&rt, "loop", &OF_LOOP)?;
     expect_listed(&rt, "segment", &OF_SEGMENT)?;
     expect_listed(&rt, "master", &OF_MASTER)
-}
-
-#[test]
-fn helps_say_the_limits(rt: HostRuntime) {
-    for (command, limit) in [
-        ("pass", "How many slaves the ring has, 0 to 64"),
-        ("loop", "How many cycles are run, 0 to 1000"),
-        (
-            "segment",
-            "The UDP port on 127.0.0.1, 1 to 65535 [default: 34980]",
-        ),
-        ("segment", "0 to 86400; 0 is without an end [default: 60]"),
-        (
-            "segment",
-            "In its place, the descriptor of a network card's open raw socket, 0 to 1023",
-        ),
-        (
-            "master",
-            "The IPv4 address and the UDP port of the segment [default: 127.0.0.1:34980]",
-        ),
-        (
-            "master",
-            "How many milliseconds it waits for an answer, 1 to 60000 [default: 500]",
-        ),
-    ] {
-        expect_usage(&rt, &["ecat", command, "--help"], 0, "", limit);
-    }
-}
-
-#[test]
-fn the_limits_are_kept(rt: HostRuntime) {
-    for (args, limits) in [
-        (["ecat", "pass", "--slaves", "65"], "65 is not in 0..=64"),
-        (
-            ["ecat", "loop", "--cycles", "1001"],
-            "1001 is not in 0..=1000",
-        ),
-        (["ecat", "segment", "--port", "0"], "0 is not in 1..=65535"),
-        (
-            ["ecat", "segment", "--idle", "86401"],
-            "86401 is not in 0..=86400",
-        ),
-        (
-            ["ecat", "master", "--patience", "0"],
-            "0 is not in 1..=60000",
-        ),
-        (
-            ["ecat", "master", "--patience", "60001"],
-            "60001 is not in 1..=60000",
-        ),
-        (
-            ["ecat", "master", "--descriptor", "1024"],
-            "1024 is not in 0..=1023",
-        ),
-    ] {
-        expect_usage(&rt, &args, 2, "error: invalid value", limits);
-    }
 }

@@ -1,7 +1,7 @@
 //! `ecat segment`, over the system's sockets.
 
 use crate::tests::run_args;
-use crate::tests::tables::THREE_SLAVES;
+use ec_examples::THREE_SLAVES;
 use ec_wire::UdpWire;
 use std::fs::Files;
 use std::net::Net;

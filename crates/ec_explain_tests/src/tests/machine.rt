@@ -1,4 +1,4 @@
-/// A machine of three slaves, of which each test changes a line.
+/// A machine of three slaves.
 pub const MACHINE: &str = "\
 version = 2
 
@@ -69,47 +69,4 @@ var = \"x_target\"
 slave = \"x\"
 index = 0x607A
 sub = 0
-";
-
-/// The same with inline arrays, an element a line.
-pub const COMPACT: &str = "\
-# the same machine
-version = 2
-slave = [
-\t{ name = \"panel\", type = \"coupler\" }, # \u{fc}ber allem
-\t{ name = \"x\", type = \"drive\", out = [0x1600] },
-\t{ name = \"y\", type = \"drive\", out = [0x1601], unit = 1 },
-]
-variable = [
-\t{ name = \"lamps\", dir = \"out\", bits = 2 },
-\t{ name = \"buttons\", dir = \"in\", bits = 8 },
-\t{ name = \"x_target\", dir = \"out\", bits = 32 },
-]
-link = [
-\t{ var = \"lamps\", slave = \"panel\", index = 0x7000, sub = 1, bits = [0, 0, 1] },
-\t{ var = \"buttons\", slave = \"panel\", index = 0x6000, sub = 1 },
-\t{ var = \"x_target\", slave = \"x\", index = 0x607A, sub = 0 },
-]
-[[type]]
-name = \"coupler\"
-vendor = 1
-product = 2
-revision = 3
-out_start = 0x1100
-in_start = 0x1200
-rxpdo = [ { index = 0x1600, entries = [[0x7000, 1, 1], [0x7000, 2, 1], [0, 0, 6]] } ]
-txpdo = [ { index = 0x1A00, entries = [[0x6000, 1, 8]] } ]
-[[type]]
-name = \"drive\"
-vendor = 1
-product = 4
-revision = 1
-mailbox = [0x1000, 128, 0x1080, 128]
-out_start = 0x1400
-in_start = 0x1600
-rxpdo = [
-  { index = 0x1600, entries = [[0x6040, 0, 16], [0x607A, 0, 32]] },
-  { index = 0x1601, entries = [[0x6040, 0, 16], [0x60FF, 0, 32]] },
-]
-txpdo = [ { index = 0x1A00, entries = [[0x6041, 0, 16], [0x6064, 0, 32]] } ]
 ";

@@ -1,13 +1,32 @@
-//! Start-ups, cycles and scripts that fail, and what is told of them.
+//! Start-ups, cycles and scripts that fail, and what is told of them. What a run of `ecat` tells of tables and of lines of a script
+//! stands as cases in `crates/ecat_cases/data/`.
 use crate::tests::machine::MACHINE;
-use crate::tests::refused::assert_cause;
 use ec_cycle::CycleError;
 use ec_device::Device;
 use ec_explain::{Cause, explanation};
 use ec_start::StartError;
-use std::alloc::{AllocError, Global};
 use std::process::Abort;
 use std::test::Fail;
+
+/// Each phrase stands in what is told.
+fn assert_phrases(rt: &impl Abort, told: &str, wanted: &[&str]) {
+    for phrase in wanted {
+        let phrase = *phrase;
+        assert!(rt; told.find(phrase).is_some(), "no {phrase} in {told}");
+    }
+}
+
+/// Compares what is told of a text for a cause.
+fn assert_cause(
+    rt: &(impl AllocGlobal + Abort),
+    text: &str,
+    cause: Cause,
+    wanted: &[&str],
+) -> Result<(), Fail> {
+    let told = explanation(rt.alloc(), text, cause)?;
+    assert_phrases(rt, told.as_str(), wanted);
+    Ok(())
+}
 
 const DRIVE: Device = Device {
     vendor: 1,
@@ -214,83 +233,6 @@ fn lines_of_a_script(rt: HostRuntime) -> Result<(), Fail> {
     assert_lines(&rt, text.as_str(), from)
 }
 
-/// Lines of a script behind the machine's table that stand for nothing, the column of what is at fault, and what is told.
-static BAD_LINES: [(&str, usize, &[&str]); 30] = [
-    (
-        "set lamp 1",
-        5,
-        &[
-            "no variable has the name `lamp`; did you mean `lamps`?",
-            "| set lamp 1\n",
-        ],
-    ),
-    ("in lamp 1", 4, &["no variable has the name `lamp`"]),
-    ("expect lamp 1", 8, &["no variable has the name `lamp`"]),
-    ("set lamps x", 11, &["`x` is no value", "`-` and decimal"]),
-    ("set lamps 0xg", 11, &["`0xg` is no value"]),
-    ("set lamps +1", 11, &["`+1` is no value"]),
-    ("set lamps --1", 11, &["`--1` is no value"]),
-    (
-        "set lamps 18446744073709551616",
-        11,
-        &["`18446744073709551616` is too large: 64 bits hold no more than 18446744073709551615\n"],
-    ),
-    ("set lamps", 1, &["isn't written as `set NAME VALUE`"]),
-    ("set lamps 1 2", 1, &["isn't written as `set NAME VALUE`"]),
-    ("pass x", 6, &["`x` is no number"]),
-    ("pass -1", 6, &["`-1` is no number"]),
-    ("pass", 1, &["isn't written as `pass K`"]),
-    ("ready now", 1, &["isn't written as `ready`"]),
-    (
-        "redy",
-        1,
-        &["no line of a script begins with `redy`; did you mean `ready`?"],
-    ),
-    ("repaet 2 cycle", 1, &["did you mean `repeat`?"]),
-    ("serve nobody", 7, &["no slave has the name `nobody`"]),
-    ("put 0 0 256", 9, &["`256` is no byte: it is 0 to 255"]),
-    ("get 0", 1, &["isn't written as `get S I`"]),
-    ("repeat", 1, &["isn't written as `repeat N LINE`"]),
-    (
-        "repeat 0 cycle",
-        8,
-        &["`0` is no number of times: it is 1 to 1000000"],
-    ),
-    ("repeat 1000001 cycle", 8, &["1 to 1000000"]),
-    ("repeat 2 repeat 2 cycle", 10, &["isn't repeated"]),
-    (
-        "repeat 2 set lamp 1",
-        14,
-        &["no variable has the name `lamp`"],
-    ),
-    ("repeat 2 cycel", 10, &["did you mean `cycle`?"]),
-    (
-        "expect state 0 OPP",
-        16,
-        &["`OPP` is no AL state: it is INIT, PREOP, SAFEOP or OP"],
-    ),
-    (
-        "expect state 0 OP 1",
-        19,
-        &["`1` is no AL status code: it has four hex digits"],
-    ),
-    ("expect taken x", 14, &["`x` is no number"]),
-    (
-        "set  lamps 1",
-        5,
-        &["a word is missing here, or a blank is one too many"],
-    ),
-    ("set lamps y # not z", 11, &["`y` is no value"]),
-];
-
-#[test]
-fn words_of_a_line(rt: HostRuntime) -> Result<(), Fail> {
-    for (line, column, wanted) in BAD_LINES {
-        assert_line(&rt, MACHINE, line, column, wanted)?;
-    }
-    Ok(())
-}
-
 #[test]
 fn unmet_lines(rt: HostRuntime) -> Result<(), Fail> {
     let once = ["what a line expects wasn't so", "To do: "];
@@ -396,294 +338,6 @@ static FAILED: [(StartError, &[&str]); 6] = [
 fn more_start_ups(rt: HostRuntime) -> Result<(), Fail> {
     for (error, wanted) in FAILED {
         assert_cause(&rt, MACHINE, Cause::Start(error), wanted)?;
-    }
-    Ok(())
-}
-
-/// Further lines behind the machine's table: each kind of line with a word that is missing, one too many, or another.
-static OTHER_LINES: [(&str, usize, &[&str]); 56] = [
-    ("start now", 1, &["`start`"]),
-    ("begin 0", 1, &["`begin`"]),
-    ("close 0", 1, &["`close`"]),
-    ("cycle 2", 1, &["`cycle`"]),
-    ("show buttons", 1, &["`show`"]),
-    ("Ready", 1, &["`Ready`", "did you mean `ready`?"]),
-    ("set\tlamps 1", 1, &["begins with `set\u{fffd}lamps`"]),
-    ("%%", 1, &["`%%`"]),
-    (" cycle", 1, &["blank"]),
-    ("cycle ", 7, &["blank"]),
-    ("pass  1", 6, &["blank"]),
-    ("lose x", 6, &["`x` is no number"]),
-    ("lose", 1, &["`lose K`"]),
-    ("return x", 8, &["`x` is no number"]),
-    ("return 0 0", 1, &["`return K`"]),
-    (
-        "pass 18446744073709551616",
-        6,
-        &[
-            "`18446744073709551616` is too large: 64 bits hold no more than 18446744073709551615\n",
-            "| pass 18446744073709551616\n       |      ^^^^^^^^^^^^^^^^^^^^\n",
-            "To do: write a smaller number.\n",
-        ],
-    ),
-    ("serve", 1, &["`serve S`"]),
-    (
-        "serve panle",
-        7,
-        &[
-            "no slave has the name `panle`",
-            "did you mean `panel`?",
-            "| serve panle\n       |       ^^^^^\n",
-        ],
-    ),
-    ("fault nobody", 7, &["no slave has the name `nobody`"]),
-    ("fault", 1, &["`fault S`"]),
-    ("reset X", 7, &["no slave has the name `X`"]),
-    ("reset 0 0", 1, &["`reset S`"]),
-    ("put panel x 0", 11, &["`x` is no number"]),
-    ("put panel 0 -1", 13, &["`-1` is no byte", "0 to 255"]),
-    ("put panel 0", 1, &["`put S I BYTE`"]),
-    ("put lamps 0 0", 5, &["no slave has the name `lamps`"]),
-    ("get panel x", 11, &["`x` is no number"]),
-    ("get panel", 1, &["`get S I`"]),
-    ("in buttons", 1, &["`in NAME VALUE`"]),
-    ("in buttons x", 12, &["`x` is no value"]),
-    ("in x 1", 4, &["no variable has the name `x`"]),
-    ("set lamps -", 11, &["`-` is no value"]),
-    (
-        "set lamps 0x10000000000000000",
-        11,
-        &["`0x10000000000000000` is too large: 64 bits hold no more than 0xFFFFFFFFFFFFFFFF\n"],
-    ),
-    (
-        "set l\u{e4}mps 1",
-        5,
-        &[
-            "no variable has the name `l\u{e4}mps`",
-            "did you mean `lamps`?",
-            "| set l\u{e4}mps 1\n       |     ^^^^^\n",
-        ],
-    ),
-    ("expect", 1, &["`expect NAME VALUE`"]),
-    ("expect lamps", 1, &["`expect NAME VALUE`"]),
-    ("expect buttons x", 16, &["`x` is no value"]),
-    ("expect taken 0 0", 1, &["`expect taken UNIT`"]),
-    ("expect untaken -1", 16, &["`-1` is no number"]),
-    ("expect failed 0x20", 15, &["`0x20` is no number"]),
-    ("expect ready now", 1, &["`expect ready`"]),
-    ("expect state", 1, &["`expect state S STATE CODE`"]),
-    (
-        "expect state nobody OP",
-        14,
-        &["no slave has the name `nobody`"],
-    ),
-    (
-        "expect state panel op",
-        20,
-        &["`op` is no AL state", "INIT, PREOP, SAFEOP or OP"],
-    ),
-    (
-        "expect state panel OP 00g1",
-        23,
-        &["`00g1` is no AL status code"],
-    ),
-    (
-        "expect state panel OP 0001 1",
-        1,
-        &["`expect state S STATE CODE`"],
-    ),
-    ("expect state panel", 1, &["`expect state S STATE CODE`"]),
-    ("repeat 2", 1, &["`repeat N LINE`"]),
-    ("repeat x cycle", 8, &["`x` is no number of times"]),
-    ("repeat +2 cycle", 8, &["`+2` is no number of times"]),
-    ("repeat 2 pass x", 15, &["`x` is no number"]),
-    ("repeat 2 set lamps", 10, &["`set NAME VALUE`"]),
-    (
-        "repeat 2 expect lamp 1",
-        17,
-        &["no variable has the name `lamp`"],
-    ),
-    ("repeat 2 cycle 2", 10, &["`cycle`"]),
-    ("repeat 2 # cycle", 1, &["`repeat N LINE`"]),
-    ("set # lamps 1", 1, &["`set NAME VALUE`"]),
-];
-
-/// Compares what is told of a text for a cause: the column of line 72, and these phrases.
-fn assert_placed(
-    rt: &(impl AllocGlobal + Abort),
-    text: &str,
-    cause: Cause,
-    column: usize,
-    wanted: &[&str],
-) -> Result<(), Fail> {
-    assert_cause(rt, text, cause, wanted)?;
-    let place = format!(in rt.alloc(); "line 72, column {column}: ")?;
-    assert_cause(rt, text, cause, &[place.as_str(), "To do: "])
-}
-
-/// Compares what is told of line 2 behind the machine's table, or one of as many lines: the column of what is at fault, and
-/// these phrases.
-fn assert_line(
-    rt: &(impl AllocGlobal + Abort),
-    table: &str,
-    line: &str,
-    column: usize,
-    wanted: &[&str],
-) -> Result<(), Fail> {
-    let text = format!(in rt.alloc(); "{table}%%\n\n{line}\n")?;
-    let from = text.len().saturating_sub(line.len()).saturating_sub(2);
-    assert_placed(
-        rt,
-        text.as_str(),
-        Cause::Script { from, line: 2 },
-        column,
-        wanted,
-    )
-}
-
-#[test]
-fn each_kind_of_line(rt: HostRuntime) -> Result<(), Fail> {
-    for (line, column, wanted) in OTHER_LINES {
-        assert_line(&rt, MACHINE, line, column, wanted)?;
-    }
-    Ok(())
-}
-
-/// Lines with numbers that 64 bits don't hold, in each place where one of 64 bits may stand; behind them lines whose numbers have
-/// other bounds.
-static PAST_64_BITS: [(&str, usize, &[&str]); 18] = [
-    (
-        "serve 18446744073709551616",
-        7,
-        &[
-            "`18446744073709551616` is too large: 64 bits hold no more than 18446744073709551615\n",
-            "| serve 18446744073709551616\n       |       ^^^^^^^^^^^^^^^^^^^^\n",
-            "To do: write the number of a slave, the first of which is 0, or its name.\n",
-        ],
-    ),
-    (
-        "fault 99999999999999999999",
-        7,
-        &["`99999999999999999999` is too large"],
-    ),
-    (
-        "reset 18446744073709551616",
-        7,
-        &["is too large", "its name"],
-    ),
-    (
-        "put 18446744073709551616 0 1",
-        5,
-        &["is too large", "its name"],
-    ),
-    (
-        "put 0 18446744073709551616 1",
-        7,
-        &["is too large", "a smaller"],
-    ),
-    (
-        "get 18446744073709551616 0",
-        5,
-        &["is too large", "its name"],
-    ),
-    (
-        "get 0 18446744073709551616",
-        7,
-        &["is too large", "a smaller"],
-    ),
-    (
-        "expect state 18446744073709551616 OP",
-        14,
-        &["is too large", "its name"],
-    ),
-    (
-        "repeat 2 serve 18446744073709551616",
-        16,
-        &["is too large", "its name"],
-    ),
-    ("lose 18446744073709551616", 6, &["is too large"]),
-    ("return 18446744073709551616", 8, &["is too large"]),
-    ("expect taken 18446744073709551616", 14, &["is too large"]),
-    ("expect failed 18446744073709551616", 15, &["is too large"]),
-    (
-        "expect lamps 18446744073709551616",
-        14,
-        &["is too large", "the bits for"],
-    ),
-    (
-        "in buttons -18446744073709551616",
-        12,
-        &["`-18446744073709551616` is too small: 64 bits hold no less than -9223372036854775808\n"],
-    ),
-    (
-        "repeat 18446744073709551616 cycle",
-        8,
-        &["is no number of times: it is 1 to 1000000"],
-    ),
-    (
-        "put 0 0 18446744073709551616",
-        9,
-        &["is no byte: it is 0 to 255"],
-    ),
-    (
-        "expect state 0 OP 18446744073709551616",
-        19,
-        &["is no AL status code: it has four hex digits"],
-    ),
-];
-
-#[test]
-fn numbers_past_64_bits(rt: HostRuntime) -> Result<(), Fail> {
-    for (line, column, wanted) in PAST_64_BITS {
-        assert_line(&rt, MACHINE, line, column, wanted)?;
-    }
-    Ok(())
-}
-
-/// Lines where `expect` stands before a variable's name that is one of its own words too: with a word behind it, that is a value.
-static SAME_NAMES: [(&str, usize, &[&str]); 8] = [
-    (
-        "expect ready x",
-        14,
-        &[
-            "`x` is no value: it is decimal",
-            "| expect ready x\n       |              ^\n",
-        ],
-    ),
-    ("expect state x", 14, &["`x` is no value: it is decimal"]),
-    ("expect state -", 14, &["`-` is no value"]),
-    ("repeat 2 expect ready x", 23, &["`x` is no value"]),
-    ("expect ready 0 1", 1, &["isn't written as `expect ready`"]),
-    (
-        "expect state 0 OPP",
-        16,
-        &["`OPP` is no AL state: it is INIT, PREOP, SAFEOP or OP"],
-    ),
-    (
-        "expect state nobody OP",
-        14,
-        &["no slave has the name `nobody`"],
-    ),
-    ("expect taken x", 14, &["`x` is no number"]),
-];
-
-/// The machine's table with two of its variables named as words.
-fn two_renamed(alloc: Global) -> Result<String, AllocError> {
-    let table = MACHINE.replace(alloc, "\"lamps\"", "\"ready\"")?;
-    table.as_str().replace(alloc, "\"buttons\"", "\"state\"")
-}
-
-/// The same with all three.
-fn all_renamed(alloc: Global) -> Result<String, AllocError> {
-    let table = two_renamed(alloc)?;
-    table.as_str().replace(alloc, "\"x_target\"", "\"taken\"")
-}
-
-#[test]
-fn variables_named_as_words(rt: HostRuntime) -> Result<(), Fail> {
-    let table = all_renamed(rt.alloc())?;
-    for (line, column, wanted) in SAME_NAMES {
-        assert_line(&rt, table.as_str(), line, column, wanted)?;
     }
     Ok(())
 }
