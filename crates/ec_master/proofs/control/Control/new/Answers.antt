@@ -4,8 +4,8 @@ use Rattle.ec_master.specs.Controls.{new_control}
 use Rattle.ec_master.proofs.Holding.{held_new, new_is}
 use Rattle.ec_master.proofs.control.Control.new.Goals as goal
 
-pub new-requires : goal.new-requires
-new-requires c = few-of c.args.machine.now c.plan-plan.result.now c.plan-plan.ensures.table c.plan-plan.ensures.accepted c.plan-plan.ensures.value
+pub new-startup-requires : goal.new-startup-requires
+new-startup-requires c = few-of c.args.machine.now c.plan-plan.result.now c.plan-plan.ensures.table c.plan-plan.ensures.accepted c.plan-plan.ensures.value
 
 pub invariant_of-result : goal.invariant_of-result
 invariant_of-result c =
