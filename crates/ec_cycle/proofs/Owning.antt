@@ -1,9 +1,10 @@
 -- A master that goes through a call keeps its plan, and so what stood apart from the plan fits it again.
-use Rattle.std.proofs.Common.{◌≡◌, Result, Ok, Err, OnOk, OnErr, IfOk, ap, sym, subst, ◌∙◌}
+use Rattle.std.proofs.Common.{◌≡◌, Option, Some, None, Result, Ok, Err, OnOk, OnErr, IfOk, ap, refl, sym, subst, ◌∙◌}
 use Rattle.ec_link.specs.Plan.{PlanState}
+use Rattle.ec_link.specs.Usable.{IsUsable}
 use Rattle.ec_cycle.specs.Closing.{ReportState}
 use Rattle.ec_cycle.specs.Master.{MasterState, OpenCycle, Begun, IsClosed}
-use Rattle.ec_cycle.specs.Owned.{FitsPlan, rejoined}
+use Rattle.ec_cycle.specs.Owned.{FitsPlan, IsOwned, owned, rejoined}
 use Rattle.ec_cycle.specs.declared.error.CycleError.{CycleError}
 use Rattle.ec_cycle.specs.declared.master.rest.Rest.{Rest}
 
@@ -24,3 +25,12 @@ fits_again plan other r same fits = subst (λ (p : PlanState). FitsPlan p r) sam
 -- and is with it what it was with the same
 pub rejoined_again : (plan other : PlanState) (r : Rest) (m : MasterState) → other ≡ plan → rejoined other r ≡ m → rejoined plan r ≡ m
 rejoined_again plan other r m same is = ap (λ (p : PlanState). rejoined p r) (sym same) ∙ is
+
+-- between two calls its plan is the master's, and can be used
+pub owned_plan : (plan : PlanState) (r : Option Rest) → plan ≡ (owned plan r).plan
+owned_plan plan None = refl
+owned_plan plan (Some r) = refl
+
+pub owned_usable : (plan : PlanState) (r : Option Rest) → IsOwned plan r → IsUsable (owned plan r).plan
+owned_usable plan None is = absurd is
+owned_usable plan (Some r) is = is.usable

@@ -4,7 +4,7 @@ ghost use Rattle.std.specs.Prelude.{IsErr, OnErr};
 ghost use Rattle.std.specs.Borrow.{sem};
 ghost use Rattle.ec_frame.specs.Frame.{Payload, IsFrame};
 ghost use Rattle.ec_slave.specs.Column.{datagram_past, slaves_met};
-ghost use Rattle.ec_slave.specs.Keeping.{past-keeps};
+ghost use Rattle.ec_slave.proofs.Meetings.{datagrams_stay_past};
 ghost use Rattle.ec_slave.specs.Sound.{IsSlave};
 ghost use Rattle.ec_slave.specs.State.{SlaveState};
 ghost use Rattle.ec_ring.specs.Lending.{LendsSlave};
@@ -127,7 +127,7 @@ impl Handler for Ring {
 
     ghost after = { slaves_met };
 
-    ghost keeps_length = { past-keeps };
+    ghost keeps_length = { datagrams_stay_past };
 
     fn handle(&mut self, part: &mut [u8]) {
         pass_each(&mut self.slaves, part);

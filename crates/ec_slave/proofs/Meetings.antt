@@ -9,11 +9,11 @@ use Rattle.ec_slave.specs.Roles.{role_of, adp_after, is_reading, is_writing, is_
 use Rattle.ec_slave.specs.State.{SlaveState, Met, station_of}
 use Rattle.ec_slave.specs.Physical.{Window, byte_read, retold, some_byte_read, is_written, physical_after, physical_met}
 use Rattle.ec_slave.specs.Meeting.{window_of, meets, meets_by, meets_physically}
-use Rattle.ec_slave.specs.Keeping.{meets-keeps}
+use Rattle.ec_slave.specs.Keeping.{meets-keeps, past-keeps}
 use Rattle.ec_slave.specs.Logical.{meets_logically}
 use Rattle.ec_slave.specs.Application.{inputs_put, outputs_taken}
 use Rattle.ec_slave.specs.Faulting.{faulted}
-use Rattle.ec_slave.specs.Interface.{GoesOn, DatagramsGoOn, DatagramsStay, WritesMeet, ReadsMeet, LogicalCommandsMeet, FaultsAreInOp, ApplicationsGoByBytes}
+use Rattle.ec_slave.specs.Interface.{GoesOn, DatagramsGoOn, DatagramsStay, DatagramsStayPast, WritesMeet, ReadsMeet, LogicalCommandsMeet, FaultsAreInOp, ApplicationsGoByBytes}
 
 false-true : {X : Type 0} → false ≡ true → X
 false-true e = absurd (let x : false ≡ true = e in cc)
@@ -129,6 +129,9 @@ goes_on s d = by-on d.command s d refl
 
 pub datagrams_stay : DatagramsStay
 datagrams_stay = meets-keeps
+
+pub datagrams_stay_past : DatagramsStayPast
+datagrams_stay_past = past-keeps
 
 pub logical_meet : LogicalCommandsMeet
 unfolding meets

@@ -1,7 +1,7 @@
 -- What the crates above may know of a slave: the words of it and of its parts, handed on, and laws for each thing that happens
 -- to it. Nothing above opens a definition of this crate; what is not said here can change without them.
 use Rattle.std.specs.Int.{from_bool, to_le_bytes, w32}
-use Rattle.std.specs.Prelude.{ℕ, zero, suc, ◌+◌, ◌-◌, ◌*◌, ◌%◌, ◌<◌, ◌≤◌, ◌≡◌, ◌≢◌, ◌⊎◌, List, [], ◌∷◌, length, slice_index, slice_set, unwrap_or, Bool, true, false, if◌then◌else◌, Option, Some, None}
+use Rattle.std.specs.Prelude.{ℕ, zero, suc, ◌+◌, ◌-◌, ◌*◌, ◌%◌, ◌<◌, ◌≤◌, ◌≡◌, ◌≢◌, ◌==◌, ◌⊎◌, List, [], ◌∷◌, length, take, slice_index, slice_set, unwrap_or, Bool, true, false, if◌then◌else◌, Option, Some, None}
 use Rattle.ec_bits.specs.Bits.{within}
 pub use Rattle.ec_frame.specs.Building.{bare_payload}
 pub use Rattle.ec_frame.specs.Datagram.{Datagram, adp_of, ado_of, IsDatagram}
@@ -60,8 +60,9 @@ pub use Rattle.ec_coe.specs.declared.reply.Reply.TheVariants.{Downloaded, Upload
 pub use Rattle.ec_coe.specs.declared.value.SdoValue.{SdoValue}
 pub use Rattle.ec_coe.specs.declared.value.ValueSize.{ValueSize}
 pub use Rattle.ec_coe.specs.declared.value.ValueSize.TheVariants.{One, Two, Three, Four}
-pub use Rattle.ec_slave.specs.Application.{input_put, inputs_put, output_got, output_taken, outputs_taken, is_running, with_manager, outputs_shown}
+pub use Rattle.ec_slave.specs.Application.{get_size, put_size, input_put, inputs_put, output_got, output_taken, outputs_taken, is_running, with_manager, outputs_shown}
 pub use Rattle.ec_slave.specs.Checking.{checks_of, control_word, mailbox_check, process_check, outputs_mode, inputs_mode, is_manager}
+use Rattle.ec_slave.specs.Column.{datagram_past}
 pub use Rattle.ec_slave.specs.Exchange.{with_outputs, with_published, outputs_from, inputs_into, inputs_of, IsMapped, takes, gives, IsBufferAt}
 pub use Rattle.ec_slave.specs.Faulting.{faulted, locked_empty}
 pub use Rattle.ec_slave.specs.Logical.{meets_logically, place_of}
@@ -71,6 +72,7 @@ pub use Rattle.ec_slave.specs.Meeting.{window_of, meets, slave_met, datagram_met
 pub use Rattle.ec_slave.specs.Physical.{Window, touches, byte_at, ram_byte, may_read_byte, may_write_byte, byte_read, retold, memory_written, is_configured, settings_written, physical_value, physical_manager, physical_managers, physical_after, some_byte_read, is_written, some_byte_written}
 pub use Rattle.ec_slave.specs.Roles.{role_of, adp_after, is_reading, is_writing, is_joining}
 pub use Rattle.ec_slave.specs.Serving.{with_al, request_decided, read_finished, is_served, request_in, answer_to, bytes_to, message_served, served, dictionary_of, is_preop, has_mailbox, takes_reply, request_for, reply_counter, is_init, unlocked_empty, managers_entered}
+use Rattle.ec_slave.specs.Sound.{IsSlave}
 pub use Rattle.ec_slave.specs.State.{SlaveState, manager_at, station_of, power_on, fmmus, Met, with_answer, with_memory, fmmus_of}
 use Rattle.ec_al.specs.Al as al
 use Rattle.ec_sii.specs.Port as port
@@ -196,6 +198,29 @@ pub record GoByBytes (s : SlaveState) (inputs : List ℕ) : Type 0 where
 abbrev pub ApplicationsGoByBytes : Type 0
 ApplicationsGoByBytes = (s : SlaveState) (inputs : List ℕ) → GoByBytes s inputs
 
+-- nothing is left of a read of its outputs that was begun
+abbrev pub view_closed : SyncManager → SyncManager
+view_closed m = record m { buffer = record m.buffer { view = None } }
+
+-- its inputs are published, and nothing is left of what was begun to be written
+abbrev pub inputs_published : SyncManager → List ℕ → SyncManager
+inputs_published m inputs = record m { buffer = record m.buffer { published = inputs; draft = None } }
+
+-- Whole values. An application that reads all bytes of its outputs, one after the other, sees those that were published last, and
+-- closes its view; one that writes all bytes of its inputs publishes them as one value. Where it has none, the slave stays.
+pub record GoesWhole (s : SlaveState) : Type 0 where
+  pub seen : take (get_size s) (outputs_shown s) ≡ (if get_size s == 0 then [] else (manager_at s.managers 2).buffer.published)
+  pub taken : outputs_taken s (get_size s) ≡ (if get_size s == 0 then s else with_manager s 2 (view_closed (manager_at s.managers 2)))
+  pub put : (inputs : List ℕ) → length inputs ≡ put_size s
+      → inputs_put s inputs (length inputs) ≡ (if put_size s == 0 then s else with_manager s 3 (inputs_published (manager_at s.managers 3) inputs))
+
+abbrev pub ApplicationsGoWhole : Type 0
+ApplicationsGoWhole = (s : SlaveState) → IsSlave s → GoesWhole s
+
+-- A buffered manager has its length three times in the RAM of 8 kB, so no application writes over 2,730 bytes of inputs.
+abbrev pub FewInputs : Type 0
+FewInputs = (s : SlaveState) → put_size s ≤ 2730
+
 -- ---- any datagram
 
 -- what no datagram changes: what a slave is, its state, its assignments, and how much there is of memory and managers
@@ -244,6 +269,10 @@ DatagramsGoOn = (s : SlaveState) (d : Datagram) → GoesOn d (datagram_met s d)
 -- a datagram stays one, of the same length
 abbrev pub DatagramsStay : Type 0
 DatagramsStay = KeepsLength datagram_met
+
+-- and so it does past slave after slave
+abbrev pub DatagramsStayPast : Type 0
+DatagramsStayPast = KeepsLength datagram_past
 
 -- the datagram writes at the slave and reads nothing, by its command and the address that it has
 pub record OnlyWrites (s : SlaveState) (d : Datagram) : Type 0 where

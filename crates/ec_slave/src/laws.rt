@@ -10,7 +10,7 @@ ghost use Rattle.ec_slave.specs.Showing.{ReadsShowTheRun, SlavesShowWholeValues}
 ghost use Rattle.ec_slave.specs.Steps.{AccessesAreSteps, ManagersGoByRuns};
 ghost use Rattle.ec_slave.specs.LogicalLaws.{BroadcastLaw, ExchangeLaw, MappedLaw, MissesLaw};
 ghost use Rattle.ec_slave.specs.Interface.{SlavesAreSwitchedOn, SwitchedOnWhole, StepsHaveThreeParts, StepsSettle, RequestsAreDecided, ChecksAreOfManagers, ReadsAreFinished, MessagesKeep, MessagesRest, RequestsAreAnswered};
-ghost use Rattle.ec_slave.specs.Interface.{FaultsAreInOp, ApplicationsGoByBytes, DatagramsKeepTheInside, ValuesStayWhole, DatagramsGoOn, DatagramsStay, WritesMeet, ReadsMeet, LogicalCommandsMeet, OutputsArePublished};
+ghost use Rattle.ec_slave.specs.Interface.{FaultsAreInOp, ApplicationsGoByBytes, ApplicationsGoWhole, FewInputs, DatagramsKeepTheInside, ValuesStayWhole, DatagramsGoOn, DatagramsStay, DatagramsStayPast, WritesMeet, ReadsMeet, LogicalCommandsMeet, OutputsArePublished};
 ghost use Rattle.ec_slave.specs.Interface.{RegistersAreWritten, RegistersAreRead, ManagersAside, RegistersAreOpen, SlavesShowThemselves, RetoldByPlace, RetoldWhole, RamIsGoverned, ManagersAreAccessed, WholeValuesAreTheData, AccessesLeave};
 ghost use Rattle.ec_slave.specs.FirmwareLaws.{AssignmentsStay, FirstReplyIsOne, PowerOnAssigns, RestsQuietly, ServesKeepAssignments, ServesKeepBuffers, ServesKeepSettings, StatesAreEntered};
 
@@ -223,6 +223,12 @@ pub fn faults_are_in_op()
     ensures applications { ApplicationsGoByBytes }
 {}
 
+/// What an application reads and writes as a whole, and that it writes 2,730 bytes at most.
+pub fn applications_go_whole()
+    ensures whole { ApplicationsGoWhole }
+    ensures few { FewInputs }
+{}
+
 /// No datagram changes what a slave is, its state, its assignments, or how much there is of memory and managers.
 #[tactic(auto, using(crate::proofs::Inside::inside_kept))]
 pub fn datagrams_keep_the_inside()
@@ -239,6 +245,7 @@ pub fn values_stay_whole()
 pub fn datagrams_meet()
     ensures on { DatagramsGoOn }
     ensures stay { DatagramsStay }
+    ensures stay_past { DatagramsStayPast }
     ensures writes { WritesMeet }
     ensures reads { ReadsMeet }
     ensures logical { LogicalCommandsMeet }

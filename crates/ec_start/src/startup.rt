@@ -277,10 +277,10 @@ fn write_frame(action: &Action, number: u64, frame: &mut Frame)
 /// The same by way of the longest buffer, which a mailbox message may need.
 #[inline(never)]
 fn write_long(action: &Action, number: u64, frame: &mut Frame)
-    requires { IsDoable action.now }
+    requires doable { IsDoable action.now }
+    requires room { length (datagram_of action.now 0).data_bytes ≤ 1024 }
     ensures { IsFrame frame.new.items (bare_payload (frame_of action.now number)) }
 {
-    let _few = action.data_length();
     write_through(&mut [0; MAX_DATA], action, number, frame);
 }
 

@@ -73,7 +73,7 @@ fn serve_slaves<A: App>(ring: &mut Ring, app: &mut A)
 }
 
 /// A slave's firmware steps; then its application, where it has process data now. It makes its inputs in `inputs`.
-#[tactic(auto, using(crate::proofs::Applying::few_written))]
+#[tactic(auto, using(ec_slave::proofs::Wholes::few_inputs))]
 fn serve_slave<A: App>(slave: &mut Slave, app: &mut A, inputs: &mut [u8])
     requires { length inputs.old ≡ 2730 }
     ensures served { IsServed (A.shows app.old) slave.old slave.new }

@@ -128,7 +128,7 @@ impl<'p> World<'p> {
         ensures shows { StepShows self.old event self.new result }
         ensures headline { (t : Contents) (identities : List Identity) (first : WorldState) (events : List Event) (made : ℕ) → IsNew t identities first → IsRun first events self.old made → is_up self.old.start ≡ true → result ≡ true → HeadlineShows t first events self.old event self.new }
     {
-        let _plan = self.plan();
+        self.is_sound();
         self.make(event)
     }
 
@@ -146,7 +146,7 @@ impl<'p> World<'p> {
         ensures up { (t : Contents) → IsToStart t self.old → BringUp t events.now → IsBroughtUp t self.old events.now self.new result }
         ensures headline { (t : Contents) (identities : List Identity) (first : WorldState) (past : List Event) (count : ℕ) → IsNew t identities first → IsRun first past self.old count → EachIsPromised t first past self.old events.now self.new }
     {
-        let _plan = self.plan();
+        self.is_sound();
         let mut made = 0;
         for event in events {
             if self.make(*event) {
@@ -283,6 +283,13 @@ impl<'p> World<'p> {
         ensures { option_map (λ r. r.now) result ≡ self.now.report }
     {
         self.report.as_ref()
+    }
+
+    /// Does nothing. Its contract says what holds of every world: its plan can be used.
+    fn is_sound(&self)
+        ensures { IsUsable self.now.plan }
+    {
+        let _ = &self.plan;
     }
 }
 

@@ -61,7 +61,6 @@ impl OwnMaster {
         ensures plan { result.now ≡ self.now.plan }
         ensures usable { IsUsable self.now.plan }
     {
-        let _ = self.rest();
         &self.plan
     }
 

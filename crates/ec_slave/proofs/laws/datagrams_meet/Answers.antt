@@ -1,4 +1,4 @@
-use Rattle.ec_slave.proofs.Meetings.{goes_on, datagrams_stay, writes_meet, reads_meet, logical_meet}
+use Rattle.ec_slave.proofs.Meetings.{goes_on, datagrams_stay, datagrams_stay_past, writes_meet, reads_meet, logical_meet}
 use Rattle.ec_slave.proofs.laws.datagrams_meet.Goals as goal
 
 pub returns-clause-on : goal.returns-clause-on
@@ -6,6 +6,9 @@ returns-clause-on c = goes_on
 
 pub returns-clause-stay : goal.returns-clause-stay
 returns-clause-stay c = datagrams_stay
+
+pub returns-clause-stay_past : goal.returns-clause-stay_past
+returns-clause-stay_past c = datagrams_stay_past
 
 pub returns-clause-writes : goal.returns-clause-writes
 returns-clause-writes c = writes_meet

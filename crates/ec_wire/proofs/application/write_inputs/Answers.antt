@@ -1,6 +1,6 @@
-use Rattle.std.proofs.Common.{◌∙◌, length, refl}
+use Rattle.std.proofs.Common.{◌∙◌}
 use Rattle.ec_wire.proofs.Applying.{all_written}
 use Rattle.ec_wire.proofs.application.write_inputs.Goals as goal
 
 pub returns : goal.returns
-returns c = c.app_put_all.ensures ∙ all_written c.args.slave.now c.args.inputs.now (length c.args.inputs.now) refl c.is_sound.ensures c.requires
+returns c = c.app_put_all.ensures ∙ all_written c.args.slave.now c.args.inputs.now c.is_sound.ensures c.requires

@@ -39,7 +39,7 @@ returns-clause-steps c =
     subst (λ (es : List Event). IsRun c.args.self.now es c.loop-event.self c.loop-event.made) (take_all c.loop-event.event-index c.args.events.now (omega arith)) c.loop-event.invariant.runs
 
 pub returns-clause-shows : goal.returns-clause-shows
-returns-clause-shows c = runs_show c.args.self.now c.args.events.now c.loop-event.self c.loop-event.made c.plan-plan.ensures.usable (returns-clause-steps c)
+returns-clause-shows c = runs_show c.args.self.now c.args.events.now c.loop-event.self c.loop-event.made c.is_sound.ensures (returns-clause-steps c)
 
 pub returns-clause-whole : goal.returns-clause-whole
 returns-clause-whole c = λ t is new. told-new t is c.args.self.now c.args.events.now c.loop-event.self c.loop-event.made new (returns-clause-steps c)

@@ -4,7 +4,7 @@ use Rattle.ec_world.proofs.StepLaws.{steps_show}
 use Rattle.ec_world.proofs.world.World.step.Goals as goal
 
 pub returns-clause-shows : goal.returns-clause-shows
-returns-clause-shows c = steps_show c.args.self.now c.args.event c.make.new.self c.make.result c.plan-plan.ensures.usable c.make.ensures
+returns-clause-shows c = steps_show c.args.self.now c.args.event c.make.new.self c.make.result c.is_sound.ensures c.make.ensures
 
 pub returns-clause-headline : goal.returns-clause-headline
 returns-clause-headline c = λ t ids first events made n h up yes. headline_law t ids first events c.args.self.now made n h up c.args.event c.make.new.self (subst (λ b. IsStep c.args.self.now c.args.event c.make.new.self b) yes c.make.ensures)
