@@ -1,14 +1,35 @@
-//! Whether two of a few runs have a bit in common.
-ghost use Rattle.std.specs.Prelude.{◌≡◌, ◌+◌, nat_lt, ◌&&◌};
+//! Whether two runs have a bit in common: by pairs, where they are few.
+ghost use Rattle.std.specs.Prelude.{◌≡◌, ◌+◌, nat_lt, ◌&&◌, All, IfOk};
 ghost use Rattle.std.specs.List.{list_any};
 ghost use Rattle.ec_link.specs.Faults.{first_at};
 ghost use Rattle.ec_link.specs.LinkRuns.{give_one_bit, linked_twice, runs_meet};
+ghost use Rattle.ec_link.specs.Limits.{IsShortRun};
 
 use crate::link_runs::{LinkRun, is_out};
+use crate::marks::first_of_many;
+use std::alloc::{AllocError, Global};
 
-/// The first link run that gives a bit which an earlier one gives, by each pair of them: it takes no memory, and the square
-/// of their number as time.
-pub fn first_of_pairs(link_runs: &[LinkRun]) -> Option<usize>
+/// Up to so many link runs are compared in pairs: that takes no memory, and no longer than to make the marks.
+const FEW: usize = 8;
+
+/// The first link run that gives a bit which an earlier one gives.
+pub fn first_given_twice(
+    alloc: Global,
+    link_runs: &[LinkRun],
+    slaves: usize,
+    variables: usize,
+) -> Result<Option<usize>, AllocError>
+    requires { All IsShortRun link_runs.now }
+    ensures { IfOk result (λ o. o ≡ first_at (linked_twice link_runs.now) 0 link_runs.now) }
+{
+    if link_runs.len() <= FEW {
+        return Ok(first_of_pairs(link_runs));
+    }
+    first_of_many(alloc, link_runs, slaves, variables)
+}
+
+/// The same by each pair of them: it takes no memory, and the square of their number as time.
+fn first_of_pairs(link_runs: &[LinkRun]) -> Option<usize>
     ensures { result ≡ first_at (linked_twice link_runs.now) 0 link_runs.now }
 {
     for (place, link_run) in link_runs.iter().enumerate() {
