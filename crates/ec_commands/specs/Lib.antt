@@ -4,3 +4,5 @@ pub mod Passing
 pub mod Planning
 pub mod Explaining
 pub mod Running
+-- Private: the words of private code.
+pub mod Connecting

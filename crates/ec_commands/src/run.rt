@@ -4,6 +4,7 @@ ghost use Rattle.ec_args.specs.Requests.{Reads, command_of};
 ghost use Rattle.ec_args.specs.declared.request.Notice.{Notice as NoticeValue};
 ghost use Rattle.ec_args.specs.declared.request.Request.{Request as RequestValue};
 ghost use Rattle.ec_console.specs.Explaining.{IsLeft};
+ghost use Rattle.ec_commands.specs.Connecting.{Connects};
 ghost use Rattle.ec_commands.specs.Explaining.{is_explained};
 ghost use Rattle.ec_commands.specs.Running.{Ends, EndsAlone, LeavesAlone, Runs, RunsMasterWith, RunsSegmentAt, Tells, TellsWith};
 
@@ -190,14 +191,36 @@ fn run_request<H: AllocGlobal + Net + Files + Clock, R: Read, W: Write, F: Write
         } => print_live(rt, Reasons::of(explained), capture, input, output, behind),
         Request::Loop {
             cycles,
-            capture: None,
+            capture,
             ..
-        } => print_loop(rt, cycles, input, output, faults, app, behind),
-        Request::Loop {
-            cycles,
-            capture: Some(file),
-            ..
-        } => capture_loop(rt, cycles, file, input, output, faults, app, behind),
+        } => match capture {
+            None => print_loop(rt, cycles, input, output, faults, app, behind),
+            Some(file) => capture_loop(rt, cycles, file, input, output, faults, app, behind),
+        },
+        Request::Segment { .. } | Request::Master { .. } => {
+            run_connected(rt, request, input, output, faults, app, behind)
+        }
+    }
+}
+
+/// Runs a command that is one end of a wire, with the other end in another process.
+fn run_connected<H: AllocGlobal + Net + Files + Clock, R: Read, W: Write, F: Write>(
+    rt: &H,
+    request: Request<'_>,
+    input: &mut R,
+    output: &mut W,
+    faults: &mut F,
+    app: &mut dyn App,
+    behind: &mut Explanation,
+) -> Result<(), Refusal>
+    requires { Connects (command_of request.entry) }
+    ensures runs { Runs (command_of request.entry) (R.remaining input.old)
+        (record { old = W.contents output.old; new = W.contents output.new })
+        (record { old = F.contents faults.old; new = F.contents faults.new }) result }
+    ensures alone { LeavesAlone (command_of request.entry) input.old input.new app.old app.new }
+    ensures explains { IsLeft behind.old behind.new }
+{
+    match request {
         Request::Segment {
             frames,
             port,
@@ -232,6 +255,7 @@ fn run_request<H: AllocGlobal + Net + Files + Clock, R: Read, W: Write, F: Write
             };
             run_master(rt, reasons, way, capture, input, output, behind)
         }
+        _ => unreachable!(),
     }
 }
 
