@@ -207,6 +207,12 @@ fn split_part_with_a_short_half(rt: HostRuntime) -> Result<(), Fail> {
     expect_steps(&rt, WITHOUT_LRW, &steps)
 }
 
+/// What comes back of the second unit in the second cycle.
+const SECOND_UNIT: &str = "3110 \
+    0065 0000 0000 0a80 0000 6500000000000000 0100 0000 \
+    0765 0300 3001 0280 0000 0800 0300 \
+    0c65 03000100 0100 0000 05 0100";
+
 // Two units: the second one's frame is lost, then it comes back alone.
 #[test]
 fn units_one_by_one(rt: HostRuntime) -> Result<(), Fail> {
@@ -239,12 +245,7 @@ fn units_one_by_one(rt: HostRuntime) -> Result<(), Fail> {
         Reads(2, 0),
         Reads(3, 48879),
         Begins,
-        Keeps(
-            "3110 \
-             0065 0000 0000 0a80 0000 6500000000000000 0100 0000 \
-             0765 0300 3001 0280 0000 0800 0300 \
-             0c65 03000100 0100 0000 05 0100",
-        ),
+        Keeps(SECOND_UNIT),
         Closes(&[false, true], &[None, Some(Lrw(1))], 0x0008),
         Reads(2, 5),
         Reads(3, 48879),

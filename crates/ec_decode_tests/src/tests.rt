@@ -120,48 +120,41 @@ fn each_command_has_its_name(rt: HostRuntime) -> Result<(), Fail> {
 
 #[test]
 fn what_is_no_frame_is_told(rt: HostRuntime) -> Result<(), Fail> {
-    // too few bytes for a header, and for what it says
-    says(&rt, "", "refused 2 Short datagram 0 byte 0\n")?;
-    says(&rt, "0e", "refused 2 Short datagram 0 byte 1\n")?;
-    says(
-        &rt,
-        "0e10 0701 0000 3001",
-        "refused 2 Short datagram 0 byte 8\n",
-    )?;
-    // the header
-    says(
-        &rt,
-        "0e20 0701 0000 3001 0200 0000 0000 0000",
-        "refused 3 BadType datagram 0 byte 0\n",
-    )?;
-    says(&rt, "0010 0701", "refused 4 BadLength datagram 0 byte 0\n")?;
-    says(&rt, "bf15", "refused 7 TooLong datagram 0 byte 0\n")?;
-    // the first datagram
-    says(
-        &rt,
-        "0b10 0701 0000 3001 0200 00",
-        "refused 2 Short datagram 0 byte 11\n",
-    )?;
-    says(
-        &rt,
-        "0b10 0701 0000 3001 0200 0000 00",
-        "refused 4 BadLength datagram 0 byte 2\n",
-    )?;
-    says(
-        &rt,
-        "0e10 0f01 0000 3001 0200 0000 0000 0000",
-        "refused 6 BadCommand datagram 0 byte 2\n",
-    )?;
-    says(
-        &rt,
-        "0e10 0701 0000 3001 0280 0000 0000 0000",
-        "refused 5 BadMore datagram 0 byte 2\n",
-    )?;
-    says(
-        &rt,
-        "1010 0701 0000 3001 0200 0000 0000 0000 0000",
-        "refused 5 BadMore datagram 0 byte 2\n",
-    )
+    for (payload, fault) in [
+        // too few bytes for a header, and for what it says
+        ("", "2 Short datagram 0 byte 0"),
+        ("0e", "2 Short datagram 0 byte 1"),
+        ("0e10 0701 0000 3001", "2 Short datagram 0 byte 8"),
+        // the header
+        (
+            "0e20 0701 0000 3001 0200 0000 0000 0000",
+            "3 BadType datagram 0 byte 0",
+        ),
+        ("0010 0701", "4 BadLength datagram 0 byte 0"),
+        ("bf15", "7 TooLong datagram 0 byte 0"),
+        // the first datagram
+        ("0b10 0701 0000 3001 0200 00", "2 Short datagram 0 byte 11"),
+        (
+            "0b10 0701 0000 3001 0200 0000 00",
+            "4 BadLength datagram 0 byte 2",
+        ),
+        (
+            "0e10 0f01 0000 3001 0200 0000 0000 0000",
+            "6 BadCommand datagram 0 byte 2",
+        ),
+        (
+            "0e10 0701 0000 3001 0280 0000 0000 0000",
+            "5 BadMore datagram 0 byte 2",
+        ),
+        (
+            "1010 0701 0000 3001 0200 0000 0000 0000 0000",
+            "5 BadMore datagram 0 byte 2",
+        ),
+    ] {
+        let told = format!(in rt.alloc(); "refused {fault}\n")?;
+        says(&rt, payload, told.as_str())?;
+    }
+    Ok(())
 }
 
 #[test]
@@ -232,6 +225,29 @@ frame 1 rest 00
     Ok(())
 }
 
+/// Lines that stand for no first datagram of a frame.
+const NO_DATAGRAMS: [&str; 19] = [
+    "1 NOP index 00 at 0000:0000 counter 0 data -",
+    "0 NO index 00 at 0000:0000 counter 0 data -",
+    "0 NOP index 0 at 0000:0000 counter 0 data -",
+    "0 NOP index 000 at 0000:0000 counter 0 data -",
+    "0 NOP index 00 at 0000 counter 0 data -",
+    "0 NOP index 00 at 00000:000 counter 0 data -",
+    "0 NOP index 00 logical 00000000 counter 0 data -",
+    "0 LRD index 00 at 0000:0000 counter 0 data -",
+    "0 LRD index 00 logical 000000 counter 0 data -",
+    "0 NOP index 00 at 0000:0000 irq 00 counter 0 data -",
+    "0 NOP index 00 at 0000:0000 reserved 8 counter 0 data -",
+    "0 NOP index 00 at 0000:0000 circulating reserved 1 counter 0 data -",
+    "0 NOP index 00 at 0000:0000 counter 65536 data -",
+    "0 NOP index 00 at 0000:0000 counter 0x1 data -",
+    "0 NOP index 00 at 0000:0000 counter 0 data",
+    "0 NOP index 00 at 0000:0000 counter 0 data ",
+    "0 NOP index 00 at 0000:0000 counter 0 data 0",
+    "0 NOP index 00 at 0000:0000 counter 0 data - -",
+    "0 NOP index 00 at 0000:0000 counter 0",
+];
+
 #[test]
 fn lines_out_of_form_are_told(rt: HostRuntime) -> Result<(), Fail> {
     refuses(&rt, "refused 2 Short datagram 0 byte 0\n", 1)?;
@@ -257,27 +273,7 @@ fn lines_out_of_form_are_told(rt: HostRuntime) -> Result<(), Fail> {
     ] {
         refuses(&rt, line, 1)?;
     }
-    for line in [
-        "1 NOP index 00 at 0000:0000 counter 0 data -",
-        "0 NO index 00 at 0000:0000 counter 0 data -",
-        "0 NOP index 0 at 0000:0000 counter 0 data -",
-        "0 NOP index 000 at 0000:0000 counter 0 data -",
-        "0 NOP index 00 at 0000 counter 0 data -",
-        "0 NOP index 00 at 00000:000 counter 0 data -",
-        "0 NOP index 00 logical 00000000 counter 0 data -",
-        "0 LRD index 00 at 0000:0000 counter 0 data -",
-        "0 LRD index 00 logical 000000 counter 0 data -",
-        "0 NOP index 00 at 0000:0000 irq 00 counter 0 data -",
-        "0 NOP index 00 at 0000:0000 reserved 8 counter 0 data -",
-        "0 NOP index 00 at 0000:0000 circulating reserved 1 counter 0 data -",
-        "0 NOP index 00 at 0000:0000 counter 65536 data -",
-        "0 NOP index 00 at 0000:0000 counter 0x1 data -",
-        "0 NOP index 00 at 0000:0000 counter 0 data",
-        "0 NOP index 00 at 0000:0000 counter 0 data ",
-        "0 NOP index 00 at 0000:0000 counter 0 data 0",
-        "0 NOP index 00 at 0000:0000 counter 0 data - -",
-        "0 NOP index 00 at 0000:0000 counter 0",
-    ] {
+    for line in NO_DATAGRAMS {
         let text = format!(in rt.alloc(); "frame 1\n{line}\n")?;
         refuses(&rt, text.as_str(), 2)?;
     }

@@ -267,49 +267,42 @@ physical 1400 from bit 0
 
 #[test]
 fn messages_are_told(rt: HostRuntime) -> Result<(), Fail> {
-    // an upload of 1018:01, its answer, a download of 1C12:00 and its abort
-    let asks = b"\x0a\0\0\0\0\x13\0\x20\x40\x18\x10\x01\0\0\0\0";
-    says(
-        &rt,
-        0x1000,
-        asks,
-        "mailbox message 1, CoE, SDO request: upload 1018:01\n",
-    )?;
-    let answers = b"\x0a\0\0\0\0\x13\0\x30\x43\x18\x10\x01\xcd\xab\0\0";
-    says(
-        &rt,
-        0x1080,
-        answers,
-        "\
-mailbox message 1, CoE, SDO response: uploaded 1018:01 = abcd (4 bytes)
-",
-    )?;
-    let writes = b"\x0a\0\0\0\0\x23\0\x20\x2f\x12\x1c\0\x01\0\0\0";
-    says(
-        &rt,
-        0x1000,
-        writes,
-        "\
-mailbox message 2, CoE, SDO request: download 1c12:00 = 1 (1 bytes)
-",
-    )?;
-    let aborts = b"\x0a\0\0\0\0\x23\0\x20\x80\x12\x1c\0\0\0\x02\x06";
-    says(
-        &rt,
-        0x1080,
-        aborts,
-        "\
-mailbox message 2, CoE, SDO request: abort 1c12:00, code 06020000: \
-The object does not exist in the object directory
-",
-    )?;
-    says(
-        &rt,
-        0x1000,
-        b"\x09\0\0\0\0\x13\0\x20\x40\x18\x10\x01\0\0\0\0",
-        "",
-    )?;
-    says(&rt, 0x1000, b"", "")
+    let rows: [(u16, &[u8], &str); 6] = [
+        // an upload of 1018:01 and its answer
+        (
+            0x1000,
+            b"\x0a\0\0\0\0\x13\0\x20\x40\x18\x10\x01\0\0\0\0",
+            "mailbox message 1, CoE, SDO request: upload 1018:01\n",
+        ),
+        (
+            0x1080,
+            b"\x0a\0\0\0\0\x13\0\x30\x43\x18\x10\x01\xcd\xab\0\0",
+            "mailbox message 1, CoE, SDO response: uploaded 1018:01 = abcd (4 bytes)\n",
+        ),
+        // a download of 1C12:00 and its abort
+        (
+            0x1000,
+            b"\x0a\0\0\0\0\x23\0\x20\x2f\x12\x1c\0\x01\0\0\0",
+            "mailbox message 2, CoE, SDO request: download 1c12:00 = 1 (1 bytes)\n",
+        ),
+        (
+            0x1080,
+            b"\x0a\0\0\0\0\x23\0\x20\x80\x12\x1c\0\0\0\x02\x06",
+            "mailbox message 2, CoE, SDO request: abort 1c12:00, code 06020000: \
+             The object does not exist in the object directory\n",
+        ),
+        // a length that no SDO message has, and nothing
+        (
+            0x1000,
+            b"\x09\0\0\0\0\x13\0\x20\x40\x18\x10\x01\0\0\0\0",
+            "",
+        ),
+        (0x1000, b"", ""),
+    ];
+    for (ado, message, told) in rows {
+        says(&rt, ado, message, told)?;
+    }
+    Ok(())
 }
 
 #[test]

@@ -23,48 +23,32 @@ slave = [ { name = "valves", type = "do4" }, { name = "switches", type = "di4" }
 /// What is told of a packet: its interface, its time, the first byte of its sender, and the first byte of its comment.
 type Told = (u8, u8, u8, Option<u8>);
 
+/// A number of four bytes, little-endian, that is below 256.
+fn small_at(block: &[u8], at: usize) -> Option<u8> {
+    match block.get(at..at.saturating_add(4)) {
+        Some([low, 0, 0, 0]) => Some(*low),
+        _ => None,
+    }
+}
+
 /// The packets behind the head of a file, whose numbers are all below 256.
 fn packets_of(alloc: Global, file: &[u8], head: usize) -> Result<Vec<Told>, Fail> {
     let mut packets = Vec::new(alloc);
     let mut block = file.get(head..).unwrap_or(&[]);
     for _ in 0..file.len() {
-        let Some(
-            [
-                6,
-                0,
-                0,
-                0,
-                size,
-                0,
-                0,
-                0,
-                interface,
-                0,
-                0,
-                0,
-                0,
-                0,
-                0,
-                0,
-                time,
-                ..
-            ],
-        ) = block.get(..17)
-        else {
+        let (Some(6), Some(size)) = (small_at(block, 0), small_at(block, 4)) else {
             break;
         };
-        let (size, kept) = (usize::from(*size), block.get(20).copied().unwrap_or(0));
-        let comment = usize::from(kept).next_multiple_of(4) + 32;
-        packets.push((
-            *interface,
-            *time,
-            block.get(34).copied().unwrap_or(9),
-            if comment < size {
-                block.get(comment).copied()
-            } else {
-                None
-            },
-        ))?;
+        let (Some(interface), Some(0)) = (small_at(block, 8), small_at(block, 12)) else {
+            break;
+        };
+        let byte = |at: usize| block.get(at).copied();
+        let (Some(time), size) = (byte(16), usize::from(size)) else {
+            break;
+        };
+        let comment = usize::from(byte(20).unwrap_or(0)).next_multiple_of(4) + 32;
+        let said = if comment < size { byte(comment) } else { None };
+        packets.push((interface, time, byte(34).unwrap_or(9), said))?;
         block = block.get(size..).unwrap_or(&[]);
     }
     Ok(packets)

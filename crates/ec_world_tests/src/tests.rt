@@ -9,7 +9,7 @@ mod steps;
 use self::steps::Step::{
     Byte, Denied, Empty, Ended, Holds, Makes, NoReport, Publishes, Reads, Reports, Rises, Runs,
 };
-use self::steps::{expect_steps, made, new_world, rise, turn, world_of};
+use self::steps::{Step, expect_steps, made, new_world, rise, turn, world_of};
 use ec_device::Device;
 use ec_link::ExpectedCounters::{Lrw, Split};
 use ec_link::{Plan, compile};
@@ -34,51 +34,52 @@ const TWO_UNITS: &str = ec_examples::SHORT_TWO_UNITS;
 /// A frame in slot 0 past all three slaves and back.
 const ROUND: [Event; 4] = [Pass(0), Pass(0), Pass(0), Return(0)];
 
-// The outputs and inputs of a cycle, and what can be seen on its way.
+/// The outputs and inputs of a cycle, and what can be seen on its way.
+const A_CYCLE: [Step; 39] = [
+    Ended(None),
+    NoReport,
+    Denied(Begin),
+    Denied(Close),
+    Rises,
+    Ended(Some(Ok(()))),
+    Denied(StartNext),
+    Makes(Set(0, 10)),
+    Makes(Set(1, 291)),
+    Denied(Set(0, 16)),
+    Denied(Set(2, 1)),
+    Runs(&[AppPut(1, 0, 5), AppPut(2, 0, 239), AppPut(2, 1, 190)], 3),
+    Denied(AppPut(3, 0, 1)),
+    Makes(Begin),
+    Denied(Begin),
+    Holds(0, 75, 0, 0),
+    Empty(1),
+    Makes(Set(0, 0)),
+    Denied(Return(0)),
+    Runs(&ROUND, 4),
+    Empty(0),
+    Denied(Pass(0)),
+    Makes(Close),
+    Reports(&[true], &[Some(Lrw(6))], 0x0008),
+    Reads(0, 0),
+    Reads(1, 291),
+    Reads(2, 5),
+    Reads(3, 48879),
+    Publishes(0, &[0x0a]),
+    Publishes(1, &[]),
+    Publishes(2, &[0x23, 0x01]),
+    Byte(None),
+    Makes(AppGet(2, 0)),
+    Byte(Some(0x23)),
+    Makes(AppGet(2, 1)),
+    Byte(Some(0x01)),
+    Denied(AppGet(2, 2)),
+    Denied(Serve(3)),
+    Makes(Serve(2)),
+];
+
 #[test]
 fn a_cycle(rt: HostRuntime) -> Result<(), Fail> {
-    let steps = [
-        Ended(None),
-        NoReport,
-        Denied(Begin),
-        Denied(Close),
-        Rises,
-        Ended(Some(Ok(()))),
-        Denied(StartNext),
-        Makes(Set(0, 10)),
-        Makes(Set(1, 291)),
-        Denied(Set(0, 16)),
-        Denied(Set(2, 1)),
-        Runs(&[AppPut(1, 0, 5), AppPut(2, 0, 239), AppPut(2, 1, 190)], 3),
-        Denied(AppPut(3, 0, 1)),
-        Makes(Begin),
-        Denied(Begin),
-        Holds(0, 75, 0, 0),
-        Empty(1),
-        Makes(Set(0, 0)),
-        Denied(Return(0)),
-        Runs(&ROUND, 4),
-        Empty(0),
-        Denied(Pass(0)),
-        Makes(Close),
-        Reports(&[true], &[Some(Lrw(6))], 0x0008),
-        Reads(0, 0),
-        Reads(1, 291),
-        Reads(2, 5),
-        Reads(3, 48879),
-        Publishes(0, &[0x0a]),
-        Publishes(1, &[]),
-        Publishes(2, &[0x23, 0x01]),
-        Byte(None),
-        Makes(AppGet(2, 0)),
-        Byte(Some(0x23)),
-        Makes(AppGet(2, 1)),
-        Byte(Some(0x01)),
-        Denied(AppGet(2, 2)),
-        Denied(Serve(3)),
-        Makes(Serve(2)),
-    ];
-    expect_steps(&rt, TABLE, &steps)
+    expect_steps(&rt, TABLE, &A_CYCLE)
 }
 
 // A frame that comes back after its cycle was closed is not one of the next cycle, and doesn't overtake.
