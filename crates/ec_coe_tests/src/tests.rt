@@ -122,41 +122,22 @@ fn expect_answer(
 {
     let (sent, back) = row.split_once(">").ok_or("a reply")?;
     let back = bytes_of(rt.alloc(), back)?;
-    let reply = dictionary.answer(case.in_preop, &message_of(rt.alloc(), sent)?, counter);
-    assert_reply(rt, &reply, &back, case.name, sent);
+    let reply = dictionary.answer(case.1, &message_of(rt.alloc(), sent)?, counter);
+    assert_reply(rt, &reply, &back, case.0, sent);
     Ok(())
 }
 
-/// What a slave has.
-enum Shape<'a> {
-    /// Mailboxes, these output PDOs and these input PDOs.
-    Pdos(&'a [(u16, Entry)], &'a [(u16, Entry)]),
-    /// One PDO of outputs, of so many entries of 64 bits.
-    Long(u8),
-}
+/// A case: its name, whether the slave is in PREOP, and requests, each with the reply to it behind a `>`. Replies are counted
+/// from 1 on.
+type Case<'a> = (&'a str, bool, &'a str);
 
-/// What is asked of a slave one after the other, and what it is then.
-struct Case<'a> {
-    name: &'a str,
-    shape: Shape<'a>,
-    in_preop: bool,
-    /// Requests, each with the reply to it behind a `>`. Replies are counted from 1 on.
-    rows: &'a str,
-    /// What its outputs and its inputs are assigned to.
-    assigned: (&'a [u16], &'a [u16]),
-    /// How many bits of outputs and of inputs it has.
-    bits: (usize, usize),
-    /// What its outputs are assigned to after a reset.
-    after_reset: &'a [u16],
-}
-
-const CASES: [Case<'static>; 9] = [
+/// What is asked of slaves with one PDO in each direction.
+const MIXED: [Case<'static>; 5] = [
     // The count is set to 0, an index of the other direction is refused, the own one and the count are taken.
-    Case {
-        name: "assigns_in_preop",
-        shape: Shape::Pdos(&[OUTPUT], &[INPUT]),
-        in_preop: true,
-        rows: "\
+    (
+        "assigns_in_preop",
+        true,
+        "\
 0a0000000013 0020 2f121c00 00000000 > 0a0000000013 0030 60121c00 00000000
 0a0000000013 0020 2b121c01 001a0000 > 0a0000000023 0020 80121c01 30000906
 0a0000000013 0020 2b121c01 00160000 > 0a0000000033 0030 60121c01 00000000
@@ -165,27 +146,19 @@ const CASES: [Case<'static>; 9] = [
 0a0000000013 0020 2b121c01 00160000 > 0a0000000063 0020 80121c01 22000008
 0a0000000013 0020 40121c01 00000000 > 0a0000000073 0030 4b121c01 00160000
 0a0000000013 0020 40121c00 00000000 > 0a0000000013 0030 4f121c00 01000000",
-        assigned: (&[0x1600], &[0x1A00]),
-        bits: (12, 16),
-        after_reset: &[0x1600],
-    },
-    Case {
-        name: "assigns_in_no_other_state",
-        shape: Shape::Pdos(&[OUTPUT], &[INPUT]),
-        in_preop: false,
-        rows: "\
+    ),
+    (
+        "assigns_in_no_other_state",
+        false,
+        "\
 0a0000000013 0020 2f121c00 00000000 > 0a0000000013 0020 80121c00 22000008
 0a0000000013 0020 2f131c00 00000000 > 0a0000000023 0020 80131c00 22000008",
-        assigned: (&[0x1600], &[0x1A00]),
-        bits: (12, 16),
-        after_reset: &[0x1600],
-    },
+    ),
     // Identity and mappings, each by its own size.
-    Case {
-        name: "uploads",
-        shape: Shape::Pdos(&[OUTPUT], &[INPUT]),
-        in_preop: true,
-        rows: "\
+    (
+        "uploads",
+        true,
+        "\
 0a0000000013 0020 40181001 00000000 > 0a0000000013 0030 43181001 cdab0000
 0a0000000013 0020 40181000 00000000 > 0a0000000023 0030 4f181000 04000000
 0a0000000013 0020 40001600 00000000 > 0a0000000033 0030 4f001600 01000000
@@ -193,16 +166,12 @@ const CASES: [Case<'static>; 9] = [
 0a0000000013 0020 40001a00 00000000 > 0a0000000053 0030 4f001a00 01000000
 0a0000000013 0020 40001a01 00000000 > 0a0000000063 0030 43001a01 10011060
 0a0000000013 0020 40131c01 00000000 > 0a0000000073 0030 4b131c01 001a0000",
-        assigned: (&[0x1600], &[0x1A00]),
-        bits: (12, 16),
-        after_reset: &[0x1600],
-    },
+    ),
     // Another command before no object, that before no subindex, read-only before another length, that before the state.
-    Case {
-        name: "aborts_in_their_order",
-        shape: Shape::Pdos(&[OUTPUT], &[INPUT]),
-        in_preop: false,
-        rows: "\
+    (
+        "aborts_in_their_order",
+        false,
+        "\
 0a0000000013 0020 41002000 00000000 > 0a0000000013 0020 80002000 01000405
 0a0000000013 0020 41181001 00000000 > 0a0000000023 0020 80181001 01000405
 0a0000000013 0020 80181001 00000000 > 0a0000000033 0020 80181001 01000405
@@ -212,99 +181,51 @@ const CASES: [Case<'static>; 9] = [
 0a0000000013 0020 2f181001 00000000 > 0a0000000073 0020 80181001 02000106
 0a0000000013 0020 27121c01 00000000 > 0a0000000013 0020 80121c01 10000706
 0a0000000013 0020 23121c00 00000000 > 0a0000000023 0020 80121c00 10000706",
-        assigned: (&[0x1600], &[0x1A00]),
-        bits: (12, 16),
-        after_reset: &[0x1600],
-    },
-    // An assignment object is there only where the type has PDOs of its direction.
-    Case {
-        name: "without_inputs",
-        shape: Shape::Pdos(
-            &[(
-                0x1600,
-                Entry {
-                    index: 0x7000,
-                    subindex: 1,
-                    bits: 4,
-                },
-            )],
-            &[],
-        ),
-        in_preop: true,
-        rows: "\
+    ),
+    // The reply has its own counter, whatever the request has.
+    (
+        "another_counter",
+        true,
+        "\
+0a0000000073 0020 40181001 00000000 > 0a0000000013 0030 43181001 cdab0000",
+    ),
+];
+
+/// An assignment object is there only where the type has PDOs of its direction.
+const WITHOUT_INPUTS: Case<'static> = (
+    "without_inputs",
+    true,
+    "\
 0a0000000013 0020 40131c00 00000000 > 0a0000000013 0020 80131c00 00000206
 0a0000000013 0020 40121c00 00000000 > 0a0000000023 0030 4f121c00 01000000",
-        assigned: (&[0x1600], &[]),
-        bits: (4, 0),
-        after_reset: &[0x1600],
-    },
-    // No index stands twice in an assignment.
-    Case {
-        name: "no_index_twice",
-        shape: Shape::Pdos(
-            &[
-                (
-                    0x1600,
-                    Entry {
-                        index: 0x7000,
-                        subindex: 1,
-                        bits: 64,
-                    },
-                ),
-                (
-                    0x1601,
-                    Entry {
-                        index: 0x7001,
-                        subindex: 1,
-                        bits: 64,
-                    },
-                ),
-            ],
-            &[],
-        ),
-        in_preop: true,
-        rows: "\
+);
+
+/// No index stands twice in an assignment.
+const NO_INDEX_TWICE: Case<'static> = (
+    "no_index_twice",
+    true,
+    "\
 0a0000000013 0020 2f121c00 00000000 > 0a0000000013 0030 60121c00 00000000
 0a0000000013 0020 2b121c02 00160000 > 0a0000000023 0030 60121c02 00000000
 0a0000000013 0020 2f121c00 02000000 > 0a0000000033 0020 80121c00 30000906
 0a0000000013 0020 2f121c00 01000000 > 0a0000000043 0030 60121c00 00000000",
-        assigned: (&[0x1600], &[]),
-        bits: (64, 0),
-        after_reset: &[0x1600, 0x1601],
-    },
-    // The reply has its own counter, whatever the request has.
-    Case {
-        name: "another_counter",
-        shape: Shape::Pdos(&[OUTPUT], &[INPUT]),
-        in_preop: true,
-        rows: "\
-0a0000000073 0020 40181001 00000000 > 0a0000000013 0030 43181001 cdab0000",
-        assigned: (&[0x1600], &[0x1A00]),
-        bits: (12, 16),
-        after_reset: &[0x1600],
-    },
-    // 33 entries of 64 bits are more than a direction may have; 32 are not.
-    Case {
-        name: "at_most_2048_bits, 32",
-        shape: Shape::Long(32),
-        in_preop: true,
-        rows: "\
+);
+
+/// 32 entries of 64 bits are as many as a direction may have.
+const LONG: Case<'static> = (
+    "at_most_2048_bits, 32",
+    true,
+    "\
 0a0000000013 0020 2f121c00 01000000 > 0a0000000013 0030 60121c00 00000000",
-        assigned: (&[0x1600], &[]),
-        bits: (2048, 0),
-        after_reset: &[0x1600],
-    },
-    Case {
-        name: "at_most_2048_bits, 33",
-        shape: Shape::Long(33),
-        in_preop: true,
-        rows: "\
+);
+
+/// 33 are more.
+const TOO_LONG: Case<'static> = (
+    "at_most_2048_bits, 33",
+    true,
+    "\
 0a0000000013 0020 2f121c00 01000000 > 0a0000000013 0020 80121c00 30000906",
-        assigned: (&[0x1600], &[]),
-        bits: (2112, 0),
-        after_reset: &[0x1600],
-    },
-];
+);
 
 /// Sends requests one after the other, and compares the bytes of the replies.
 fn expect_answers(
@@ -312,41 +233,56 @@ fn expect_answers(
     dictionary: &mut Dictionary,
     case: &Case<'_>,
 ) -> Result<(), Fail> {
-    for (place, row) in case.rows.lines().enumerate() {
+    for (place, row) in case.2.lines().enumerate() {
         expect_answer(rt, dictionary, case, (place % 7 + 1) as u8, row)?;
     }
     Ok(())
 }
 
-/// Compares what a slave is after the requests, and after a reset.
-fn assert_seen(rt: &impl Abort, dictionary: &mut Dictionary, case: &Case<'_>) {
+/// What a slave's outputs and inputs are assigned to, how many bits they have, and what the outputs are assigned to after a
+/// reset.
+type Seen<'a> = (&'a [u16], &'a [u16], usize, usize, &'a [u16]);
+
+/// Compares what a slave's outputs and inputs are assigned to, and their bits.
+fn assert_assigned(rt: &impl Abort, name: &str, dictionary: &Dictionary, seen: &Seen<'_>) {
     assert_eq!(rt;
         (
-            (dictionary.assigned_outputs(), dictionary.assigned_inputs()),
-            (dictionary.output_bits(), dictionary.input_bits()),
-            (dictionary.kind().device(), dictionary.identity())
+            dictionary.assigned_outputs(),
+            dictionary.assigned_inputs(),
+            dictionary.output_bits(),
+            dictionary.input_bits()
         ),
-        (case.assigned, case.bits, (DEVICE, DEVICE.identity(0))),
-        "{}",
-        case.name
-    );
-    dictionary.reset();
-    assert_eq!(rt;
-        dictionary.assigned_outputs(),
-        case.after_reset,
-        "{}",
-        case.name
+        (seen.0, seen.1, seen.2, seen.3),
+        "{name}"
     );
 }
 
-/// Both, of a slave that was just switched on.
+/// Compares what a slave says that it is.
+fn assert_device(rt: &impl Abort, name: &str, dictionary: &Dictionary) {
+    assert_eq!(rt;
+        (dictionary.kind().device(), dictionary.identity()),
+        (DEVICE, DEVICE.identity(0)),
+        "{name}"
+    );
+}
+
+/// Compares what a slave's outputs are assigned to.
+fn assert_outputs(rt: &impl Abort, name: &str, dictionary: &Dictionary, outputs: &[u16]) {
+    assert_eq!(rt; dictionary.assigned_outputs(), outputs, "{name}");
+}
+
+/// Sends a slave that was just switched on its requests, and compares the replies, and what it is then and after a reset.
 fn expect_case(
     rt: &(impl AllocGlobal + Abort),
     dictionary: &mut Dictionary,
     case: &Case<'_>,
+    seen: &Seen<'_>,
 ) -> Result<(), Fail> {
     expect_answers(rt, dictionary, case)?;
-    assert_seen(rt, dictionary, case);
+    assert_assigned(rt, case.0, dictionary, seen);
+    assert_device(rt, case.0, dictionary);
+    dictionary.reset();
+    assert_outputs(rt, case.0, dictionary, seen.4);
     Ok(())
 }
 
@@ -382,26 +318,101 @@ const MAILBOX: Mailbox = Mailbox {
     send_size: 128,
 };
 
-/// The objects of a slave.
-fn dictionary_of(rt: &(impl AllocGlobal + Abort), shape: &Shape<'_>) -> Result<Dictionary, Fail> {
-    match shape {
-        Shape::Pdos(outputs, inputs) => {
-            let outputs = pdos_of(rt.alloc(), outputs)?;
-            dictionary_with(rt, Some(MAILBOX), outputs, pdos_of(rt.alloc(), inputs)?)
-        }
-        Shape::Long(count) => {
-            let outputs = long_outputs(rt.alloc(), *count)?;
-            dictionary_with(rt, None, outputs, Listed::new(rt.alloc()))
-        }
-    }
+/// The objects of a slave with mailboxes, these output PDOs and these input PDOs.
+fn dictionary_of(
+    rt: &(impl AllocGlobal + Abort),
+    outputs: &[(u16, Entry)],
+    inputs: &[(u16, Entry)],
+) -> Result<Dictionary, Fail> {
+    let outputs = pdos_of(rt.alloc(), outputs)?;
+    dictionary_with(rt, Some(MAILBOX), outputs, pdos_of(rt.alloc(), inputs)?)
+}
+
+/// The objects of a slave whose outputs are so many entries of 64 bits.
+fn long_dictionary(rt: &(impl AllocGlobal + Abort), count: u8) -> Result<Dictionary, Fail> {
+    let outputs = long_outputs(rt.alloc(), count)?;
+    dictionary_with(rt, None, outputs, Listed::new(rt.alloc()))
 }
 
 #[test]
 fn answers(rt: HostRuntime) -> Result<(), Fail> {
-    for case in &CASES {
-        expect_case(&rt, &mut dictionary_of(&rt, &case.shape)?, case)?;
+    for case in &MIXED {
+        expect_case(
+            &rt,
+            &mut dictionary_of(&rt, &[OUTPUT], &[INPUT])?,
+            case,
+            &(&[0x1600], &[0x1A00], 12, 16, &[0x1600]),
+        )?;
     }
     Ok(())
+}
+
+/// 4 bits of outputs in 0x1600.
+const FOUR_BITS: (u16, Entry) = (
+    0x1600,
+    Entry {
+        index: 0x7000,
+        subindex: 1,
+        bits: 4,
+    },
+);
+
+#[test]
+fn without_inputs(rt: HostRuntime) -> Result<(), Fail> {
+    expect_case(
+        &rt,
+        &mut dictionary_of(&rt, &[FOUR_BITS], &[])?,
+        &WITHOUT_INPUTS,
+        &(&[0x1600], &[], 4, 0, &[0x1600]),
+    )
+}
+
+/// 64 bits of outputs in 0x1600 and in 0x1601.
+const TWO_OUTPUTS: [(u16, Entry); 2] = [
+    (
+        0x1600,
+        Entry {
+            index: 0x7000,
+            subindex: 1,
+            bits: 64,
+        },
+    ),
+    (
+        0x1601,
+        Entry {
+            index: 0x7001,
+            subindex: 1,
+            bits: 64,
+        },
+    ),
+];
+
+#[test]
+fn no_index_twice(rt: HostRuntime) -> Result<(), Fail> {
+    expect_case(
+        &rt,
+        &mut dictionary_of(&rt, &TWO_OUTPUTS, &[])?,
+        &NO_INDEX_TWICE,
+        &(&[0x1600], &[], 64, 0, &[0x1600, 0x1601]),
+    )
+}
+
+/// Asks slaves of long outputs, and compares.
+fn expect_long(
+    rt: &(impl AllocGlobal + Abort),
+    count: u8,
+    case: &Case<'_>,
+    bits: usize,
+) -> Result<(), Fail> {
+    let seen: Seen<'_> = (&[0x1600], &[], bits, 0, &[0x1600]);
+    expect_case(rt, &mut long_dictionary(rt, count)?, case, &seen)
+}
+
+// 33 entries of 64 bits are more than a direction may have; 32 are not.
+#[test]
+fn at_most_2048_bits(rt: HostRuntime) -> Result<(), Fail> {
+    expect_long(&rt, 32, &LONG, 2048)?;
+    expect_long(&rt, 33, &TOO_LONG, 2112)
 }
 
 /// The bytes of a row are no message.
