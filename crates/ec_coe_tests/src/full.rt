@@ -1,6 +1,7 @@
 //! Full slaves: the objects that they have besides, as they stand on the wire, and the name behind a normal upload response.
+ghost use Rattle.std.specs.Prelude.{◌≤◌};
 
-use crate::tests::{DEVICE, bytes_of, entry, message_of, pdos_of};
+use crate::tests::{DEVICE, INPUT, OUTPUT, bytes_of, message_of, pdos_of};
 use ec_coe::{Dictionary, read_message};
 use ec_device::{Face, MAX_NAME, Mailbox, SlaveType};
 use ec_listed::Listed;
@@ -15,8 +16,8 @@ fn kind_of(rt: &(impl AllocGlobal + Abort), send_size: Option<u16>) -> Result<Sl
         send_start: 0x1080,
         send_size: size,
     });
-    let outputs = pdos_of(rt.alloc(), &[(0x1600, entry(0x7010, 1, 12))])?;
-    let inputs = pdos_of(rt.alloc(), &[(0x1A00, entry(0x6010, 1, 16))])?;
+    let outputs = pdos_of(rt.alloc(), &[OUTPUT])?;
+    let inputs = pdos_of(rt.alloc(), &[INPUT])?;
     assert!(rt; SlaveType::is_within_limits(mailbox, outputs.as_slice(), inputs.as_slice()));
     Ok(SlaveType::new(DEVICE, mailbox, 0x1100, 0x1400, outputs, inputs, true))
 }
@@ -37,19 +38,33 @@ fn full(
     Ok(Dictionary::new(rt.alloc(), kind, DEVICE.identity(0))?)
 }
 
-/// Sends requests one after the other, in PREOP, and compares the bytes of the replies in a mailbox of so many bytes, which
-/// are counted from 1 on.
-fn assert_bytes(
+/// Sends a request, in PREOP, and compares the bytes of the reply in a mailbox of so many bytes.
+fn expect_bytes(
+    rt: &(impl AllocGlobal + Abort),
+    dictionary: &mut Dictionary,
+    room: usize,
+    counter: u8,
+    row: &(&str, &str),
+) -> Result<(), Fail>
+    requires { counter ≤ 7 }
+{
+    let (sent, back) = *row;
+    let back = bytes_of(rt.alloc(), back)?;
+    let reply = dictionary.answer(true, &message_of(rt.alloc(), sent)?, counter);
+    let bytes = dictionary.reply_bytes(room, &reply);
+    assert!(rt; bytes.as_slice() == &back[..], "{sent}: {room}");
+    Ok(())
+}
+
+/// Sends requests one after the other, and compares the bytes of the replies, which are counted from 1 on.
+fn expect_all_bytes(
     rt: &(impl AllocGlobal + Abort),
     dictionary: &mut Dictionary,
     room: usize,
     rows: &[(&str, &str)],
 ) -> Result<(), Fail> {
-    for (place, (sent, back)) in rows.iter().enumerate() {
-        let counter = (place % 7 + 1) as u8;
-        let reply = dictionary.answer(true, &message_of(rt, sent)?, counter);
-        let bytes = dictionary.reply_bytes(room, &reply);
-        assert!(rt; bytes.as_slice() == &bytes_of(rt, back)?[..], "{sent}");
+    for (place, row) in rows.iter().enumerate() {
+        expect_bytes(rt, dictionary, room, (place % 7 + 1) as u8, row)?;
     }
     Ok(())
 }
@@ -122,85 +137,69 @@ const OBJECTS: [(&str, &str); 16] = [
     ),
 ];
 
-#[test]
-fn shows_its_objects(rt: HostRuntime) -> Result<(), Fail> {
-    let mut dictionary = full(&rt, b"ab3", Some(128))?;
-    assert_bytes(&rt, &mut dictionary, 128, &OBJECTS)
-}
+/// What a slave that isn't full has too.
+const OTHER_OBJECTS: [(&str, &str); 5] = [
+    (
+        "0a0000000013 0020 40181001 00000000",
+        "0a0000000013 0030 43181001 cdab0000",
+    ),
+    (
+        "0a0000000013 0020 40001601 00000000",
+        "0a0000000023 0030 43001601 0c011070",
+    ),
+    (
+        "0a0000000013 0020 40131c01 00000000",
+        "0a0000000033 0030 4b131c01 001a0000",
+    ),
+    (
+        "0a0000000013 0020 2f121c00 00000000",
+        "0a0000000043 0030 60121c00 00000000",
+    ),
+    (
+        "0a0000000013 0020 41081000 00000000",
+        "0a0000000053 0020 80081000 01000405",
+    ),
+];
 
-// What a slave that isn't full has too.
-#[test]
-fn keeps_its_other_objects(rt: HostRuntime) -> Result<(), Fail> {
-    let mut dictionary = full(&rt, b"Motor", Some(128))?;
-    let rows = [
-        (
-            "0a0000000013 0020 40181001 00000000",
-            "0a0000000013 0030 43181001 cdab0000",
-        ),
-        (
-            "0a0000000013 0020 40001601 00000000",
-            "0a0000000023 0030 43001601 0c011070",
-        ),
-        (
-            "0a0000000013 0020 40131c01 00000000",
-            "0a0000000033 0030 4b131c01 001a0000",
-        ),
-        (
-            "0a0000000013 0020 2f121c00 00000000",
-            "0a0000000043 0030 60121c00 00000000",
-        ),
-        (
-            "0a0000000013 0020 41081000 00000000",
-            "0a0000000053 0020 80081000 01000405",
-        ),
-    ];
-    assert_bytes(&rt, &mut dictionary, 128, &rows)
-}
-
-// None of the objects takes a download: a subindex that isn't there comes first, and no object before that.
-#[test]
-fn refuses_downloads(rt: HostRuntime) -> Result<(), Fail> {
-    let mut dictionary = full(&rt, b"Motor", Some(128))?;
-    let rows = [
-        (
-            "0a0000000013 0020 23001000 01000000",
-            "0a0000000013 0020 80001000 02000106",
-        ),
-        (
-            "0a0000000013 0020 23081000 05000000",
-            "0a0000000023 0020 80081000 02000106",
-        ),
-        (
-            "0a0000000013 0020 2f091000 31000000",
-            "0a0000000033 0020 80091000 02000106",
-        ),
-        (
-            "0a0000000013 0020 2f0a1000 31000000",
-            "0a0000000043 0020 800a1000 02000106",
-        ),
-        (
-            "0a0000000013 0020 2f001c00 04000000",
-            "0a0000000053 0020 80001c00 02000106",
-        ),
-        (
-            "0a0000000013 0020 2b001c04 04000000",
-            "0a0000000063 0020 80001c04 02000106",
-        ),
-        (
-            "0a0000000013 0020 2f001c05 04000000",
-            "0a0000000073 0020 80001c05 11000906",
-        ),
-        (
-            "0a0000000013 0020 2f081001 04000000",
-            "0a0000000013 0020 80081001 11000906",
-        ),
-        (
-            "0a0000000013 0020 2f0b1000 04000000",
-            "0a0000000023 0020 800b1000 00000206",
-        ),
-    ];
-    assert_bytes(&rt, &mut dictionary, 128, &rows)
-}
+/// None of the objects takes a download: a subindex that isn't there comes first, and no object before that.
+const DOWNLOADS: [(&str, &str); 9] = [
+    (
+        "0a0000000013 0020 23001000 01000000",
+        "0a0000000013 0020 80001000 02000106",
+    ),
+    (
+        "0a0000000013 0020 23081000 05000000",
+        "0a0000000023 0020 80081000 02000106",
+    ),
+    (
+        "0a0000000013 0020 2f091000 31000000",
+        "0a0000000033 0020 80091000 02000106",
+    ),
+    (
+        "0a0000000013 0020 2f0a1000 31000000",
+        "0a0000000043 0020 800a1000 02000106",
+    ),
+    (
+        "0a0000000013 0020 2f001c00 04000000",
+        "0a0000000053 0020 80001c00 02000106",
+    ),
+    (
+        "0a0000000013 0020 2b001c04 04000000",
+        "0a0000000063 0020 80001c04 02000106",
+    ),
+    (
+        "0a0000000013 0020 2f001c05 04000000",
+        "0a0000000073 0020 80001c05 11000906",
+    ),
+    (
+        "0a0000000013 0020 2f081001 04000000",
+        "0a0000000013 0020 80081001 11000906",
+    ),
+    (
+        "0a0000000013 0020 2f0b1000 04000000",
+        "0a0000000023 0020 800b1000 00000206",
+    ),
+];
 
 /// The request for the name.
 const ASKED: &str = "0a0000000013 0020 40081000 00000000";
@@ -214,32 +213,105 @@ const FIVE: &str = "0f0000000013 0030 41081000 05000000 4d6f746f72";
 const MANY: &str =
     "2a0000000013 0030 41081000 20000000 6162636465666768 696a6b6c6d6e6f70 7172737475767778 797a5f3132333435";
 
-/// A name, the bytes of the mailbox, and what is answered to the request for the name.
-const NAMES: [(&str, Option<u16>, &str); 16] = [
-    ("x", Some(16), "0a0000000013 0030 4f081000 78000000"),
-    ("io", Some(16), "0a0000000013 0030 4b081000 696f0000"),
-    ("ab3", Some(16), "0a0000000013 0030 47081000 61623300"),
-    ("ab3", None, "0a0000000013 0030 47081000 61623300"),
-    ("Ab12", Some(16), "0a0000000013 0030 43081000 41623132"),
-    ("Ab12", Some(48), "0a0000000013 0030 43081000 41623132"),
-    ("Ab12", None, "0a0000000013 0030 43081000 41623132"),
-    ("Motor", None, NO_NAME),
-    ("Motor", Some(16), NO_NAME),
-    ("Motor", Some(20), NO_NAME),
-    ("Motor", Some(21), FIVE),
-    ("Motor", Some(47), FIVE),
-    ("abcdefghijklmnopqrstuvwxyz_12345", Some(16), NO_NAME),
-    ("abcdefghijklmnopqrstuvwxyz_12345", Some(47), NO_NAME),
-    ("abcdefghijklmnopqrstuvwxyz_12345", Some(48), MANY),
-    ("abcdefghijklmnopqrstuvwxyz_12345", Some(1024), MANY),
+/// A slave's name, the bytes of its mailbox if it has one, and requests with the replies to them.
+type Full<'a> = (&'a str, Option<u16>, &'a [(&'a str, &'a str)]);
+
+const FULL: [Full<'static>; 19] = [
+    // It shows its objects, keeps its others, and refuses downloads.
+    ("ab3", Some(128), &OBJECTS),
+    ("Motor", Some(128), &OTHER_OBJECTS),
+    ("Motor", Some(128), &DOWNLOADS),
+    // It tells its name.
+    (
+        "x",
+        Some(16),
+        &[(ASKED, "0a0000000013 0030 4f081000 78000000")],
+    ),
+    (
+        "io",
+        Some(16),
+        &[(ASKED, "0a0000000013 0030 4b081000 696f0000")],
+    ),
+    (
+        "ab3",
+        Some(16),
+        &[(ASKED, "0a0000000013 0030 47081000 61623300")],
+    ),
+    (
+        "ab3",
+        None,
+        &[(ASKED, "0a0000000013 0030 47081000 61623300")],
+    ),
+    (
+        "Ab12",
+        Some(16),
+        &[(ASKED, "0a0000000013 0030 43081000 41623132")],
+    ),
+    (
+        "Ab12",
+        Some(48),
+        &[(ASKED, "0a0000000013 0030 43081000 41623132")],
+    ),
+    (
+        "Ab12",
+        None,
+        &[(ASKED, "0a0000000013 0030 43081000 41623132")],
+    ),
+    ("Motor", None, &[(ASKED, NO_NAME)]),
+    ("Motor", Some(16), &[(ASKED, NO_NAME)]),
+    ("Motor", Some(20), &[(ASKED, NO_NAME)]),
+    ("Motor", Some(21), &[(ASKED, FIVE)]),
+    ("Motor", Some(47), &[(ASKED, FIVE)]),
+    (
+        "abcdefghijklmnopqrstuvwxyz_12345",
+        Some(16),
+        &[(ASKED, NO_NAME)],
+    ),
+    (
+        "abcdefghijklmnopqrstuvwxyz_12345",
+        Some(47),
+        &[(ASKED, NO_NAME)],
+    ),
+    (
+        "abcdefghijklmnopqrstuvwxyz_12345",
+        Some(48),
+        &[(ASKED, MANY)],
+    ),
+    (
+        "abcdefghijklmnopqrstuvwxyz_12345",
+        Some(1024),
+        &[(ASKED, MANY)],
+    ),
 ];
 
+/// A full slave answers in a mailbox of the bytes of its type's.
+fn expect_full(
+    rt: &(impl AllocGlobal + Abort),
+    (name, send_size, rows): Full<'_>,
+) -> Result<(), Fail> {
+    let mut dictionary = full(rt, name.as_bytes(), send_size)?;
+    let room = send_size.unwrap_or(16) as usize;
+    expect_all_bytes(rt, &mut dictionary, room, rows)
+}
+
 #[test]
-fn tells_its_name(rt: HostRuntime) -> Result<(), Fail> {
-    for (name, send_size, back) in NAMES {
-        let mut dictionary = full(&rt, name.as_bytes(), send_size)?;
-        let room = send_size.unwrap_or(16) as usize;
-        assert_bytes(&rt, &mut dictionary, room, &[(ASKED, back)])?;
+fn full_slaves(rt: HostRuntime) -> Result<(), Fail> {
+    for row in &FULL {
+        expect_full(&rt, *row)?;
+    }
+    Ok(())
+}
+
+/// The head of the response to a request for a name of 5 letters.
+const ALONE: &str = "0a0000000013 0030 41081000 05000000";
+
+/// Mailboxes of so many bytes, and the reply to the request for the name in them.
+const ROOMS: [(usize, &str); 4] = [(0, ALONE), (16, ALONE), (20, ALONE), (21, FIVE)];
+
+/// Asks for a slave's name in each of the mailboxes.
+fn expect_rooms(rt: &(impl AllocGlobal + Abort), dictionary: &mut Dictionary) -> Result<(), Fail> {
+    for (room, back) in &ROOMS {
+        expect_bytes(rt, dictionary, *room, 1, &(ASKED, *back))?;
     }
     Ok(())
 }
@@ -247,39 +319,61 @@ fn tells_its_name(rt: HostRuntime) -> Result<(), Fail> {
 // In a mailbox that is smaller than that of the type, the response stands alone.
 #[test]
 fn no_room_for_the_name(rt: HostRuntime) -> Result<(), Fail> {
-    let mut dictionary = full(&rt, b"Motor", Some(128))?;
-    let alone = "0a0000000013 0030 41081000 05000000";
-    for (room, back) in [(0, alone), (16, alone), (20, alone), (21, FIVE)] {
-        assert_bytes(&rt, &mut dictionary, room, &[(ASKED, back)])?;
+    expect_rooms(&rt, &mut full(&rt, b"Motor", Some(128))?)
+}
+
+/// Sends a request for an object that isn't there, and compares the reply.
+fn expect_no_object(
+    rt: &impl Abort,
+    dictionary: &mut Dictionary,
+    [low, high]: [u8; 2],
+    command: u8,
+    subindex: u8,
+) -> Result<(), Fail> {
+    let request = [
+        10, 0, 0, 0, 0, 0x13, 0, 0x20, command, low, high, subindex, 1, 0, 0, 0,
+    ];
+    let back = [
+        10, 0, 0, 0, 0, 0x13, 0, 0x20, 0x80, low, high, subindex, 0, 0, 2, 6,
+    ];
+    let message = read_message(&request).ok().ok_or("a message")?;
+    let reply = dictionary.answer(true, &message, 1);
+    assert!(rt;
+        dictionary.reply_bytes(128, &reply).as_slice() == &back[..],
+        "{request:?}"
+    );
+    Ok(())
+}
+
+/// The objects of a full slave, each by the bytes of its index.
+const INDEXES: [[u8; 2]; 5] = [
+    [0x00, 0x10],
+    [0x08, 0x10],
+    [0x09, 0x10],
+    [0x0A, 0x10],
+    [0x00, 0x1C],
+];
+
+/// A slave has none of these objects.
+fn expect_no_objects(rt: &impl Abort, dictionary: &mut Dictionary) -> Result<(), Fail> {
+    for index in &INDEXES {
+        for command in &[0x40, 0x2F] {
+            for subindex in &[0, 1, 4] {
+                expect_no_object(rt, dictionary, *index, *command, *subindex)?;
+            }
+        }
     }
     Ok(())
+}
+
+/// The objects of a slave that isn't full.
+fn plain(rt: &(impl AllocGlobal + Abort)) -> Result<Dictionary, Fail> {
+    let kind = kind_of(rt, Some(128))?;
+    Ok(Dictionary::new(rt.alloc(), kind, DEVICE.identity(0))?)
 }
 
 // A slave that isn't full has none of these objects.
 #[test]
 fn without_a_face(rt: HostRuntime) -> Result<(), Fail> {
-    let kind = kind_of(&rt, Some(128))?;
-    let mut dictionary = Dictionary::new(rt.alloc(), kind, DEVICE.identity(0))?;
-    for [low, high] in [
-        [0x00, 0x10],
-        [0x08, 0x10],
-        [0x09, 0x10],
-        [0x0A, 0x10],
-        [0x00, 0x1C],
-    ] {
-        for command in [0x40, 0x2F] {
-            for subindex in [0, 1, 4] {
-                let request = [
-                    10, 0, 0, 0, 0, 0x13, 0, 0x20, command, low, high, subindex, 1, 0, 0, 0,
-                ];
-                let back = [
-                    10, 0, 0, 0, 0, 0x13, 0, 0x20, 0x80, low, high, subindex, 0, 0, 2, 6,
-                ];
-                let message = read_message(&request).ok().ok_or("a message")?;
-                let reply = dictionary.answer(true, &message, 1);
-                assert!(rt; dictionary.reply_bytes(128, &reply).as_slice() == &back[..]);
-            }
-        }
-    }
-    Ok(())
+    expect_no_objects(&rt, &mut plain(&rt)?)
 }

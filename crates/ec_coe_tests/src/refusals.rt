@@ -2,6 +2,7 @@
 
 use crate::tests::bytes_of;
 use ec_coe::{Reply, read_message, read_reply, refuse};
+use std::process::Abort;
 use std::test::Fail;
 
 /// The bytes of a mailbox, the counter of the reply, and its bytes.
@@ -71,27 +72,36 @@ const ROWS: [(&str, u8, &str); 14] = [
     ("000000000003", 3, "040000000030 0100 0400"),
 ];
 
-#[test]
-fn refuses(rt: HostRuntime) -> Result<(), Fail> {
-    for (sent, counter, back) in ROWS {
-        let refusal = refuse(&bytes_of(&rt, sent)?, counter % 8);
-        assert!(rt; refusal.as_slice() == &bytes_of(&rt, back)?[..], "{sent}");
-    }
+/// Compares what refuses these bytes, and what a master that waits for a reply finds in it: the abort of its transfer, and
+/// nothing in the other refusals.
+fn assert_refusal(
+    rt: &(impl AllocGlobal + Abort),
+    sent: &str,
+    counter: u8,
+    back: &str,
+) -> Result<(), Fail> {
+    let (raw, back) = (bytes_of(rt.alloc(), sent)?, bytes_of(rt.alloc(), back)?);
+    let refusal = refuse(&raw, counter % 8);
+    let wanted = if sent.starts_with("0e0000000013 0020") {
+        Reply::Aborted(0x0504_0001)
+    } else {
+        Reply::Unexpected
+    };
+    assert_eq!(rt;
+        (
+            refusal.as_slice(),
+            read_reply(refusal.as_slice(), 0x1008, 2)
+        ),
+        (back.as_slice(), wanted),
+        "{sent}"
+    );
     Ok(())
 }
 
-// A master that waits for a reply finds the abort of its transfer, and nothing in the other refusals.
 #[test]
-fn refusals_are_no_replies(rt: HostRuntime) -> Result<(), Fail> {
-    for (sent, counter, _) in ROWS {
-        let raw = bytes_of(&rt, sent)?;
-        let reply = read_reply(refuse(&raw, counter % 8).as_slice(), 0x1008, 2);
-        let wanted = if sent.starts_with("0e0000000013 0020") {
-            Reply::Aborted(0x0504_0001)
-        } else {
-            Reply::Unexpected
-        };
-        assert_eq!(rt; reply, wanted, "{sent}");
+fn refuses(rt: HostRuntime) -> Result<(), Fail> {
+    for (sent, counter, back) in &ROWS {
+        assert_refusal(&rt, sent, *counter, back)?;
     }
     Ok(())
 }

@@ -1,4 +1,5 @@
 //! Messages as they stand on the wire, to a slave with one PDO in each direction.
+ghost use Rattle.std.specs.Prelude.{◌≤◌};
 ghost use Rattle.ec_coe.specs.Messages.{IsMessage};
 
 use ec_coe::{
@@ -17,21 +18,44 @@ pub(crate) const DEVICE: Device = Device {
     revision: 1,
 };
 
+/// 12 bits of outputs in 0x1600.
+pub(crate) const OUTPUT: (u16, Entry) = (
+    0x1600,
+    Entry {
+        index: 0x7010,
+        subindex: 1,
+        bits: 12,
+    },
+);
+
+/// 16 bits of inputs in 0x1A00.
+pub(crate) const INPUT: (u16, Entry) = (
+    0x1A00,
+    Entry {
+        index: 0x6010,
+        subindex: 1,
+        bits: 16,
+    },
+);
+
 /// The bytes of a row of hexadecimal digits.
-pub(crate) fn bytes_of(rt: &(impl AllocGlobal + Abort), row: &str) -> Result<Vec<u8>, Fail> {
-    let mut bytes = Vec::new(rt.alloc());
-    for word in row.split_whitespace() {
-        bytes.extend_from_slice(&hex::decode(rt.alloc(), word)?)?;
-    }
-    Ok(bytes)
+pub(crate) fn bytes_of(alloc: Global, row: &str) -> Result<Vec<u8>, Fail> {
+    let digits = row.replace(alloc, " ", "")?;
+    Ok(hex::decode(alloc, digits.as_str())?)
+}
+
+/// A list of one entry.
+fn one_entry(alloc: Global, entry: Entry) -> Result<Listed<Entry>, AllocError> {
+    let mut entries = Listed::new(alloc);
+    entries.push(entry)?;
+    Ok(entries)
 }
 
 /// A list of PDOs of one entry each.
 pub(crate) fn pdos_of(alloc: Global, rows: &[(u16, Entry)]) -> Result<Listed<Pdo>, AllocError> {
     let mut pdos = Listed::new(alloc);
     for (index, entry) in rows {
-        let mut entries = Listed::new(alloc);
-        entries.push(*entry)?;
+        let entries = one_entry(alloc, *entry)?;
         pdos.push(Pdo {
             index: *index,
             entries,
@@ -40,297 +64,244 @@ pub(crate) fn pdos_of(alloc: Global, rows: &[(u16, Entry)]) -> Result<Listed<Pdo
     Ok(pdos)
 }
 
-/// The objects of a slave with these output PDOs and these input PDOs.
-fn dictionary_of(
+/// The objects of a slave of these outputs and inputs.
+pub(crate) fn dictionary_with(
     rt: &(impl AllocGlobal + Abort),
-    outputs: &[(u16, Entry)],
-    inputs: &[(u16, Entry)],
+    mailbox: Option<Mailbox>,
+    outputs: Listed<Pdo>,
+    inputs: Listed<Pdo>,
 ) -> Result<Dictionary, Fail> {
-    let mailbox = Some(Mailbox {
-        receive_start: 0x1000,
-        receive_size: 128,
-        send_start: 0x1080,
-        send_size: 128,
-    });
-    let outputs = pdos_of(rt.alloc(), outputs)?;
-    let inputs = pdos_of(rt.alloc(), inputs)?;
     assert!(rt; SlaveType::is_within_limits(mailbox, outputs.as_slice(), inputs.as_slice()));
     let kind = SlaveType::new(DEVICE, mailbox, 0x1100, 0x1400, outputs, inputs, true);
     Ok(Dictionary::new(rt.alloc(), kind, DEVICE.identity(0))?)
 }
 
-/// An entry of an output PDO or of an input PDO.
-pub(crate) fn entry(index: u16, subindex: u8, bits: u8) -> Entry {
-    Entry {
-        index,
-        subindex,
-        bits,
-    }
-}
-
-/// 12 bits of outputs in 0x1600, 16 bits of inputs in 0x1A00.
-fn mixed(rt: &(impl AllocGlobal + Abort)) -> Result<Dictionary, Fail> {
-    dictionary_of(
-        rt,
-        &[(0x1600, entry(0x7010, 1, 12))],
-        &[(0x1A00, entry(0x6010, 1, 16))],
+/// The message of a row of hexadecimal digits.
+pub(crate) fn message_of(alloc: Global, row: &str) -> Result<Message, Fail> {
+    Ok(
+        read_message(&bytes_of(alloc, row)?)
+            .ok()
+            .ok_or("a message")?,
     )
 }
 
-/// The message of a row of hexadecimal digits.
-pub(crate) fn message_of(rt: &(impl AllocGlobal + Abort), row: &str) -> Result<Message, Fail> {
-    Ok(read_message(&bytes_of(rt, row)?).ok().ok_or("a message")?)
-}
-
-/// Compares the bytes of a reply in a mailbox of 20 bytes, of which the last ones become 0.
-fn assert_reply(rt: &impl Abort, reply: &Message, back: &[u8], sent: &str)
-    requires { IsMessage reply.now }
-{
-    let mut mailbox = [0xFF; 20];
-    assert_eq!(rt; write_message(reply, &mut mailbox), Ok(()));
-    assert!(rt; &mailbox[..16] == back, "{sent}");
-    assert_eq!(rt; mailbox.get(16..), Some([0, 0, 0, 0].as_slice()));
-}
-
-/// Compares what a slave's outputs are assigned to.
-fn assert_outputs(rt: &impl Abort, dictionary: &Dictionary, outputs: &[u16]) {
-    assert_eq!(rt; dictionary.assigned_outputs(), outputs);
-}
-
-/// Compares what a slave's inputs are assigned to.
-fn assert_inputs(rt: &impl Abort, dictionary: &Dictionary, inputs: &[u16]) {
-    assert_eq!(rt; dictionary.assigned_inputs(), inputs);
-}
-
-/// Compares how many bits of outputs and of inputs a slave has.
-fn assert_bits(rt: &impl Abort, dictionary: &Dictionary, outputs: usize, inputs: usize) {
+/// Compares the bytes of a mailbox of 20 bytes with those of a message, and the last ones with 0.
+fn assert_written(rt: &impl Abort, mailbox: &[u8], back: &[u8], name: &str, sent: &str) {
     assert_eq!(rt;
-        (dictionary.output_bits(), dictionary.input_bits()),
-        (outputs, inputs)
+        (mailbox.get(..16), mailbox.get(16..)),
+        (Some(back), Some([0, 0, 0, 0].as_slice())),
+        "{name}: {sent}"
     );
 }
 
-/// Sends requests one after the other, and compares the bytes of the replies, which are counted from 1 on.
-fn assert_answers(
+/// Compares the bytes of a reply in a mailbox of 20 bytes. A mailbox of 15 bytes has no room for it, and stays as it is.
+fn assert_reply(rt: &impl Abort, reply: &Message, back: &[u8], name: &str, sent: &str)
+    requires { IsMessage reply.now }
+{
+    let mut mailbox = [0xFF; 20];
+    let mut short = [7; 15];
+    let met = write_message(reply, &mut mailbox);
+    let refused = write_message(reply, &mut short);
+    assert_eq!(rt;
+        (met, refused, short),
+        (Ok(()), Err(BadMailbox), [7; 15]),
+        "{name}: {sent}"
+    );
+    assert_written(rt, &mailbox, back, name, sent);
+}
+
+/// Sends a request, and compares the bytes of the reply.
+fn expect_answer(
     rt: &(impl AllocGlobal + Abort),
     dictionary: &mut Dictionary,
-    in_preop: bool,
-    rows: &[(&str, &str)],
+    case: &Case<'_>,
+    counter: u8,
+    row: &str,
+) -> Result<(), Fail>
+    requires { counter ≤ 7 }
+{
+    let (sent, back) = row.split_once(">").ok_or("a reply")?;
+    let back = bytes_of(rt.alloc(), back)?;
+    let reply = dictionary.answer(case.1, &message_of(rt.alloc(), sent)?, counter);
+    assert_reply(rt, &reply, &back, case.0, sent);
+    Ok(())
+}
+
+/// A case: its name, whether the slave is in PREOP, and requests, each with the reply to it behind a `>`. Replies are counted
+/// from 1 on.
+type Case<'a> = (&'a str, bool, &'a str);
+
+/// What is asked of slaves with one PDO in each direction.
+const MIXED: [Case<'static>; 5] = [
+    // The count is set to 0, an index of the other direction is refused, the own one and the count are taken.
+    (
+        "assigns_in_preop",
+        true,
+        "\
+0a0000000013 0020 2f121c00 00000000 > 0a0000000013 0030 60121c00 00000000
+0a0000000013 0020 2b121c01 001a0000 > 0a0000000023 0020 80121c01 30000906
+0a0000000013 0020 2b121c01 00160000 > 0a0000000033 0030 60121c01 00000000
+0a0000000013 0020 2f121c00 02000000 > 0a0000000043 0020 80121c00 30000906
+0a0000000013 0020 2f121c00 01000000 > 0a0000000053 0030 60121c00 00000000
+0a0000000013 0020 2b121c01 00160000 > 0a0000000063 0020 80121c01 22000008
+0a0000000013 0020 40121c01 00000000 > 0a0000000073 0030 4b121c01 00160000
+0a0000000013 0020 40121c00 00000000 > 0a0000000013 0030 4f121c00 01000000",
+    ),
+    (
+        "assigns_in_no_other_state",
+        false,
+        "\
+0a0000000013 0020 2f121c00 00000000 > 0a0000000013 0020 80121c00 22000008
+0a0000000013 0020 2f131c00 00000000 > 0a0000000023 0020 80131c00 22000008",
+    ),
+    // Identity and mappings, each by its own size.
+    (
+        "uploads",
+        true,
+        "\
+0a0000000013 0020 40181001 00000000 > 0a0000000013 0030 43181001 cdab0000
+0a0000000013 0020 40181000 00000000 > 0a0000000023 0030 4f181000 04000000
+0a0000000013 0020 40001600 00000000 > 0a0000000033 0030 4f001600 01000000
+0a0000000013 0020 40001601 00000000 > 0a0000000043 0030 43001601 0c011070
+0a0000000013 0020 40001a00 00000000 > 0a0000000053 0030 4f001a00 01000000
+0a0000000013 0020 40001a01 00000000 > 0a0000000063 0030 43001a01 10011060
+0a0000000013 0020 40131c01 00000000 > 0a0000000073 0030 4b131c01 001a0000",
+    ),
+    // Another command before no object, that before no subindex, read-only before another length, that before the state.
+    (
+        "aborts_in_their_order",
+        false,
+        "\
+0a0000000013 0020 41002000 00000000 > 0a0000000013 0020 80002000 01000405
+0a0000000013 0020 41181001 00000000 > 0a0000000023 0020 80181001 01000405
+0a0000000013 0020 80181001 00000000 > 0a0000000033 0020 80181001 01000405
+0a0000000013 0020 40002000 00000000 > 0a0000000043 0020 80002000 00000206
+0a0000000013 0020 40181005 00000000 > 0a0000000053 0020 80181005 11000906
+0a0000000013 0020 2f121c02 00000000 > 0a0000000063 0020 80121c02 11000906
+0a0000000013 0020 2f181001 00000000 > 0a0000000073 0020 80181001 02000106
+0a0000000013 0020 27121c01 00000000 > 0a0000000013 0020 80121c01 10000706
+0a0000000013 0020 23121c00 00000000 > 0a0000000023 0020 80121c00 10000706",
+    ),
+    // The reply has its own counter, whatever the request has.
+    (
+        "another_counter",
+        true,
+        "\
+0a0000000073 0020 40181001 00000000 > 0a0000000013 0030 43181001 cdab0000",
+    ),
+];
+
+/// An assignment object is there only where the type has PDOs of its direction.
+const WITHOUT_INPUTS: Case<'static> = (
+    "without_inputs",
+    true,
+    "\
+0a0000000013 0020 40131c00 00000000 > 0a0000000013 0020 80131c00 00000206
+0a0000000013 0020 40121c00 00000000 > 0a0000000023 0030 4f121c00 01000000",
+);
+
+/// No index stands twice in an assignment.
+const NO_INDEX_TWICE: Case<'static> = (
+    "no_index_twice",
+    true,
+    "\
+0a0000000013 0020 2f121c00 00000000 > 0a0000000013 0030 60121c00 00000000
+0a0000000013 0020 2b121c02 00160000 > 0a0000000023 0030 60121c02 00000000
+0a0000000013 0020 2f121c00 02000000 > 0a0000000033 0020 80121c00 30000906
+0a0000000013 0020 2f121c00 01000000 > 0a0000000043 0030 60121c00 00000000",
+);
+
+/// 32 entries of 64 bits are as many as a direction may have.
+const LONG: Case<'static> = (
+    "at_most_2048_bits, 32",
+    true,
+    "\
+0a0000000013 0020 2f121c00 01000000 > 0a0000000013 0030 60121c00 00000000",
+);
+
+/// 33 are more.
+const TOO_LONG: Case<'static> = (
+    "at_most_2048_bits, 33",
+    true,
+    "\
+0a0000000013 0020 2f121c00 01000000 > 0a0000000013 0020 80121c00 30000906",
+);
+
+/// Sends requests one after the other, and compares the bytes of the replies.
+fn expect_answers(
+    rt: &(impl AllocGlobal + Abort),
+    dictionary: &mut Dictionary,
+    case: &Case<'_>,
 ) -> Result<(), Fail> {
-    for (place, (sent, back)) in rows.iter().enumerate() {
-        let counter = (place % 7 + 1) as u8;
-        let reply = dictionary.answer(in_preop, &message_of(rt, sent)?, counter);
-        assert_reply(rt, &reply, &bytes_of(rt, back)?, sent);
+    for (place, row) in case.2.lines().enumerate() {
+        expect_answer(rt, dictionary, case, (place % 7 + 1) as u8, row)?;
     }
     Ok(())
 }
 
-// The count is set to 0, an index of the other direction is refused, the own one and the count are taken.
-#[test]
-fn assigns_in_preop(rt: HostRuntime) -> Result<(), Fail> {
-    let mut dictionary = mixed(&rt)?;
-    let rows = [
+/// What a slave's outputs and inputs are assigned to, how many bits they have, and what the outputs are assigned to after a
+/// reset.
+type Seen<'a> = (&'a [u16], &'a [u16], usize, usize, &'a [u16]);
+
+/// Compares what a slave's outputs and inputs are assigned to, and their bits.
+fn assert_assigned(rt: &impl Abort, name: &str, dictionary: &Dictionary, seen: &Seen<'_>) {
+    assert_eq!(rt;
         (
-            "0a0000000013 0020 2f121c00 00000000",
-            "0a0000000013 0030 60121c00 00000000",
+            dictionary.assigned_outputs(),
+            dictionary.assigned_inputs(),
+            dictionary.output_bits(),
+            dictionary.input_bits()
         ),
-        (
-            "0a0000000013 0020 2b121c01 001a0000",
-            "0a0000000023 0020 80121c01 30000906",
-        ),
-        (
-            "0a0000000013 0020 2b121c01 00160000",
-            "0a0000000033 0030 60121c01 00000000",
-        ),
-        (
-            "0a0000000013 0020 2f121c00 02000000",
-            "0a0000000043 0020 80121c00 30000906",
-        ),
-        (
-            "0a0000000013 0020 2f121c00 01000000",
-            "0a0000000053 0030 60121c00 00000000",
-        ),
-        (
-            "0a0000000013 0020 2b121c01 00160000",
-            "0a0000000063 0020 80121c01 22000008",
-        ),
-        (
-            "0a0000000013 0020 40121c01 00000000",
-            "0a0000000073 0030 4b121c01 00160000",
-        ),
-        (
-            "0a0000000013 0020 40121c00 00000000",
-            "0a0000000013 0030 4f121c00 01000000",
-        ),
-    ];
-    assert_answers(&rt, &mut dictionary, true, &rows)?;
-    assert_outputs(&rt, &dictionary, &[0x1600]);
-    assert_bits(&rt, &dictionary, 12, 16);
-    Ok(())
+        (seen.0, seen.1, seen.2, seen.3),
+        "{name}"
+    );
 }
 
-#[test]
-fn assigns_in_no_other_state(rt: HostRuntime) -> Result<(), Fail> {
-    let mut dictionary = mixed(&rt)?;
-    let rows = [
-        (
-            "0a0000000013 0020 2f121c00 00000000",
-            "0a0000000013 0020 80121c00 22000008",
-        ),
-        (
-            "0a0000000013 0020 2f131c00 00000000",
-            "0a0000000023 0020 80131c00 22000008",
-        ),
-    ];
-    assert_answers(&rt, &mut dictionary, false, &rows)?;
-    assert_outputs(&rt, &dictionary, &[0x1600]);
-    assert_inputs(&rt, &dictionary, &[0x1A00]);
-    Ok(())
-}
-
-// Identity and mappings, each by its own size.
-#[test]
-fn uploads(rt: HostRuntime) -> Result<(), Fail> {
-    let mut dictionary = mixed(&rt)?;
-    let rows = [
-        (
-            "0a0000000013 0020 40181001 00000000",
-            "0a0000000013 0030 43181001 cdab0000",
-        ),
-        (
-            "0a0000000013 0020 40181000 00000000",
-            "0a0000000023 0030 4f181000 04000000",
-        ),
-        (
-            "0a0000000013 0020 40001600 00000000",
-            "0a0000000033 0030 4f001600 01000000",
-        ),
-        (
-            "0a0000000013 0020 40001601 00000000",
-            "0a0000000043 0030 43001601 0c011070",
-        ),
-        (
-            "0a0000000013 0020 40001a00 00000000",
-            "0a0000000053 0030 4f001a00 01000000",
-        ),
-        (
-            "0a0000000013 0020 40001a01 00000000",
-            "0a0000000063 0030 43001a01 10011060",
-        ),
-        (
-            "0a0000000013 0020 40131c01 00000000",
-            "0a0000000073 0030 4b131c01 001a0000",
-        ),
-    ];
-    assert_answers(&rt, &mut dictionary, true, &rows)
-}
-
-// Another command before no object, that before no subindex, read-only before another length, that before the state.
-#[test]
-fn aborts_in_their_order(rt: HostRuntime) -> Result<(), Fail> {
-    let mut dictionary = mixed(&rt)?;
-    let rows = [
-        (
-            "0a0000000013 0020 41002000 00000000",
-            "0a0000000013 0020 80002000 01000405",
-        ),
-        (
-            "0a0000000013 0020 41181001 00000000",
-            "0a0000000023 0020 80181001 01000405",
-        ),
-        (
-            "0a0000000013 0020 80181001 00000000",
-            "0a0000000033 0020 80181001 01000405",
-        ),
-        (
-            "0a0000000013 0020 40002000 00000000",
-            "0a0000000043 0020 80002000 00000206",
-        ),
-        (
-            "0a0000000013 0020 40181005 00000000",
-            "0a0000000053 0020 80181005 11000906",
-        ),
-        (
-            "0a0000000013 0020 2f121c02 00000000",
-            "0a0000000063 0020 80121c02 11000906",
-        ),
-        (
-            "0a0000000013 0020 2f181001 00000000",
-            "0a0000000073 0020 80181001 02000106",
-        ),
-        (
-            "0a0000000013 0020 27121c01 00000000",
-            "0a0000000013 0020 80121c01 10000706",
-        ),
-        (
-            "0a0000000013 0020 23121c00 00000000",
-            "0a0000000023 0020 80121c00 10000706",
-        ),
-    ];
-    assert_answers(&rt, &mut dictionary, false, &rows)
-}
-
-// An assignment object is there only where the type has PDOs of its direction.
-#[test]
-fn without_inputs(rt: HostRuntime) -> Result<(), Fail> {
-    let mut dictionary = dictionary_of(&rt, &[(0x1600, entry(0x7000, 1, 4))], &[])?;
-    let rows = [
-        (
-            "0a0000000013 0020 40131c00 00000000",
-            "0a0000000013 0020 80131c00 00000206",
-        ),
-        (
-            "0a0000000013 0020 40121c00 00000000",
-            "0a0000000023 0030 4f121c00 01000000",
-        ),
-    ];
-    assert_answers(&rt, &mut dictionary, true, &rows)?;
+/// Compares what a slave says that it is.
+fn assert_device(rt: &impl Abort, name: &str, dictionary: &Dictionary) {
     assert_eq!(rt;
         (dictionary.kind().device(), dictionary.identity()),
-        (DEVICE, DEVICE.identity(0))
+        (DEVICE, DEVICE.identity(0)),
+        "{name}"
     );
+}
+
+/// Compares what a slave's outputs are assigned to.
+fn assert_outputs(rt: &impl Abort, name: &str, dictionary: &Dictionary, outputs: &[u16]) {
+    assert_eq!(rt; dictionary.assigned_outputs(), outputs, "{name}");
+}
+
+/// Sends a slave that was just switched on its requests, and compares the replies, and what it is then and after a reset.
+fn expect_case(
+    rt: &(impl AllocGlobal + Abort),
+    dictionary: &mut Dictionary,
+    case: &Case<'_>,
+    seen: &Seen<'_>,
+) -> Result<(), Fail> {
+    expect_answers(rt, dictionary, case)?;
+    assert_assigned(rt, case.0, dictionary, seen);
+    assert_device(rt, case.0, dictionary);
+    dictionary.reset();
+    assert_outputs(rt, case.0, dictionary, seen.4);
     Ok(())
 }
 
-// No index stands twice in an assignment.
-#[test]
-fn no_index_twice(rt: HostRuntime) -> Result<(), Fail> {
-    let rows = [
-        (0x1600, entry(0x7000, 1, 64)),
-        (0x1601, entry(0x7001, 1, 64)),
-    ];
-    let mut dictionary = dictionary_of(&rt, &rows, &[])?;
-    let rows = [
-        (
-            "0a0000000013 0020 2f121c00 00000000",
-            "0a0000000013 0030 60121c00 00000000",
-        ),
-        (
-            "0a0000000013 0020 2b121c02 00160000",
-            "0a0000000023 0030 60121c02 00000000",
-        ),
-        (
-            "0a0000000013 0020 2f121c00 02000000",
-            "0a0000000033 0020 80121c00 30000906",
-        ),
-        (
-            "0a0000000013 0020 2f121c00 01000000",
-            "0a0000000043 0030 60121c00 00000000",
-        ),
-    ];
-    assert_answers(&rt, &mut dictionary, true, &rows)?;
-    assert_outputs(&rt, &dictionary, &[0x1600]);
-    dictionary.reset();
-    assert_outputs(&rt, &dictionary, &[0x1600, 0x1601]);
-    Ok(())
+/// So many entries of 64 bits.
+fn long_entries(alloc: Global, count: u8) -> Result<Listed<Entry>, AllocError> {
+    let mut entries = Listed::new(alloc);
+    for subindex in 0..count {
+        entries.push(Entry {
+            index: 0x7000,
+            subindex,
+            bits: 64,
+        })?;
+    }
+    Ok(entries)
 }
 
 /// One PDO of outputs, of so many entries of 64 bits.
 fn long_outputs(alloc: Global, count: u8) -> Result<Listed<Pdo>, AllocError> {
-    let mut entries = Listed::new(alloc);
-    for place in 0..count {
-        entries.push(entry(0x7000, place, 64))?;
-    }
+    let entries = long_entries(alloc, count)?;
     let mut outputs = Listed::new(alloc);
     outputs.push(Pdo {
         index: 0x1600,
@@ -339,98 +310,179 @@ fn long_outputs(alloc: Global, count: u8) -> Result<Listed<Pdo>, AllocError> {
     Ok(outputs)
 }
 
+/// The mailboxes of a slave that has some.
+const MAILBOX: Mailbox = Mailbox {
+    receive_start: 0x1000,
+    receive_size: 128,
+    send_start: 0x1080,
+    send_size: 128,
+};
+
+/// The objects of a slave with mailboxes, these output PDOs and these input PDOs.
+fn dictionary_of(
+    rt: &(impl AllocGlobal + Abort),
+    outputs: &[(u16, Entry)],
+    inputs: &[(u16, Entry)],
+) -> Result<Dictionary, Fail> {
+    let outputs = pdos_of(rt.alloc(), outputs)?;
+    dictionary_with(rt, Some(MAILBOX), outputs, pdos_of(rt.alloc(), inputs)?)
+}
+
 /// The objects of a slave whose outputs are so many entries of 64 bits.
 fn long_dictionary(rt: &(impl AllocGlobal + Abort), count: u8) -> Result<Dictionary, Fail> {
     let outputs = long_outputs(rt.alloc(), count)?;
-    let inputs = Listed::new(rt.alloc());
-    assert!(rt; SlaveType::is_within_limits(None, outputs.as_slice(), inputs.as_slice()));
-    let kind = SlaveType::new(DEVICE, None, 0x1100, 0x1400, outputs, inputs, true);
-    Ok(Dictionary::new(rt.alloc(), kind, DEVICE.identity(0))?)
+    dictionary_with(rt, None, outputs, Listed::new(rt.alloc()))
+}
+
+#[test]
+fn answers(rt: HostRuntime) -> Result<(), Fail> {
+    for case in &MIXED {
+        expect_case(
+            &rt,
+            &mut dictionary_of(&rt, &[OUTPUT], &[INPUT])?,
+            case,
+            &(&[0x1600], &[0x1A00], 12, 16, &[0x1600]),
+        )?;
+    }
+    Ok(())
+}
+
+/// 4 bits of outputs in 0x1600.
+const FOUR_BITS: (u16, Entry) = (
+    0x1600,
+    Entry {
+        index: 0x7000,
+        subindex: 1,
+        bits: 4,
+    },
+);
+
+#[test]
+fn without_inputs(rt: HostRuntime) -> Result<(), Fail> {
+    expect_case(
+        &rt,
+        &mut dictionary_of(&rt, &[FOUR_BITS], &[])?,
+        &WITHOUT_INPUTS,
+        &(&[0x1600], &[], 4, 0, &[0x1600]),
+    )
+}
+
+/// 64 bits of outputs in 0x1600 and in 0x1601.
+const TWO_OUTPUTS: [(u16, Entry); 2] = [
+    (
+        0x1600,
+        Entry {
+            index: 0x7000,
+            subindex: 1,
+            bits: 64,
+        },
+    ),
+    (
+        0x1601,
+        Entry {
+            index: 0x7001,
+            subindex: 1,
+            bits: 64,
+        },
+    ),
+];
+
+#[test]
+fn no_index_twice(rt: HostRuntime) -> Result<(), Fail> {
+    expect_case(
+        &rt,
+        &mut dictionary_of(&rt, &TWO_OUTPUTS, &[])?,
+        &NO_INDEX_TWICE,
+        &(&[0x1600], &[], 64, 0, &[0x1600, 0x1601]),
+    )
+}
+
+/// Asks slaves of long outputs, and compares.
+fn expect_long(
+    rt: &(impl AllocGlobal + Abort),
+    count: u8,
+    case: &Case<'_>,
+    bits: usize,
+) -> Result<(), Fail> {
+    let seen: Seen<'_> = (&[0x1600], &[], bits, 0, &[0x1600]);
+    expect_case(rt, &mut long_dictionary(rt, count)?, case, &seen)
 }
 
 // 33 entries of 64 bits are more than a direction may have; 32 are not.
 #[test]
 fn at_most_2048_bits(rt: HostRuntime) -> Result<(), Fail> {
-    for (entries, back) in [
-        (32, "0a0000000013 0030 60121c00 00000000"),
-        (33, "0a0000000013 0020 80121c00 30000906"),
-    ] {
-        let mut dictionary = long_dictionary(&rt, entries)?;
-        let sent = "0a0000000013 0020 2f121c00 01000000";
-        assert_answers(&rt, &mut dictionary, true, &[(sent, back)])?;
-    }
+    expect_long(&rt, 32, &LONG, 2048)?;
+    expect_long(&rt, 33, &TOO_LONG, 2112)
+}
+
+/// The bytes of a row are no message.
+fn assert_no_message(rt: &(impl AllocGlobal + Abort), row: &str) -> Result<(), Fail> {
+    let met = read_message(&bytes_of(rt.alloc(), row)?);
+    assert_eq!(rt; (met, BadMailbox.number()), (Err(BadMailbox), 9), "{row}");
     Ok(())
 }
 
-/// A mailbox of 15 bytes has no room for a reply, and stays as it is.
-fn assert_no_room(rt: &impl Abort, reply: &Message)
-    requires { IsMessage reply.now }
-{
-    let mut short = [7; 15];
-    assert_eq!(rt; write_message(reply, &mut short), Err(BadMailbox));
-    assert_eq!(rt; short, [7; 15]);
-}
+/// A message in fewer than 16 bytes, of another length, of another type.
+const NO_MESSAGES: [&str; 5] = [
+    "0a0000000013 0020 40181001 000000",
+    "090000000013 0020 40181001 00000000",
+    "0a0100000013 0020 40181001 00000000",
+    "0a0000000014 0020 40181001 00000000",
+    "",
+];
 
-#[test]
-fn no_room_for_a_reply(rt: HostRuntime) -> Result<(), Fail> {
-    let message = message_of(&rt, "0a0000000073 0020 40181001 00000000")?;
-    let mut dictionary = mixed(&rt)?;
-    let reply = dictionary.answer(true, &message, 1);
-    assert_no_room(&rt, &reply);
-    Ok(())
-}
-
-// A message in fewer than 16 bytes, of another length, of another type.
 #[test]
 fn what_is_no_message(rt: HostRuntime) -> Result<(), Fail> {
-    let rows = [
-        "0a0000000013 0020 40181001 000000",
-        "090000000013 0020 40181001 00000000",
-        "0a0100000013 0020 40181001 00000000",
-        "0a0000000014 0020 40181001 00000000",
-        "",
-    ];
-    for row in rows {
-        assert_eq!(rt;
-            read_message(&bytes_of(&rt, row)?),
-            Err(BadMailbox),
-            "{row}"
-        );
+    for row in &NO_MESSAGES {
+        assert_no_message(&rt, row)?;
     }
-    assert_eq!(rt; BadMailbox.number(), 9);
+    Ok(())
+}
+
+/// The bytes of a row are this reply.
+fn assert_read(rt: &(impl AllocGlobal + Abort), row: &str, reply: Reply) -> Result<(), Fail> {
+    let met = read_reply(&bytes_of(rt.alloc(), row)?, 0x1C12, 0);
+    assert_eq!(rt; met, reply, "{row}");
+    Ok(())
+}
+
+/// The same of each row.
+fn assert_all_read(rt: &(impl AllocGlobal + Abort), rows: &[(&str, Reply)]) -> Result<(), Fail> {
+    for (row, reply) in rows {
+        assert_read(rt, row, *reply)?;
+    }
     Ok(())
 }
 
 // A done whatever its data, a value of its size, an abort of either service; all else is unexpected.
 #[test]
 fn replies(rt: HostRuntime) -> Result<(), Fail> {
-    let rows = [
-        ("0a0000000013 0030 60121c00 01020304", Reply::Downloaded),
-        (
-            "0a0000000013 0030 4f121c00 0102ffff",
-            Reply::Uploaded(SdoValue::byte(1)),
-        ),
-        (
-            "0a0000000013 0030 43121c00 01020304",
-            Reply::Uploaded(SdoValue::long(0x0403_0201)),
-        ),
-        (
-            "0a0000000013 0020 80121c00 22000008",
-            Reply::Aborted(0x0800_0022),
-        ),
-        (
-            "0a0000000013 0030 80121c00 22000008",
-            Reply::Aborted(0x0800_0022),
-        ),
-        ("0a0000000013 0020 60121c00 00000000", Reply::Unexpected),
-        ("0a0000000013 0040 80121c00 00000000", Reply::Unexpected),
-        ("0a0000000013 0030 60131c00 00000000", Reply::Unexpected),
-        ("0a0000000013 0030 60121c01 00000000", Reply::Unexpected),
-        ("0a0000000013 0030 40121c00 00000000", Reply::Unexpected),
-        ("0a0000000014 0030 60121c00 00000000", Reply::Unexpected),
-    ];
-    for (row, reply) in rows {
-        assert_eq!(rt; read_reply(&bytes_of(&rt, row)?, 0x1C12, 0), reply, "{row}");
-    }
-    Ok(())
+    assert_all_read(
+        &rt,
+        &[
+            ("0a0000000013 0030 60121c00 01020304", Reply::Downloaded),
+            (
+                "0a0000000013 0030 4f121c00 0102ffff",
+                Reply::Uploaded(SdoValue::byte(1)),
+            ),
+            (
+                "0a0000000013 0030 43121c00 01020304",
+                Reply::Uploaded(SdoValue::long(0x0403_0201)),
+            ),
+            (
+                "0a0000000013 0020 80121c00 22000008",
+                Reply::Aborted(0x0800_0022),
+            ),
+            (
+                "0a0000000013 0030 80121c00 22000008",
+                Reply::Aborted(0x0800_0022),
+            ),
+            ("0a0000000013 0020 60121c00 00000000", Reply::Unexpected),
+            ("0a0000000013 0040 80121c00 00000000", Reply::Unexpected),
+            ("0a0000000013 0030 60131c00 00000000", Reply::Unexpected),
+            ("0a0000000013 0030 60121c01 00000000", Reply::Unexpected),
+            ("0a0000000013 0030 40121c00 00000000", Reply::Unexpected),
+            ("0a0000000014 0030 60121c00 00000000", Reply::Unexpected),
+        ],
+    )
 }

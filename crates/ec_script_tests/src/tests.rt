@@ -192,12 +192,6 @@ fn expect_acts<H: AllocGlobal + Abort>(
     Ok(())
 }
 
-#[test]
-fn lines_stand_for_acts(rt: HostRuntime) -> Result<(), Fail> {
-    let table = read_table(rt.alloc(), TABLE)?;
-    expect_acts(&rt, &table, &ACTS)
-}
-
 /// Whether a script in which `;` stands for the end of a line has its first bad line there.
 fn is_bad_at(alloc: Global, table: &Table, script: &str, line: usize) -> Result<bool, Fail> {
     let text = with_lines(alloc, script)?;
@@ -207,17 +201,35 @@ fn is_bad_at(alloc: Global, table: &Table, script: &str, line: usize) -> Result<
 
 /// Scripts, each with the number of its first bad line.
 fn expect_bad_lines<H: AllocGlobal + Abort>(rt: &H, table: &Table) -> Result<(), Fail> {
-    for (script, line) in BAD_LINES {
-        let is_bad = is_bad_at(rt.alloc(), table, script, line)?;
+    for (script, line) in &BAD_LINES {
+        let is_bad = is_bad_at(rt.alloc(), table, script, *line)?;
         assert!(rt; is_bad, "{script}");
     }
     Ok(())
 }
 
+/// What lines over the three slaves stand for, and which stand for nothing.
+fn expect_lines<H: AllocGlobal + Abort>(rt: &H, table: &Table) -> Result<(), Fail> {
+    expect_acts(rt, table, &ACTS)?;
+    expect_bad_lines(rt, table)?;
+    lines::expect_lines(rt, table)?;
+    borders::expect_lines(rt, table)
+}
+
 #[test]
-fn tells_the_first_bad_line(rt: HostRuntime) -> Result<(), Fail> {
-    let table = read_table(rt.alloc(), TABLE)?;
-    expect_bad_lines(&rt, &table)
+fn lines_are_read(rt: HostRuntime) -> Result<(), Fail> {
+    expect_lines(&rt, &read_table(rt.alloc(), TABLE)?)
+}
+
+/// The same of lines with names.
+fn expect_named<H: AllocGlobal + Abort>(rt: &H, table: &Table) -> Result<(), Fail> {
+    lines::expect_named(rt, table)?;
+    borders::expect_again(rt, table, &lines::VALUES)
+}
+
+#[test]
+fn lines_with_names_are_read(rt: HostRuntime) -> Result<(), Fail> {
+    expect_named(&rt, &read_table(rt.alloc(), lines::NAMES)?)
 }
 
 /// Adds what a line prints, as often as it is done.
@@ -401,7 +413,7 @@ fn reports_unit_by_unit(rt: HostRuntime) -> Result<(), Fail> {
 
 #[test]
 fn splits_at_the_divider(rt: HostRuntime) {
-    for (text, halves) in HALVES {
-        assert_eq!(rt; split_script(text), halves, "{text}");
+    for (text, halves) in &HALVES {
+        assert_eq!(rt; split_script(text), *halves, "{text}");
     }
 }

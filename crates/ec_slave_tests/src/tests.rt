@@ -4,15 +4,12 @@ mod borders;
 mod firmware;
 mod identities;
 mod overlaps;
+mod reading;
 mod runs;
 mod steps;
 
-use self::steps::Step::{
-    Answers, Gets, Outputs, Passes, Puts, Resets, Shows, Sizes, Station, Writes, WritesInVain,
-};
-use self::steps::{Step, pass_frame, take_all};
+use self::steps::{assert_row_passed, name_and_lines, pass_frame, take_all};
 use ec_device::{Identity, SlaveType};
-use ec_frame::Command::{Aprd, Aprw, Brd, Lrd, Lrw, Lwr};
 use ec_frame::check;
 use ec_listed::Listed;
 use ec_slave::Slave;
@@ -28,197 +25,189 @@ const IDENTITY: Identity = Identity {
     serial: 4,
 };
 
-/// Manager 2: two bytes of outputs at 0x1100.
-const OUTPUTS: Step = Writes(0x0810, "0011020024000100");
-
-/// Manager 3: two bytes of inputs at 0x1400.
-const INPUTS: Step = Writes(0x0818, "0014020020000100");
-
-/// Two whole bytes from logical address 0x00010001 on, written from 0x1100 on.
-const WRITES_OUTPUTS: Step = Writes(0x0600, "0100010002000007 0011000201000000");
-
-/// Two whole bytes from logical address 0x00010001 on, read from 0x1400 on.
-const READS_INPUTS: Step = Writes(0x0610, "0100010002000007 0014000101000000");
-
 /// A slave without objects.
 fn plain_slave(alloc: Global) -> Result<Slave, AllocError> {
     Slave::new(alloc, SlaveType::without_pdos(alloc), IDENTITY)
 }
 
-/// Takes steps on a slave without objects that was just switched on.
-fn expect_steps(rt: &(impl AllocGlobal + Abort), steps: &[Step]) -> Result<(), Fail> {
-    take_all(rt, &mut plain_slave(rt.alloc())?, steps)
+/// Takes the steps of a case on a slave without objects that was just switched on.
+fn expect_case(rt: &(impl AllocGlobal + Abort), case: &str) -> Result<(), Fail> {
+    let (name, lines) = name_and_lines(case)?;
+    take_all(rt, name, &mut plain_slave(rt.alloc())?, lines)
 }
 
-/// Passes each frame by a slave that was just switched on, and compares what comes back.
-fn assert_frames(rt: &(impl AllocGlobal + Abort), rows: &[(&str, &str)]) -> Result<(), Fail> {
-    for (sent, back) in rows {
-        expect_steps(rt, &[Passes(sent, back)])?;
+/// Takes the steps of each case. Between cases stand empty lines.
+fn expect_cases(rt: &(impl AllocGlobal + Abort), cases: &str) -> Result<(), Fail> {
+    for case in cases.split("\n\n") {
+        expect_case(rt, case)?;
     }
     Ok(())
 }
 
-// Four FMMUs, four sync managers and 8 KiB of RAM, in INIT; the rest is 0.
-#[test]
-fn power_on_reads(rt: HostRuntime) -> Result<(), Fail> {
-    expect_steps(
-        &rt,
-        &[
-            Shows(0x0004, Some(4)),
-            Shows(0x0005, Some(4)),
-            Shows(0x0006, Some(8)),
-            Shows(0x0010, Some(0)),
-            Shows(0x0130, Some(1)),
-            Shows(0x0131, Some(0)),
-            Shows(0x0FFF, Some(0)),
-            Shows(0x1000, Some(0)),
-            Shows(0x2FFF, Some(0)),
-            Shows(0x3000, None),
-            Shows(0xFFFF, None),
-            Station(0),
-        ],
-    )
-}
+/// Manager 2 is set to two bytes of outputs at 0x1100 (0x0810), manager 3 to two bytes of inputs at 0x1400 (0x0818), and FMMUs
+/// to two whole bytes from logical address 0x00010001 on, written from 0x1100 on (0x0600) or read from 0x1400 on (0x0610).
+const CASES: &str = "\
+# Four FMMUs, four sync managers and 8 KiB of RAM, in INIT; the rest is 0.
+case power_on_reads
+shows 0004 04
+shows 0005 04
+shows 0006 08
+shows 0010 00
+shows 0130 01
+shows 0131 00
+shows 0fff 00
+shows 1000 00
+shows 2fff 00
+shows 3000 -
+shows ffff -
+station 0000
 
-// Two datagrams of one frame: the first gives a station address, the second already asks for it.
-#[test]
-fn station_address_counts_from_the_next_datagram(rt: HostRuntime) -> Result<(), Fail> {
-    expect_steps(
-        &rt,
-        &[
-            Passes(
-                "1c10 0207 0000 1000 0280 0000 0110 0000 0408 0110 3001 0200 0000 ffff 0000",
-                "1c10 0207 0100 1000 0280 0000 0110 0100 0408 0110 3001 0200 0000 0100 0100",
-            ),
-            Station(0x1001),
-        ],
-    )
-}
+# Two datagrams of one frame: the first gives a station address, the second already asks for it.
+case station_address_counts_from_the_next_datagram
+passes 1c10 0207 0000 1000 0280 0000 0110 0000 0408 0110 3001 0200 0000 ffff 0000 > 1c10 0207 0100 1000 0280 0000 0110 0100 0408 0110 3001 0200 0000 0100 0100
+station 1001
 
-// A register that can only be read gives its byte and takes none: a read and write counts 1.
-#[test]
-fn read_write_of_a_fixed_register(rt: HostRuntime) -> Result<(), Fail> {
-    expect_steps(
-        &rt,
-        &[
-            Passes(
-                "0d10 0300 0000 0600 0100 0000 55 0000",
-                "0d10 0300 0100 0600 0100 0000 08 0100",
-            ),
-            Shows(0x0006, Some(8)),
-        ],
-    )
-}
+# A register that can only be read gives its byte and takes none: a read and write counts 1.
+case read_write_of_a_fixed_register
+passes 0d10 0300 0000 0600 0100 0000 55 0000 > 0d10 0300 0100 0600 0100 0000 08 0100
+shows 0006 08
 
-// The first byte alone doesn't write, a third one reaches the second buffer, the ring can't read what
-// it writes, and settings that are written again empty the manager.
-#[test]
-fn outputs_through_a_manager(rt: HostRuntime) -> Result<(), Fail> {
-    expect_steps(
-        &rt,
-        &[
-            OUTPUTS,
-            Passes(
-                "0e10 0501 0000 0011 0200 0000 2312 0000",
-                "0e10 0501 0000 0011 0200 0000 2312 0100",
-            ),
-            Outputs("2312"),
-            Passes(
-                "0d10 0501 0000 0011 0100 0000 99 0000",
-                "0d10 0501 0000 0011 0100 0000 99 0000",
-            ),
-            Outputs("2312"),
-            Passes(
-                "0f10 0501 0000 0011 0300 0000 aabbcc 0000",
-                "0f10 0501 0000 0011 0300 0000 aabbcc 0100",
-            ),
-            Outputs("aabb"),
-            Passes(
-                "0e10 0401 0000 0011 0200 0000 0000 0000",
-                "0e10 0401 0000 0011 0200 0000 0000 0000",
-            ),
-            Passes(
-                "1410 0501 0000 1008 0800 0000 0011020024000100 0000",
-                "1410 0501 0000 1008 0800 0000 0011020024000100 0100",
-            ),
-            Outputs("0000"),
-        ],
-    )
-}
+# The first byte alone doesn't write, a third one reaches the second buffer, the ring can't read what
+# it writes, and settings that are written again empty the manager.
+case outputs_through_a_manager
+writes 0810 0011020024000100
+passes 0e10 0501 0000 0011 0200 0000 2312 0000 > 0e10 0501 0000 0011 0200 0000 2312 0100
+outputs 2312
+passes 0d10 0501 0000 0011 0100 0000 99 0000 > 0d10 0501 0000 0011 0100 0000 99 0000
+outputs 2312
+passes 0f10 0501 0000 0011 0300 0000 aabbcc 0000 > 0f10 0501 0000 0011 0300 0000 aabbcc 0100
+outputs aabb
+passes 0e10 0401 0000 0011 0200 0000 0000 0000 > 0e10 0401 0000 0011 0200 0000 0000 0000
+passes 1410 0501 0000 1008 0800 0000 0011020024000100 0000 > 1410 0501 0000 1008 0800 0000 0011020024000100 0100
+outputs 0000
 
-// Four bits written to bit 2 on, and four bits read from there into the upper half of a byte.
-#[test]
-fn four_bits_through_an_fmmu(rt: HostRuntime) -> Result<(), Fail> {
-    expect_steps(
-        &rt,
-        &[
-            Writes(0x0600, "0000010001000003 0018020201000000"),
-            Writes(0x1800, "ff"),
-            Passes(
-                "0d10 0b01 0000 0100 0100 0000 0b 0000",
-                "0d10 0b01 0000 0100 0100 0000 0b 0100",
-            ),
-            Shows(0x1800, Some(0xEF)),
-            Writes(0x0600, "0000010001000407 0018020101000000"),
-            Passes(
-                "0d10 0a01 0000 0100 0100 0000 0f 0000",
-                "0d10 0a01 0000 0100 0100 0000 bf 0100",
-            ),
-            Shows(0x1800, Some(0xEF)),
-        ],
-    )
-}
+# Four bits written to bit 2 on, and four bits read from there into the upper half of a byte.
+case four_bits_through_an_fmmu
+writes 0600 0000010001000003 0018020201000000
+writes 1800 ff
+passes 0d10 0b01 0000 0100 0100 0000 0b 0000 > 0d10 0b01 0000 0100 0100 0000 0b 0100
+shows 1800 ef
+writes 0600 0000010001000407 0018020101000000
+passes 0d10 0a01 0000 0100 0100 0000 0f 0000 > 0d10 0a01 0000 0100 0100 0000 bf 0100
+shows 1800 ef
 
-// LRW counts 2 for the write and 1 for the read, each of them for a whole manager.
-#[test]
-fn process_data_in_one_exchange(rt: HostRuntime) -> Result<(), Fail> {
-    expect_steps(
-        &rt,
-        &[
-            OUTPUTS,
-            INPUTS,
-            WRITES_OUTPUTS,
-            READS_INPUTS,
-            Answers(Lrw, 0x0001_0000, "0a2301", "0a0000", 3),
-            Outputs("2301"),
-            Answers(Lrw, 0x0001_0000, "0a77", "0a77", 0),
-            Outputs("2301"),
-        ],
-    )
-}
+# LRW counts 2 for the write and 1 for the read, each of them for a whole manager.
+case process_data_in_one_exchange
+writes 0810 0011020024000100
+writes 0818 0014020020000100
+writes 0600 0100010002000007 0011000201000000
+writes 0610 0100010002000007 0014000101000000
+answers lrw 00010000 3 0a2301 > 0a0000
+outputs 2301
+answers lrw 00010000 0 0a77 > 0a77
+outputs 2301
 
-// The same in two datagrams, of which each counts 1.
-#[test]
-fn process_data_one_way(rt: HostRuntime) -> Result<(), Fail> {
-    expect_steps(
-        &rt,
-        &[
-            OUTPUTS,
-            INPUTS,
-            WRITES_OUTPUTS,
-            READS_INPUTS,
-            Answers(Lwr, 0x0001_0001, "0405", "0405", 1),
-            Answers(Lrd, 0x0001_0001, "0405", "0000", 1),
-            Answers(Lwr, 0x0001_0002, "0405", "0405", 0),
-            Answers(Lrd, 0x0001_0002, "0405", "0405", 0),
-            Outputs("0405"),
-        ],
-    )
-}
+# The same in two datagrams, of which each counts 1.
+case process_data_one_way
+writes 0810 0011020024000100
+writes 0818 0014020020000100
+writes 0600 0100010002000007 0011000201000000
+writes 0610 0100010002000007 0014000101000000
+answers lwr 00010001 1 0405 > 0405
+answers lrd 00010001 1 0405 > 0000
+answers lwr 00010002 0 0405 > 0405
+answers lrd 00010002 0 0405 > 0405
+outputs 0405
 
-// One FMMU both ways: the datagram gets what was there, and the memory what was sent.
+# One FMMU both ways: the datagram gets what was there, and the memory what was sent.
+case exchange_through_one_fmmu
+writes 0630 0700000001000007 0018000301000000
+writes 1800 ef11
+answers lrw 00000006 3 015a03 > 01ef03
+shows 1800 5a
+shows 1801 11
+
+# Logical addresses don't wrap: the byte after the last one is no FMMU's at 0.
+case fmmu_at_the_last_logical_address
+writes 0600 0000000001000007 0318000101000000
+writes 0610 ffffffff02000007 0018000101000000
+writes 1800 12345678
+passes 0e10 0a01 ffff ffff 0200 0000 0000 0000 > 0e10 0a01 ffff ffff 0200 0000 1234 0100
+answers lrd 00000000 1 00 > 78
+
+# Three buffers of one byte don't fit at the last address, nor do those of 65535 bytes anywhere: all
+# that is plain memory.
+case span_past_the_memory
+writes 0800 ff2f010024000100
+writes 0808 0010ffff24000100
+answers aprw 2fff0000 3 aabb > 00bb
+answers aprw 10000000 3 cc > 00
+shows 2fff aa
+shows 1000 cc
+
+# A mailbox of the last byte: a second message doesn't fit, and it is the slave that reads.
+case mailbox_of_one_byte
+writes 2fff 77
+writes 0800 ff2f010026000100
+writes 2fff 08
+vain 2fff 09
+answers aprd 2fff0000 0 05 > 05
+shows 0805 08
+writes 0806 00
+shows 0805 00
+shows 2fff 77
+
+# The word at address 8 is asked for: the port is busy, and takes no writes, until the firmware steps.
+case sii_read_is_given
+writes 0502 000108000000
+answers aprd 05020000 1 09090909090909090909 > 00810800000000000000
+vain 0502 000109000000
+answers aprd 05020000 1 09090909090909090909 > 00810800000000000000
+
+# A state that is asked for waits for the firmware; the control word reads what was written last.
+case state_request_waits
+writes 0120 0200
+writes 0120 0400
+answers brd 01200000 1 0000 > 0400
+answers brd 01300000 1 000000000000 > 010000000000
+
+# In INIT the application has no process data, though both managers are enabled.
+case application_is_denied_in_init
+writes 0810 0011020024000100
+writes 0818 0014020020000100
+writes 1100 2312
+sizes 0 0
+gets 0 -
+puts 0 07 no
+outputs 2312
+
+# A reset is power-on.
+case reset_is_power_on
+writes 0010 0110
+writes 0120 0200
+writes 0502 000108000000
+writes 0600 0100010002000007 0011000201000000
+writes 0810 0011020024000100
+writes 1100 2312
+writes 2000 77
+resets
+station 0000
+outputs
+shows 0120 00
+shows 0503 00
+shows 0504 00
+shows 0602 00
+shows 0811 00
+shows 0814 00
+shows 1100 00
+shows 2000 00
+shows 0130 01
+answers lwr 00010001 0 0405 > 0405
+";
+
 #[test]
-fn exchange_through_one_fmmu(rt: HostRuntime) -> Result<(), Fail> {
-    expect_steps(
-        &rt,
-        &[
-            Writes(0x0630, "0700000001000007 0018000301000000"),
-            Writes(0x1800, "ef11"),
-            Answers(Lrw, 6, "015a03", "01ef03", 3),
-            Shows(0x1800, Some(0x5A)),
-            Shows(0x1801, Some(0x11)),
-        ],
-    )
+fn slaves_in_init(rt: HostRuntime) -> Result<(), Fail> {
+    expect_cases(&rt, CASES)
 }
 
 /// A slave without objects whose type takes no part in LRW.
@@ -228,97 +217,36 @@ fn slave_apart(alloc: Global) -> Result<Slave, AllocError> {
     Slave::new(alloc, kind, IDENTITY)
 }
 
+const WITHOUT_LRW: &str = "\
+writes 0810 0011020024000100
+writes 0600 0100010002000007 0011000201000000
+answers lrw 00010001 0 0405 > 0405
+outputs 0000
+answers lwr 00010001 1 0405 > 0405
+outputs 0405
+";
+
 // A type may take no part in LRW; LWR and LRD still reach it.
 #[test]
 fn slave_without_lrw(rt: HostRuntime) -> Result<(), Fail> {
     let mut slave = slave_apart(rt.alloc())?;
-    take_all(
-        &rt,
-        &mut slave,
-        &[
-            OUTPUTS,
-            WRITES_OUTPUTS,
-            Answers(Lrw, 0x0001_0001, "0405", "0405", 0),
-            Outputs("0000"),
-            Answers(Lwr, 0x0001_0001, "0405", "0405", 1),
-            Outputs("0405"),
-        ],
-    )
+    take_all(&rt, "slave_without_lrw", &mut slave, WITHOUT_LRW)
 }
 
-// Logical addresses don't wrap: the byte after the last one is no FMMU's at 0.
-#[test]
-fn fmmu_at_the_last_logical_address(rt: HostRuntime) -> Result<(), Fail> {
-    expect_steps(
-        &rt,
-        &[
-            Writes(0x0600, "0000000001000007 0318000101000000"),
-            Writes(0x0610, "ffffffff02000007 0018000101000000"),
-            Writes(0x1800, "12345678"),
-            Passes(
-                "0e10 0a01 ffff ffff 0200 0000 0000 0000",
-                "0e10 0a01 ffff ffff 0200 0000 1234 0100",
-            ),
-            Answers(Lrd, 0, "00", "78", 1),
-        ],
-    )
-}
-
-// Three buffers of one byte don't fit at the last address, nor do those of 65535 bytes anywhere: all
-// that is plain memory.
-#[test]
-fn span_past_the_memory(rt: HostRuntime) -> Result<(), Fail> {
-    expect_steps(
-        &rt,
-        &[
-            Writes(0x0800, "ff2f010024000100"),
-            Writes(0x0808, "0010ffff24000100"),
-            Answers(Aprw, 0x2FFF_0000, "aabb", "00bb", 3),
-            Answers(Aprw, 0x1000_0000, "cc", "00", 3),
-            Shows(0x2FFF, Some(0xAA)),
-            Shows(0x1000, Some(0xCC)),
-        ],
-    )
-}
-
-// A mailbox of the last byte: a second message doesn't fit, and it is the slave that reads.
-#[test]
-fn mailbox_of_one_byte(rt: HostRuntime) -> Result<(), Fail> {
-    expect_steps(
-        &rt,
-        &[
-            Writes(0x2FFF, "77"),
-            Writes(0x0800, "ff2f010026000100"),
-            Writes(0x2FFF, "08"),
-            WritesInVain(0x2FFF, "09"),
-            Answers(Aprd, 0x2FFF_0000, "05", "05", 0),
-            Shows(0x0805, Some(8)),
-            Writes(0x0806, "00"),
-            Shows(0x0805, Some(0)),
-            Shows(0x2FFF, Some(0x77)),
-        ],
-    )
-}
-
-/// Exchanges data with the RAM, and reads what was left.
-fn expect_exchange<'a>(
-    rt: &(impl AllocGlobal + Abort),
-    sent: &'a str,
-    back: &'a str,
-) -> Result<(), Fail> {
-    let steps = [
-        Answers(Aprw, 0x1000_0000, sent, back, 3),
-        Answers(Aprd, 0x15B1_0000, "0101", "5a00", 1),
-    ];
-    expect_steps(rt, &steps)
-}
-
-// The longest datagram: 1458 bytes of data.
+// The longest datagram, of 1458 bytes of data, exchanges data with the RAM; then what was left is read.
 #[test]
 fn longest_datagram(rt: HostRuntime) -> Result<(), Fail> {
     let sent = "5a".repeat(rt.alloc(), 1458)?;
     let back = "00".repeat(rt.alloc(), 1458)?;
-    expect_exchange(&rt, sent.as_str(), back.as_str())
+    let lines = format!(in rt.alloc();
+        "answers aprw 10000000 3 {sent} > {back}\nanswers aprd 15b10000 1 0101 > 5a00"
+    )?;
+    take_all(
+        &rt,
+        "longest_datagram",
+        &mut plain_slave(rt.alloc())?,
+        lines.as_str(),
+    )
 }
 
 /// The frame of 122 datagrams that ask for nothing and have no data.
@@ -342,233 +270,116 @@ fn frame_of_nops_passes_unchanged(rt: HostRuntime) -> Result<(), Fail> {
     Ok(())
 }
 
-// The word at address 8 is asked for: the port is busy, and takes no writes, until the firmware steps.
-#[test]
-fn sii_read_is_given(rt: HostRuntime) -> Result<(), Fail> {
-    expect_steps(
-        &rt,
-        &[
-            Writes(0x0502, "000108000000"),
-            Answers(
-                Aprd,
-                0x0502_0000,
-                "09090909090909090909",
-                "00810800000000000000",
-                1,
-            ),
-            WritesInVain(0x0502, "000109000000"),
-            Answers(
-                Aprd,
-                0x0502_0000,
-                "09090909090909090909",
-                "00810800000000000000",
-                1,
-            ),
-        ],
-    )
-}
-
-// A state that is asked for waits for the firmware; the control word reads what was written last.
-#[test]
-fn state_request_waits(rt: HostRuntime) -> Result<(), Fail> {
-    expect_steps(
-        &rt,
-        &[
-            Writes(0x0120, "0200"),
-            Writes(0x0120, "0400"),
-            Answers(Brd, 0x0120_0000, "0000", "0400", 1),
-            Answers(Brd, 0x0130_0000, "000000000000", "010000000000", 1),
-        ],
-    )
-}
-
-// In INIT the application has no process data, though both managers are enabled.
-#[test]
-fn application_is_denied_in_init(rt: HostRuntime) -> Result<(), Fail> {
-    expect_steps(
-        &rt,
-        &[
-            OUTPUTS,
-            INPUTS,
-            Writes(0x1100, "2312"),
-            Sizes(0, 0),
-            Gets(0, None),
-            Puts(0, 7, false),
-            Outputs("2312"),
-        ],
-    )
-}
-
-// A reset is power-on.
-#[test]
-fn reset_is_power_on(rt: HostRuntime) -> Result<(), Fail> {
-    expect_steps(
-        &rt,
-        &[
-            Writes(0x0010, "0110"),
-            Writes(0x0120, "0200"),
-            Writes(0x0502, "000108000000"),
-            WRITES_OUTPUTS,
-            OUTPUTS,
-            Writes(0x1100, "2312"),
-            Writes(0x2000, "77"),
-            Resets,
-            Station(0),
-            Outputs(""),
-            Shows(0x0120, Some(0)),
-            Shows(0x0503, Some(0)),
-            Shows(0x0504, Some(0)),
-            Shows(0x0602, Some(0)),
-            Shows(0x0811, Some(0)),
-            Shows(0x0814, Some(0)),
-            Shows(0x1100, Some(0)),
-            Shows(0x2000, Some(0)),
-            Shows(0x0130, Some(1)),
-            Answers(Lwr, 0x0001_0001, "0405", "0405", 0),
-        ],
-    )
-}
-
-// Where lower-numbered managers govern each byte that a datagram touches of a manager, the manager stays as it is: here two
-// over the same sixteen bytes. Byte 0x080D tells whether manager 1 is a full mailbox.
-#[test]
-fn manager_under_another_stays(rt: HostRuntime) -> Result<(), Fail> {
-    assert_frames(
-        &rt,
-        &[
-            (
-                "5110 \
+/// Frames as they are sent and as they come back, each past a slave that was just switched on.
+const FRAMES: [(&str, &str); 19] = [
+    // Where lower-numbered managers govern each byte that a datagram touches of a manager, the manager stays as it is: here two
+    // over the same sixteen bytes. Byte 0x080D tells whether manager 1 is a full mailbox.
+    // `manager_under_another_stays`
+    (
+        "5110 \
                  0200 0000 0008 0880 0000 0011100026000100 0000 \
                  0200 0000 0808 0880 0000 0011100026000100 0000 \
                  0200 0000 0011 1080 0000 0102030405060708 090a0b0c0d0e0f10 0000 \
                  0100 0000 0d08 0100 0000 00 0000",
-                "5110 \
+        "5110 \
                  0200 0100 0008 0880 0000 0011100026000100 0100 \
                  0200 0100 0808 0880 0000 0011100026000100 0100 \
                  0200 0100 0011 1080 0000 0102030405060708 090a0b0c0d0e0f10 0100 \
                  0100 0100 0d08 0100 0000 00 0100",
-            ),
-            (
-                "5110 \
+    ),
+    (
+        "5110 \
                  0200 0000 0008 0880 0000 0011100024000100 0000 \
                  0200 0000 0808 0880 0000 0011100026000100 0000 \
                  0200 0000 0011 1080 0000 0102030405060708 090a0b0c0d0e0f10 0000 \
                  0100 0000 0d08 0100 0000 00 0000",
-                "5110 \
+        "5110 \
                  0200 0100 0008 0880 0000 0011100024000100 0100 \
                  0200 0100 0808 0880 0000 0011100026000100 0100 \
                  0200 0100 0011 1080 0000 0102030405060708 090a0b0c0d0e0f10 0100 \
                  0100 0100 0d08 0100 0000 00 0100",
-            ),
-            (
-                "5110 \
+    ),
+    (
+        "5110 \
                  0200 0000 0008 0880 0000 0011100020000100 0000 \
                  0200 0000 0808 0880 0000 0011100026000100 0000 \
                  0200 0000 0011 1080 0000 0102030405060708 090a0b0c0d0e0f10 0000 \
                  0100 0000 0d08 0100 0000 00 0000",
-                "5110 \
+        "5110 \
                  0200 0100 0008 0880 0000 0011100020000100 0100 \
                  0200 0100 0808 0880 0000 0011100026000100 0100 \
                  0200 0100 0011 1080 0000 0102030405060708 090a0b0c0d0e0f10 0000 \
                  0100 0100 0d08 0100 0000 00 0100",
-            ),
-        ],
-    )
-}
-
-// The same of a logical datagram.
-#[test]
-fn manager_under_another_stays_logically(rt: HostRuntime) -> Result<(), Fail> {
-    assert_frames(
-        &rt,
-        &[(
-            "6d10 \
+    ),
+    // The same of a logical datagram.
+    // `manager_under_another_stays_logically`
+    (
+        "6d10 \
                  0200 0000 0008 0880 0000 0011100020000100 0000 \
                  0200 0000 0808 0880 0000 0011100026000100 0000 \
                  0200 0000 0006 1080 0000 0000010010000007 0011000201000000 0000 \
                  0b00 00000100 1080 0000 0102030405060708 090a0b0c0d0e0f10 0000 \
                  0100 0000 0d08 0100 0000 00 0000",
-            "6d10 \
+        "6d10 \
                  0200 0100 0008 0880 0000 0011100020000100 0100 \
                  0200 0100 0808 0880 0000 0011100026000100 0100 \
                  0200 0100 0006 1080 0000 0000010010000007 0011000201000000 0100 \
                  0b00 00000100 1080 0000 0102030405060708 090a0b0c0d0e0f10 0000 \
                  0100 0100 0d08 0100 0000 00 0100",
-        )],
-    )
-}
-
-// The same of a manager that lies in the spare buffers of another.
-#[test]
-fn manager_in_spare_buffers_stays(rt: HostRuntime) -> Result<(), Fail> {
-    assert_frames(
-        &rt,
-        &[(
-            "4610 \
+    ),
+    // The same of a manager that lies in the spare buffers of another.
+    // `manager_in_spare_buffers_stays`
+    (
+        "4610 \
                  0501 0000 0008 1080 0000 0010010024000100 0110020026000100 0000 \
                  0501 0000 0110 0280 0000 aabb 0000 \
                  0401 0000 0008 1000 0000 0000000000000000 0000000000000000 0000",
-            "4610 \
+        "4610 \
                  0501 0000 0008 1080 0000 0010010024000100 0110020026000100 0100 \
                  0501 0000 0110 0280 0000 aabb 0000 \
                  0401 0000 0008 1000 0000 0010010024000100 0110020026000100 0100",
-        )],
-    )
-}
-
-// A read and write counts 1 for what it may only read, 2 for what it may only write, which keeps its data, and 3
-// for both.
-#[test]
-fn read_write_by_what_each_byte_allows(rt: HostRuntime) -> Result<(), Fail> {
-    assert_frames(
-        &rt,
-        &[
-            // a mailbox that the ring writes
-            (
-                "2f10 \
+    ),
+    // A read and write counts 1 for what it may only read, 2 for what it may only write, which keeps its data, and 3
+    // for both.
+    // `read_write_by_what_each_byte_allows`
+    // a mailbox that the ring writes
+    (
+        "2f10 \
                  0200 0000 0008 0880 0000 0011020026000100 0000 \
                  0300 0000 0011 0280 0000 5566 0000 \
                  0100 0000 0508 0100 0000 00 0000",
-                "2f10 \
+        "2f10 \
                  0200 0100 0008 0880 0000 0011020026000100 0100 \
                  0300 0100 0011 0280 0000 5566 0200 \
                  0100 0100 0508 0100 0000 08 0100",
-            ),
-            // behind it a byte of a buffered manager that the ring reads
-            (
-                "4310 \
+    ),
+    // behind it a byte of a buffered manager that the ring reads
+    (
+        "4310 \
                  0200 0000 0008 0880 0000 0011010026000100 0000 \
                  0200 0000 0808 0880 0000 0111010020000100 0000 \
                  0300 0000 0011 0280 0000 5566 0000 \
                  0100 0000 0508 0100 0000 00 0000",
-                "4310 \
+        "4310 \
                  0200 0100 0008 0880 0000 0011010026000100 0100 \
                  0200 0100 0808 0880 0000 0111010020000100 0100 \
                  0300 0100 0011 0280 0000 5500 0300 \
                  0100 0100 0508 0100 0000 08 0100",
-            ),
-            // a byte of that manager alone
-            (
-                "2110 \
+    ),
+    // a byte of that manager alone
+    (
+        "2110 \
                  0200 0000 0808 0880 0000 0111010020000100 0000 \
                  0300 0000 0111 0100 0000 66 0000",
-                "2110 \
+        "2110 \
                  0200 0100 0808 0880 0000 0111010020000100 0100 \
                  0300 0100 0111 0100 0000 00 0100",
-            ),
-        ],
-    )
-}
-
-// Write pairs touch for writing: first and last byte of a manager of three bytes, each mapped by an FMMU of its own.
-#[test]
-fn manager_written_through_two_fmmus(rt: HostRuntime) -> Result<(), Fail> {
-    assert_frames(
-        &rt,
-        &[
-            // written without its middle byte, which is 0 then
-            (
-                "8b10 \
+    ),
+    // Write pairs touch for writing: first and last byte of a manager of three bytes, each mapped by an FMMU of its own.
+    // `manager_written_through_two_fmmus`
+    // written without its middle byte, which is 0 then
+    (
+        "8b10 \
                  0200 0000 1008 0880 0000 0011030024000100 0000 \
                  0200 0000 0006 1080 0000 1000000001000007 0011000201000000 0000 \
                  0200 0000 1006 1080 0000 1100000001000007 0211000201000000 0000 \
@@ -576,7 +387,7 @@ fn manager_written_through_two_fmmus(rt: HostRuntime) -> Result<(), Fail> {
                  0b00 10000000 0280 0000 aabb 0000 \
                  0100 0000 1008 0880 0000 0000000000000000 0000 \
                  0b00 10000000 0200 0000 ccdd 0000",
-                "8b10 \
+        "8b10 \
                  0200 0100 1008 0880 0000 0011030024000100 0100 \
                  0200 0100 0006 1080 0000 1000000001000007 0011000201000000 0100 \
                  0200 0100 1006 1080 0000 1100000001000007 0211000201000000 0100 \
@@ -584,205 +395,168 @@ fn manager_written_through_two_fmmus(rt: HostRuntime) -> Result<(), Fail> {
                  0b00 10000000 0280 0000 aabb 0100 \
                  0100 0100 1008 0880 0000 0011030024000100 0100 \
                  0b00 10000000 0200 0000 ccdd 0100",
-            ),
-        ],
-    )
-}
-
-// Read pairs touch for reading.
-#[test]
-fn manager_read_through_two_fmmus(rt: HostRuntime) -> Result<(), Fail> {
-    assert_frames(
-        &rt,
-        &[
-            // read by both
-            (
-                "5a10 \
+    ),
+    // Read pairs touch for reading.
+    // `manager_read_through_two_fmmus`
+    // read by both
+    (
+        "5a10 \
                  0200 0000 1808 0880 0000 0014030020000100 0000 \
                  0200 0000 0006 1080 0000 1000000001000007 0014000101000000 0000 \
                  0200 0000 1006 1080 0000 1100000001000007 0214000101000000 0000 \
                  0a00 10000000 0200 0000 aabb 0000",
-                "5a10 \
+        "5a10 \
                  0200 0100 1808 0880 0000 0014030020000100 0100 \
                  0200 0100 0006 1080 0000 1000000001000007 0014000101000000 0100 \
                  0200 0100 1006 1080 0000 1100000001000007 0214000101000000 0100 \
                  0a00 10000000 0200 0000 0000 0100",
-            ),
-        ],
-    )
-}
-
-// One pair that reads and one that writes touch a manager for neither.
-#[test]
-fn manager_touched_both_ways(rt: HostRuntime) -> Result<(), Fail> {
-    assert_frames(
-        &rt,
-        &[
-            // the last byte only read
-            (
-                "5a10 \
+    ),
+    // One pair that reads and one that writes touch a manager for neither.
+    // `manager_touched_both_ways`
+    // the last byte only read
+    (
+        "5a10 \
                  0200 0000 1008 0880 0000 0011030024000100 0000 \
                  0200 0000 0006 1080 0000 1000000001000007 0011000201000000 0000 \
                  0200 0000 1006 1080 0000 1100000001000007 0211000101000000 0000 \
                  0b00 10000000 0200 0000 aabb 0000",
-                "5a10 \
+        "5a10 \
                  0200 0100 1008 0880 0000 0011030024000100 0100 \
                  0200 0100 0006 1080 0000 1000000001000007 0011000201000000 0100 \
                  0200 0100 1006 1080 0000 1100000001000007 0211000101000000 0100 \
                  0b00 10000000 0200 0000 aabb 0000",
-            ),
-            // read, the first byte only written
-            (
-                "5a10 \
+    ),
+    // read, the first byte only written
+    (
+        "5a10 \
                  0200 0000 1808 0880 0000 0014030020000100 0000 \
                  0200 0000 0006 1080 0000 1000000001000007 0014000201000000 0000 \
                  0200 0000 1006 1080 0000 1100000001000007 0214000101000000 0000 \
                  0a00 10000000 0200 0000 aabb 0000",
-                "5a10 \
+        "5a10 \
                  0200 0100 1808 0880 0000 0014030020000100 0100 \
                  0200 0100 0006 1080 0000 1000000001000007 0014000201000000 0100 \
                  0200 0100 1006 1080 0000 1100000001000007 0214000101000000 0100 \
                  0a00 10000000 0200 0000 aabb 0000",
-            ),
-        ],
-    )
-}
-
-// Manager 0 has one byte and its two spare buffers, in which another one begins.
-#[test]
-fn managers_that_overlap(rt: HostRuntime) -> Result<(), Fail> {
-    assert_frames(
-        &rt,
-        &[
-            // the second byte of the other alone is read
-            (
-                "3610 \
+    ),
+    // Manager 0 has one byte and its two spare buffers, in which another one begins.
+    // `managers_that_overlap`
+    // the second byte of the other alone is read
+    (
+        "3610 \
                  0200 0000 0008 0880 0000 0014010020000100 0000 \
                  0200 0000 1808 0880 0000 0214020020000100 0000 \
                  0100 0000 0214 0200 0000 9999 0000",
-                "3610 \
+        "3610 \
                  0200 0100 0008 0880 0000 0014010020000100 0100 \
                  0200 0100 1808 0880 0000 0214020020000100 0100 \
                  0100 0100 0214 0200 0000 9900 0100",
-            ),
-            // and written: a mailbox gets it with 0 before it, and is full
-            (
-                "4310 \
+    ),
+    // and written: a mailbox gets it with 0 before it, and is full
+    (
+        "4310 \
                  0200 0000 0008 0880 0000 0014010024000100 0000 \
                  0200 0000 1808 0880 0000 0214020026000100 0000 \
                  0200 0000 0214 0280 0000 9999 0000 \
                  0100 0000 1d08 0100 0000 00 0000",
-                "4310 \
+        "4310 \
                  0200 0100 0008 0880 0000 0014010024000100 0100 \
                  0200 0100 1808 0880 0000 0214020026000100 0100 \
                  0200 0100 0214 0280 0000 9999 0100 \
                  0100 0100 1d08 0100 0000 08 0100",
-            ),
-        ],
-    )
-}
-
-// Which logical bit writes a byte is decided before any datagram comes.
-#[test]
-fn write_set_of_fmmus(rt: HostRuntime) -> Result<(), Fail> {
-    assert_frames(
-        &rt,
-        &[
-            // a lower FMMU writes the byte, from outside the datagram
-            (
-                "6c10 \
+    ),
+    // Which logical bit writes a byte is decided before any datagram comes.
+    // `write_set_of_fmmus`
+    // a lower FMMU writes the byte, from outside the datagram
+    (
+        "6c10 \
                  0200 0000 0006 1080 0000 0000000001000007 0018000201000000 0000 \
                  0200 0000 1006 1080 0000 1000000001000007 0018000201000000 0000 \
                  0b00 10000000 0180 0000 aa 0000 \
                  0100 0000 0018 0180 0000 00 0000 \
                  0b00 00000000 0180 0000 bb 0000 \
                  0100 0000 0018 0100 0000 00 0000",
-                "6c10 \
+        "6c10 \
                  0200 0100 0006 1080 0000 0000000001000007 0018000201000000 0100 \
                  0200 0100 1006 1080 0000 1000000001000007 0018000201000000 0100 \
                  0b00 10000000 0180 0000 aa 0000 \
                  0100 0100 0018 0180 0000 00 0100 \
                  0b00 00000000 0180 0000 bb 0100 \
                  0100 0100 0018 0100 0000 bb 0100",
-            ),
-            // the second FMMU lost its logical byte, and keeps the third from none
-            (
-                "7010 \
+    ),
+    // the second FMMU lost its logical byte, and keeps the third from none
+    (
+        "7010 \
                  0200 0000 0006 1080 0000 0000000001000007 0018000201000000 0000 \
                  0200 0000 1006 1080 0000 0000000001000007 0118000201000000 0000 \
                  0200 0000 2006 1080 0000 0100000001000007 0118000201000000 0000 \
                  0b00 00000000 0280 0000 aabb 0000 \
                  0100 0000 0018 0200 0000 0000 0000",
-                "7010 \
+        "7010 \
                  0200 0100 0006 1080 0000 0000000001000007 0018000201000000 0100 \
                  0200 0100 1006 1080 0000 0000000001000007 0118000201000000 0100 \
                  0200 0100 2006 1080 0000 0100000001000007 0118000201000000 0100 \
                  0b00 00000000 0280 0000 aabb 0100 \
                  0100 0100 0018 0200 0000 aabb 0100",
-            ),
-        ],
-    )
-}
-
-// A write of any setting empties a manager, also with what it was.
-#[test]
-fn settings_written_again(rt: HostRuntime) -> Result<(), Fail> {
-    assert_frames(
-        &rt,
-        &[
-            // the byte that activates it alone
-            (
-                "4910 \
+    ),
+    // A write of any setting empties a manager, also with what it was.
+    // `settings_written_again`
+    // the byte that activates it alone
+    (
+        "4910 \
                  0200 0000 0808 0880 0000 0011020026000100 0000 \
                  0200 0000 0011 0280 0000 0102 0000 \
                  0100 0000 0d08 0180 0000 00 0000 \
                  0200 0000 0e08 0180 0000 01 0000 \
                  0100 0000 0d08 0100 0000 00 0000",
-                "4910 \
+        "4910 \
                  0200 0100 0808 0880 0000 0011020026000100 0100 \
                  0200 0100 0011 0280 0000 0102 0100 \
                  0100 0100 0d08 0180 0000 08 0100 \
                  0200 0100 0e08 0180 0000 01 0100 \
                  0100 0100 0d08 0100 0000 00 0100",
-            ),
-            // status and deactivate bytes are no settings
-            (
-                "5010 \
+    ),
+    // status and deactivate bytes are no settings
+    (
+        "5010 \
                  0200 0000 0808 0880 0000 0011020026000100 0000 \
                  0200 0000 0011 0280 0000 0102 0000 \
                  0200 0000 0d08 0180 0000 00 0000 \
                  0200 0000 0f08 0180 0000 01 0000 \
                  0100 0000 0808 0800 0000 0000000000000000 0000",
-                "5010 \
+        "5010 \
                  0200 0100 0808 0880 0000 0011020026000100 0100 \
                  0200 0100 0011 0280 0000 0102 0100 \
                  0200 0100 0d08 0180 0000 00 0000 \
                  0200 0100 0f08 0180 0000 01 0000 \
                  0100 0100 0808 0800 0000 0011020026080100 0100",
-            ),
-        ],
-    )
-}
-
-// The low byte of the SII control word counts and has no effect.
-#[test]
-fn sii_control_byte_alone(rt: HostRuntime) -> Result<(), Fail> {
-    assert_frames(
-        &rt,
-        &[
-            // neither command nor error
-            (
-                "3e10 \
+    ),
+    // The low byte of the SII control word counts and has no effect.
+    // `sii_control_byte_alone`
+    // neither command nor error
+    (
+        "3e10 \
                  0200 0000 0205 0180 0000 01 0000 \
                  0100 0000 0205 0280 0000 0000 0000 \
                  0200 0000 0205 0180 0000 ff 0000 \
                  0100 0000 0205 0a00 0000 0000000000000000 0000 0000",
-                "3e10 \
+        "3e10 \
                  0200 0100 0205 0180 0000 01 0100 \
                  0100 0100 0205 0280 0000 0000 0100 \
                  0200 0100 0205 0180 0000 ff 0100 \
                  0100 0100 0205 0a00 0000 0000000000000000 0000 0100",
-            ),
-        ],
-    )
+    ),
+];
+
+/// Passes a frame by a slave that was just switched on, and compares what comes back.
+fn expect_frame(rt: &(impl AllocGlobal + Abort), sent: &str, back: &str) -> Result<(), Fail> {
+    assert_row_passed(rt, "frames", &mut plain_slave(rt.alloc())?, sent, back)
+}
+
+#[test]
+fn frames_past_a_slave(rt: HostRuntime) -> Result<(), Fail> {
+    for (sent, back) in &FRAMES {
+        expect_frame(&rt, sent, back)?;
+    }
+    Ok(())
 }

@@ -1,7 +1,7 @@
 //! Each line at the borders of its numbers and in each of its refusals, alone, repeated and with a comment.
 
-use crate::tests::lines::{NAMES, VALUES, is_repeated};
-use crate::tests::{ACTS, TABLE, expect_acts, is_bad_at};
+use crate::tests::lines::assert_repeated;
+use crate::tests::{ACTS, expect_acts, is_bad_at};
 use ec_al::State;
 use ec_script::Expectation::{Failed, Is, Unit, Units};
 use ec_script::LineAction::{Expect, Input, Never, One, Show};
@@ -289,77 +289,80 @@ const BAD_REPEATS: [&str; 20] = [
 /// How often lines are repeated.
 const TIMES: [u32; 3] = [1, 7, 1_000_000];
 
-#[test]
-fn numbers_at_their_borders(rt: HostRuntime) -> Result<(), Fail> {
-    let table = read_table(rt.alloc(), TABLE)?;
-    expect_acts(&rt, &table, &NUMBERS)?;
-    expect_acts(&rt, &table, &EXPECTED)
+/// What lines over the three slaves stand for at the borders of their numbers, and which stand for nothing.
+pub fn expect_lines<H: AllocGlobal + Abort>(rt: &H, table: &Table) -> Result<(), Fail> {
+    expect_acts(rt, table, &NUMBERS)?;
+    expect_acts(rt, table, &EXPECTED)?;
+    expect_bad(rt, table, &BAD_NUMBERS)?;
+    expect_bad(rt, table, &BAD_WORDS)?;
+    expect_bad(rt, table, &BAD_REPEATS)?;
+    expect_again(rt, table, &ACTS)?;
+    expect_again(rt, table, &NUMBERS)?;
+    expect_again(rt, table, &EXPECTED)
+}
+
+/// Names that are other words.
+fn expect_words<H: AllocGlobal + Abort>(rt: &H, table: &Table) -> Result<(), Fail> {
+    expect_acts(rt, table, &NAMED)?;
+    expect_bad(rt, table, &MISNAMED)
 }
 
 #[test]
 fn names_that_are_other_words(rt: HostRuntime) -> Result<(), Fail> {
-    let table = read_table(rt.alloc(), WORDS)?;
-    expect_acts(&rt, &table, &NAMED)?;
-    expect_bad(&rt, &table, &MISNAMED)
+    expect_words(&rt, &read_table(rt.alloc(), WORDS)?)
+}
+
+/// A line of a table's script stands for nothing, alone and repeated.
+fn expect_bad_line<H: AllocGlobal + Abort>(rt: &H, table: &Table, line: &str) -> Result<(), Fail> {
+    let repeated = format!(in rt.alloc(); "show;repeat 7 {line}")?;
+    let is_bad_again = is_bad_at(rt.alloc(), table, repeated.as_str(), 2)?;
+    let is_bad = is_bad_at(rt.alloc(), table, line, 1)?;
+    assert_eq!(rt; (is_bad, is_bad_again), (true, true), "{line}");
+    Ok(())
 }
 
 /// Lines of a table's script that stand for nothing.
 fn expect_bad<H: AllocGlobal + Abort>(rt: &H, table: &Table, lines: &[&str]) -> Result<(), Fail> {
     for line in lines {
-        let line = *line;
-        let is_bad = is_bad_at(rt.alloc(), table, line, 1)?;
-        assert!(rt; is_bad, "{line}");
-        let repeated = format!(in rt.alloc(); "show;repeat 7 {line}")?;
-        let is_bad = is_bad_at(rt.alloc(), table, repeated.as_str(), 2)?;
-        assert!(rt; is_bad, "repeat 7 {line}");
+        expect_bad_line(rt, table, line)?;
     }
     Ok(())
 }
 
-#[test]
-fn tells_bad_numbers(rt: HostRuntime) -> Result<(), Fail> {
-    let table = read_table(rt.alloc(), TABLE)?;
-    expect_bad(&rt, &table, &BAD_NUMBERS)
+/// A line with a comment behind it stands for the same act.
+fn expect_remarked<H: AllocGlobal + Abort>(
+    rt: &H,
+    table: &Table,
+    text: &str,
+    act: LineAction,
+) -> Result<(), Fail> {
+    let remarked = format!(in rt.alloc(); "{text}  # repeat 2")?;
+    assert_repeated(rt, table, remarked.as_str(), 1, act)
 }
 
-#[test]
-fn tells_bad_words(rt: HostRuntime) -> Result<(), Fail> {
-    let table = read_table(rt.alloc(), TABLE)?;
-    expect_bad(&rt, &table, &BAD_WORDS)
+/// A line that is repeated stands for so many of its act.
+fn expect_repeated<H: AllocGlobal + Abort>(
+    rt: &H,
+    table: &Table,
+    text: &str,
+    times: u32,
+    act: LineAction,
+) -> Result<(), Fail> {
+    let repeated = format!(in rt.alloc(); "repeat {times} {text}")?;
+    assert_repeated(rt, table, repeated.as_str(), times, act)
 }
 
-#[test]
-fn tells_bad_repeats(rt: HostRuntime) -> Result<(), Fail> {
-    let table = read_table(rt.alloc(), TABLE)?;
-    expect_bad(&rt, &table, &BAD_REPEATS)
-}
-
-/// A line with a comment behind it stands for the same act, and a line that is repeated for so many of it.
-fn expect_again<H: AllocGlobal + Abort>(
+/// Lines with a comment behind them, and lines that are repeated.
+pub fn expect_again<H: AllocGlobal + Abort>(
     rt: &H,
     table: &Table,
     acts: &[(&str, LineAction)],
 ) -> Result<(), Fail> {
     for (text, act) in acts {
-        let text = *text;
-        let remarked = format!(in rt.alloc(); "{text}  # repeat 2")?;
-        let is_same = is_repeated(rt.alloc(), table, remarked.as_str(), 1, *act)?;
-        assert!(rt; is_same, "{text} with a comment");
-        for times in TIMES {
-            let repeated = format!(in rt.alloc(); "repeat {times} {text}")?;
-            let is_same = is_repeated(rt.alloc(), table, repeated.as_str(), times, *act)?;
-            assert!(rt; is_same, "repeat {times} {text}");
+        expect_remarked(rt, table, text, *act)?;
+        for times in &TIMES {
+            expect_repeated(rt, table, text, *times, *act)?;
         }
     }
     Ok(())
-}
-
-#[test]
-fn each_line_may_be_repeated(rt: HostRuntime) -> Result<(), Fail> {
-    let table = read_table(rt.alloc(), TABLE)?;
-    expect_again(&rt, &table, &ACTS)?;
-    expect_again(&rt, &table, &NUMBERS)?;
-    expect_again(&rt, &table, &EXPECTED)?;
-    let table = read_table(rt.alloc(), NAMES)?;
-    expect_again(&rt, &table, &VALUES)
 }

@@ -5,7 +5,7 @@ use ec_al::State;
 use ec_script::Expectation::{Failed, Is, Unit, Units};
 use ec_script::LineAction::{Cycle, Expect, Input, Never, One, Show};
 use ec_script::{Expectation, Line, LineAction, Reading, read_line, read_script};
-use ec_table::{Table, read_table};
+use ec_table::Table;
 use ec_world::Event::{AppGet, AppPut, Fault, Reset, Serve, Set};
 use std::alloc::Global;
 use std::process::Abort;
@@ -258,28 +258,16 @@ const SHARED_RUNS: [(&str, &str); 5] = [
     ("expect nowhere 3;expect nowhere 16", "unmet 2;"),
 ];
 
-#[test]
-fn values_and_names_stand_for_acts(rt: HostRuntime) -> Result<(), Fail> {
-    let table = read_table(rt.alloc(), NAMES)?;
-    expect_acts(&rt, &table, &VALUES)
-}
-
 /// Expectations, each of which its line stands for.
 fn expect_expectations<H: AllocGlobal + Abort>(rt: &H, table: &Table) -> Result<(), Fail> {
-    for (text, expected) in EXPECTATIONS {
-        expect_acts(rt, table, &[(text, Expect(expected))])?;
+    for (text, expected) in &EXPECTATIONS {
+        expect_acts(rt, table, &[(*text, Expect(*expected))])?;
     }
     Ok(())
 }
 
-#[test]
-fn expectations_are_read(rt: HostRuntime) -> Result<(), Fail> {
-    let table = read_table(rt.alloc(), crate::tests::TABLE)?;
-    expect_expectations(&rt, &table)
-}
-
 /// Whether a line stands for an act that is done so often.
-pub fn is_repeated(
+fn is_repeated(
     alloc: Global,
     table: &Table,
     text: &str,
@@ -295,34 +283,53 @@ pub fn is_repeated(
     Ok(lines.as_slice() == [line].as_slice())
 }
 
+/// A line stands for an act that is done so often.
+pub fn assert_repeated<H: AllocGlobal + Abort>(
+    rt: &H,
+    table: &Table,
+    text: &str,
+    times: u32,
+    act: LineAction,
+) -> Result<(), Fail> {
+    let is_repeated = is_repeated(rt.alloc(), table, text, times, act)?;
+    assert!(rt; is_repeated, "{text}");
+    Ok(())
+}
+
 /// Lines, each with how often its act is done.
 fn expect_repeats<H: AllocGlobal + Abort>(rt: &H, table: &Table) -> Result<(), Fail> {
-    for (text, times, act) in REPEATS {
-        let is_repeated = is_repeated(rt.alloc(), table, text, times, act)?;
-        assert!(rt; is_repeated, "{text}");
+    for (text, times, act) in &REPEATS {
+        assert_repeated(rt, table, text, *times, *act)?;
     }
     Ok(())
 }
 
-#[test]
-fn repeats_are_read(rt: HostRuntime) -> Result<(), Fail> {
-    let table = read_table(rt.alloc(), crate::tests::TABLE)?;
-    expect_repeats(&rt, &table)
-}
-
 /// Lines that stand for nothing.
 fn expect_bad<H: AllocGlobal + Abort>(rt: &H, table: &Table) -> Result<(), Fail> {
-    for line in BAD_LINES {
+    for line in &BAD_LINES {
         let is_bad = is_bad_at(rt.alloc(), table, line, 1)?;
         assert!(rt; is_bad, "{line}");
     }
     Ok(())
 }
 
-#[test]
-fn tells_bad_lines(rt: HostRuntime) -> Result<(), Fail> {
-    let table = read_table(rt.alloc(), crate::tests::TABLE)?;
-    expect_bad(&rt, &table)
+/// What lines over the three slaves stand for, and which stand for nothing.
+pub fn expect_lines<H: AllocGlobal + Abort>(rt: &H, table: &Table) -> Result<(), Fail> {
+    expect_expectations(rt, table)?;
+    expect_repeats(rt, table)?;
+    expect_bad(rt, table)
+}
+
+/// A single text is this.
+fn assert_read<H: AllocGlobal + Abort>(
+    rt: &H,
+    table: &Table,
+    text: &str,
+    reading: Reading,
+) -> Result<(), Fail> {
+    let read = read_line(rt.alloc(), table, 7, text)?;
+    assert!(rt; read == reading, "{text}");
+    Ok(())
 }
 
 /// What single texts are.
@@ -332,24 +339,18 @@ fn expect_readings<H: AllocGlobal + Abort>(rt: &H, table: &Table) -> Result<(), 
         times: 1,
         act: Cycle,
     };
-    for (text, reading) in [
-        ("", Reading::Empty),
-        ("#", Reading::Empty),
-        ("  # cycle", Reading::Empty),
-        ("cycle #", Reading::Line(cycle)),
-        (" cycle", Reading::Bad),
-        ("repeat", Reading::Bad),
-    ] {
-        let read = read_line(rt.alloc(), table, 7, text)?;
-        assert!(rt; read == reading, "{text}");
-    }
-    Ok(())
+    assert_read(rt, table, "", Reading::Empty)?;
+    assert_read(rt, table, "#", Reading::Empty)?;
+    assert_read(rt, table, "  # cycle", Reading::Empty)?;
+    assert_read(rt, table, "cycle #", Reading::Line(cycle))?;
+    assert_read(rt, table, " cycle", Reading::Bad)?;
+    assert_read(rt, table, "repeat", Reading::Bad)
 }
 
-#[test]
-fn lines_are_read_alone(rt: HostRuntime) -> Result<(), Fail> {
-    let table = read_table(rt.alloc(), NAMES)?;
-    expect_readings(&rt, &table)
+/// Values and names stand for acts, and lines are read alone.
+pub fn expect_named<H: AllocGlobal + Abort>(rt: &H, table: &Table) -> Result<(), Fail> {
+    expect_acts(rt, table, &VALUES)?;
+    expect_readings(rt, table)
 }
 
 #[test]

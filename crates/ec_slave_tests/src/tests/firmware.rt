@@ -1,10 +1,6 @@
 //! Firmware steps of a slave that frames reach.
-use super::steps::Step::{
-    Answers, Asks, Faults, Gets, Outputs, Puts, Replies, Sends, Serves, Shows, Sizes, Writes,
-};
-use super::steps::{Step, bytes_of, pass_frame, take_all};
+use super::steps::{bytes_of, name_and_lines, pass_frame, take_all};
 use ec_device::{Device, Entry, Mailbox, Pdo, SlaveType};
-use ec_frame::Command::Aprd;
 use ec_listed::Listed;
 use ec_slave::Slave;
 use std::alloc::Global;
@@ -17,33 +13,20 @@ const DEVICE: Device = Device {
     revision: 1,
 };
 
-/// Managers 0 and 1: mailboxes of 128 bytes at 0x1000 and 0x1080.
-const MAILBOXES: Step = Writes(0x0800, "0010800026000100 8010800022000100");
-
-/// Manager 2: two bytes of outputs at 0x1100.
-const OUTPUTS: Step = Writes(0x0810, "0011020024000100");
-
-/// Manager 3: two bytes of inputs at 0x1400.
-const INPUTS: Step = Writes(0x0818, "0014020020000100");
-
-/// From power-on to PREOP, with all four managers set.
-const TO_PREOP: [Step; 4] = [MAILBOXES, OUTPUTS, INPUTS, Asks("0200", "020000000000")];
+/// From power-on to PREOP, with all four managers set: 0 and 1 to mailboxes of 128 bytes at 0x1000 and 0x1080, 2 to two bytes of
+/// outputs at 0x1100, and 3 to two bytes of inputs at 0x1400.
+const TO_PREOP: &str = "\
+writes 0800 0010800026000100 8010800022000100
+writes 0810 0011020024000100
+writes 0818 0014020020000100
+asks 0200 020000000000
+";
 
 /// From PREOP to OP.
-const TO_OP: [Step; 2] = [Asks("0400", "040000000000"), Asks("0800", "080000000000")];
-
-/// An upload of the vendor, the first reply to it, and the second one.
-const VENDOR: &str = "0a0000000013 0020 40181001 00000000";
-
-const VENDOR_IS: &str = "0a0000000013 0030 43181001 cdab0000";
-
-/// A download of 0 as the count of the assigned output PDOs, and the first reply to it.
-const NONE_ASSIGNED: &str = "0a0000000013 0020 2f121c00 00000000";
-
-const NONE_IS_DONE: &str = "0a0000000013 0030 60121c00 00000000";
-
-/// As many bytes of zeros.
-const NOTHING: &str = "000000000000 0000 00000000 00000000";
+const TO_OP: &str = "\
+asks 0400 040000000000
+asks 0800 080000000000
+";
 
 /// A list of one entry.
 fn one_entry(alloc: Global, entry: Entry) -> Result<Listed<Entry>, Fail> {
@@ -85,311 +68,231 @@ fn mixed(rt: &(impl AllocGlobal + Abort)) -> Result<Slave, Fail> {
     Ok(Slave::new(rt.alloc(), kind, DEVICE.identity(0))?)
 }
 
-/// Takes steps on a slave that was just switched on.
-fn expect_from_power_on(rt: &(impl AllocGlobal + Abort), steps: &[Step]) -> Result<(), Fail> {
-    take_all(rt, &mut mixed(rt)?, steps)
-}
-
 /// A slave in PREOP.
 fn mixed_in_preop(rt: &(impl AllocGlobal + Abort)) -> Result<Slave, Fail> {
     let mut slave = mixed(rt)?;
-    take_all(rt, &mut slave, &TO_PREOP)?;
+    take_all(rt, "to PREOP", &mut slave, TO_PREOP)?;
     Ok(slave)
 }
 
-/// Takes steps on a slave in PREOP.
-fn expect_from_preop(rt: &(impl AllocGlobal + Abort), steps: &[Step]) -> Result<(), Fail> {
-    take_all(rt, &mut mixed_in_preop(rt)?, steps)
+/// Takes the steps of a case on a slave that was just switched on, or is in PREOP.
+fn expect_case(rt: &(impl AllocGlobal + Abort), slave: &mut Slave, case: &str) -> Result<(), Fail> {
+    let (name, lines) = name_and_lines(case)?;
+    take_all(rt, name, slave, lines)
 }
 
-// INIT refuses SAFEOP, BOOT and what is no state, and keeps the error until it is acknowledged.
+/// From power-on.
+const FROM_POWER_ON: &str = "\
+# INIT refuses SAFEOP, BOOT and what is no state, and keeps the error until it is acknowledged.
+case requests_in_init
+asks 0400 110000001100
+asks 1300 110000001300
+asks 1500 110000001200
+asks 1100 010000000000
+
+# PREOP wants both mailboxes, the second one too.
+case mailbox_check
+asks 0200 110000001600
+writes 0800 0010800026000100 8010810022000100
+asks 1200 110000001600
+writes 0800 0010800026000100 8010800022000100
+asks 1200 020000000000
+
+# A read of the SII shows the vendor after the firmware step, and before it that it is under way.
+case sii_read
+writes 0502 0001 08000000
+answers aprd 05020000 1 0000 00000000 00000000 > 0081 08000000 00000000
+serves
+answers aprd 05020000 1 0000 00000000 00000000 > 0000 08000000 cdab0000
+";
+
 #[test]
-fn requests_in_init(rt: HostRuntime) -> Result<(), Fail> {
-    expect_from_power_on(
-        &rt,
-        &[
-            Asks("0400", "110000001100"),
-            Asks("1300", "110000001300"),
-            Asks("1500", "110000001200"),
-            Asks("1100", "010000000000"),
-        ],
-    )
+fn slaves_from_power_on(rt: HostRuntime) -> Result<(), Fail> {
+    for case in FROM_POWER_ON.split("\n\n") {
+        expect_case(&rt, &mut mixed(&rt)?, case)?;
+    }
+    Ok(())
 }
 
-// PREOP refuses OP; SAFEOP changes nothing then; an acknowledgement clears the error.
-#[test]
-fn requests_in_preop(rt: HostRuntime) -> Result<(), Fail> {
-    expect_from_preop(
-        &rt,
-        &[
-            Asks("0800", "120000001100"),
-            Asks("0400", "120000001100"),
-            Asks("1200", "020000000000"),
-        ],
-    )
-}
+/// From PREOP.
+const FROM_PREOP: &str = "\
+# PREOP refuses OP; SAFEOP changes nothing then; an acknowledgement clears the error.
+case requests_in_preop
+asks 0800 120000001100
+asks 0400 120000001100
+asks 1200 020000000000
 
-// The last request before a firmware step counts.
-#[test]
-fn the_latest_request_counts(rt: HostRuntime) -> Result<(), Fail> {
-    expect_from_preop(&rt, &[Writes(0x0120, "0800"), Asks("0400", "040000000000")])
-}
+# The last request before a firmware step counts.
+case the_latest_request_counts
+writes 0120 0800
+asks 0400 040000000000
 
-// PREOP wants both mailboxes, the second one too.
-#[test]
-fn mailbox_check(rt: HostRuntime) -> Result<(), Fail> {
-    expect_from_power_on(
-        &rt,
-        &[
-            Asks("0200", "110000001600"),
-            Writes(0x0800, "0010800026000100 8010810022000100"),
-            Asks("1200", "110000001600"),
-            MAILBOXES,
-            Asks("1200", "020000000000"),
-        ],
-    )
-}
+# SAFEOP wants manager 2 as the outputs that are assigned want it, then manager 3 as the inputs do.
+case output_and_input_check
+sends 0a0000000013 0020 2f121c00 00000000
+replies 0a0000000013 0030 60121c00 00000000
+asks 0400 120000001d00
+writes 0816 00
+writes 0818 0014030020000100
+asks 1400 120000001e00
+writes 0818 0014020020000100
+asks 1400 040000000000
 
-// SAFEOP wants manager 2 as the outputs that are assigned want it, then manager 3 as the inputs do.
-#[test]
-fn output_and_input_check(rt: HostRuntime) -> Result<(), Fail> {
-    expect_from_preop(
-        &rt,
-        &[
-            Sends(NONE_ASSIGNED),
-            Replies(NONE_IS_DONE),
-            Asks("0400", "120000001d00"),
-            Writes(0x0816, "00"),
-            Writes(0x0818, "0014030020000100"),
-            Asks("1400", "120000001e00"),
-            INPUTS,
-            Asks("1400", "040000000000"),
-        ],
-    )
-}
+# The first message asks for nothing the slave knows: the reply is an abort, and the first one.
+case unknown_command_is_aborted
+sends 0a0000000013 0020 41181001 00000000
+replies 0a0000000013 0020 80181001 01000405
 
-// A read of the SII shows the vendor after the firmware step, and before it that it is under way.
-#[test]
-fn sii_read(rt: HostRuntime) -> Result<(), Fail> {
-    expect_from_power_on(
-        &rt,
-        &[
-            Writes(0x0502, "0001 08000000"),
-            Answers(
-                Aprd,
-                0x0502_0000,
-                "0000 00000000 00000000",
-                "0081 08000000 00000000",
-                1,
-            ),
-            Serves,
-            Answers(
-                Aprd,
-                0x0502_0000,
-                "0000 00000000 00000000",
-                "0000 08000000 cdab0000",
-                1,
-            ),
-        ],
-    )
-}
+# Downloads, uploads and aborts in PREOP; replies are counted from 1 to 7, whatever the request's counter.
+case messages_in_preop
+sends 0a0000000013 0020 2f121c00 00000000
+replies 0a0000000013 0030 60121c00 00000000
+sends 0a0000000013 0020 2b121c01 001a0000
+replies 0a0000000023 0020 80121c01 30000906
+sends 0a0000000013 0020 40181001 00000000
+replies 0a0000000033 0030 43181001 cdab0000
+sends 0a0000000013 0020 40002000 00000000
+replies 0a0000000043 0020 80002000 00000206
+sends 0a0000000013 0020 41181001 00000000
+replies 0a0000000053 0020 80181001 01000405
+sends 0a0000000013 0020 40181005 00000000
+replies 0a0000000063 0020 80181005 11000906
+sends 0a0000000053 0020 40001601 00000000
+replies 0a0000000073 0030 43001601 0c011070
+sends 0a0000000013 0020 40001a00 00000000
+replies 0a0000000013 0030 4f001a00 01000000
 
-// The first message asks for nothing the slave knows: the reply is an abort, and the first one.
-#[test]
-fn unknown_command_is_aborted(rt: HostRuntime) -> Result<(), Fail> {
-    expect_from_preop(
-        &rt,
-        &[
-            Sends("0a0000000013 0020 41181001 00000000"),
-            Replies("0a0000000013 0020 80181001 01000405"),
-        ],
-    )
-}
+# In SAFEOP an assignment takes no download. Back from INIT the first reply has number 1 again.
+case messages_in_safeop
+asks 0400 040000000000
+sends 0a0000000013 0020 2f121c00 00000000
+replies 0a0000000013 0020 80121c00 22000008
+sends 0a0000000013 0020 2f121c00 00000000
+replies 0a0000000023 0020 80121c00 22000008
+asks 0100 010000000000
+asks 0200 020000000000
+sends 0a0000000013 0020 2f121c00 00000000
+replies 0a0000000013 0030 60121c00 00000000
 
-// Downloads, uploads and aborts in PREOP; replies are counted from 1 to 7, whatever the request's counter.
-#[test]
-fn messages_in_preop(rt: HostRuntime) -> Result<(), Fail> {
-    expect_from_preop(
-        &rt,
-        &[
-            Sends(NONE_ASSIGNED),
-            Replies(NONE_IS_DONE),
-            Sends("0a0000000013 0020 2b121c01 001a0000"),
-            Replies("0a0000000023 0020 80121c01 30000906"),
-            Sends(VENDOR),
-            Replies("0a0000000033 0030 43181001 cdab0000"),
-            Sends("0a0000000013 0020 40002000 00000000"),
-            Replies("0a0000000043 0020 80002000 00000206"),
-            Sends("0a0000000013 0020 41181001 00000000"),
-            Replies("0a0000000053 0020 80181001 01000405"),
-            Sends("0a0000000013 0020 40181005 00000000"),
-            Replies("0a0000000063 0020 80181005 11000906"),
-            Sends("0a0000000053 0020 40001601 00000000"),
-            Replies("0a0000000073 0030 43001601 0c011070"),
-            Sends("0a0000000013 0020 40001a00 00000000"),
-            Replies("0a0000000013 0030 4f001a00 01000000"),
-        ],
-    )
-}
+# What is no request is dropped without an answer, and isn't counted.
+case dropped_messages
+sends 090000000013 0020 40181001 00000000
+shows 0805 00
+shows 080d 00
+sends 0a0000000014 0020 40181001 00000000
+shows 0805 00
+shows 080d 00
+sends 0a0000000013 0030 40181001 00000000
+shows 0805 00
+shows 080d 00
+sends 0a0000000013 0020 40181001 00000000
+replies 0a0000000013 0030 43181001 cdab0000
 
-// In SAFEOP an assignment takes no download. Back from INIT the first reply has number 1 again.
-#[test]
-fn messages_in_safeop(rt: HostRuntime) -> Result<(), Fail> {
-    expect_from_preop(
-        &rt,
-        &[
-            Asks("0400", "040000000000"),
-            Sends(NONE_ASSIGNED),
-            Replies("0a0000000013 0020 80121c00 22000008"),
-            Sends(NONE_ASSIGNED),
-            Replies("0a0000000023 0020 80121c00 22000008"),
-            Asks("0100", "010000000000"),
-            Asks("0200", "020000000000"),
-            Sends(NONE_ASSIGNED),
-            Replies(NONE_IS_DONE),
-        ],
-    )
-}
+# A mailbox of 15 bytes has no room for a reply: the message is dropped. A full one lets the message wait.
+case no_room_for_a_reply
+writes 0808 80100f0022000100
+sends 0a0000000013 0020 40181001 00000000
+shows 0805 00
+shows 080d 00
+writes 0808 8010800022000100
+sends 0a0000000013 0020 40181001 00000000
+sends 0a0000000013 0020 40181002 00000000
+shows 0805 08
+replies 0a0000000013 0030 43181001 cdab0000
+serves
+replies 0a0000000023 0030 43181002 03000000
 
-// What is no request is dropped without an answer, and isn't counted.
-#[test]
-fn dropped_messages(rt: HostRuntime) -> Result<(), Fail> {
-    expect_from_preop(
-        &rt,
-        &[
-            Sends("090000000013 0020 40181001 00000000"),
-            Shows(0x0805, Some(0)),
-            Shows(0x080D, Some(0)),
-            Sends("0a0000000014 0020 40181001 00000000"),
-            Shows(0x0805, Some(0)),
-            Shows(0x080D, Some(0)),
-            Sends("0a0000000013 0030 40181001 00000000"),
-            Shows(0x0805, Some(0)),
-            Shows(0x080D, Some(0)),
-            Sends(VENDOR),
-            Replies(VENDOR_IS),
-        ],
-    )
-}
+# A read under a lower manager leaves the message of a full mailbox that it would empty: the lower manager denies it, or
+# shows its own bytes.
+case reply_under_a_manager_stays
+writes 0808 8010100022000100
+sends 0a0000000013 0020 40181001 00000000
+writes 0800 8010100026000100
+answers aprd 10800000 0 000000000000 0000 00000000 00000000 > 000000000000 0000 00000000 00000000
+shows 080d 08
+writes 0804 20
+answers aprd 10800000 1 0a0000000013 0020 40181001 00000000 > 000000000000 0000 00000000 00000000
+shows 080d 08
+writes 0806 00
+answers aprd 10800000 1 000000000000 0000 00000000 00000000 > 0a0000000013 0030 43181001 cdab0000
+shows 080d 00
 
-// A mailbox of 15 bytes has no room for a reply: the message is dropped. A full one lets the message wait.
-#[test]
-fn no_room_for_a_reply(rt: HostRuntime) -> Result<(), Fail> {
-    expect_from_preop(
-        &rt,
-        &[
-            Writes(0x0808, "80100f0022000100"),
-            Sends(VENDOR),
-            Shows(0x0805, Some(0)),
-            Shows(0x080D, Some(0)),
-            Writes(0x0808, "8010800022000100"),
-            Sends(VENDOR),
-            Sends("0a0000000013 0020 40181002 00000000"),
-            Shows(0x0805, Some(8)),
-            Replies(VENDOR_IS),
-            Serves,
-            Replies("0a0000000023 0030 43181002 03000000"),
-        ],
-    )
-}
+# A fault is one only in OP: SAFEOP with an error, and manager 2 locked and empty. A request that waits is still decided.
+case faults
+faults no
+asks 0400 040000000000
+asks 0800 080000000000
+writes 1100 3a02
+outputs 3a02
+writes 0120 1200
+faults yes
+faults no
+outputs 0000
+shows 0817 01
+sizes 0 2
+answers aprd 01300000 1 000000000000 > 140000000100
+serves
+shows 0130 02
+asks 0100 010000000000
+shows 0817 00
+";
 
-// A read under a lower manager leaves the message of a full mailbox that it would empty: the lower manager denies it, or
-// shows its own bytes.
 #[test]
-fn reply_under_a_manager_stays(rt: HostRuntime) -> Result<(), Fail> {
-    expect_from_preop(
-        &rt,
-        &[
-            Writes(0x0808, "8010100022000100"),
-            Sends(VENDOR),
-            Writes(0x0800, "8010100026000100"),
-            Answers(Aprd, 0x1080_0000, NOTHING, NOTHING, 0),
-            Shows(0x080D, Some(8)),
-            Writes(0x0804, "20"),
-            Answers(Aprd, 0x1080_0000, VENDOR, NOTHING, 1),
-            Shows(0x080D, Some(8)),
-            Writes(0x0806, "00"),
-            Answers(Aprd, 0x1080_0000, NOTHING, VENDOR_IS, 1),
-            Shows(0x080D, Some(0)),
-        ],
-    )
+fn slaves_from_preop(rt: HostRuntime) -> Result<(), Fail> {
+    for case in FROM_PREOP.split("\n\n") {
+        expect_case(&rt, &mut mixed_in_preop(&rt)?, case)?;
+    }
+    Ok(())
 }
 
 /// What the application does in SAFEOP and in OP: a value shows whole, an open draft shows nothing.
-const APPLICATION: [Step; 14] = [
-    Sizes(2, 2),
-    Puts(0, 0xEF, true),
-    Answers(Aprd, 0x1400_0000, "0909", "0000", 1),
-    Puts(1, 0xBE, true),
-    Answers(Aprd, 0x1400_0000, "0909", "efbe", 1),
-    Puts(0, 0, true),
-    Puts(1, 0, true),
-    Puts(2, 0, false),
-    Writes(0x1100, "3a02"),
-    Gets(1, None),
-    Gets(0, Some(0x3A)),
-    Writes(0x1100, "ffff"),
-    Gets(1, Some(0x02)),
-    Gets(2, None),
-];
+const APPLICATION: &str = "\
+sizes 2 2
+puts 0 ef yes
+answers aprd 14000000 1 0909 > 0000
+puts 1 be yes
+answers aprd 14000000 1 0909 > efbe
+puts 0 00 yes
+puts 1 00 yes
+puts 2 00 no
+writes 1100 3a02
+gets 1 -
+gets 0 3a
+writes 1100 ffff
+gets 1 02
+gets 2 -
+";
 
-/// Takes these steps, and then the application's.
-fn apply_after(
-    rt: &(impl AllocGlobal + Abort),
-    slave: &mut Slave,
-    steps: &[Step],
-) -> Result<(), Fail> {
-    take_all(rt, slave, steps)?;
-    take_all(rt, slave, &APPLICATION)
-}
+/// From PREOP to SAFEOP; before that the application has no bytes.
+const TO_SAFEOP: &str = "\
+sizes 0 0
+puts 0 01 no
+asks 0400 040000000000
+";
 
 /// Leads a slave up; its application has its bytes in SAFEOP and OP alone.
 fn apply_on_the_way(rt: &(impl AllocGlobal + Abort), slave: &mut Slave) -> Result<(), Fail> {
-    take_all(rt, slave, &TO_PREOP)?;
-    apply_after(
-        rt,
-        slave,
-        &[Sizes(0, 0), Puts(0, 1, false), Asks("0400", "040000000000")],
-    )?;
-    apply_after(rt, slave, &[Asks("0800", "080000000000")])
+    for lines in &[
+        TO_PREOP,
+        TO_SAFEOP,
+        APPLICATION,
+        "asks 0800 080000000000",
+        APPLICATION,
+    ] {
+        take_all(rt, "application_bytes", slave, lines)?;
+    }
+    Ok(())
 }
 
 #[test]
 fn application_bytes(rt: HostRuntime) -> Result<(), Fail> {
-    let mut slave = mixed(&rt)?;
-    apply_on_the_way(&rt, &mut slave)
-}
-
-// A fault is one only in OP: SAFEOP with an error, and manager 2 locked and empty. A request that waits is still decided.
-#[test]
-fn faults(rt: HostRuntime) -> Result<(), Fail> {
-    expect_from_preop(
-        &rt,
-        &[
-            Faults(false),
-            Asks("0400", "040000000000"),
-            Asks("0800", "080000000000"),
-            Writes(0x1100, "3a02"),
-            Outputs("3a02"),
-            Writes(0x0120, "1200"),
-            Faults(true),
-            Faults(false),
-            Outputs("0000"),
-            Shows(0x0817, Some(1)),
-            Sizes(0, 2),
-            Answers(Aprd, 0x0130_0000, "000000000000", "140000000100", 1),
-            Serves,
-            Shows(0x0130, Some(2)),
-            Asks("0100", "010000000000"),
-            Shows(0x0817, Some(0)),
-        ],
-    )
+    apply_on_the_way(&rt, &mut mixed(&rt)?)
 }
 
 /// Leads a slave to OP and passes a frame by it.
 fn pass_in_op(rt: &(impl AllocGlobal + Abort), frame: &mut [u8]) -> Result<(), Fail> {
     let mut slave = mixed_in_preop(rt)?;
-    take_all(rt, &mut slave, &TO_OP)?;
+    take_all(rt, "to OP", &mut slave, TO_OP)?;
     pass_frame(&mut slave, frame)
 }
 

@@ -3,7 +3,6 @@
 ghost use Rattle.std.specs.Prelude.{◌≤◌, ◌<◌, ◌+◌};
 
 use super::plain_slave;
-use super::steps::Step::Asks;
 use super::steps::{frame_behind, take_all};
 use ec_bits::{get, put};
 use ec_frame::Command::{self, Aprd, Apwr, Lrd, Lwr};
@@ -193,8 +192,9 @@ fn read_runs(rt: &impl Abort, slave: &mut Slave) -> Result<(), Fail> {
 fn read_runs_in_safeop(rt: &(impl AllocGlobal + Abort), slave: &mut Slave) -> Result<(), Fail> {
     take_all(
         rt,
+        "to SAFEOP",
         slave,
-        &[Asks("0200", "020000000000"), Asks("0400", "040000000000")],
+        "asks 0200 020000000000\nasks 0400 040000000000",
     )?;
     read_runs(rt, slave)
 }

@@ -1,8 +1,10 @@
 //! Start-ups of every number of slaves, and the texts of their failures.
 use crate::tests::{plan_of, startup_of};
 use ec_device::Device;
+use ec_link::Plan;
 use ec_start::{Phase, StartError};
 use std::alloc::{AllocError, Global};
+use std::process::Abort;
 use std::test::Fail;
 
 /// A type with a mailbox, to which slaves are added.
@@ -28,64 +30,85 @@ fn table_of(alloc: Global, slaves: usize) -> Result<String, AllocError> {
     Ok(text)
 }
 
+/// A start-up of a plan is to begin with frame 7.
+fn assert_idle(rt: &impl Abort, plan: &Plan) {
+    let startup = startup_of(rt, plan, 7);
+    assert_eq!(rt; (startup.phase(), startup.next_number()), (Phase::Idle, 7));
+}
+
+/// So many slaves can be started up.
+fn expect_size(rt: &(impl AllocGlobal + Abort), slaves: usize) -> Result<(), Fail> {
+    let table = table_of(rt.alloc(), slaves)?;
+    assert_idle(rt, &plan_of(rt.alloc(), table.as_str())?);
+    Ok(())
+}
+
 // Each number of slaves can be started up.
 #[test]
 fn startups_of_all_sizes(rt: HostRuntime) -> Result<(), Fail> {
     for slaves in 1..65 {
-        let table = table_of(rt.alloc(), slaves)?;
-        let plan = plan_of(rt.alloc(), table.as_str())?;
-        let startup = startup_of(&rt, &plan, 7);
-        assert_eq!(rt; (startup.phase(), startup.next_number()), (Phase::Idle, 7));
+        expect_size(&rt, slaves)?;
     }
     Ok(())
 }
 
-// What each failure says.
+/// What each failure says.
+const TEXTS: [(StartError, &str); 10] = [
+    (
+        StartError::BadMailbox { slave: 2 },
+        "slave 2: no fitting reply in its mailbox",
+    ),
+    (StartError::Count { seen: 3 }, "3 slaves are there"),
+    (
+        StartError::Identity {
+            slave: 1,
+            seen: Device {
+                vendor: 1,
+                product: 2,
+                revision: 3,
+            },
+        },
+        "slave 1: another device than its type says",
+    ),
+    (
+        StartError::Counter { step: 38 },
+        "step 38: an unexpected working counter",
+    ),
+    (
+        StartError::AlError { slave: 4, code: 22 },
+        "slave 4: AL status code 22",
+    ),
+    (
+        StartError::Abort { slave: 5, code: 9 },
+        "slave 5: abort code 9",
+    ),
+    (
+        StartError::TooSlow { step: 10 },
+        "step 10: not over after 1000 polls",
+    ),
+    (StartError::Lost, "given up"),
+    (StartError::NumbersSpent, "no frame number is left"),
+    (
+        StartError::Mapping {
+            slave: 6,
+            index: 5632,
+            subindex: 1,
+            seen: 1880097035,
+        },
+        "slave 6: object 5632:1 is 1880097035",
+    ),
+];
+
+/// A failure says this.
+fn expect_text(rt: &(impl AllocGlobal + Abort), error: StartError, text: &str) -> Result<(), Fail> {
+    assert_eq!(rt; format!(in rt.alloc(); "{error}")?.as_str(), text);
+    Ok(())
+}
+
 #[test]
 fn texts_of_failures(rt: HostRuntime) -> Result<(), Fail> {
-    let seen = Device {
-        vendor: 1,
-        product: 2,
-        revision: 3,
-    };
-    let mapping = StartError::Mapping {
-        slave: 6,
-        index: 5632,
-        subindex: 1,
-        seen: 1880097035,
-    };
-    let rows = [
-        (
-            StartError::BadMailbox { slave: 2 },
-            "slave 2: no fitting reply in its mailbox",
-        ),
-        (StartError::Count { seen: 3 }, "3 slaves are there"),
-        (
-            StartError::Identity { slave: 1, seen },
-            "slave 1: another device than its type says",
-        ),
-        (
-            StartError::Counter { step: 38 },
-            "step 38: an unexpected working counter",
-        ),
-        (
-            StartError::AlError { slave: 4, code: 22 },
-            "slave 4: AL status code 22",
-        ),
-        (
-            StartError::Abort { slave: 5, code: 9 },
-            "slave 5: abort code 9",
-        ),
-        (
-            StartError::TooSlow { step: 10 },
-            "step 10: not over after 1000 polls",
-        ),
-        (StartError::Lost, "given up"),
-        (StartError::NumbersSpent, "no frame number is left"),
-        (mapping, "slave 6: object 5632:1 is 1880097035"),
-    ];
-    for (error, text) in rows {
-        assert_eq!(rt; format!(in rt.alloc(); "{error}")?.as_str(), text);
+    for (error, text) in &TEXTS {
+        expect_text(&rt, *error, text)?;
     }
     Ok(())
 }
