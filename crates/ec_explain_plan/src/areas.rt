@@ -1,8 +1,10 @@
 //! The memory that the sync managers of a slave take.
+use crate::AllocResult;
+use crate::places::SlaveAt;
 use ec_outline::counted;
 use ec_regs::registers::{RAM_END, RAM_START};
-use ec_table::TypeRow;
-use std::alloc::{AllocError, Global};
+use ec_table::Direction;
+use std::alloc::Global;
 
 /// An area of a slave's memory that a sync manager governs.
 #[derive(Clone, Copy)]
@@ -20,6 +22,30 @@ pub struct Area {
 }
 
 impl Area {
+    /// A mailbox, whose start has a place in the list `mailbox`.
+    fn mailbox(name: &'static str, start: u16, size: u16, item: usize) -> Area {
+        let length = usize::from(size);
+        Area {
+            name,
+            start: usize::from(start),
+            span: length,
+            length,
+            key: ("mailbox", Some(item)),
+        }
+    }
+
+    /// The process data of a direction, so many bits.
+    fn process(name: &'static str, start: u16, bits: usize, key: &'static str) -> Area {
+        let length = bits.div_ceil(8);
+        Area {
+            name,
+            start: usize::from(start),
+            span: length.saturating_mul(3),
+            length,
+            key: (key, None),
+        }
+    }
+
     /// The first address behind it.
     pub fn end(&self) -> usize {
         self.start.saturating_add(self.span)
@@ -36,55 +62,32 @@ impl Area {
     }
 
     /// The area in words: where it begins and ends, and why it is so long.
-    pub fn text(&self, alloc: Global) -> Result<String, AllocError> {
-        let (name, start) = (self.name, self.start);
-        let last = self.end().saturating_sub(1);
+    pub fn text(&self, alloc: Global) -> AllocResult<String> {
+        let (name, start, last) = (self.name, self.start, self.end().saturating_sub(1));
         let length = counted(alloc, self.length, "byte")?;
-        let length = length.as_str();
-        if self.span == self.length {
-            format!(in alloc; "{name}: 0x{start:04X} to 0x{last:04X}, {length}")
-        } else {
-            format!(in alloc; "{name}: 0x{start:04X} to 0x{last:04X}, three buffers of {length}")
-        }
+        let is_whole = self.span == self.length;
+        let buffers = if is_whole { "" } else { "three buffers of " };
+        format!(in alloc; "{name}: 0x{start:04X} to 0x{last:04X}, {buffers}{length}")
     }
 }
 
-/// The areas of a slave of a type with so many bits of outputs and inputs: mailboxes, outputs, inputs.
-pub fn areas_of(
-    alloc: Global,
-    row: &TypeRow,
-    outs: usize,
-    ins: usize,
-) -> Result<Vec<Area>, AllocError> {
+/// The areas of a slave: mailboxes, outputs, inputs.
+pub fn areas_of(alloc: Global, at: &SlaveAt<'_>) -> AllocResult<Vec<Area>> {
     let mut areas = Vec::new(alloc);
-    if let Some(mailbox) = row.mailbox {
-        let sizes = (
-            usize::from(mailbox.receive_size),
-            usize::from(mailbox.send_size),
-        );
-        areas.push(Area {
-            name: "receive mailbox",
-            start: usize::from(mailbox.receive_start),
-            span: sizes.0,
-            length: sizes.0,
-            key: ("mailbox", Some(0)),
-        })?;
-        areas.push(Area {
-            name: "send mailbox",
-            start: usize::from(mailbox.send_start),
-            span: sizes.1,
-            length: sizes.1,
-            key: ("mailbox", Some(2)),
-        })?;
+    if let Some(mailbox) = at.kind.mailbox {
+        let (start, size) = (mailbox.receive_start, mailbox.receive_size);
+        areas.push(Area::mailbox("receive mailbox", start, size, 0))?;
+        let (start, size) = (mailbox.send_start, mailbox.send_size);
+        areas.push(Area::mailbox("send mailbox", start, size, 2))?;
     }
-    let process = &row.process;
-    for area in [
-        process_area("outputs", "out_start", process.out_start, outs),
-        process_area("inputs", "in_start", process.in_start, ins),
-    ] {
-        if let Some(area) = area {
-            areas.push(area)?;
-        }
+    let process = &at.kind.process;
+    let outputs = at.bits(alloc, Direction::Out)?;
+    if outputs > 0 {
+        areas.push(Area::process("outputs", process.out_start, outputs, "out_start"))?;
+    }
+    let inputs = at.bits(alloc, Direction::In)?;
+    if inputs > 0 {
+        areas.push(Area::process("inputs", process.in_start, inputs, "in_start"))?;
     }
     Ok(areas)
 }
@@ -92,10 +95,9 @@ pub fn areas_of(
 /// The first two areas that share an address.
 pub fn first_met(areas: &[Area]) -> Option<(Area, Area)> {
     for (place, one) in areas.iter().enumerate() {
-        for (other_place, other) in areas.iter().enumerate() {
-            if place < other_place && one.meets(other) {
-                return Some((*one, *other));
-            }
+        let mut behind = areas.iter().skip(place.saturating_add(1));
+        if let Some(other) = behind.find(|other| one.meets(other)) {
+            return Some((*one, *other));
         }
     }
     None
@@ -103,43 +105,13 @@ pub fn first_met(areas: &[Area]) -> Option<(Area, Area)> {
 
 /// The first address of the RAM where an area would meet none of the others.
 pub fn first_free(areas: &[Area], moved: &Area) -> Option<usize> {
-    if is_free(areas, moved, RAM_START) {
-        return Some(RAM_START);
-    }
-    let mut found = None;
-    for area in areas {
-        let start = area.end();
-        let is_first = match found {
-            Some(least) => start < least,
-            None => true,
-        };
-        if is_first && is_free(areas, moved, start) {
-            found = Some(start);
-        }
-    }
-    found
-}
-
-/// The area of a direction's process data.
-fn process_area(name: &'static str, key: &'static str, start: u16, bits: usize) -> Option<Area> {
-    let length = bits.div_ceil(8);
-    if length == 0 {
-        return None;
-    }
-    Some(Area {
-        name,
-        start: usize::from(start),
-        span: length.saturating_mul(3),
-        length,
-        key: (key, None),
-    })
+    let starts = areas.iter().map(|area| area.end()).chain([RAM_START]);
+    starts.filter(|start| is_free(areas, moved, *start)).min()
 }
 
 /// Whether an area could begin at an address without meeting those that are elsewhere.
 fn is_free(areas: &[Area], moved: &Area, start: usize) -> bool {
     let there = Area { start, ..*moved };
-    !there.leaves()
-        && areas
-            .iter()
-            .all(|area| area.name == moved.name || !area.meets(&there))
+    let mut others = areas.iter().filter(|area| area.name != moved.name);
+    !there.leaves() && !others.any(|area| area.meets(&there))
 }

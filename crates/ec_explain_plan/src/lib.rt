@@ -2,8 +2,15 @@
 #![tactic(auto)]
 
 mod areas;
-mod keys;
+mod bits;
 mod linking;
+mod links;
+mod places;
+mod slaves;
 mod twice;
 
 pub use crate::linking::tell_link_fault;
+use std::alloc::AllocError;
+
+/// What was made, or the want of memory for it.
+type AllocResult<T> = Result<T, AllocError>;

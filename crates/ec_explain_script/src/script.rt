@@ -1,6 +1,6 @@
 //! Which line of a script stands for nothing: refusal 39; and that what lines expect isn't so: 45.
-use crate::form::{LineForm, WordKind, form_of, verbs, word_expected};
-use crate::misfit::{misfit, names_variable};
+use crate::form::{WordKind, form_of, verbs};
+use crate::misfit::{SEE_HELP, misfit, names_variable};
 use crate::word::{Word, without_comment, words_of};
 use ec_outline::{Span, Telling, meant, printable};
 use ec_table::{Table, read_table};
@@ -20,76 +20,42 @@ pub fn tell_bad_line(
         return telling.note(words);
     };
     let rest = text.get(start..).unwrap_or("");
-    let found = rest.split('\n').next().unwrap_or("");
-    let table = table_before(text, from);
-    tell_line_of(telling, table, start, found.trim_end_matches('\r'))
+    let line = rest.split('\n').next().unwrap_or("");
+    let words = words_of(alloc, start, without_comment(line.trim_end_matches('\r')))?;
+    match read_table(alloc, table_before(text, from)) {
+        Ok(table) => tell_line(telling, Some(&table), words.as_slice()),
+        Err(_) => tell_line(telling, None, words.as_slice()),
+    }
 }
 
 /// Tells that what lines expect isn't so, so many times. The error is want of memory.
 pub fn tell_unmet(telling: &mut Telling<'_>, count: u64) -> Result<(), AllocError> {
     let alloc = telling.alloc;
-    let words = if count == 1 {
-        String::from_str(
-            alloc,
-            "what a line expects wasn't so; each `unmet` names its line",
-        )?
-    } else {
-        format!(in alloc;
-            "{count} times what a line expects wasn't so; each `unmet` names its line"
-        )?
+    let what = "what a line expects wasn't so; each `unmet` names its line";
+    let words = match count {
+        1 => String::from_str(alloc, what),
+        _ => format!(in alloc; "{count} times {what}"),
     };
-    telling.note(words)?;
+    telling.note(words?)?;
     telling.advise("see what these lines expect, or what the lines before them do")
 }
 
-/// The same, by the table that stands before the script.
-fn tell_line_of(
-    telling: &mut Telling<'_>,
-    table: &str,
-    start: usize,
-    line: &str,
-) -> Result<(), AllocError> {
-    match read_table(telling.alloc, table) {
-        Ok(table) => tell_line(telling, Some(&table), start, line),
-        Err(_) => tell_line(telling, None, start, line),
-    }
-}
-
-/// Tells what is wrong with a line that begins at a byte of the text.
+/// Tells what is wrong with the words of a line; its names are the table's, where there is one.
 fn tell_line(
     telling: &mut Telling<'_>,
     table: Option<&Table>,
-    start: usize,
-    line: &str,
+    words: &[Word<'_>],
 ) -> Result<(), AllocError> {
-    let words = words_of(telling.alloc, start, without_comment(line))?;
-    let words = words.as_slice();
-    if tell_blanks(telling, words)? {
-        return Ok(());
+    let alloc = telling.alloc;
+    if let Some(gap) = words.iter().find(|word| word.text.is_empty()) {
+        let wrong = format!(in alloc; "a word is missing here, or a blank is one too many")?;
+        let advice = "write single blanks between the words, and none before or behind them";
+        return tell_wrong(telling, gap.span(), wrong, advice);
     }
     match words.first() {
         Some(first) if first.text == "repeat" => tell_repeat(telling, table, words),
         _ => tell_words(telling, table, words),
     }
-}
-
-/// Tells of a place where two blanks stand together; whether there was one to tell of.
-fn tell_blanks(telling: &mut Telling<'_>, words: &[Word<'_>]) -> Result<bool, AllocError> {
-    let alloc = telling.alloc;
-    for word in words {
-        if word.text.is_empty() {
-            let wrong = String::from_str(
-                alloc,
-                "a word is missing here, or a blank is one too many",
-            )?;
-            telling.at_span(word.span(), wrong)?;
-            telling.advise(
-                "write single blanks between the words, and none before or behind them",
-            )?;
-            return Ok(true);
-        }
-    }
-    Ok(false)
 }
 
 /// Tells what is wrong with a line that repeats another.
@@ -100,21 +66,20 @@ fn tell_repeat(
 ) -> Result<(), AllocError> {
     let alloc = telling.alloc;
     let (Some(times), Some(next)) = (words.get(1), words.get(2)) else {
-        return tell_form(telling, span_of(words), "repeat N LINE");
+        return tell_form(telling, words, "repeat N LINE");
     };
     if let Some(wrong) = misfit(alloc, None, WordKind::Times, times.text)? {
-        telling.at_span(times.span(), wrong.words)?;
-        return telling.advise(wrong.advice);
+        return tell_wrong(telling, times.span(), wrong.words, wrong.advice);
     }
     if next.text == "repeat" {
-        let wrong = String::from_str(alloc, "a line that repeats another isn't repeated")?;
-        telling.at_span(next.span(), wrong)?;
-        return telling.advise("write one `repeat` alone");
+        let wrong = format!(in alloc; "a line that repeats another isn't repeated")?;
+        return tell_wrong(telling, next.span(), wrong, "write one `repeat` alone");
     }
     tell_words(telling, table, words.get(2..).unwrap_or(&[]))
 }
 
-/// Tells what is wrong with the words of a line that isn't repeated.
+/// Tells what is wrong with the words of a line that isn't repeated: of the first that isn't what the line's form needs there,
+/// or of their number.
 fn tell_words(
     telling: &mut Telling<'_>,
     table: Option<&Table>,
@@ -126,99 +91,76 @@ fn tell_words(
     let Some(form) = form_of(words, expects_variable(table, words)) else {
         return tell_unknown_verb(telling, *first);
     };
-    if tell_misfit(telling, table, form, words)? {
-        return Ok(());
+    for (word, part) in words.iter().zip(form.split(' ')) {
+        if let Some(kind) = WordKind::of(part) {
+            if let Some(wrong) = misfit(telling.alloc, table, kind, word.text)? {
+                return tell_wrong(telling, word.span(), wrong.words, wrong.advice);
+            }
+        }
     }
-    tell_form(telling, span_of(words), form.text)
+    tell_form(telling, words, form)
 }
 
 /// Whether a variable of the table has the word between `expect` and the only word behind it as its name.
 fn expects_variable(table: Option<&Table>, words: &[Word<'_>]) -> bool {
-    match (table, word_expected(words)) {
-        (Some(table), Some(name)) => names_variable(table, name),
+    match (table, words) {
+        (Some(table), [verb, name, _]) if verb.text == "expect" => names_variable(table, name.text),
         _ => false,
     }
 }
 
-/// The bytes from the first word to the last.
-fn span_of(words: &[Word<'_>]) -> Span {
-    match (words.first(), words.last()) {
+/// Tells of a line that has too few words, or one too many, and of its form.
+fn tell_form(telling: &mut Telling<'_>, words: &[Word<'_>], form: &str) -> Result<(), AllocError> {
+    let alloc = telling.alloc;
+    let span = match (words.first(), words.last()) {
         (Some(first), Some(last)) => Span {
             start: first.start,
             end: last.span().end,
         },
         _ => Span { start: 0, end: 0 },
-    }
-}
-
-/// Tells of the first word of a line that isn't of the kind that its form needs there; whether there was one to tell of.
-fn tell_misfit(
-    telling: &mut Telling<'_>,
-    table: Option<&Table>,
-    form: LineForm,
-    words: &[Word<'_>],
-) -> Result<bool, AllocError> {
-    let alloc = telling.alloc;
-    for (place, word) in words.iter().skip(form.head_words()).enumerate() {
-        let Some(kind) = form.kind_at(place) else {
-            return Ok(false);
-        };
-        if let Some(wrong) = misfit(alloc, table, kind, word.text)? {
-            telling.at_span(word.span(), wrong.words)?;
-            telling.advise(wrong.advice)?;
-            return Ok(true);
-        }
-    }
-    Ok(false)
-}
-
-/// Tells of a line that has too few words, or one too many, and of its form.
-fn tell_form(telling: &mut Telling<'_>, span: Span, form: &str) -> Result<(), AllocError> {
-    let alloc = telling.alloc;
-    let words = format!(in alloc; "this line isn't written as `{form}`")?;
-    telling.at_span(span, words)?;
+    };
+    let wrong = format!(in alloc; "this line isn't written as `{form}`")?;
     let advice = format!(in alloc; "write it as `{form}`, with single blanks between the words")?;
-    telling.advise(advice.as_str())
+    tell_wrong(telling, span, wrong, advice.as_str())
 }
 
 /// Tells of a first word that no line has.
 fn tell_unknown_verb(telling: &mut Telling<'_>, word: Word<'_>) -> Result<(), AllocError> {
     let alloc = telling.alloc;
     let shown = printable(alloc, word.text)?;
-    let known = verbs(alloc)?;
-    let near = meant(alloc, word.text, known.as_slice())?;
-    let (shown, near) = (shown.as_str(), near.as_str());
-    let words = format!(in alloc; "no line of a script begins with `{shown}`{near}")?;
-    telling.at_span(word.span(), words)?;
-    telling.advise("correct it; `ecat sim --help` lists the lines that a script has")
+    let near = meant(alloc, word.text, verbs(alloc)?.as_slice())?;
+    let wrong = format!(in alloc; "no line of a script begins with `{shown}`{near}")?;
+    tell_wrong(telling, word.span(), wrong, SEE_HELP)
+}
+
+/// Tells what is wrong at some bytes, and what to do.
+fn tell_wrong(
+    telling: &mut Telling<'_>,
+    span: Span,
+    wrong: String,
+    advice: &str,
+) -> Result<(), AllocError> {
+    telling.at_span(span, wrong)?;
+    telling.advise(advice)
 }
 
 /// The table that stands before a script, whose line `%%` ends where the script begins.
 fn table_before(text: &str, from: usize) -> &str {
-    let Some(before) = text.get(..from) else {
-        return "";
-    };
-    match before.trim_end().strip_suffix("%%") {
-        Some(table) => table,
-        None => before,
-    }
+    let before = text.get(..from).unwrap_or("");
+    before.trim_end().strip_suffix("%%").unwrap_or(before)
 }
 
 /// Where the line with a number, counted from 1, begins in a text of which the first so many bytes
 /// don't count.
 fn line_start(bytes: &[u8], from: usize, line: usize) -> Option<usize> {
-    let mut left = line.saturating_sub(1);
-    if left == 0 {
+    let Some(ends_between) = line.checked_sub(2) else {
         return Some(from);
-    }
-    let script = bytes.get(from..)?;
-    for (offset, byte) in script.iter().enumerate() {
-        if *byte == b'\n' {
-            left = left.saturating_sub(1);
-            if left == 0 {
-                return Some(from.saturating_add(offset).saturating_add(1));
-            }
-        }
-    }
-    None
+    };
+    let mut ends = bytes
+        .iter()
+        .enumerate()
+        .skip(from)
+        .filter(|(_, byte)| **byte == b'\n');
+    let (end, _) = ends.nth(ends_between)?;
+    Some(end.saturating_add(1))
 }

@@ -1,51 +1,69 @@
 //! Why a start-up or a cycle failed: refusals 9, 26 to 38.
-use crate::steps::step_text;
+use crate::AllocResult;
+use crate::steps::step_of;
 use ec_cycle::CycleError;
 use ec_device::{Device, Entry, FIRST_INPUT_INDEX};
-use ec_link::{Plan, compile};
+use ec_link::compile;
 use ec_outline::{MarkedPart, PathStep, Telling, counted};
 use ec_start::StartError;
-use ec_table::{Direction, Table};
+use ec_table::{Direction, Table, TypeRow};
 use std::alloc::{AllocError, Global};
+use std::fmt;
+
+/// That no number is left, and what to do.
+const SPENT: (&str, &str) = (
+    "Each frame has a number of its own, and all 2^64 are used up",
+    "start the program anew",
+);
+
+/// The place of a slave of a table, at which there may be none. It is printed as `slave`, its place and its name.
+#[derive(Clone, Copy)]
+struct SlaveAt<'t> {
+    table: &'t Table,
+    place: usize,
+}
 
 /// Tells why a start-up of a table failed.
 pub fn tell_start_error(
     telling: &mut Telling<'_>,
     table: &Table,
     error: StartError,
-) -> Result<(), AllocError> {
+) -> AllocResult<()> {
     match error {
-        StartError::BadMailbox { slave } => {
-            let what = "answered a request with something that is no reply to it";
-            let advice = "see whether the `mailbox` of its type lies where the device has it";
-            tell_slave(telling, table, slave, what, advice)
+        StartError::BadMailbox { slave }
+        | StartError::Identity { slave, .. }
+        | StartError::AlError { slave, .. }
+        | StartError::Abort { slave, .. } => {
+            tell_of_slave(telling, SlaveAt::new(table, slave), error)
         }
-        StartError::Count { seen } => tell_count(telling, table, seen),
-        StartError::Identity { slave, seen } => tell_identity(telling, table, slave, seen),
-        StartError::Counter { step } => {
-            let what = "its frame came back with another working counter than it must have";
-            tell_planned(telling, table, step, what)?;
-            telling.advise("see whether a slave was switched off or unplugged, and start again")
-        }
-        StartError::AlError { slave, code } => tell_al_error(telling, table, slave, code),
-        StartError::Abort { slave, code } => tell_abort(telling, table, slave, code),
-        StartError::TooSlow { step } => {
-            tell_planned(telling, table, step, "it wasn't over after 1000 polls")?;
-            telling.advise("see whether the slave works, and start again")
-        }
-        StartError::Lost => tell_lost(telling),
-        StartError::NumbersSpent => tell_spent(telling),
         StartError::Mapping {
             slave,
             index,
             subindex,
             seen,
-        } => tell_mapping(telling, table, slave, index, subindex, seen),
+        } => tell_mapping(telling, SlaveAt::new(table, slave), (index, subindex), seen),
+        StartError::Count { seen } => tell_count(telling, table, usize::from(seen)),
+        StartError::Counter { step } => {
+            let what = "its frame came back with another working counter than it must have";
+            tell_step(telling, table, step, what)?;
+            telling.advise("see whether a slave was switched off or unplugged, and start again")
+        }
+        StartError::TooSlow { step } => {
+            tell_step(telling, table, step, "it wasn't over after 1000 polls")?;
+            telling.advise("see whether the slave works, and start again")
+        }
+        StartError::Lost => {
+            let words =
+                "A frame of the start-up was lost, or its socket was faulty, so it was given up";
+            let advice = "see that the segment answers, and start again";
+            tell_plain(telling, words, advice)
+        }
+        StartError::NumbersSpent => tell_plain(telling, SPENT.0, SPENT.1),
     }
 }
 
 /// Tells why a cycle couldn't be run.
-pub fn tell_cycle_error(telling: &mut Telling<'_>, error: CycleError) -> Result<(), AllocError> {
+pub fn tell_cycle_error(telling: &mut Telling<'_>, error: CycleError) -> AllocResult<()> {
     let (words, advice) = match error {
         CycleError::NotReady => (
             "No start-up of the table has ended ready, so no cycle can begin",
@@ -56,87 +74,85 @@ pub fn tell_cycle_error(telling: &mut Telling<'_>, error: CycleError) -> Result<
             "close it first",
         ),
         CycleError::NotOpen => ("No cycle is open", "begin one first"),
-        CycleError::NumbersSpent => return tell_spent(telling),
+        CycleError::NumbersSpent => SPENT,
     };
-    telling.note(String::from_str(telling.alloc, words)?)?;
-    telling.advise(advice)
+    tell_plain(telling, words, advice)
 }
 
 /// Tells of a fault of a wire in a cycle.
-pub fn tell_wire_fault(telling: &mut Telling<'_>) -> Result<(), AllocError> {
+pub fn tell_wire_fault(telling: &mut Telling<'_>) -> AllocResult<()> {
     let words = "A socket took or gave no frame in a cycle, so nothing of that cycle was taken";
+    let advice = "see that the segment answers and that nothing else uses its port, and try again";
+    tell_plain(telling, words, advice)
+}
+
+impl<'t> SlaveAt<'t> {
+    fn new(table: &'t Table, place: usize) -> SlaveAt<'t> {
+        SlaveAt { table, place }
+    }
+
+    /// Its type, and the place of that.
+    fn kind(&self) -> Option<(usize, &'t TypeRow)> {
+        let place = self.table.slaves().get(self.place)?.type_place;
+        Some((place, self.table.types().get(place)?))
+    }
+}
+
+impl fmt::Display for SlaveAt<'_> {
+    fn fmt<W: fmt::Write>(&self, f: &mut fmt::Formatter<W>) -> fmt::Result {
+        let SlaveAt { table, place } = *self;
+        let row = table.slaves().get(place);
+        let name = row.map_or("", |row| row.name.as_str());
+        write!(f, "slave {place} {name}")
+    }
+}
+
+/// Tells something that has no place, and what to do.
+fn tell_plain(telling: &mut Telling<'_>, words: &str, advice: &str) -> AllocResult<()> {
     telling.note(String::from_str(telling.alloc, words)?)?;
-    telling.advise(
-        "see that the segment answers and that nothing else uses its port, and try again",
-    )
-}
-
-/// Tells that a start-up was given up.
-fn tell_lost(telling: &mut Telling<'_>) -> Result<(), AllocError> {
-    let words = "A frame of the start-up was lost, or its socket was faulty, so it was given up";
-    telling.note(String::from_str(telling.alloc, words)?)?;
-    telling.advise("see that the segment answers, and start again")
-}
-
-/// Tells that a slave aborted a transfer.
-fn tell_abort(
-    telling: &mut Telling<'_>,
-    table: &Table,
-    slave: usize,
-    code: u32,
-) -> Result<(), AllocError> {
-    let alloc = telling.alloc;
-    let text = abort_text(code);
-    let what = format!(in alloc; "aborted an SDO transfer, code 0x{code:08X}: {text}")?;
-    let advice = "correct the PDOs of its type, or `out` and `in` of the slave";
-    tell_slave(telling, table, slave, what.as_str(), advice)
-}
-
-/// Tells that a slave refused a state.
-fn tell_al_error(
-    telling: &mut Telling<'_>,
-    table: &Table,
-    slave: usize,
-    code: u16,
-) -> Result<(), AllocError> {
-    let alloc = telling.alloc;
-    let text = status_text(code);
-    let what = format!(in alloc; "refused a state, AL status code 0x{code:04X}: {text}")?;
-    let advice = "correct what the code names in the slave's type or in what it assigns";
-    tell_slave(telling, table, slave, what.as_str(), advice)
-}
-
-/// Tells of a slave what it did.
-fn tell_slave(
-    telling: &mut Telling<'_>,
-    table: &Table,
-    slave: usize,
-    what: &str,
-    advice: &str,
-) -> Result<(), AllocError> {
-    let alloc = telling.alloc;
-    let name = name_of(table, slave);
-    let words = format!(in alloc; "slave {slave} {name} {what}")?;
-    at_slave(telling, slave, words)?;
     telling.advise(advice)
 }
 
-/// Tells that a slave has another mapping than its type.
+/// Tells of a slave that failed.
+fn tell_of_slave(telling: &mut Telling<'_>, at: SlaveAt<'_>, error: StartError) -> AllocResult<()> {
+    let alloc = telling.alloc;
+    let (words, advice) = match error {
+        StartError::Identity { seen, .. } => return tell_identity(telling, at, seen),
+        StartError::AlError { code, .. } => {
+            let text = status_text(code);
+            (
+                format!(in alloc; "{at} refused a state, AL status code 0x{code:04X}: {text}")?,
+                "correct what the code names in the slave's type or in what it assigns",
+            )
+        }
+        StartError::Abort { code, .. } => {
+            let text = abort_text(code);
+            (
+                format!(in alloc; "{at} aborted an SDO transfer, code 0x{code:08X}: {text}")?,
+                "correct the PDOs of its type, or `out` and `in` of the slave",
+            )
+        }
+        _ => (
+            format!(in alloc; "{at} answered a request with something that is no reply to it")?,
+            "see whether the `mailbox` of its type lies where the device has it",
+        ),
+    };
+    telling.at_row("slave", at.place, words)?;
+    telling.advise(advice)
+}
+
+/// Tells that a slave has another value in an object of its mapping, given by its index and its subindex, than its type.
 fn tell_mapping(
     telling: &mut Telling<'_>,
-    table: &Table,
-    slave: usize,
-    index: u16,
-    subindex: u8,
+    at: SlaveAt<'_>,
+    object: (u16, u8),
     seen: u32,
-) -> Result<(), AllocError> {
+) -> AllocResult<()> {
     let alloc = telling.alloc;
-    let name = name_of(table, slave);
-    let words = format!(in alloc;
-        "slave {slave} {name} has 0x{seen:X} in its object 0x{index:04X}:{subindex}"
-    )?;
-    at_slave(telling, slave, words)?;
-    at_pdo(telling, table, slave, index, subindex)?;
+    let (index, subindex) = object;
+    let words = format!(in alloc; "{at} has 0x{seen:X} in its object 0x{index:04X}:{subindex}")?;
+    telling.at_row("slave", at.place, words)?;
+    at_pdo(telling, at, index, subindex)?;
     if subindex == 0 {
         return telling.advise("give the PDO of the type the entries that the device has");
     }
@@ -148,46 +164,35 @@ fn tell_mapping(
 }
 
 /// Marks the PDO of a slave's type, and says what it has at a subindex.
-fn at_pdo(
-    telling: &mut Telling<'_>,
-    table: &Table,
-    slave: usize,
-    index: u16,
-    subindex: u8,
-) -> Result<(), AllocError> {
+fn at_pdo(telling: &mut Telling<'_>, at: SlaveAt<'_>, index: u16, subindex: u8) -> AllocResult<()> {
     let alloc = telling.alloc;
+    let Some((place, kind)) = at.kind() else {
+        return Ok(());
+    };
     let (direction, key) = if index < FIRST_INPUT_INDEX {
         (Direction::Out, "rxpdo")
     } else {
         (Direction::In, "txpdo")
     };
-    let Some(row) = table.slaves().get(slave) else {
-        return Ok(());
-    };
-    let Some(kind) = table.types().get(row.type_place) else {
-        return Ok(());
-    };
-    let mut place: usize = 0;
-    for pdo in kind.pdos(direction) {
+    for (item, pdo) in kind.pdos(direction).iter().enumerate() {
         if pdo.index == index {
             let wanted = mapped_value(alloc, pdo.entries.as_slice(), subindex)?;
-            let (wanted, kind_name) = (wanted.as_str(), kind.name.as_str());
-            let words = format!(in alloc; "its type {kind_name} has {wanted} there")?;
+            let name = kind.name.as_str();
+            let words = format!(in alloc; "its type {name} has {wanted} there")?;
             let way = [
                 PathStep::Key("type"),
-                PathStep::Item(row.type_place),
-                PathStep::Key(key),
                 PathStep::Item(place),
+                PathStep::Key(key),
+                PathStep::Item(item),
             ];
             telling.at(&way, MarkedPart::Key, words)?;
         }
-        place = place.saturating_add(1);
     }
     Ok(())
 }
 
 /// What an object of a mapping has to hold by the table: at subindex 0 how many entries, else an entry.
-fn mapped_value(alloc: Global, entries: &[Entry], subindex: u8) -> Result<String, AllocError> {
+fn mapped_value(alloc: Global, entries: &[Entry], subindex: u8) -> AllocResult<String> {
     if subindex == 0 {
         let count = entries.len();
         return format!(in alloc; "{count}, as many entries as the PDO has,");
@@ -203,156 +208,77 @@ fn mapped_value(alloc: Global, entries: &[Entry], subindex: u8) -> Result<String
     }
 }
 
-/// Tells of a step, if the table has a plan.
-fn tell_planned(
-    telling: &mut Telling<'_>,
-    table: &Table,
-    step: usize,
-    what: &str,
-) -> Result<(), AllocError> {
-    match compile(telling.alloc, table) {
-        Ok(plan) => tell_step(telling, table, &plan, step, what),
-        Err(error) if error.number() == 1 => Err(AllocError),
-        Err(_) => Ok(()),
-    }
-}
-
-/// Tells of a step that failed.
+/// Tells of a step that failed, if the table has a plan.
 fn tell_step(
     telling: &mut Telling<'_>,
     table: &Table,
-    plan: &Plan,
-    step: usize,
+    number: usize,
     what: &str,
-) -> Result<(), AllocError> {
+) -> AllocResult<()> {
     let alloc = telling.alloc;
-    let Some(found) = step_text(alloc, plan, step)? else {
+    let found = match compile(alloc, table) {
+        Ok(plan) => step_of(alloc, &plan, number)?,
+        Err(error) if error.number() == 1 => return Err(AllocError),
+        Err(_) => None,
+    };
+    let Some((slave, step)) = found else {
         return Ok(());
     };
-    let did = found.words.as_str();
-    match found.slave {
+    let did = step.text(alloc)?;
+    match slave {
         Some(slave) => {
-            let name = name_of(table, slave);
-            let words = format!(in alloc;
-                "step {step} is for slave {slave} {name}: {did}; {what}"
-            )?;
-            at_slave(telling, slave, words)
+            let at = SlaveAt::new(table, slave);
+            let words = format!(in alloc; "step {number} is for {at}: {did}; {what}")?;
+            telling.at_row("slave", slave, words)
         }
-        None => {
-            let words = format!(in alloc; "step {step} is for all slaves: {did}; {what}")?;
-            telling.note(words)
-        }
+        None => telling.note(format!(in alloc; "step {number} is for all slaves: {did}; {what}")?),
     }
 }
 
 /// Tells that a slave is another device.
-fn tell_identity(
-    telling: &mut Telling<'_>,
-    table: &Table,
-    slave: usize,
-    seen: Device,
-) -> Result<(), AllocError> {
+fn tell_identity(telling: &mut Telling<'_>, at: SlaveAt<'_>, seen: Device) -> AllocResult<()> {
     let alloc = telling.alloc;
-    let name = name_of(table, slave);
     let shown = device_text(alloc, seen)?;
-    let shown = shown.as_str();
-    let words = format!(in alloc;
-        "slave {slave} {name} shows {shown}; what couldn't be read is 0"
-    )?;
-    at_slave(telling, slave, words)?;
-    if let Some(row) = table.slaves().get(slave) {
-        if let Some(kind) = table.types().get(row.type_place) {
-            let wanted = device_text(alloc, kind.device)?;
-            let (wanted, kind) = (wanted.as_str(), kind.name.as_str());
-            let words = format!(in alloc; "its type {kind} says {wanted}")?;
-            at_type(telling, table, slave, "name", words)?;
-        }
+    let words = format!(in alloc; "{at} shows {shown}; what couldn't be read is 0")?;
+    telling.at_row("slave", at.place, words)?;
+    if let Some((place, kind)) = at.kind() {
+        let wanted = device_text(alloc, kind.device)?;
+        let name = kind.name.as_str();
+        let words = format!(in alloc; "its type {name} says {wanted}")?;
+        telling.at_key("type", place, "name", words)?;
     }
-    match type_with(table, seen) {
-        Some(kind) => {
-            let advice = format!(in alloc;
-                "what it shows is the type {kind} of the table: put the slaves into the order in which a frame passes them"
-            )?;
-            telling.advise(advice.as_str())
-        }
-        None => telling.advise(
+    let Some(kind) = at.table.types().iter().find(|kind| kind.device == seen) else {
+        return telling.advise(
             "put the slaves into the order in which a frame passes them, or correct vendor, product and revision of the type",
-        ),
-    }
-}
-
-/// The name of the type with a device.
-fn type_with<'t>(table: &'t Table, device: Device) -> Option<&'t str> {
-    for row in table.types() {
-        if row.device == device {
-            return Some(row.name.as_str());
-        }
-    }
-    None
+        );
+    };
+    let name = kind.name.as_str();
+    let advice = format!(in alloc;
+        "what it shows is the type {name} of the table: put the slaves into the order in which a frame passes them"
+    )?;
+    telling.advise(advice.as_str())
 }
 
 /// A device in words.
-fn device_text(alloc: Global, device: Device) -> Result<String, AllocError> {
+fn device_text(alloc: Global, device: Device) -> AllocResult<String> {
     let (vendor, product, revision) = (device.vendor, device.product, device.revision);
     format!(in alloc; "vendor 0x{vendor:08X}, product 0x{product:08X}, revision 0x{revision:08X}")
 }
 
 /// Tells that there are too few or too many slaves.
-fn tell_count(telling: &mut Telling<'_>, table: &Table, seen: u16) -> Result<(), AllocError> {
+fn tell_count(telling: &mut Telling<'_>, table: &Table, seen: usize) -> AllocResult<()> {
     let alloc = telling.alloc;
-    let (seen, wanted) = (usize::from(seen), table.slaves().len());
-    let there = counted(alloc, seen, "slave")?;
-    let there = there.as_str();
+    let (there, wanted) = (counted(alloc, seen, "slave")?, table.slaves().len());
     if seen < wanted {
-        let name = name_of(table, seen);
+        let at = SlaveAt::new(table, seen);
         let words = format!(in alloc;
-            "{there} answered, and the table has {wanted}: slave {seen} {name} is the first that is missing, if those before it are there"
+            "{there} answered, and the table has {wanted}: {at} is the first that is missing, if those before it are there"
         )?;
-        at_slave(telling, seen, words)?;
+        telling.at_row("slave", seen, words)?;
         return telling.advise("see whether that slave is switched on and its cable plugged in");
     }
-    let words = format!(in alloc; "{there} answered, and the table has {wanted}")?;
-    telling.note(words)?;
+    telling.note(format!(in alloc; "{there} answered, and the table has {wanted}")?)?;
     telling.advise("add the other slaves to the table, in the order in which a frame passes them")
-}
-
-/// Marks what the type of a slave has under a key.
-fn at_type(
-    telling: &mut Telling<'_>,
-    table: &Table,
-    slave: usize,
-    key: &'static str,
-    words: String,
-) -> Result<(), AllocError> {
-    match table.slaves().get(slave) {
-        Some(row) => telling.at(
-            &[
-                PathStep::Key("type"),
-                PathStep::Item(row.type_place),
-                PathStep::Key(key),
-            ],
-            MarkedPart::Value,
-            words,
-        ),
-        None => telling.note(words),
-    }
-}
-
-/// Marks the slave at a place.
-fn at_slave(telling: &mut Telling<'_>, slave: usize, words: String) -> Result<(), AllocError> {
-    telling.at(
-        &[PathStep::Key("slave"), PathStep::Item(slave)],
-        MarkedPart::Key,
-        words,
-    )
-}
-
-/// The name of the slave at a place.
-fn name_of(table: &Table, slave: usize) -> &str {
-    match table.slaves().get(slave) {
-        Some(row) => row.name.as_str(),
-        None => "",
-    }
 }
 
 /// What an abort code of an SDO transfer says (ETG.1000.6, "Abort SDO transfer").
@@ -414,11 +340,4 @@ fn status_text(code: u16) -> &'static str {
         0x0030 => "settings of its distributed clock that it doesn't take",
         _ => "a code that the standard or the vendor explains",
     }
-}
-
-/// Tells that no number is left.
-fn tell_spent(telling: &mut Telling<'_>) -> Result<(), AllocError> {
-    let words = "Each frame has a number of its own, and all 2^64 are used up";
-    telling.note(String::from_str(telling.alloc, words)?)?;
-    telling.advise("start the program anew")
 }

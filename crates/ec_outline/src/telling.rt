@@ -130,6 +130,33 @@ impl<'a> Telling<'a> {
         }
         Ok(())
     }
+
+    /// Says something of a row of a list of the document, and marks it.
+    pub fn at_row(
+        &mut self,
+        list: &'static str,
+        place: usize,
+        words: String,
+    ) -> Result<(), AllocError> {
+        let way = [PathStep::Key(list), PathStep::Item(place)];
+        self.at(&way, MarkedPart::Key, words)
+    }
+
+    /// Says something of what stands under a key of such a row, and marks that.
+    pub fn at_key(
+        &mut self,
+        list: &'static str,
+        place: usize,
+        key: &'static str,
+        words: String,
+    ) -> Result<(), AllocError> {
+        let way = [
+            PathStep::Key(list),
+            PathStep::Item(place),
+            PathStep::Key(key),
+        ];
+        self.at(&way, MarkedPart::Value, words)
+    }
 }
 
 /// Remarks on a text of what was said.

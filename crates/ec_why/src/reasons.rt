@@ -3,8 +3,8 @@ ghost use Rattle.std.specs.Prelude.{◌≡◌, ◌≢◌, ◌∷◌, ◌++◌, [
 ghost use Rattle.ec_world.specs.Watching.{sent_of};
 ghost use Rattle.ec_why.specs.Reasons.{IsReason};
 
-use crate::events::{event_words, frame_words};
-use crate::places::{Firmware, greatest, misfit_words, not_written};
+use crate::AllocResult;
+use crate::scene::{Firmware, Scene, greatest, misfit_words};
 use ec_link::{Link, Variable};
 use ec_script::LineAction;
 use ec_table::{Direction, Table};
@@ -54,7 +54,12 @@ pub fn reason_text(
 ) -> Result<String, AllocError>
     ensures { IfOk result (λ text. IsReason (string_bytes text)) }
 {
-    let words = act_words(alloc, table, world, act, had_cycle)?;
+    let scene = Scene {
+        alloc,
+        table,
+        world,
+    };
+    let words = act_words(&scene, act, had_cycle)?;
     reason_line(alloc, words.as_str())
 }
 
@@ -72,48 +77,26 @@ fn on_one_line(words: &str) -> &str
 }
 
 /// Why an act ended at an event that can't be made, in the world that it left.
-fn act_words(
-    alloc: Global,
-    table: &Table,
-    world: &World<'_>,
-    act: LineAction,
-    had_cycle: bool,
-) -> Result<String, AllocError> {
+fn act_words(scene: &Scene<'_, '_>, act: LineAction, had_cycle: bool) -> AllocResult<String> {
     match act {
-        LineAction::One(event) => event_words(alloc, table, world, event),
-        LineAction::Input(variable, value) => input_words(alloc, table, world, variable, value),
-        LineAction::Never(variable) => misfit_words(alloc, table, variable),
-        LineAction::Ready => event_words(alloc, table, world, Event::StartNext),
-        LineAction::Cycle => cycle_words(alloc, table, world, had_cycle),
-        LineAction::Expect(_) | LineAction::Show => String::from_str(alloc, PLAIN),
-    }
-}
-
-/// Why a whole cycle ended early, by whether one was open before: it wasn't begun, or a frame of it is held up.
-fn cycle_words(
-    alloc: Global,
-    table: &Table,
-    world: &World<'_>,
-    had_cycle: bool,
-) -> Result<String, AllocError> {
-    if had_cycle || !has_cycle(world) {
-        event_words(alloc, table, world, Event::Begin)
-    } else {
-        frame_words(alloc, world)
+        LineAction::One(event) => scene.event_words(event),
+        LineAction::Input(variable, value) => input_words(scene, variable, value),
+        LineAction::Never(variable) => misfit_words(scene.alloc, scene.table, variable),
+        LineAction::Ready => scene.event_words(Event::StartNext),
+        // a whole cycle wasn't begun, or a frame of it is held up
+        LineAction::Cycle if had_cycle || !has_cycle(scene.world) => scene.event_words(
+            Event::Begin,
+        ),
+        LineAction::Cycle => scene.frame_words(),
+        LineAction::Expect(_) | LineAction::Show => String::from_str(scene.alloc, PLAIN),
     }
 }
 
 /// Why the plant can't have a value in a variable of the inputs.
-fn input_words(
-    alloc: Global,
-    table: &Table,
-    world: &World<'_>,
-    variable: usize,
-    value: u64,
-) -> Result<String, AllocError> {
-    match still_slave(world, variable, value) {
-        Some(slave) => event_words(alloc, table, world, Event::AppPut(slave, 0, 0)),
-        None => not_written(alloc, table, variable, Direction::In),
+fn input_words(scene: &Scene<'_, '_>, variable: usize, value: u64) -> AllocResult<String> {
+    match still_slave(scene.world, variable, value) {
+        Some(slave) => scene.event_words(Event::AppPut(slave, 0, 0)),
+        None => scene.not_written(variable, Direction::In),
     }
 }
 
@@ -128,7 +111,7 @@ fn still_slave(world: &World<'_>, variable: usize, value: u64) -> Option<usize> 
         .iter()
         .filter(|link| is_of(variable, link))
         .map(|link| link.slave)
-        .find(|slave| !Firmware::of(world, *slave).is_running())
+        .find(|slave| !Firmware::of(world, *slave).is_running)
 }
 
 /// Whether a link's bits of the image are among those of a variable.

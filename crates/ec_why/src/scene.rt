@@ -1,0 +1,129 @@
+//! A world as a person sees it: slaves, variables and slots by their names, and what they don't have.
+use crate::AllocResult;
+use ec_outline::{counted, printable};
+use ec_table::{Direction, Table, VariableRow};
+use ec_world::World;
+use std::alloc::{AllocError, Global};
+
+/// The register of the AL status (ETG.1000.4), whose low four bits are the state.
+const AL_STATUS: u16 = 0x0130;
+
+/// The byte of sync manager 2, of the outputs, that the slave's side sets (ETG.1000.4): its bit 0 deactivates the manager.
+const OUTPUTS_LOCK: u16 = 0x0817;
+
+/// A world with the table that its names are of.
+#[derive(Clone, Copy)]
+pub struct Scene<'w, 'p> {
+    /// Where memory comes from.
+    pub alloc: Global,
+    pub table: &'w Table,
+    pub world: &'w World<'p>,
+}
+
+/// How far a firmware is.
+#[derive(Clone, Copy)]
+pub struct Firmware {
+    /// The name of its state.
+    pub state: &'static str,
+    /// Whether applications exchange process data in that.
+    pub is_running: bool,
+}
+
+impl Firmware {
+    /// That of a slave that is there.
+    pub fn of(world: &World<'_>, slave: usize) -> Firmware {
+        let (state, is_running) = match register(world, slave, AL_STATUS) & 0x0F {
+            2 => ("PREOP", false),
+            4 => ("SAFEOP", true),
+            8 => ("OP", true),
+            _ => ("INIT", false),
+        };
+        Firmware { state, is_running }
+    }
+}
+
+impl Scene<'_, '_> {
+    /// Whether the outputs of a slave are locked: a fault does that, and only INIT ends it.
+    pub fn has_locked_outputs(&self, slave: usize) -> bool {
+        register(self.world, slave, OUTPUTS_LOCK) & 1 == 1
+    }
+
+    /// The name of a slave.
+    pub fn slave_name(&self, slave: usize) -> AllocResult<String> {
+        let row = self.table.slaves().get(slave);
+        printable(self.alloc, row.map_or("", |row| row.name.as_str()))
+    }
+
+    /// That there is no such slave.
+    pub fn no_slave(&self, slave: usize) -> AllocResult<String> {
+        let alloc = self.alloc;
+        match self.table.slaves().len() {
+            0 => format!(in alloc; "there is no slave {slave}: the table has none"),
+            1 => format!(in alloc; "there is no slave {slave}: the table has one, slave 0"),
+            count => {
+                let last = count.saturating_sub(1);
+                format!(in alloc; "there is no slave {slave}: the table has slaves 0 to {last}")
+            }
+        }
+    }
+
+    /// That there is no frame in a slot.
+    pub fn no_frame(&self, slot: usize) -> AllocResult<String> {
+        let alloc = self.alloc;
+        if slot < self.world.slots() {
+            return format!(in alloc; "slot {slot} is empty: no frame is on its way there");
+        }
+        let last = self.world.slots().saturating_sub(1);
+        format!(in alloc; "there is no slot {slot}: frames are on their way in slots 0 to {last}")
+    }
+
+    /// Why a variable doesn't become a value by an act that writes variables of one direction.
+    pub fn not_written(&self, variable: usize, wanted: Direction) -> AllocResult<String> {
+        let alloc = self.alloc;
+        let Some(row) = self.table.variables().get(variable) else {
+            return misfit_words(alloc, self.table, variable);
+        };
+        let name = printable(alloc, row.name.as_str())?;
+        match (row.direction, wanted) {
+            (Direction::In, Direction::Out) => {
+                format!(in alloc; "`{name}` comes from slaves: `in {name} VALUE` writes it there")
+            }
+            (Direction::Out, Direction::In) => {
+                format!(in alloc; "`{name}` goes to slaves: `set {name} VALUE` sets it")
+            }
+            _ => misfit(alloc, row),
+        }
+    }
+}
+
+/// That a variable has too few bits for a value, also for one that is no number of 64 bits.
+pub fn misfit_words(alloc: Global, table: &Table, variable: usize) -> Result<String, AllocError> {
+    match table.variables().get(variable) {
+        None => format!(in alloc; "the table has no variable {variable}"),
+        Some(row) => misfit(alloc, row),
+    }
+}
+
+/// The greatest value of so many bits.
+pub fn greatest(bits: u8) -> u64 {
+    let power = 1_u64.checked_shl(u32::from(bits));
+    power.map_or(u64::MAX, |power| power.saturating_sub(1))
+}
+
+/// That a variable has too few bits for a value; the least is as far below 0 as a two's complement of so many bits goes.
+fn misfit(alloc: Global, row: &VariableRow) -> AllocResult<String> {
+    let name = printable(alloc, row.name.as_str())?;
+    let bits = counted(alloc, usize::from(row.bits), "bit")?;
+    let power = 1_u64.checked_shl(u32::from(row.bits.saturating_sub(1)));
+    let (least, most) = (power.unwrap_or(0), greatest(row.bits));
+    format!(in alloc; "`{name}` has {bits}, and its values go from -{least} to {most}")
+}
+
+/// A byte of the registers of a slave; 0 where there is none.
+fn register(world: &World<'_>, slave: usize, address: u16) -> u8 {
+    if slave < world.slaves() {
+        world.slave(slave).byte(address).unwrap_or(0)
+    } else {
+        0
+    }
+}
