@@ -120,7 +120,7 @@ impl<'a> Telling<'a> {
         Ok(())
     }
 
-    /// Says something of an item of a list, and marks it.
+    /// Says something of a row of a list of the document, and marks it.
     pub fn at_row(
         &mut self,
         list: &'static str,
@@ -131,7 +131,7 @@ impl<'a> Telling<'a> {
         self.at(&way, MarkedPart::Key, words)
     }
 
-    /// Says something of the value under a key of an item of a list, and marks it.
+    /// Says something of what stands under a key of such a row, and marks that.
     pub fn at_key(
         &mut self,
         list: &'static str,
