@@ -13,4 +13,4 @@ pub use crate::outline::{Found, Outline, PathStep};
 pub use crate::remark::{Remark, Remarks};
 pub use crate::spot::{Span, Spot, spot_of};
 pub use crate::telling::{MarkedPart, Telling};
-pub use crate::words::{counted, is_among, listing, meant, printable};
+pub use crate::words::{counted, is_among, listing, meant, printable, printed};

@@ -15,10 +15,8 @@ pub enum PathStep<'a> {
 /// What a step leads to. Statements and tokens are given by their places in the outline.
 #[derive(Clone, Copy)]
 enum Node {
-    /// The whole text.
-    Document,
-    /// The table behind a header.
-    Headed(usize),
+    /// The table behind a header. The document's is the first statement, which has no name.
+    Table(usize),
     /// The array of the tables behind headers like this one.
     Headers(usize),
     /// The value that begins with a token.
@@ -26,7 +24,7 @@ enum Node {
 }
 
 /// What is found at the end of a way.
-#[derive(Clone, Copy, Debug, PartialEq, Eq)]
+#[derive(Clone, Copy, Debug, Default, PartialEq, Eq)]
 pub struct Found {
     /// The key, or the first line of an item.
     pub key: Span,
@@ -36,418 +34,204 @@ pub struct Found {
     pub steps: usize,
 }
 
-/// A step that was found.
-#[derive(Clone, Copy)]
-struct Next {
-    key: Span,
-    value: Span,
-    node: Node,
+/// A header, or a key with its value.
+#[derive(Drop)]
+struct Statement<'a> {
+    /// The place of its first token.
+    first: usize,
+    /// Its bytes.
+    span: Span,
+    /// With how many brackets it begins: a header with one, that of an item of an array with two.
+    brackets: usize,
+    /// The parts of the header's name, or of the key.
+    name: Vec<&'a [u8]>,
 }
 
-/// A text, its tokens, and its statements: headers, and keys with their values.
+impl<'a> Statement<'a> {
+    /// The statement of some tokens, the first of which has a place.
+    fn new(alloc: Global, first: usize, tokens: &[Token<'a>]) -> Result<Statement<'a>, AllocError> {
+        let opening = tokens.iter().take_while(|it| it.kind == TokenKind::Open);
+        let (span, brackets) = (span_over(tokens), opening.count());
+        let mut name = Vec::new(alloc);
+        for token in tokens {
+            match token.kind {
+                TokenKind::Equals => break,
+                TokenKind::Text => name.push(token.text)?,
+                _ => (),
+            }
+        }
+        Ok(Statement {
+            first,
+            span,
+            brackets,
+            name,
+        })
+    }
+
+    fn is_header(&self) -> bool {
+        self.brackets > 0
+    }
+}
+
+/// A text as its tokens and its statements.
 #[derive(Drop)]
 pub struct Outline<'a> {
-    bytes: &'a [u8],
-    tokens: Vec<Token>,
-    statements: Vec<Span>,
+    tokens: Vec<Token<'a>>,
+    statements: Vec<Statement<'a>>,
 }
 
 impl<'a> Outline<'a> {
     /// The outline of a text.
     pub fn new(alloc: Global, text: &'a str) -> Result<Outline<'a>, AllocError> {
-        let bytes = text.as_bytes();
-        let tokens = tokens_of(alloc, bytes)?;
+        let tokens = tokens_of(alloc, text.as_bytes())?;
         let statements = statements_of(alloc, tokens.as_slice())?;
-        Ok(Outline {
-            bytes,
-            tokens,
-            statements,
-        })
+        Ok(Outline { tokens, statements })
     }
 
     /// As much of a way through the text as is found.
     pub fn find(&self, way: &[PathStep<'_>]) -> Found {
-        let nothing = Span { start: 0, end: 0 };
-        let mut found = Found {
-            key: nothing,
-            value: nothing,
-            steps: 0,
-        };
-        let mut node = Node::Document;
+        let mut found = Found::default();
+        let mut node = Node::Table(0);
         for step in way {
-            let Some(next) = self.next(node, *step) else {
-                return found;
+            let Some((key, next)) = self.next(node, *step) else {
+                break;
             };
-            found = Found {
-                key: next.key,
-                value: next.value,
-                steps: found.steps.saturating_add(1),
+            let value = match next {
+                Node::Value(first) => self.value_bytes(first),
+                _ => key,
             };
-            node = next.node;
+            let steps = found.steps.saturating_add(1);
+            found = Found { key, value, steps };
+            node = next;
         }
         found
     }
 
-    /// What a step leads to.
-    fn next(&self, node: Node, step: PathStep<'_>) -> Option<Next> {
+    /// What a step leads to, and the bytes of its key.
+    fn next(&self, node: Node, step: PathStep<'_>) -> Option<(Span, Node)> {
         match (node, step) {
-            (Node::Document, PathStep::Key(key)) => match self.in_pairs(0, key) {
-                Some(next) => Some(next),
-                None => self.in_headers(0, None, key),
-            },
-            (Node::Headed(place), PathStep::Key(key)) => {
-                let behind = place.saturating_add(1);
-                match self.in_pairs(behind, key) {
-                    Some(next) => Some(next),
-                    None => self.in_headers(behind, self.statement(place), key),
-                }
+            (Node::Table(header), PathStep::Key(key)) => {
+                let pair = self.in_pairs(header, key.as_bytes());
+                pair.or_else(|| self.in_headers(header, key.as_bytes()))
             }
-            (Node::Value(first), PathStep::Key(key)) => self.in_braces(first, key),
-            (Node::Value(first), PathStep::Item(item)) => self.in_brackets(first, item),
             (Node::Headers(first), PathStep::Item(item)) => self.in_item_headers(first, item),
+            (Node::Value(first), _) => self.in_value(first, step),
             _ => None,
         }
     }
 
-    /// An item of the array whose first header is a statement.
-    fn in_item_headers(&self, first: usize, item: usize) -> Option<Next> {
-        let array = self.statement(first)?;
-        let mut left = item;
-        let mut place = first;
-        for statement in statements_from(self.statements.as_slice(), first) {
-            let name = *statement;
-            place = place.saturating_add(1);
-            if !self.is_header(name) || !self.begins_with(array, name) {
-                continue;
-            }
-            if self.parts(name) < self.parts(array) {
-                return None;
-            }
-            if left == 0 {
-                return Some(Next {
-                    key: self.bytes_of(name),
-                    value: self.bytes_of(name),
-                    node: Node::Headed(place.saturating_sub(1)),
-                });
-            }
-            left = left.saturating_sub(1);
-        }
-        None
+    /// What stands under a key among the pairs right behind a header.
+    fn in_pairs(&self, header: usize, key: &[u8]) -> Option<(Span, Node)> {
+        let behind = self.statements.iter().skip(header.saturating_add(1));
+        let pair = behind
+            .take_while(|it| !it.is_header())
+            .find(|it| it.name.first() == Some(&key))?;
+        self.value_behind(pair.first)
     }
 
-    /// What stands under a key of the table of a header, by a header of its own: from a statement on,
-    /// the name of the table being that of `table`, or no name.
-    fn in_headers(&self, from: usize, table: Option<Span>, key: &str) -> Option<Next> {
-        let depth = match table {
-            Some(table) => self.parts(table),
-            None => 0,
+    /// What stands under a key of the table behind a header, by a header of its own.
+    fn in_headers(&self, header: usize, key: &[u8]) -> Option<(Span, Node)> {
+        let table = self.statements.get(header)?.name.as_slice();
+        let (place, header) = self
+            .statements
+            .iter()
+            .enumerate()
+            .skip(header.saturating_add(1))
+            .filter(|(_, it)| it.is_header())
+            .take_while(|(_, it)| !table.starts_with(it.name.as_slice()))
+            .find(|(_, it)| {
+                it.name.as_slice().starts_with(table) && it.name.get(table.len()) == Some(&key)
+            })?;
+        let is_item = header.brackets > 1 && header.name.len() == table.len() + 1;
+        let node = if is_item {
+            Node::Headers(place)
+        } else {
+            Node::Table(place)
         };
-        let mut place = from;
-        for statement in statements_from(self.statements.as_slice(), from) {
-            let name = *statement;
-            place = place.saturating_add(1);
-            if !self.is_header(name) {
-                continue;
-            }
-            if let Some(table) = table {
-                if self.begins_with(table, name) {
-                    return None;
-                }
-                if !self.begins_with(name, table) {
-                    continue;
-                }
-            }
-            let Some(token) = self.part(name, depth) else {
-                continue;
-            };
-            if self.is_named(token, key) {
-                let at = place.saturating_sub(1);
-                let is_item = self.is_item_header(name)
-                    && self.parts(name) == depth.saturating_add(1);
-                return Some(Next {
-                    key: self.bytes_of(name),
-                    value: self.bytes_of(name),
-                    node: if is_item {
-                        Node::Headers(at)
-                    } else {
-                        Node::Headed(at)
-                    },
-                });
-            }
-        }
-        None
+        Some((header.span, node))
     }
 
-    /// What stands under a key among the pairs right behind a header, from a statement on.
-    fn in_pairs(&self, from: usize, key: &str) -> Option<Next> {
-        for statement in statements_from(self.statements.as_slice(), from) {
-            if self.is_header(*statement) {
-                return None;
-            }
-            if let Some(token) = self.part(*statement, 0) {
-                if self.is_named(token, key) {
-                    return self.value_behind(statement.start);
-                }
-            }
-        }
-        None
+    /// An item of the array whose first header is a statement.
+    fn in_item_headers(&self, first: usize, item: usize) -> Option<(Span, Node)> {
+        let array = self.statements.get(first)?.name.as_slice();
+        let (place, header) = self
+            .statements
+            .iter()
+            .enumerate()
+            .skip(first)
+            .filter(|(_, it)| it.is_header() && array.starts_with(it.name.as_slice()))
+            .take_while(|(_, it)| it.name.len() == array.len())
+            .nth(item)?;
+        Some((header.span, Node::Table(place)))
     }
 
-    /// An item of an array in brackets, whose first token has a place.
-    fn in_brackets(&self, first: usize, item: usize) -> Option<Next> {
-        let mut depth: usize = 0;
-        let mut is_item = false;
-        let mut left = item;
-        let mut place = first;
-        for token in tokens_from(self.tokens.as_slice(), first) {
-            let begins = is_item && depth == 1 && !token.is_closing();
-            if begins && token.kind != TokenKind::LineEnd {
-                if left == 0 {
-                    let value = self.value_bytes(place);
-                    let node = Node::Value(place);
-                    return Some(Next {
-                        key: value,
-                        value,
-                        node,
-                    });
+    /// What stands in brackets or braces, the first of which is a token.
+    fn in_value(&self, first: usize, step: PathStep<'_>) -> Option<(Span, Node)> {
+        let inside = self.tokens.get(first)?.depth.saturating_add(1);
+        let (mut number, mut begins) = (0_usize, true);
+        let behind = self.tokens.iter().enumerate().skip(first.saturating_add(1));
+        for (place, token) in behind.filter(|(_, it)| it.kind != TokenKind::LineEnd) {
+            match step {
+                _ if token.depth < inside => return None,
+                _ if !begins => (),
+                PathStep::Item(item) if item == number => {
+                    return Some((self.value_bytes(place), Node::Value(place)));
                 }
-                left = left.saturating_sub(1);
+                PathStep::Key(key) if token.is_named(key.as_bytes()) => {
+                    return self.value_behind(place);
+                }
+                _ => number = number.saturating_add(1),
             }
-            depth = depth_behind(depth, *token);
-            if depth == 0 {
-                return None;
-            }
-            if token.kind != TokenKind::LineEnd {
-                is_item = depth == 1 && matches!(token.kind, TokenKind::Open | TokenKind::Comma);
-            }
-            place = place.saturating_add(1);
-        }
-        None
-    }
-
-    /// What stands under a key of a table in braces, whose first token has a place.
-    fn in_braces(&self, first: usize, key: &str) -> Option<Next> {
-        let mut depth: usize = 0;
-        let mut is_key = false;
-        let mut place = first;
-        for token in tokens_from(self.tokens.as_slice(), first) {
-            depth = depth_behind(depth, *token);
-            if depth == 0 {
-                return None;
-            }
-            if depth == 1 && is_key && self.is_named(*token, key) {
-                return self.value_behind(place);
-            }
-            if token.kind != TokenKind::LineEnd {
-                is_key = depth == 1
-                    && matches!(token.kind, TokenKind::OpenBrace | TokenKind::Comma);
-            }
-            place = place.saturating_add(1);
+            begins = token.kind == TokenKind::Comma && token.depth == inside;
         }
         None
     }
 
     /// The value behind a key, whose token has a place.
-    fn value_behind(&self, key: usize) -> Option<Next> {
-        let mut place = key;
-        for token in tokens_from(self.tokens.as_slice(), key) {
-            place = place.saturating_add(1);
-            if token.kind == TokenKind::Equals {
-                return Some(Next {
-                    key: self.token(key)?.span,
-                    value: self.value_bytes(place),
-                    node: Node::Value(place),
-                });
-            }
-        }
-        None
+    fn value_behind(&self, key: usize) -> Option<(Span, Node)> {
+        let mut behind = self.tokens.iter().enumerate().skip(key);
+        let (equals, _) = behind.find(|(_, it)| it.kind == TokenKind::Equals)?;
+        let value = equals.saturating_add(1);
+        Some((self.tokens.get(key)?.span, Node::Value(value)))
     }
 
-    /// Where the value ends whose first token has a place: behind its last bracket, or where the next
-    /// comma, bracket or line end is.
+    /// The bytes of the value whose first token has a place: up to before the next comma, line end or
+    /// bracket that isn't in it.
     fn value_bytes(&self, first: usize) -> Span {
-        let mut span = match self.token(first) {
-            Some(token) => token.span,
-            None => Span { start: 0, end: 0 },
-        };
-        let mut depth = 0;
-        for token in tokens_from(self.tokens.as_slice(), first) {
-            let is_end = matches!(token.kind, TokenKind::Comma | TokenKind::LineEnd)
-                || token.is_closing();
-            if depth == 0 && is_end {
-                return span;
-            }
-            depth = depth_behind(depth, *token);
-            span.end = token.span.end;
-            if depth == 0 && token.is_closing() {
-                return span;
-            }
-        }
-        span
-    }
-
-    /// The bytes of a statement.
-    fn bytes_of(&self, statement: Span) -> Span {
-        let last = statement.end.saturating_sub(1);
-        match (self.token(statement.start), self.token(last)) {
-            (Some(first), Some(last)) => Span {
-                start: first.span.start,
-                end: last.span.end,
-            },
-            _ => Span { start: 0, end: 0 },
-        }
-    }
-
-    /// Whether a name begins with all parts of another.
-    fn begins_with(&self, name: Span, with: Span) -> bool {
-        for number in 0..self.parts(with) {
-            if !self.same_part(self.part(name, number), self.part(with, number)) {
-                return false;
-            }
-        }
-        true
-    }
-
-    /// Whether two parts are the same.
-    fn same_part(&self, one: Option<Token>, other: Option<Token>) -> bool {
-        match (one, other) {
-            (Some(one), Some(other)) => self.name_of(one) == self.name_of(other),
-            _ => false,
-        }
-    }
-
-    /// Whether it is the header of an item of an array.
-    fn is_item_header(&self, statement: Span) -> bool {
-        let second = statement.start.saturating_add(1);
-        match self.token(second) {
-            Some(token) => self.is_header(statement) && token.kind == TokenKind::Open,
-            None => false,
-        }
-    }
-
-    fn is_header(&self, statement: Span) -> bool {
-        match self.token(statement.start) {
-            Some(token) => token.kind == TokenKind::Open,
-            None => false,
-        }
-    }
-
-    /// How many parts the name has.
-    fn parts(&self, statement: Span) -> usize {
-        let mut count: usize = 0;
-        for token in self.tokens_in(statement) {
-            if token.kind == TokenKind::Equals {
-                return count;
-            }
-            if token.is_name() {
-                count = count.saturating_add(1);
-            }
-        }
-        count
-    }
-
-    /// The n-th part of the name of a header, or of the key of a pair.
-    fn part(&self, statement: Span, number: usize) -> Option<Token> {
-        let mut left = number;
-        for token in self.tokens_in(statement) {
-            if token.kind == TokenKind::Equals {
-                return None;
-            }
-            if token.is_name() {
-                if left == 0 {
-                    return Some(*token);
-                }
-                left = left.saturating_sub(1);
-            }
-        }
-        None
-    }
-
-    /// The tokens of a statement.
-    fn tokens_in(&self, statement: Span) -> &[Token] {
-        match self.tokens.get(statement.start..statement.end) {
-            Some(found) => found,
-            None => &[],
-        }
-    }
-
-    fn is_named(&self, token: Token, name: &str) -> bool {
-        token.is_name() && self.name_of(token) == name.as_bytes()
-    }
-
-    /// The bytes of a key, without quotes.
-    fn name_of(&self, token: Token) -> &[u8] {
-        let span = match token.kind {
-            TokenKind::Quoted => Span {
-                start: token.span.start.saturating_add(1),
-                end: token.span.end.saturating_sub(1),
-            },
-            _ => token.span,
-        };
-        bytes_in(self.bytes, span)
-    }
-
-    fn statement(&self, place: usize) -> Option<Span> {
-        self.statements.get(place).copied()
-    }
-
-    fn token(&self, place: usize) -> Option<Token> {
-        self.tokens.get(place).copied()
+        let behind = self.tokens.get(first..).unwrap_or(&[]);
+        let depth = behind.first().map_or(0, |it| it.depth);
+        let end = behind.iter().position(|it| match it.kind {
+            TokenKind::Comma | TokenKind::LineEnd => it.depth <= depth,
+            _ => it.depth < depth,
+        });
+        span_over(behind.get(..end.unwrap_or(behind.len())).unwrap_or(&[]))
     }
 }
 
-/// Statements from a place on.
-fn statements_from(statements: &[Span], from: usize) -> &[Span] {
-    match statements.get(from..) {
-        Some(found) => found,
-        None => &[],
-    }
-}
-
-/// Tokens from a place on.
-fn tokens_from(tokens: &[Token], from: usize) -> &[Token] {
-    match tokens.get(from..) {
-        Some(found) => found,
-        None => &[],
-    }
-}
-
-/// Some bytes, none where they aren't all there.
-fn bytes_in(bytes: &[u8], span: Span) -> &[u8] {
-    match bytes.get(span.start..span.end) {
-        Some(found) => found,
-        None => &[],
-    }
-}
-
-/// The runs of tokens between line ends that are in no bracket.
-fn statements_of(alloc: Global, tokens: &[Token]) -> Result<Vec<Span>, AllocError> {
+/// The document's statement, and the runs of tokens between line ends that are in no bracket.
+fn statements_of<'a>(
+    alloc: Global,
+    tokens: &[Token<'a>],
+) -> Result<Vec<Statement<'a>>, AllocError> {
     let mut statements = Vec::new(alloc);
-    let mut start = 0;
-    let mut depth = 0;
-    for (place, token) in tokens.iter().enumerate() {
-        if token.kind == TokenKind::LineEnd && depth == 0 {
-            if start < place {
-                statements.push(Span { start, end: place })?;
-            }
-            start = place.saturating_add(1);
+    statements.push(Statement::new(alloc, 0, &[])?)?;
+    let mut first: usize = 0;
+    for run in tokens.split(|it| it.kind == TokenKind::LineEnd && it.depth == 0) {
+        if !run.is_empty() {
+            statements.push(Statement::new(alloc, first, run)?)?;
         }
-        depth = depth_behind(depth, *token);
-    }
-    if start < tokens.len() {
-        let end = tokens.len();
-        statements.push(Span { start, end })?;
+        first = first.saturating_add(run.len()).saturating_add(1);
     }
     Ok(statements)
 }
 
-/// How deep it is behind a token.
-fn depth_behind(depth: usize, token: Token) -> usize {
-    if token.is_opening() {
-        depth.saturating_add(1)
-    } else if token.is_closing() {
-        depth.saturating_sub(1)
-    } else {
-        depth
+/// The bytes from the first token to the last.
+fn span_over(tokens: &[Token<'_>]) -> Span {
+    match (tokens.first(), tokens.last()) {
+        (Some(first), Some(last)) => Span {
+            start: first.span.start,
+            end: last.span.end,
+        },
+        _ => Span::default(),
     }
 }

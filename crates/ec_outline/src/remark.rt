@@ -56,12 +56,11 @@ impl<'a> Remarks<'a> {
     pub fn at(&mut self, span: Span, words: String) -> Result<(), AllocError>
         ensures { self.new.text ≡ self.old.text }
     {
-        let remark = Remark {
+        self.list.push(Remark {
             spot: Some(spot_of(self.text, span.start)),
             width: width_of(self.text, span),
             words,
-        };
-        self.list.push(remark)?;
+        })?;
         Ok(())
     }
 
@@ -102,10 +101,26 @@ impl<'a> Remarks<'a> {
 
 /// How many characters some bytes of a text are, 1 at least.
 fn width_of(text: &str, span: Span) -> usize {
-    match text.get(span.start..span.end) {
-        Some(marked) => marked.chars().count().max(1),
-        None => 1,
-    }
+    let marked = text.get(span.start..span.end);
+    marked.map_or(1, |marked| marked.chars().count().max(1))
+}
+
+/// Adds a remark that has a place.
+fn write_marked(
+    told: &mut String,
+    text: &str,
+    spot: Spot,
+    remark: &Remark,
+) -> Result<(), AllocError> {
+    write_heading(told, spot, remark.words.as_str())?;
+    let line = line_of(text, spot.line);
+    let number = spot.line;
+    write!(told, "{number:>6} | ")?;
+    let skipped = skipped_before(spot.column);
+    write_shown(told, line, skipped)?;
+    told.push_str("\n       | ")?;
+    write_under(told, line, skipped, spot.column, remark.width)?;
+    told.push_str("\n")
 }
 
 /// Adds the line that says where a remark stands.
@@ -118,91 +133,57 @@ fn write_heading(told: &mut String, spot: Spot, words: &str) -> Result<(), Alloc
 
 /// A line of a text, counted from 1, without its end.
 fn line_of(text: &str, line: usize) -> &str {
-    let place = line.saturating_sub(1);
-    match text.split('\n').nth(place) {
-        Some(found) => found.trim_end_matches('\r'),
-        None => "",
-    }
+    let found = text.split('\n').nth(line.saturating_sub(1));
+    found.unwrap_or("").trim_end_matches('\r')
 }
 
-/// The first character of a line that is shown, so that the one in a column is among them.
-fn first_shown(column: usize) -> usize {
+/// How many characters of a line aren't shown, so that the one in a column is.
+fn skipped_before(column: usize) -> usize {
     if column <= SHOWN * 3 / 4 {
-        1
+        0
     } else {
-        column.saturating_sub(SHOWN / 2)
+        column.saturating_sub(SHOWN / 2 + 1)
     }
 }
 
-/// Adds characters of a line from one on.
-fn write_shown(told: &mut String, line: &str, first: usize) -> Result<(), AllocError> {
-    if first > 1 {
+/// Adds characters of a line behind those that are skipped.
+fn write_shown(told: &mut String, line: &str, skipped: usize) -> Result<(), AllocError> {
+    if skipped > 0 {
         told.push_str("..")?;
     }
-    let skipped = first.saturating_sub(1);
-    for (place, character) in line.chars().skip(skipped).enumerate() {
-        if place == SHOWN {
-            told.push_str("..")?;
-            return Ok(());
-        }
-        told.push(if character == '\t' {
-            '\t'
-        } else {
-            printed(character)
+    for character in line.chars().skip(skipped).take(SHOWN) {
+        told.push(match character {
+            '\t' => '\t',
+            _ => printed(character),
         })?;
     }
+    if line.chars().skip(skipped).nth(SHOWN).is_some() {
+        told.push_str("..")?;
+    }
     Ok(())
 }
 
-/// Adds what leads under a column: blanks, and a tab for each tab.
-fn write_indent(
+/// Adds a mark of so many characters under a column, as far as the line is shown, behind what leads
+/// there: blanks, and a tab for each tab.
+fn write_under(
     told: &mut String,
     line: &str,
-    first: usize,
+    skipped: usize,
     column: usize,
-) -> Result<(), AllocError> {
-    if first > 1 {
-        told.push_str("  ")?;
-    }
-    let skipped = first.saturating_sub(1);
-    let count = column.saturating_sub(first);
-    for character in line.chars().skip(skipped).take(count) {
-        told.push(if character == '\t' { '\t' } else { ' ' })?;
-    }
-    Ok(())
-}
-
-/// Adds a mark of so many characters, as far as the line is shown.
-fn write_mark(
-    told: &mut String,
-    line: &str,
-    spot: Spot,
-    first: usize,
     width: usize,
 ) -> Result<(), AllocError> {
-    let length = line.chars().count();
-    let behind = length.saturating_add(1).saturating_sub(spot.column);
-    let shown = first.saturating_add(SHOWN).saturating_sub(spot.column);
+    if skipped > 0 {
+        told.push_str("  ")?;
+    }
+    let before = column.saturating_sub(1);
+    let indent = before.saturating_sub(skipped);
+    for character in line.chars().skip(skipped).take(indent) {
+        told.push(if character == '\t' { '\t' } else { ' ' })?;
+    }
+    let behind = line.chars().count().saturating_sub(before);
+    let shown = SHOWN.saturating_sub(indent);
     for _ in 0..width.min(behind).min(shown).max(1) {
         told.push('^')?;
     }
     Ok(())
-}
-
-/// Adds a remark that has a place.
-fn write_marked(
-    told: &mut String,
-    text: &str,
-    spot: Spot,
-    remark: &Remark,
-) -> Result<(), AllocError> {
-    write_heading(told, spot, remark.words.as_str())?;
-    let (line, number) = (line_of(text, spot.line), spot.line);
-    let first = first_shown(spot.column);
-    write!(told, "{number:>6} | ")?;
-    write_shown(told, line, first)?;
-    told.push_str("\n       | ")?;
-    write_indent(told, line, first, spot.column)?;
-    write_mark(told, line, spot, first, remark.width)?;
-    told.push_str("\n")
 }

@@ -13,7 +13,7 @@ pub struct Spot {
 }
 
 /// Some bytes of a text, from `start` to before `end`.
-#[derive(Clone, Copy, Debug, PartialEq, Eq)]
+#[derive(Clone, Copy, Debug, Default, PartialEq, Eq)]
 pub struct Span {
     /// The first of them.
     pub start: usize,

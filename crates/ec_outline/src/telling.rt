@@ -50,13 +50,7 @@ impl<'a> Telling<'a> {
     pub fn into_remarks<'t>(self, text: &'t str) -> Result<Remarks<'t>, AllocError>
         ensures { IfOk result (λ remarks. remarks.text ≡ text.now) }
     {
-        let Telling {
-            alloc,
-            text: _,
-            outline: _,
-            sayings,
-            element: _,
-        } = self;
+        let Telling { alloc, sayings, .. } = self;
         remarks_of(alloc, text, sayings)
     }
 
@@ -79,18 +73,15 @@ impl<'a> Telling<'a> {
         part: MarkedPart,
         words: String,
     ) -> Result<(), AllocError> {
-        let alloc = self.alloc;
         let found = self.outline.find(way);
         if found.steps == 0 {
-            let all = words.as_str();
-            let words = format!(in alloc; "{all} (where that stands in the text isn't found)")?;
-            return self.note(words);
+            let alloc = self.alloc;
+            let lost = "(where that stands in the text isn't found)";
+            return self.note(format!(in alloc; "{words} {lost}")?);
         }
-        let is_whole = found.steps == way.len();
-        let span = if is_whole && part == MarkedPart::Value {
-            found.value
-        } else {
-            found.key
+        let span = match part {
+            MarkedPart::Value if found.steps == way.len() => found.value,
+            _ => found.key,
         };
         self.say_element(way, span.start)?;
         self.at_span(span, words)
@@ -116,17 +107,15 @@ impl<'a> Telling<'a> {
         let [PathStep::Key(section), PathStep::Item(element), _, ..] = way else {
             return Ok(());
         };
-        let (section, element) = (*section, *element);
-        let found = self
-            .outline
-            .find(&[PathStep::Key(section), PathStep::Item(element)]);
-        let here = spot_of(self.text, found.key.start);
-        let is_elsewhere = here.line != spot_of(self.text, start).line;
-        if found.steps == 2 && is_elsewhere && self.element != Some(found.key.start) {
-            self.element = Some(found.key.start);
-            let alloc = self.alloc;
-            let words = format!(in alloc; "{section} {element} begins here")?;
-            self.at_span(found.key, words)?;
+        let (alloc, found) = (self.alloc, self.outline.find(&way[..2]));
+        let begin = found.key.start;
+        let is_elsewhere = spot_of(self.text, begin).line != spot_of(self.text, start).line;
+        if found.steps == 2 && is_elsewhere && self.element != Some(begin) {
+            self.element = Some(begin);
+            self.at_span(
+                found.key,
+                format!(in alloc; "{section} {element} begins here")?,
+            )?;
         }
         Ok(())
     }

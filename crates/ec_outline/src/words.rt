@@ -1,5 +1,6 @@
 //! Words for people: names that someone may have meant, lists and numbers of things.
 use std::alloc::{AllocError, Global};
+use std::convert::AsStr;
 use strsim::osa_distance;
 
 /// Words with more bytes than this are near no name.
@@ -41,14 +42,14 @@ pub fn meant(alloc: Global, word: &str, names: &[&str]) -> Result<String, AllocE
 }
 
 /// Texts one behind the other, with commas and at last an `and` between them.
-pub fn listing(alloc: Global, texts: &[&str]) -> Result<String, AllocError> {
+pub fn listing<S: AsStr>(alloc: Global, texts: &[S]) -> Result<String, AllocError> {
     let mut listed = String::new(alloc);
     for (place, text) in texts.iter().enumerate() {
         if place > 0 {
             let is_last = texts.len() - place == 1;
             listed.push_str(if is_last { " and " } else { ", " })?;
         }
-        listed.push_str(text)?;
+        listed.push_str(text.as_str())?;
     }
     Ok(listed)
 }
@@ -65,12 +66,11 @@ pub fn counted(alloc: Global, count: usize, thing: &str) -> Result<String, Alloc
 /// A text of a table as it may be printed: no more than 40 characters, and none that moves the cursor.
 pub fn printable(alloc: Global, text: &str) -> Result<String, AllocError> {
     let mut shown = String::new(alloc);
-    for (place, character) in text.chars().enumerate() {
-        if place == 40 {
-            shown.push_str("..")?;
-            return Ok(shown);
-        }
+    for character in text.chars().take(40) {
         shown.push(printed(character))?;
+    }
+    if text.chars().nth(40).is_some() {
+        shown.push_str("..")?;
     }
     Ok(shown)
 }

@@ -1,0 +1,6 @@
+use Rattle.ec_args.proofs.commands.decode_command.Goals as goal
+
+pub returns : goal.returns
+returns c =
+    c.with_argument.ensures _ _ c.flag.ensures
+    (c.with_argument-command.ensures _ _ c.option.ensures c.used_as-command.ensures)

@@ -1,0 +1,7 @@
+use Rattle.ec_args.proofs.commands.sim_command.Goals as goal
+
+pub returns : goal.returns
+returns c =
+    c.with_argument.ensures _ _ c.explain_argument.ensures
+    (c.with_argument-command-2.ensures _ _ c.capture_argument.ensures
+    (c.with_argument-command.ensures _ _ c.flag.ensures c.used_as-command.ensures))
