@@ -29,8 +29,6 @@ impl Scene<'_, '_> {
                 String::from_str(self.alloc, words)
             }
             Event::Serve(slave) | Event::Reset(slave) => self.no_slave(slave),
-            Event::AppPut(slave, ..) | Event::AppGet(slave, _) | Event::Fault(slave)
-                if slave >= self.table.slaves().len() => { self.no_slave(slave) }
             Event::AppPut(slave, place, _) => self.why_no_byte(slave, place, Direction::In),
             Event::AppGet(slave, place) => self.why_no_byte(slave, place, Direction::Out),
             Event::Fault(slave) => self.why_no_fault(slave),
@@ -107,6 +105,9 @@ impl Scene<'_, '_> {
 
     /// Why the application of a slave doesn't fail.
     fn why_no_fault(&self, slave: usize) -> AllocResult<String> {
+        if !self.has_slave(slave) {
+            return self.no_slave(slave);
+        }
         let name = self.slave_name(slave)?;
         let state = Firmware::of(self.world, slave).state;
         format!(in self.alloc; "`{name}` is in {state}: an application fails in OP")
@@ -115,6 +116,9 @@ impl Scene<'_, '_> {
     /// Why an application doesn't write a byte of its inputs, or read one of its outputs.
     fn why_no_byte(&self, slave: usize, place: usize, direction: Direction) -> AllocResult<String> {
         let alloc = self.alloc;
+        if !self.has_slave(slave) {
+            return self.no_slave(slave);
+        }
         let name = self.slave_name(slave)?;
         let Firmware { state, is_running } = Firmware::of(self.world, slave);
         let (what, count) = self.bytes_of(slave, direction);

@@ -48,6 +48,11 @@ impl Scene<'_, '_> {
         register(self.world, slave, OUTPUTS_LOCK) & 1 == 1
     }
 
+    /// Whether the table has a slave.
+    pub fn has_slave(&self, slave: usize) -> bool {
+        slave < self.table.slaves().len()
+    }
+
     /// The name of a slave.
     pub fn slave_name(&self, slave: usize) -> AllocResult<String> {
         let row = self.table.slaves().get(slave);
