@@ -213,7 +213,7 @@ fn run_connected<H: AllocGlobal + Net + Files + Clock, R: Read, W: Write, F: Wri
     app: &mut dyn App,
     behind: &mut Explanation,
 ) -> Result<(), Refusal>
-    requires { Connects (command_of request.entry) }
+    requires { Connects (command_of request) }
     ensures runs { Runs (command_of request.entry) (R.remaining input.old)
         (record { old = W.contents output.old; new = W.contents output.new })
         (record { old = F.contents faults.old; new = F.contents faults.new }) result }
