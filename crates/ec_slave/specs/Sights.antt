@@ -1,6 +1,8 @@
 -- What a slave looks up on its way through a logical datagram, in place of all of its bits.
-use Rattle.std.specs.Prelude.{ℕ, ◌-◌, ◌*◌, ◌/◌, ◌&&◌, List, get_or, Bool, false, if◌then◌else◌, Option, Some, None}
-use Rattle.ec_bits.specs.Bits.{bit}
+use Rattle.std.specs.Prelude.{ℕ, ◌+◌, ◌-◌, ◌*◌, ◌/◌, ◌^◌, ◌<◌, ◌≤◌, ◌&&◌, List, length, get_or, Bool, false, if◌then◌else◌, Option, Some, None, is_some}
+use Rattle.ec_bits.specs.Bits.{any_below, bit, overlay}
+use Rattle.ec_regs.specs.Memory.{ram_end}
+use Rattle.ec_fmmu.specs.Apart.{run_shown}
 use Rattle.ec_sync.specs.SyncManager.{SyncManager, shown}
 use Rattle.ec_sync.specs.Governing.{governor, in_first_buffer}
 use Rattle.ec_slave.specs.State.{manager_at}
@@ -17,3 +19,15 @@ seen_under memory ms readable q (Some n) = seen_behind (manager_at ms n) (get_or
 -- what a physical bit shows, where `readable` has a truth value for each manager
 abbrev pub seen_bit : List ℕ → List SyncManager → List Bool → ℕ → Option Bool
 seen_bit memory ms readable q = seen_under memory ms readable q (governor ms (q / 8))
+
+-- `count` bits from a physical bit on lie in the memory, and as many data bits from `to` on in `len` bytes of data
+abbrev pub HasRoom : ℕ → ℕ → ℕ → ℕ → Type 0
+HasRoom physical to count len = (physical + count ≤ 8 * ram_end) × ((to + count ≤ 8 * len) × (to + count < 2 ^ 64))
+
+-- the data once those bits show in them what they show
+abbrev pub run_over : (ℕ → Option Bool) → ℕ → ℕ → ℕ → List ℕ → List ℕ
+run_over shown physical to count bytes = overlay bytes (run_shown shown physical to count)
+
+-- whether one of them shows a thing
+abbrev pub some_of_run : (ℕ → Option Bool) → ℕ → ℕ → ℕ → List ℕ → Bool
+some_of_run shown physical to count bytes = any_below (8 * length bytes) (λ i. is_some (run_shown shown physical to count i))

@@ -6,12 +6,11 @@
 
 ghost use Rattle.std.specs.Prelude.{◌≡◌, ◌+◌, ◌*◌, ◌<◌, ◌^◌, true, false, length};
 ghost use Rattle.std.specs.Bool.{OnTrue};
-ghost use Rattle.std.specs.Int.{from_bool};
 ghost use Rattle.ec_bits.specs.Bits.{overlay};
 ghost use Rattle.ec_slave.specs.State.{fmmus};
 ghost use Rattle.ec_slave.specs.LogicalLaws.{Misses};
 ghost use Rattle.ec_slave.specs.Logical.{logical_after, read_bit, some_read, some_written};
-ghost use Rattle.ec_slave.specs.Mapped.{MayWriteFirst, mapped_met};
+ghost use Rattle.ec_slave.specs.Mapped.{MayWriteFirst, bytes_exchanged, count_exchanged, mapped_met, slave_exchanged};
 
 mod exchange;
 mod managers;
@@ -61,10 +60,9 @@ impl Slave {
     fn exchange_bits(&mut self, from: u64, bytes: &mut [u8]) -> u16
         requires small { from + 8 * length bytes.old < 2 ^ 64 }
         requires few { length bytes.old < 2048 }
-        ensures slave { self.new ≡ logical_after self.old true true (record { from = from; bits = 8 * length bytes.old }) bytes.old }
-        ensures bytes { bytes.new ≡ overlay bytes.old (read_bit self.old.memory self.old.managers (fmmus self.old) (record { from = from; bits = 8 * length bytes.old })) }
-        ensures added { result ≡ from_bool (some_read self.old.memory self.old.managers (fmmus self.old) (record { from = from; bits = 8 * length bytes.old }))
-            + 2 * from_bool (some_written self.old.managers (fmmus self.old) (record { from = from; bits = 8 * length bytes.old }) bytes.old) }
+        ensures slave { self.new ≡ slave_exchanged self.old from bytes.old }
+        ensures bytes { bytes.new ≡ bytes_exchanged self.old from bytes.old }
+        ensures added { result ≡ count_exchanged self.old from bytes.old }
     {
         if self.may_write_first() {
             self.write_and_read_bits(from, bytes)
@@ -77,10 +75,9 @@ impl Slave {
     fn write_and_read_bits(&mut self, from: u64, bytes: &mut [u8]) -> u16
         requires small { from + 8 * length bytes.old < 2 ^ 64 }
         requires first { MayWriteFirst self.old }
-        ensures slave { self.new ≡ logical_after self.old true true (record { from = from; bits = 8 * length bytes.old }) bytes.old }
-        ensures bytes { bytes.new ≡ overlay bytes.old (read_bit self.old.memory self.old.managers (fmmus self.old) (record { from = from; bits = 8 * length bytes.old })) }
-        ensures added { result ≡ from_bool (some_read self.old.memory self.old.managers (fmmus self.old) (record { from = from; bits = 8 * length bytes.old }))
-            + 2 * from_bool (some_written self.old.managers (fmmus self.old) (record { from = from; bits = 8 * length bytes.old }) bytes.old) }
+        ensures slave { self.new ≡ slave_exchanged self.old from bytes.old }
+        ensures bytes { bytes.new ≡ bytes_exchanged self.old from bytes.old }
+        ensures added { result ≡ count_exchanged self.old from bytes.old }
     {
         let is_written = self.write_bits(false, from, bytes);
         self.read_bits(from, bytes) as u16 + 2 * is_written as u16
@@ -99,10 +96,9 @@ impl Slave {
     fn read_write_copied_bits(&mut self, from: u64, bytes: &mut [u8]) -> u16
         requires small { from + 8 * length bytes.old < 2 ^ 64 }
         requires few { length bytes.old < 2048 }
-        ensures slave { self.new ≡ logical_after self.old true true (record { from = from; bits = 8 * length bytes.old }) bytes.old }
-        ensures bytes { bytes.new ≡ overlay bytes.old (read_bit self.old.memory self.old.managers (fmmus self.old) (record { from = from; bits = 8 * length bytes.old })) }
-        ensures added { result ≡ from_bool (some_read self.old.memory self.old.managers (fmmus self.old) (record { from = from; bits = 8 * length bytes.old }))
-            + 2 * from_bool (some_written self.old.managers (fmmus self.old) (record { from = from; bits = 8 * length bytes.old }) bytes.old) }
+        ensures slave { self.new ≡ slave_exchanged self.old from bytes.old }
+        ensures bytes { bytes.new ≡ bytes_exchanged self.old from bytes.old }
+        ensures added { result ≡ count_exchanged self.old from bytes.old }
     {
         let mut copy = [0; MAX_DATA];
         let received = &mut copy[..bytes.len()];
@@ -114,10 +110,9 @@ impl Slave {
     fn read_write_bits(&mut self, from: u64, received: &[u8], bytes: &mut [u8]) -> u16
         requires small { from + 8 * length bytes.old < 2 ^ 64 }
         requires same { received.now ≡ bytes.old }
-        ensures slave { self.new ≡ logical_after self.old true true (record { from = from; bits = 8 * length bytes.old }) bytes.old }
-        ensures bytes { bytes.new ≡ overlay bytes.old (read_bit self.old.memory self.old.managers (fmmus self.old) (record { from = from; bits = 8 * length bytes.old })) }
-        ensures added { result ≡ from_bool (some_read self.old.memory self.old.managers (fmmus self.old) (record { from = from; bits = 8 * length bytes.old }))
-            + 2 * from_bool (some_written self.old.managers (fmmus self.old) (record { from = from; bits = 8 * length bytes.old }) bytes.old) }
+        ensures slave { self.new ≡ slave_exchanged self.old from bytes.old }
+        ensures bytes { bytes.new ≡ bytes_exchanged self.old from bytes.old }
+        ensures added { result ≡ count_exchanged self.old from bytes.old }
     {
         let is_read = read_logical(&self.memory, &self.managers, &self.fmmus, from, bytes);
         let is_written = self.write_bits(true, from, received);

@@ -1,12 +1,12 @@
 //! Physical datagrams at a slave.
 
-ghost use Rattle.std.specs.Prelude.{◌≡◌, ◌+◌, ◌*◌, ◌<◌, ◌≤◌, ◌^◌, ◌&&◌, ℕ, true, false, None, IfSome, length, [], if◌then◌else◌, nat_lt};
+ghost use Rattle.std.specs.Prelude.{◌≡◌, ◌+◌, ◌*◌, ◌<◌, ◌≤◌, ◌^◌, ◌&&◌, ℕ, true, false, Some, None, IfSome, length, [], slice_index, bit_or, if◌then◌else◌, nat_lt};
 ghost use Rattle.ec_regs.specs.Memory.{al_status, fmmu_place, ram_start, ram_end};
 ghost use Rattle.ec_sync.specs.Governing.{governor as governor_of};
 ghost use Rattle.ec_al.specs.Al.{requesting};
 ghost use Rattle.std.specs.Int.{from_bool};
 ghost use Rattle.ec_bits.specs.Bits.{within};
-ghost use Rattle.ec_slave.specs.Physical.{byte_read, may_read_byte, physical_managers, physical_met, retold, physical_after, some_byte_read, is_written};
+ghost use Rattle.ec_slave.specs.Physical.{byte_at, byte_read, may_read_byte, physical_managers, physical_met, retold, physical_after, some_byte_read, is_written};
 ghost use Rattle.ec_slave.specs.State.{fmmus_of};
 
 mod bytes;
@@ -217,29 +217,19 @@ impl Slave {
         }
     }
 
-    /// The same, byte by byte.
+    /// Reads what the addresses from `first` on show, that have this governor, or none, as far as they lie in the RAM,
+    /// into as many bytes: one by one.
     #[inline(never)]
-    fn read_part_each(
-        &self,
-        owner: Option<usize>,
-        joining: bool,
-        from: usize,
-        at: usize,
-        count: usize,
-        bytes: &mut [u8],
-    )
-        requires small { from + length bytes.old < 2 ^ 32 }
-        requires inside { at + count ≤ length bytes.old }
-        requires reads { (i : ℕ) → at ≤ i → i < at + count → may_read_byte self.now.managers (within from (length bytes.old)) (from + i) ≡ true }
-        requires memory { (i : ℕ) → at ≤ i → i < at + count → from + i < ram_end }
+    fn read_each(&self, owner: Option<usize>, joining: bool, first: usize, bytes: &mut [u8])
+        requires memory { (k : ℕ) → k < length bytes.old → first + k < ram_end }
         requires within { IfSome owner (λ n. n < length self.now.managers) }
-        requires owner { (a : ℕ) → ram_start ≤ a → from + at ≤ a → a < from + at + count → owner ≡ governor_of self.now.managers a }
-        ensures { bytes.new ≡ retold bytes.old (λ i. if within at count i then byte_read self.now joining (record { from = from; bytes = bytes.old }) i else None) }
+        requires owner { (a : ℕ) → ram_start ≤ a → first ≤ a → a < first + length bytes.old → owner ≡ governor_of self.now.managers a }
+        ensures { bytes.new ≡ retold bytes.old (λ k. Some (if joining
+            then bit_or (slice_index bytes.old k) (byte_at self.now (first + k)) else byte_at self.now (first + k))) }
     {
-        for k in 0..count {
-            let place = at + k;
-            let shown = self.byte_under(owner, from + place);
-            bytes[place] = read_over(joining, bytes[place], shown);
+        for (k, byte) in bytes.iter_mut().enumerate() {
+            let shown = self.byte_under(owner, first + k);
+            *byte = read_over(joining, *byte, shown);
         }
     }
 
@@ -264,7 +254,7 @@ impl Slave {
     {
         match self.shown_together(owner, from + at, count) {
             Some(shown) => read_slice(joining, &mut bytes[at..at + count], shown),
-            None => self.read_part_each(owner, joining, from, at, count, bytes),
+            None => self.read_each(owner, joining, from + at, &mut bytes[at..at + count]),
         }
     }
 }

@@ -1,15 +1,14 @@
 //! What a logical datagram reads.
 
-ghost use Rattle.std.specs.Prelude.{◌≡◌, ◌<◌, ◌≤◌, ◌+◌, ◌-◌, ◌*◌, ◌/◌, ◌^◌, ◌&&◌, ℕ, None, Some, length, is_some};
-ghost use Rattle.ec_bits.specs.Bits.{any_below, overlay};
+ghost use Rattle.std.specs.Prelude.{◌≡◌, ◌<◌, ◌≤◌, ◌+◌, ◌-◌, ◌*◌, ◌/◌, ◌^◌, ◌&&◌, ℕ, None, Some, length};
+ghost use Rattle.ec_bits.specs.Bits.{overlay};
 ghost use Rattle.ec_regs.specs.Memory.{ram_end};
 ghost use Rattle.ec_sync.specs.SyncManager.{may_read};
 ghost use Rattle.ec_sync.specs.Governing.{covers, governor as governor_of, in_first_buffer};
-ghost use Rattle.ec_fmmu.specs.Apart.{run_shown};
 ghost use Rattle.ec_fmmu.specs.Applied.{Place, touched_by_reading};
 ghost use Rattle.ec_slave.specs.Logical.{read_bit, some_read};
 ghost use Rattle.ec_slave.specs.State.{manager_at};
-ghost use Rattle.ec_slave.specs.Sights.{seen_behind as behind_it, seen_bit as bit_seen};
+ghost use Rattle.ec_slave.specs.Sights.{HasRoom, run_over, some_of_run, seen_behind as behind_it, seen_bit as bit_seen};
 
 use crate::reach::governor;
 use crate::runs::count_alike;
@@ -99,13 +98,9 @@ fn show_alike(sight: &Sight<'_>, physical: u32, count: usize, bytes: &mut [u8], 
         → governor_of sight.now.managers.now a ≡ governor_of sight.now.managers.now (physical / 8) }
     requires front { (n a : ℕ) → governor_of sight.now.managers.now (physical / 8) ≡ Some n → physical / 8 ≤ a → a ≤ (physical + count - 1) / 8
         → in_first_buffer (manager_at sight.now.managers.now n) a ≡ in_first_buffer (manager_at sight.now.managers.now n) (physical / 8) }
-    requires to_ram { physical + count ≤ 8 * ram_end }
-    requires inside { to + count ≤ 8 * length bytes.old }
-    requires fits { to + count < 2 ^ 64 }
-    ensures any { let shown = bit_seen sight.now.memory.now sight.now.managers.now sight.now.readable.now in
-        result ≡ any_below (8 * length bytes.old) (λ i. is_some (run_shown shown physical to count i)) }
-    ensures bits { let shown = bit_seen sight.now.memory.now sight.now.managers.now sight.now.readable.now in
-        bytes.new ≡ overlay bytes.old (run_shown shown physical to count) }
+    requires run { HasRoom physical to count (length bytes.old) }
+    ensures any { result ≡ some_of_run (bit_seen sight.now.memory.now sight.now.managers.now sight.now.readable.now) physical to count bytes.old }
+    ensures bits { bytes.new ≡ run_over (bit_seen sight.now.memory.now sight.now.managers.now sight.now.readable.now) physical to count bytes.old }
 {
     match governor(sight.managers, physical as usize / 8) {
         None => show_plain(sight, physical, count, bytes, to),
@@ -131,13 +126,9 @@ fn show_value(
         → governor_of sight.now.managers.now a ≡ Some place }
     requires front { (a : ℕ) → physical / 8 ≤ a → a ≤ (physical + count - 1) / 8
         → in_first_buffer (manager_at sight.now.managers.now place) a ≡ in_first_buffer (manager_at sight.now.managers.now place) (physical / 8) }
-    requires to_ram { physical + count ≤ 8 * ram_end }
-    requires inside { to + count ≤ 8 * length bytes.old }
-    requires fits { to + count < 2 ^ 64 }
-    ensures any { let shown = bit_seen sight.now.memory.now sight.now.managers.now sight.now.readable.now in
-        result ≡ any_below (8 * length bytes.old) (λ i. is_some (run_shown shown physical to count i)) }
-    ensures bits { let shown = bit_seen sight.now.memory.now sight.now.managers.now sight.now.readable.now in
-        bytes.new ≡ overlay bytes.old (run_shown shown physical to count) }
+    requires run { HasRoom physical to count (length bytes.old) }
+    ensures any { result ≡ some_of_run (bit_seen sight.now.memory.now sight.now.managers.now sight.now.readable.now) physical to count bytes.old }
+    ensures bits { bytes.new ≡ run_over (bit_seen sight.now.memory.now sight.now.managers.now sight.now.readable.now) physical to count bytes.old }
 {
     if !sight.readable[place] {
         return false;
@@ -163,13 +154,9 @@ fn show_plain(sight: &Sight<'_>, physical: u32, count: usize, bytes: &mut [u8], 
     requires plain { (a : ℕ) → physical / 8 ≤ a
         → a ≤ (physical + count - 1) / 8
         → governor_of sight.now.managers.now a ≡ None }
-    requires to_ram { physical + count ≤ 8 * ram_end }
-    requires inside { to + count ≤ 8 * length bytes.old }
-    requires fits { to + count < 2 ^ 64 }
-    ensures any { let shown = bit_seen sight.now.memory.now sight.now.managers.now sight.now.readable.now in
-        result ≡ any_below (8 * length bytes.old) (λ i. is_some (run_shown shown physical to count i)) }
-    ensures bits { let shown = bit_seen sight.now.memory.now sight.now.managers.now sight.now.readable.now in
-        bytes.new ≡ overlay bytes.old (run_shown shown physical to count) }
+    requires run { HasRoom physical to count (length bytes.old) }
+    ensures any { result ≡ some_of_run (bit_seen sight.now.memory.now sight.now.managers.now sight.now.readable.now) physical to count bytes.old }
+    ensures bits { bytes.new ≡ run_over (bit_seen sight.now.memory.now sight.now.managers.now sight.now.readable.now) physical to count bytes.old }
 {
     copy_by_words(bytes, to, sight.memory, physical as usize, count);
     true

@@ -66,6 +66,7 @@ pub(crate) fn end_of_part(managers: &[SyncManager], start: usize, end: usize) ->
 }
 
 /// Writes the bytes of a datagram into the memory itself, and answers whether one is written there or behind a manager.
+/// Who governs bytes of the RAM, and whether they may be written, is asked once for each part of which all or none are.
 pub(crate) fn write_physical(
     memory: &mut [u8],
     managers: &[SyncManager],
@@ -79,10 +80,20 @@ pub(crate) fn write_physical(
     ensures some { result ≡ some_byte_written managers.now is_busy (record { from = from; bytes = bytes.now }) }
 {
     if from + bytes.len() <= RAM_START {
-        write_registers(memory, is_busy, from, bytes)
-    } else {
-        write_parts(memory, managers, is_busy, from, bytes)
+        return write_registers(memory, is_busy, from, bytes);
     }
+    let len = bytes.len();
+    let mut is_some = false;
+    let mut done = 0;
+    while done < len {
+        let first = from + done;
+        let owner = owner_of(managers, first);
+        let count = end_of_written(managers, first, from + len) - first;
+        is_some |= writes_byte(managers, owner, is_busy, from, len, first);
+        store_part(memory, owner, first, &bytes[done..done + count]);
+        done += count;
+    }
+    is_some
 }
 
 /// The byte that a datagram has for an address.
@@ -203,34 +214,6 @@ fn end_of_written(managers: &[SyncManager], start: usize, end: usize) -> usize
     }
     let stop = cut(start, end, RAM_END);
     end_of_alike(managers, start, stop)
-}
-
-/// Writes the bytes of a datagram, and answers whether one is written. Who governs bytes, and whether they may be
-/// written, is asked once for each part of which all or none are.
-fn write_parts(
-    memory: &mut [u8],
-    managers: &[SyncManager],
-    is_busy: bool,
-    from: usize,
-    bytes: &[u8],
-) -> bool
-    requires room { length memory.old ≡ ram_end }
-    requires small { from + length bytes.now < 2 ^ 32 }
-    ensures memory { memory.new ≡ memory_written managers.now (record { from = from; bytes = bytes.now }) memory.old }
-    ensures some { result ≡ some_byte_written managers.now is_busy (record { from = from; bytes = bytes.now }) }
-{
-    let len = bytes.len();
-    let mut is_some = false;
-    let mut done = 0;
-    while done < len {
-        let first = from + done;
-        let owner = owner_of(managers, first);
-        let count = end_of_written(managers, first, from + len) - first;
-        is_some |= writes_byte(managers, owner, is_busy, from, len, first);
-        store_part(memory, owner, first, &bytes[done..done + count]);
-        done += count;
-    }
-    is_some
 }
 
 /// Writes the bytes of a datagram that lies within the registers of the FMMUs, and answers whether one is written. The

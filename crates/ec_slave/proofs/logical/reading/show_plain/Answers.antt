@@ -19,4 +19,4 @@ returns-clause-any c =
     let sees = seen_bit s.memory.now s.managers.now s.readable.now in
     let one : is_some (sees c.args.physical) ≡ true
     = ap (λ (o : Option ℕ). is_some (seen_under s.memory.now s.managers.now s.readable.now c.args.physical o)) (c.requires.plain (c.args.physical / 8) (omega arith) (omega arith)) in
-    sym (run_counts (8 * length c.args.bytes.now) sees c.args.physical c.args.to c.args.count c.requires.some c.requires.inside one)
+    sym (run_counts (8 * length c.args.bytes.now) sees c.args.physical c.args.to c.args.count c.requires.some c.requires.run.1.0 one)

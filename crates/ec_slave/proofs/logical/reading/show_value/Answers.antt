@@ -154,4 +154,4 @@ returns-clause-any c =
     let front_2 : in_first_buffer (manager_at ms n) ((q + c.args.count - 1) / 8) ≡ true = sym (front ∙ ap (λ (x : SyncManager). in_first_buffer x ((q + c.args.count - 1) / 8)) b.0) in
     let one : is_some (seen_bit s.memory.now ms s.readable.now q) ≡ true
     = ap is_some (readable_value s.memory.now ms s.readable.now n q ((q + c.args.count - 1) / 8) r g front_2 (omega (arith, some))) in
-    sym (run_counts (8 * length c.args.bytes.now) (seen_bit s.memory.now ms s.readable.now) q c.args.to c.args.count c.requires.some c.requires.inside one)
+    sym (run_counts (8 * length c.args.bytes.now) (seen_bit s.memory.now ms s.readable.now) q c.args.to c.args.count c.requires.some c.requires.run.1.0 one)

@@ -5,7 +5,7 @@ use Rattle.ec_slave.specs.Physical.{Window, is_kept, may_write_byte, retold}
 use Rattle.ec_slave.proofs.Choices.{any-none, any-joined}
 use Rattle.ec_slave.proofs.Told.{told_along, told-none, told-next_at, retold-along, length-part, get-part}
 use Rattle.ec_slave.proofs.Windows.{kept_byte, kept-outside, from-at}
-use Rattle.ec_slave.proofs.physical.bytes.write_parts.Goals as goal
+use Rattle.ec_slave.proofs.physical.bytes.write_physical.Goals as goal
 
 pub loop-done-init : goal.loop-done-init
 loop-done-init c = record { inside = omega arith; memory = told-none _ _ _; some = any-none _ }

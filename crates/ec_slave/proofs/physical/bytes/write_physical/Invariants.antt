@@ -3,7 +3,7 @@ use Rattle.ec_bits.specs.Bits.{any_below, within}
 use Rattle.ec_slave.specs.Physical.{may_write_byte}
 use Rattle.ec_slave.proofs.Told.{told_along}
 use Rattle.ec_slave.proofs.Windows.{kept_byte}
-use Rattle.ec_slave.proofs.physical.bytes.write_parts.Given as goal
+use Rattle.ec_slave.proofs.physical.bytes.write_physical.Given as goal
 
 abbrev pub invariant-loop-done : goal.invariant-loop-done
 invariant-loop-done l = record {
