@@ -71,6 +71,12 @@ impl<'a> Statement<'a> {
     fn is_header(&self) -> bool {
         self.brackets > 0
     }
+
+    /// Whether it stands under a key of the table or array with a name, as a header or deeper.
+    fn is_under(&self, table: &[&'a [u8]], key: &[u8]) -> bool {
+        let name = self.name.as_slice();
+        name.starts_with(table) && name.get(table.len()) == Some(&key)
+    }
 }
 
 /// A text as its tokens and its statements.
@@ -122,77 +128,100 @@ impl<'a> Outline<'a> {
 
     /// What stands under a key among the pairs right behind a header.
     fn in_pairs(&self, header: usize, key: &[u8]) -> Option<(Span, Node)> {
-        let behind = self.statements.iter().skip(header.saturating_add(1));
+        let behind = self.statements.get(header.saturating_add(1)..)?;
         let pair = behind
-            .take_while(|it| !it.is_header())
-            .find(|it| it.name.first() == Some(&key))?;
+            .iter()
+            .find(|it| it.is_header() || it.name.first() == Some(&key))?;
+        if pair.is_header() {
+            return None;
+        }
         self.value_behind(pair.first)
     }
 
     /// What stands under a key of the table behind a header, by a header of its own.
     fn in_headers(&self, header: usize, key: &[u8]) -> Option<(Span, Node)> {
         let table = self.statements.get(header)?.name.as_slice();
-        let (place, header) = self
-            .statements
-            .iter()
-            .enumerate()
-            .skip(header.saturating_add(1))
-            .filter(|(_, it)| it.is_header())
-            .take_while(|(_, it)| !table.starts_with(it.name.as_slice()))
-            .find(|(_, it)| {
-                it.name.as_slice().starts_with(table) && it.name.get(table.len()) == Some(&key)
-            })?;
-        let is_item = header.brackets > 1 && header.name.len() == table.len() + 1;
+        let place = self.header_under(header.saturating_add(1), table, key)?;
+        let found = self.statements.get(place)?;
+        let is_item = found.brackets > 1 && found.name.len() == table.len().saturating_add(1);
         let node = if is_item {
             Node::Headers(place)
         } else {
             Node::Table(place)
         };
-        Some((header.span, node))
+        Some((found.span, node))
+    }
+
+    /// The first header from a statement on that stands under a key of a table, before the table or
+    /// one that it stands in comes again.
+    fn header_under(&self, from: usize, table: &[&'a [u8]], key: &[u8]) -> Option<usize> {
+        for place in from..self.statements.len() {
+            let header = &self.statements[place];
+            if header.is_header() && table.starts_with(header.name.as_slice()) {
+                return None;
+            }
+            if header.is_header() && header.is_under(table, key) {
+                return Some(place);
+            }
+        }
+        None
     }
 
     /// An item of the array whose first header is a statement.
     fn in_item_headers(&self, first: usize, item: usize) -> Option<(Span, Node)> {
         let array = self.statements.get(first)?.name.as_slice();
-        let (place, header) = self
-            .statements
-            .iter()
-            .enumerate()
-            .skip(first)
-            .filter(|(_, it)| it.is_header() && array.starts_with(it.name.as_slice()))
-            .take_while(|(_, it)| it.name.len() == array.len())
-            .nth(item)?;
-        Some((header.span, Node::Table(place)))
+        let mut left = item;
+        for place in first..self.statements.len() {
+            let header = &self.statements[place];
+            let name = header.name.as_slice();
+            if header.is_header() && array.starts_with(name) {
+                if name.len() != array.len() {
+                    return None;
+                }
+                if left == 0 {
+                    return Some((header.span, Node::Table(place)));
+                }
+                left -= 1;
+            }
+        }
+        None
     }
 
     /// What stands in brackets or braces, the first of which is a token.
     fn in_value(&self, first: usize, step: PathStep<'_>) -> Option<(Span, Node)> {
+        let place = self.place_inside(first, step)?;
+        match step {
+            PathStep::Key(_) => self.value_behind(place),
+            PathStep::Item(_) => Some((self.value_bytes(place), Node::Value(place))),
+        }
+    }
+
+    /// The place of the token with which an item, or a key, in such brackets begins.
+    fn place_inside(&self, first: usize, step: PathStep<'_>) -> Option<usize> {
         let inside = self.tokens.get(first)?.depth.saturating_add(1);
         let (mut number, mut begins) = (0_usize, true);
-        let behind = self.tokens.iter().enumerate().skip(first.saturating_add(1));
-        for (place, token) in behind.filter(|(_, it)| it.kind != TokenKind::LineEnd) {
-            match step {
-                _ if token.depth < inside => return None,
-                _ if !begins => (),
-                PathStep::Item(item) if item == number => {
-                    return Some((self.value_bytes(place), Node::Value(place)));
+        for place in first.saturating_add(1)..self.tokens.len() {
+            let token = self.tokens[place];
+            if token.kind != TokenKind::LineEnd {
+                if token.depth < inside {
+                    return None;
                 }
-                PathStep::Key(key) if token.is_named(key.as_bytes()) => {
-                    return self.value_behind(place);
+                if begins && token.begins(step, number) {
+                    return Some(place);
                 }
-                _ => number = number.saturating_add(1),
+                number = number.saturating_add(usize::from(begins));
+                begins = token.kind == TokenKind::Comma && token.depth == inside;
             }
-            begins = token.kind == TokenKind::Comma && token.depth == inside;
         }
         None
     }
 
     /// The value behind a key, whose token has a place.
     fn value_behind(&self, key: usize) -> Option<(Span, Node)> {
-        let mut behind = self.tokens.iter().enumerate().skip(key);
-        let (equals, _) = behind.find(|(_, it)| it.kind == TokenKind::Equals)?;
-        let value = equals.saturating_add(1);
-        Some((self.tokens.get(key)?.span, Node::Value(value)))
+        let behind = self.tokens.get(key..)?;
+        let equals = behind.iter().position(|it| it.kind == TokenKind::Equals)?;
+        let value = key.saturating_add(equals).saturating_add(1);
+        Some((behind.first()?.span, Node::Value(value)))
     }
 
     /// The bytes of the value whose first token has a place: up to before the next comma, line end or
@@ -215,6 +244,16 @@ fn statements_of<'a>(
 ) -> Result<Vec<Statement<'a>>, AllocError> {
     let mut statements = Vec::new(alloc);
     statements.push(Statement::new(alloc, 0, &[])?)?;
+    push_statements(alloc, &mut statements, tokens)?;
+    Ok(statements)
+}
+
+/// Adds the statements of the runs.
+fn push_statements<'a>(
+    alloc: Global,
+    statements: &mut Vec<Statement<'a>>,
+    tokens: &[Token<'a>],
+) -> Result<(), AllocError> {
     let mut first: usize = 0;
     for run in tokens.split(|it| it.kind == TokenKind::LineEnd && it.depth == 0) {
         if !run.is_empty() {
@@ -222,7 +261,7 @@ fn statements_of<'a>(
         }
         first = first.saturating_add(run.len()).saturating_add(1);
     }
-    Ok(statements)
+    Ok(())
 }
 
 /// The bytes from the first token to the last.

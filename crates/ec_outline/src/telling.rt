@@ -107,17 +107,20 @@ impl<'a> Telling<'a> {
         let [PathStep::Key(section), PathStep::Item(element), _, ..] = way else {
             return Ok(());
         };
-        let (alloc, found) = (self.alloc, self.outline.find(&way[..2]));
+        let found = self.outline.find(&way[..2]);
         let begin = found.key.start;
         let is_elsewhere = spot_of(self.text, begin).line != spot_of(self.text, start).line;
-        if found.steps == 2 && is_elsewhere && self.element != Some(begin) {
-            self.element = Some(begin);
-            self.at_span(
-                found.key,
-                format!(in alloc; "{section} {element} begins here")?,
-            )?;
+        if found.steps != 2 || !is_elsewhere || self.element == Some(begin) {
+            return Ok(());
         }
-        Ok(())
+        self.element = Some(begin);
+        self.say_begin(found.key, section, *element)
+    }
+
+    /// Says that an element begins at a key.
+    fn say_begin(&mut self, key: Span, section: &str, element: usize) -> Result<(), AllocError> {
+        let words = format!(in self.alloc; "{section} {element} begins here")?;
+        self.at_span(key, words)
     }
 
     /// Says something of a row of a list of the document, and marks it.

@@ -1,4 +1,5 @@
 //! The tokens of a TOML text. A text that is TOML is cut as its reader cuts it; any other is cut too.
+use crate::outline::PathStep;
 use crate::spot::Span;
 use std::alloc::{AllocError, Global};
 
@@ -38,6 +39,14 @@ impl Token<'_> {
     /// Whether it may be this key.
     pub fn is_named(self, name: &[u8]) -> bool {
         self.kind == TokenKind::Text && self.text == name
+    }
+
+    /// Whether what it begins is what a step leads to, where it is the item with a number.
+    pub fn begins(self, step: PathStep<'_>, number: usize) -> bool {
+        match step {
+            PathStep::Key(key) => self.is_named(key.as_bytes()),
+            PathStep::Item(item) => item == number,
+        }
     }
 }
 
