@@ -1,5 +1,5 @@
 -- A logical datagram by its role (ETG.1000.4, LRD, LWR and LRW).
-use Rattle.std.specs.Prelude.{ℕ, ◌+◌, ◌*◌, ◌&&◌, ◌≡◌, true, List, length, if◌then◌else◌}
+use Rattle.std.specs.Prelude.{ℕ, ◌+◌, ◌*◌, ◌^◌, ◌<◌, ◌&&◌, ◌≡◌, true, List, length, if◌then◌else◌}
 use Rattle.std.specs.Int.{from_bool}
 use Rattle.ec_bits.specs.Bits.{overlay}
 use Rattle.ec_regs.specs.Memory.{ram_end}
@@ -25,6 +25,10 @@ meets_mapped role s d = meets_logically (is_reading role) (is_writing role) (wei
 pub record MayWriteFirst (s : SlaveState) : Type 0 where
   pub room : length s.memory ≡ ram_end
   pub apart : AreApart (fmmus s)
+
+-- the data of a logical datagram, whose first logical bit is `from`, are no longer than a frame holds
+abbrev pub FitsFrame : ℕ → List ℕ → Type 0
+FitsFrame from bytes = (from + 8 * length bytes < 2 ^ 64) × (length bytes < 2048)
 
 -- What a datagram that reads and writes leaves of the slave and of its data, and what it counts: the data whose first logical
 -- bit is `from`.

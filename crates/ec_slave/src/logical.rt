@@ -10,7 +10,7 @@ ghost use Rattle.ec_bits.specs.Bits.{overlay};
 ghost use Rattle.ec_slave.specs.State.{fmmus};
 ghost use Rattle.ec_slave.specs.LogicalLaws.{Misses};
 ghost use Rattle.ec_slave.specs.Logical.{logical_after, read_bit, some_read, some_written};
-ghost use Rattle.ec_slave.specs.Mapped.{MayWriteFirst, bytes_exchanged, count_exchanged, mapped_met, slave_exchanged};
+ghost use Rattle.ec_slave.specs.Mapped.{FitsFrame, MayWriteFirst, bytes_exchanged, count_exchanged, mapped_met, slave_exchanged};
 
 mod exchange;
 mod managers;
@@ -58,8 +58,7 @@ impl Slave {
     /// A datagram that reads and writes: its data are copied only where a bit that is read may also
     /// be written.
     fn exchange_bits(&mut self, from: u64, bytes: &mut [u8]) -> u16
-        requires small { from + 8 * length bytes.old < 2 ^ 64 }
-        requires few { length bytes.old < 2048 }
+        requires { FitsFrame from bytes.old }
         ensures slave { self.new ≡ slave_exchanged self.old from bytes.old }
         ensures bytes { bytes.new ≡ bytes_exchanged self.old from bytes.old }
         ensures added { result ≡ count_exchanged self.old from bytes.old }
@@ -94,8 +93,7 @@ impl Slave {
     /// The same, with a copy of its own.
     #[inline(never)]
     fn read_write_copied_bits(&mut self, from: u64, bytes: &mut [u8]) -> u16
-        requires small { from + 8 * length bytes.old < 2 ^ 64 }
-        requires few { length bytes.old < 2048 }
+        requires { FitsFrame from bytes.old }
         ensures slave { self.new ≡ slave_exchanged self.old from bytes.old }
         ensures bytes { bytes.new ≡ bytes_exchanged self.old from bytes.old }
         ensures added { result ≡ count_exchanged self.old from bytes.old }

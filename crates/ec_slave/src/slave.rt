@@ -2,6 +2,9 @@
 ghost use Rattle.std.specs.Prelude.{◌≡◌, ◌+◌, ◌*◌, ◌<◌, ◌≤◌, ◌^◌, ℕ, length, slice_index, IfOk, IfSome, if◌then◌else◌, [], ◌∷◌, Option, Some, None, nat_lt};
 ghost use Rattle.ec_regs.specs.Memory.{al_status, ram_start, ram_end};
 ghost use Rattle.ec_sync.specs.SyncManager.{no_manager};
+ghost use Rattle.ec_sii.specs.SiiImage.{image_of};
+ghost use Rattle.ec_sii.specs.Port.{idle_port};
+ghost use Rattle.ec_coe.specs.Objects.{new_dictionary};
 ghost use Rattle.ec_sync.specs.Governing.{governor as governor_of};
 ghost use Rattle.ec_slave.specs.Physical.{byte_at, register_byte};
 ghost use Rattle.ec_slave.specs.State.{SlaveState, memory_length, power_on, station_of};
@@ -78,17 +81,25 @@ impl Slave {
     /// # Errors
     ///
     /// `AllocError` where there is no memory.
-    #[tactic(auto, unfolding(crate::specs::State::power_on))]
     pub fn new(alloc: Global, kind: SlaveType, identity: Identity) -> Result<Slave, AllocError>
         ensures { IfOk result (λ s. s ≡ power_on kind identity) }
     {
-        let memory = vec![in alloc; 0; memory_len()]?;
-        let fmmus = read_fmmus(&memory);
-        let managers = new_managers(alloc)?;
         let image = SiiImage::of(alloc, &kind, identity)?;
-        let port = Port::new(image);
-        let link = DataLink::new(kind.face());
         let dictionary = Dictionary::new(alloc, kind, identity)?;
+        Slave::switched_on(alloc, dictionary, Port::new(image))
+    }
+
+    /// A slave with these objects and this SII as the power comes on.
+    #[tactic(auto, unfolding(crate::specs::State::power_on))]
+    fn switched_on(alloc: Global, dictionary: Dictionary, port: Port) -> Result<Slave, AllocError>
+        requires objects { dictionary ≡ new_dictionary dictionary.kind dictionary.identity }
+        requires image { port ≡ idle_port (image_of dictionary.kind dictionary.identity) }
+        ensures { IfOk result (λ s. s ≡ power_on dictionary.kind dictionary.identity) }
+    {
+        let memory = vec![in alloc; 0; memory_len()]?;
+        let managers = new_managers(alloc)?;
+        let fmmus = read_fmmus(&memory);
+        let link = DataLink::new(dictionary.kind().face());
         Ok(Slave {
             dictionary,
             memory,
@@ -253,10 +264,9 @@ fn new_managers(alloc: Global) -> Result<Vec<SyncManager>, AllocError>
     ensures { IfOk result (λ v. v.items ≡ no_manager ∷ no_manager ∷ no_manager ∷ no_manager ∷ []) }
 {
     let mut managers = Vec::new(alloc);
-    managers.push(SyncManager::new(alloc)?)?;
-    managers.push(SyncManager::new(alloc)?)?;
-    managers.push(SyncManager::new(alloc)?)?;
-    managers.push(SyncManager::new(alloc)?)?;
+    for _ in 0..MANAGER_COUNT {
+        managers.push(SyncManager::new(alloc)?)?;
+    }
     Ok(managers)
 }
 

@@ -1,9 +1,7 @@
-use Rattle.std.proofs.Common.{◌∙◌, ap, sym, length, arith}
-use Rattle.ec_sii.specs.SiiImage.{image_of}
+use Rattle.std.proofs.Common.{◌∙◌, ap, length, arith}
 use Rattle.ec_sii.specs.Port.{Sii}
-use Rattle.ec_coe.specs.Objects.{Dictionary}
 use Rattle.ec_slave.specs.State.{fmmus_of}
-use Rattle.ec_slave.proofs.slave.Slave.new.Goals as goal
+use Rattle.ec_slave.proofs.slave.Slave.switched_on.Goals as goal
 
 pub invariant_of-result : goal.invariant_of-result
 invariant_of-result c =
@@ -11,5 +9,5 @@ invariant_of-result c =
       room = omega (arith, c.in_ok-memory.memory.ok, c.in_ok-memory.ensures.len, c.memory_len.ensures.is);
       four = ap length c.in_ok-managers.ensures;
       decoded = c.read_fmmus-fmmus.ensures ∙ ap fmmus_of c.deref.ensures.value;
-      image = ap (λ (p : Sii). p.image) c.new-port.ensures ∙ (c.in_ok-image.ensures ∙ sym (ap (λ (d : Dictionary). image_of d.kind d.identity) c.in_ok-dictionary.ensures));
+      image = ap (λ (p : Sii). p.image) c.requires.image;
     }
