@@ -1,0 +1,5 @@
+use Rattle.ec_table.proofs.Apart.{apart}
+use Rattle.ec_table.proofs.pdos.with_pdo_value.Goals as goal
+
+pub returns-else-is-2-clause-known : goal.returns-else-is-2-clause-known
+returns-else-is-2-clause-known c = rw (apart _ _ c.if-is.ensures, apart _ _ c.if-is-2.ensures)
