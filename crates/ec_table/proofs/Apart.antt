@@ -1,5 +1,5 @@
 -- A key that is not some name.
-use Rattle.std.proofs.Common.{◌≡◌, ◌≢◌, ℕ, false, List, codes, refl}
+use Rattle.std.proofs.Common.{◌≡◌, ◌≢◌, ◌||◌, ℕ, Bool, true, sym, false, List, codes, refl}
 use Rattle.std.proofs.lemmas.Bool.{false_from_ne_true}
 use Rattle.std.proofs.lemmas.Slice.Eq.{bytes_eq-Decides}
 use Rattle.std.specs.Str.{bytes_eq}
@@ -16,3 +16,8 @@ pub no_slave_key : (v : Version) (key : List ℕ) → key ≢ codes "name" → k
     → false ≡ is_key shape.Slave v key
 no_slave_key One key name type out in_ serial unit = rw (apart _ _ name, apart _ _ type, apart _ _ out, apart _ _ in_, apart _ _ serial)
 no_slave_key Two key name type out in_ serial unit = rw (apart _ _ name, apart _ _ type, apart _ _ out, apart _ _ in_, apart _ _ serial, apart _ _ (unit refl))
+
+-- where neither of two tests passes, the first doesn't
+pub or_left : (a b : Bool) → false ≡ (a || b) → a ≡ false
+or_left false b h = refl
+or_left true b h = sym h

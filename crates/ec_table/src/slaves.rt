@@ -104,7 +104,7 @@ fn with_slave<'a>(
     let inputs = numbers_in(alloc, place, values.inputs, first, last)?;
     let serial = number_or_0(place, values.serial, u32::MAX)?;
     let unit = number_or_0(place, values.unit, 63)?;
-    if found.has(name) || (twice_in(&outputs) || twice_in(&inputs)) {
+    if is_twice(found.has(name), &outputs, &inputs) {
         return Err(TableError::Refused(Fault::TwiceNamed(place)));
     }
     let written = Written {
@@ -238,6 +238,14 @@ fn written_or_all(
         Some(numbers) => Ok(numbers),
         None => indices_of(alloc, pdos),
     }
+}
+
+/// Whether the name is taken, or some object is assigned twice.
+fn is_twice(is_taken: bool, outputs: &Option<Listed<u16>>, inputs: &Option<Listed<u16>>) -> bool
+    ensures { result
+        ≡ (is_taken || (has_twice (unwrap_or outputs.now []) || has_twice (unwrap_or inputs.now []))) }
+{
+    is_taken || (twice_in(outputs) || twice_in(inputs))
 }
 
 /// Whether some number stands twice in a list, if there is one.

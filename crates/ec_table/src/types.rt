@@ -100,7 +100,7 @@ fn with_type<'a>(
         values.inputs,
     )?;
     let lrw = truth_in(place, values.lrw)?;
-    if found.has(name) || process_twice(alloc, &process)? {
+    if is_twice(alloc, found.has(name), &process)? {
         return Err(TableError::Refused(Fault::TwiceNamed(place)));
     }
     let row = TypeRow {
@@ -208,6 +208,17 @@ fn with_process_value<'a>(
         return Some(values);
     }
     None
+}
+
+/// Whether the name is taken, or some object stands twice in its direction.
+fn is_twice(alloc: Global, is_taken: bool, process: &ProcessData) -> Result<bool, AllocError>
+    ensures { IfOk result (λ b. b ≡ (is_taken || process_twice process.now)) }
+{
+    if is_taken {
+        Ok(true)
+    } else {
+        process_twice(alloc, process)
+    }
 }
 
 /// Whether some object stands twice in its direction.

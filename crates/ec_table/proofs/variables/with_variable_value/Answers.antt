@@ -8,7 +8,7 @@ returns-else-is-3-clause-known c = rw (apart _ _ c.if-is.ensures, apart _ _ c.if
 pub returns-clause-known : goal.returns-clause-known
 returns-clause-known c =
     elim c.if-is.branch [
-      then-is w ↦ rw w.if-is.ensures
+      | then-is w ↦ rw w.if-is.ensures
       | else-is+then-is-2 w ↦ rw w.if-is-2.ensures
       | else-is+else-is-2+then-is-3 w ↦ rw w.if-is-3.ensures
     ]
