@@ -1,5 +1,7 @@
 -- the map of a TOML table beside its members
 pub mod Lookups
+-- a key that is not some name
+pub mod Apart
 -- one more key of an element that is read in one pass
 pub mod OnePass
 -- a name's place, and one more name

@@ -23,7 +23,7 @@ use Rattle.ec_device.specs.Types.{IsEntry, IsPdo, ArePdos}
 use Rattle.ec_device.specs.Objects.{entries_at, assigned_entries, bits_of, entry_bits}
 use Rattle.ec_table.specs.Sound.{IsOnce, IsType, IsAssignment, IsSlave, AreSlaves, first_index}
 use Rattle.ec_table.proofs.Ranges.{limits_toward}
-use Rattle.ec_table.specs.Objects.{entries_of, type_of, object_bits}
+use Rattle.ec_table.specs.Objects.{entries_of, type_of}
 use Rattle.ec_table.specs.Laws.{ObjectBitsAreCounted, EntriesAreAssigned, EntriesAreFew}
 
 -- no list without doubles is longer than one that has all its elements

@@ -29,6 +29,17 @@ impl Section {
             Section::Link => 4,
         }
     }
+
+    /// What a place calls an element of the section.
+    fn word(self) -> &'static str {
+        match self {
+            Section::Top => "document",
+            Section::Type => "type",
+            Section::Slave => "slave",
+            Section::Variable => "variable",
+            Section::Link => "link",
+        }
+    }
 }
 
 /// An element of a section, counted from 0 in file order; the document itself is element 0 of `Top`.
@@ -43,11 +54,8 @@ pub struct Place {
 impl fmt::Display for Place {
     fn fmt<W: fmt::Write>(&self, f: &mut fmt::Formatter<W>) -> fmt::Result {
         match self.section {
-            Section::Top => write!(f, "the document"),
-            Section::Type => write!(f, "type {}", self.element),
-            Section::Slave => write!(f, "slave {}", self.element),
-            Section::Variable => write!(f, "variable {}", self.element),
-            Section::Link => write!(f, "link {}", self.element),
+            Section::Top => f.write_str("the document"),
+            section => write!(f, "{} {}", section.word(), self.element),
         }
     }
 }

@@ -1,5 +1,5 @@
 //! The PDOs that a type states.
-ghost use Rattle.std.specs.Prelude.{◌≡◌, ◌==◌, [], IfOk, is_some, IfSome};
+ghost use Rattle.std.specs.Prelude.{◌≡◌, ◌==◌, ◌||◌, [], IfOk, is_some, IfSome, not};
 ghost use Rattle.std.specs.List.{list_any};
 ghost use Rattle.toml.specs.View.{view, table_view, items_view};
 ghost use Rattle.ec_table.specs.declared.rows.Version.TheVariants as version;
@@ -233,7 +233,7 @@ fn entry_of(place: Place, value: &Value) -> Result<Entry, Fault>
     let index = number_in(place, value.get(0), 0, MAX_U16)?;
     let subindex = number_in(place, value.get(1), 0, MAX_U8)?;
     let bits = number_in(place, value.get(2), 1, MAX_ENTRY_BITS as u32)?;
-    if value.get(3).is_some() || (index == 0 && subindex != 0) {
+    if value.get(3).is_some() || is_bad_gap(index, subindex) {
         return Err(Fault::BadValue(place));
     }
     Ok(Entry {
@@ -241,4 +241,11 @@ fn entry_of(place: Place, value: &Value) -> Result<Entry, Fault>
         subindex: subindex as u8,
         bits: bits as u8,
     })
+}
+
+/// Whether a gap, whose index is 0, has a subindex.
+fn is_bad_gap(index: u32, subindex: u32) -> bool
+    ensures { result ≡ not (not (index == 0) || (subindex == 0)) }
+{
+    index == 0 && subindex != 0
 }

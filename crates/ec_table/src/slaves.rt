@@ -1,11 +1,13 @@
 //! The slaves that elements state.
-ghost use Rattle.std.specs.Prelude.{◌≡◌, ◌||◌, [], IfOk, unwrap_or, is_some, IfSome};
+ghost use Rattle.std.specs.Prelude.{◌≡◌, ◌||◌, [], false, IfOk, unwrap_or, is_some, IfSome};
 ghost use Rattle.toml.specs.View.{view, table_view, items_view};
 ghost use Rattle.ec_table.specs.declared.fields.Shape.TheVariants as shape;
 ghost use Rattle.ec_table.specs.Fields.{is_key, keys_are};
 ghost use Rattle.ec_table.specs.Values.{AreSlaveValues, PutsSlaveValue};
 ghost use Rattle.ec_table.specs.Pdos.{has_twice, indices_of};
-ghost use Rattle.ec_table.specs.InOrder.{Gives, one_more, rows_after};
+ghost use Rattle.ec_table.specs.InOrder.{Gives, GivesNamed, one_more, rows_after};
+ghost use Rattle.ec_table.specs.Names.{is_named};
+ghost use Rattle.ec_table.specs.declared.rows.SlaveRow.{SlaveRow};
 ghost use Rattle.ec_table.specs.Reading.{all_in, assigned_in, slave_at, slave_element, slave_of_type};
 
 use crate::fault::{Fault, Place, Section, TableError};
@@ -81,7 +83,6 @@ fn with_slave_element<'a>(
 }
 
 /// The slaves found, and the one that an element states behind them.
-#[tactic(auto, unfolding(crate::specs::Reading::slave_at, crate::specs::Reading::slave_named))]
 fn with_slave<'a>(
     alloc: Global,
     version: Version,
@@ -92,6 +93,24 @@ fn with_slave<'a>(
 ) -> Result<NamedRows<'a, SlaveRow>, TableError>
     ensures { Gives result
         (one_more found.entry (slave_at version types.now place (table_view members.now) found.entry)) }
+{
+    let (name, row) = slave_at(alloc, version, types, place, members, &found)?;
+    Ok(found.with(name, row)?)
+}
+
+/// The slave that an element states, beside its name, which no slave found has.
+#[tactic(auto, unfolding(crate::specs::Reading::slave_at, crate::specs::Reading::slave_named))]
+fn slave_at<'a>(
+    alloc: Global,
+    version: Version,
+    types: &NamedRows<'_, TypeRow>,
+    place: Place,
+    members: &'a toml::Table,
+    found: &NamedRows<'_, SlaveRow>,
+) -> Result<(&'a str, SlaveRow), TableError>
+    ensures value { GivesNamed result (slave_at version types.now place (table_view members.now) found.now) }
+    ensures name { IfOk result (λ r. r.1.name ≡ r.0.now) }
+    ensures fresh { IfOk result (λ r. is_named (λ (s : SlaveRow). s.name) r.0.now found.now ≡ false) }
 {
     let Some(values) = slave_values(version, members) else {
         return Err(TableError::Refused(Fault::BadKey(place)));
@@ -104,7 +123,7 @@ fn with_slave<'a>(
     let inputs = numbers_in(alloc, place, values.inputs, first, last)?;
     let serial = number_or_0(place, values.serial, u32::MAX)?;
     let unit = number_or_0(place, values.unit, 63)?;
-    if found.has(name) || (twice_in(&outputs) || twice_in(&inputs)) {
+    if is_twice(found.has(name), &outputs, &inputs) {
         return Err(TableError::Refused(Fault::TwiceNamed(place)));
     }
     let written = Written {
@@ -114,7 +133,7 @@ fn with_slave<'a>(
         unit: unit as u8,
     };
     let row = slave_of_type(alloc, types, place, name, type_name, written)?;
-    Ok(found.with(name, row)?)
+    Ok((name, row))
 }
 
 /// What stands under the keys of a slave's element, if it has no unknown key and none is missing.
@@ -238,6 +257,14 @@ fn written_or_all(
         Some(numbers) => Ok(numbers),
         None => indices_of(alloc, pdos),
     }
+}
+
+/// Whether the name is taken, or some object is assigned twice.
+fn is_twice(is_taken: bool, outputs: &Option<Listed<u16>>, inputs: &Option<Listed<u16>>) -> bool
+    ensures { result
+        ≡ (is_taken || (has_twice (unwrap_or outputs.now []) || has_twice (unwrap_or inputs.now []))) }
+{
+    is_taken || (twice_in(outputs) || twice_in(inputs))
 }
 
 /// Whether some number stands twice in a list, if there is one.

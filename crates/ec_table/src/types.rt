@@ -1,11 +1,13 @@
 //! The types of slaves that elements state.
-ghost use Rattle.std.specs.Prelude.{◌≡◌, ◌||◌, [], IfOk, is_some, IfSome};
+ghost use Rattle.std.specs.Prelude.{◌≡◌, ◌||◌, [], false, IfOk, is_some, IfSome};
 ghost use Rattle.toml.specs.View.{view, table_view, items_view};
 ghost use Rattle.ec_table.specs.declared.rows.Version.TheVariants as version;
 ghost use Rattle.ec_table.specs.declared.fields.Shape.TheVariants as shape;
 ghost use Rattle.ec_table.specs.Fields.{is_key, keys_are, mailbox_of, mailbox_in, seen, truth_in};
 ghost use Rattle.ec_table.specs.Values.{AreTypeValues, PutsTypeValue, is_process_key};
-ghost use Rattle.ec_table.specs.InOrder.{Gives, one_more, rows_after};
+ghost use Rattle.ec_table.specs.InOrder.{Gives, GivesNamed, one_more, rows_after};
+ghost use Rattle.ec_table.specs.Names.{is_named};
+ghost use Rattle.ec_table.specs.declared.rows.TypeRow.{TypeRow};
 ghost use Rattle.ec_table.specs.Pdos.{has_twice, indices_of};
 ghost use Rattle.ec_table.specs.Reading.{device_in, process_in, process_twice, type_at, type_element};
 
@@ -75,7 +77,6 @@ fn with_type_element<'a>(
 }
 
 /// The types found, and the one that an element states behind them.
-#[tactic(auto, unfolding(crate::specs::Reading::type_at, crate::specs::Reading::type_named))]
 fn with_type<'a>(
     alloc: Global,
     version: Version,
@@ -84,6 +85,23 @@ fn with_type<'a>(
     found: NamedRows<'a, TypeRow>,
 ) -> Result<NamedRows<'a, TypeRow>, TableError>
     ensures { Gives result (one_more found.entry (type_at version place (table_view members.now) found.entry)) }
+{
+    let (name, row) = type_at(alloc, version, place, members, &found)?;
+    Ok(found.with(name, row)?)
+}
+
+/// The type that an element states, beside its name, which no type found has.
+#[tactic(auto, unfolding(crate::specs::Reading::type_at, crate::specs::Reading::type_named))]
+fn type_at<'a>(
+    alloc: Global,
+    version: Version,
+    place: Place,
+    members: &'a toml::Table,
+    found: &NamedRows<'_, TypeRow>,
+) -> Result<(&'a str, TypeRow), TableError>
+    ensures value { GivesNamed result (type_at version place (table_view members.now) found.now) }
+    ensures name { IfOk result (λ r. r.1.name ≡ r.0.now) }
+    ensures fresh { IfOk result (λ r. is_named (λ (t : TypeRow). t.name) r.0.now found.now ≡ false) }
 {
     let Some(values) = type_values(members) else {
         return Err(TableError::Refused(Fault::BadKey(place)));
@@ -100,7 +118,7 @@ fn with_type<'a>(
         values.inputs,
     )?;
     let lrw = truth_in(place, values.lrw)?;
-    if found.has(name) || process_twice(alloc, &process)? {
+    if is_twice(alloc, found.has(name), &process)? {
         return Err(TableError::Refused(Fault::TwiceNamed(place)));
     }
     let row = TypeRow {
@@ -110,7 +128,7 @@ fn with_type<'a>(
         process,
         lrw,
     };
-    Ok(found.with(name, row)?)
+    Ok((name, row))
 }
 
 /// What stands under the keys of a type's element, if it has no unknown key and none is missing.
@@ -208,6 +226,17 @@ fn with_process_value<'a>(
         return Some(values);
     }
     None
+}
+
+/// Whether the name is taken, or some object stands twice in its direction.
+fn is_twice(alloc: Global, is_taken: bool, process: &ProcessData) -> Result<bool, AllocError>
+    ensures { IfOk result (λ b. b ≡ (is_taken || process_twice process.now)) }
+{
+    if is_taken {
+        Ok(true)
+    } else {
+        process_twice(alloc, process)
+    }
 }
 
 /// Whether some object stands twice in its direction.
