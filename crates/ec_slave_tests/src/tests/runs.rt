@@ -2,13 +2,12 @@
 //! and over bits that differ, against bits that are put one by one.
 ghost use Rattle.std.specs.Prelude.{◌≤◌, ◌<◌, ◌+◌};
 
-use super::plain_slave;
-use super::steps::{frame_behind, take_all};
+use super::expect_cases;
+use super::steps::{frame_of, pass_frame};
 use ec_bits::{get, put};
 use ec_frame::Command::{self, Aprd, Apwr, Lrd, Lwr};
 use ec_slave::Slave;
 use std::process::Abort;
-use std::test::Fail;
 
 /// The FMMU reads.
 const READS: u8 = 1;
@@ -29,7 +28,7 @@ const MEMORIES: [[u8; 8]; 3] = [
 
 /// So many bits from a bit of logical byte 0x00010001 on, and of physical byte 0x1801: one byte and more lie on both sides
 /// of them, in the data and in the eight bytes of memory from 0x1800 on.
-#[derive(Clone, Copy, Debug)]
+#[derive(Clone, Copy)]
 struct Run {
     start: u8,
     physical: u8,
@@ -90,62 +89,82 @@ impl Run {
     }
 }
 
+/// Compares the data of the one datagram of a frame.
+fn assert_data(rt: &impl Abort, run: Run, frame: &[u8], back: &[u8]) {
+    assert!(rt;
+        frame.get(12..12 + back.len()) == Some(back),
+        "{} bits from {} on, at {}",
+        run.count,
+        run.start,
+        run.physical
+    );
+}
+
 /// Passes a datagram, and compares its data as they come back.
 fn expect_back(
     rt: &impl Abort,
     slave: &mut Slave,
     run: Run,
-    command: Command,
-    address: u32,
+    (command, address): (Command, u32),
     sent: &[u8],
     back: &[u8],
-) -> Result<(), Fail> {
-    let frame = frame_behind(slave, command, address, sent)?;
-    let met = frame.as_slice().get(12..12 + back.len());
-    assert_eq!(rt; met, Some(back), "{command:?} of {run:?}");
-    Ok(())
+) {
+    let mut frame = frame_of(rt, command, address, sent);
+    pass_frame(rt, slave, frame.as_mut_slice());
+    assert_data(rt, run, frame.as_slice(), back);
+}
+
+/// Writes bytes, which come back as they are sent.
+fn expect_written(rt: &impl Abort, slave: &mut Slave, run: Run, address: u32, bytes: &[u8]) {
+    expect_back(rt, slave, run, (Apwr, address), bytes, bytes);
 }
 
 /// Sets an FMMU and the memory, and exchanges the data.
-fn expect_exchange(
-    rt: &impl Abort,
-    slave: &mut Slave,
-    run: Run,
-    memory: &[u8; 8],
-) -> Result<(), Fail> {
-    let (reads, writes) = (run.registers(READS), run.registers(WRITES));
-    let written = run.written(memory);
-    expect_back(rt, slave, run, Apwr, 0x0600_0000, &reads, &reads)?;
-    expect_back(rt, slave, run, Apwr, 0x1800_0000, memory, memory)?;
-    expect_back(rt, slave, run, Lrd, 0x0001_0000, &DATA, &run.read(memory))?;
-    expect_back(rt, slave, run, Apwr, 0x0600_0000, &writes, &writes)?;
-    expect_back(rt, slave, run, Lwr, 0x0001_0000, &DATA, &DATA)?;
-    expect_back(rt, slave, run, Aprd, 0x1800_0000, &[0; 8], &written)
+fn expect_exchange(rt: &impl Abort, slave: &mut Slave, run: Run, memory: &[u8; 8]) {
+    expect_written(rt, slave, run, 0x0600_0000, &run.registers(READS));
+    expect_written(rt, slave, run, 0x1800_0000, memory);
+    expect_back(rt, slave, run, (Lrd, 0x0001_0000), &DATA, &run.read(memory));
+    expect_written(rt, slave, run, 0x0600_0000, &run.registers(WRITES));
+    expect_back(rt, slave, run, (Lwr, 0x0001_0000), &DATA, &DATA);
+    expect_back(
+        rt,
+        slave,
+        run,
+        (Aprd, 0x1800_0000),
+        &[0; 8],
+        &run.written(memory),
+    );
+}
+
+/// The application puts a byte of the inputs, as it may.
+fn expect_put(rt: &impl Abort, slave: &mut Slave, run: Run, place: usize, byte: u8) {
+    assert!(rt;
+        slave.app_put(place, byte),
+        "byte {place} of {} bits at {}",
+        run.count,
+        run.physical
+    );
+}
+
+/// The application puts the bytes of memory that have a bit of the run.
+fn expect_value_put(rt: &impl Abort, slave: &mut Slave, run: Run, memory: &[u8; 8]) {
+    for place in 0..usize::from(run.byte_count()) {
+        expect_put(rt, slave, run, place, memory[1 + place]);
+    }
 }
 
 /// Sets an FMMU and, over its physical bytes, manager 3, of which the application puts the value, and reads the data.
-fn expect_value_read(
-    rt: &impl Abort,
-    slave: &mut Slave,
-    run: Run,
-    memory: &[u8; 8],
-) -> Result<(), Fail> {
-    let reads = run.registers(READS);
+fn expect_value_read(rt: &impl Abort, slave: &mut Slave, run: Run, memory: &[u8; 8]) {
     let manager = [1, 0x18, run.byte_count(), 0, 0x20, 0, 1, 0];
-    expect_back(rt, slave, run, Apwr, 0x0600_0000, &reads, &reads)?;
-    expect_back(rt, slave, run, Apwr, 0x0818_0000, &manager, &manager)?;
-    for place in 0..usize::from(run.byte_count()) {
-        assert!(rt;
-            slave.app_put(place, memory[1 + place]),
-            "byte {place} of {run:?}"
-        );
-    }
-    expect_back(rt, slave, run, Lrd, 0x0001_0000, &DATA, &run.read(memory))
+    expect_written(rt, slave, run, 0x0600_0000, &run.registers(READS));
+    expect_written(rt, slave, run, 0x0818_0000, &manager);
+    expect_value_put(rt, slave, run, memory);
+    expect_back(rt, slave, run, (Lrd, 0x0001_0000), &DATA, &run.read(memory));
 }
 
-/// Each run of up to 40 bits, over ones and zeros.
-fn exchange_runs(rt: &impl Abort, slave: &mut Slave) -> Result<(), Fail> {
-    for memory in MEMORIES {
+/// Each run of up to 40 bits, over ones, zeros and bits that differ. No manager has a byte of the memory.
+pub fn exchange_runs(rt: &impl Abort, slave: &mut Slave) {
+    for memory in &MEMORIES {
         for start in 0..8 {
             for physical in 0..8 {
                 for count in 1..41 {
@@ -154,24 +173,22 @@ fn exchange_runs(rt: &impl Abort, slave: &mut Slave) -> Result<(), Fail> {
                         physical,
                         count,
                     };
-                    expect_exchange(rt, slave, run, &memory)?;
+                    expect_exchange(rt, slave, run, memory);
                 }
             }
         }
     }
-    Ok(())
 }
 
 // Plain memory, of which no manager has a byte.
 #[test]
-fn each_short_run_of_memory(rt: HostRuntime) -> Result<(), Fail> {
-    let mut slave = plain_slave(rt.alloc())?;
-    exchange_runs(&rt, &mut slave)
+fn each_short_run_of_memory(rt: HostRuntime) {
+    expect_cases(&rt, "case each_short_run_of_memory\nmemory_runs");
 }
 
-/// Each run of up to 40 bits of a value of ones or zeros.
-fn read_runs(rt: &impl Abort, slave: &mut Slave) -> Result<(), Fail> {
-    for memory in MEMORIES {
+/// Each run of up to 40 bits of a value of ones, zeros and bits that differ. The slave is in SAFEOP.
+pub fn read_runs(rt: &impl Abort, slave: &mut Slave) {
+    for memory in &MEMORIES {
         for start in 0..8 {
             for physical in 0..8 {
                 for count in 1..41 {
@@ -180,28 +197,23 @@ fn read_runs(rt: &impl Abort, slave: &mut Slave) -> Result<(), Fail> {
                         physical,
                         count,
                     };
-                    expect_value_read(rt, slave, run, &memory)?;
+                    expect_value_read(rt, slave, run, memory);
                 }
             }
         }
     }
-    Ok(())
 }
 
-/// The same of a slave that is led to SAFEOP first.
-fn read_runs_in_safeop(rt: &(impl AllocGlobal + Abort), slave: &mut Slave) -> Result<(), Fail> {
-    take_all(
-        rt,
-        "to SAFEOP",
-        slave,
-        "asks 0200 020000000000\nasks 0400 040000000000",
-    )?;
-    read_runs(rt, slave)
-}
+/// The slave is led to SAFEOP first.
+const VALUES: &str = "\
+case each_short_run_of_a_value
+asks 0200 > 020000000000
+asks 0400 > 040000000000
+value_runs
+";
 
 // The value of a manager that has just the bytes of the run, in SAFEOP.
 #[test]
-fn each_short_run_of_a_value(rt: HostRuntime) -> Result<(), Fail> {
-    let mut slave = plain_slave(rt.alloc())?;
-    read_runs_in_safeop(&rt, &mut slave)
+fn each_short_run_of_a_value(rt: HostRuntime) {
+    expect_cases(&rt, VALUES);
 }
