@@ -225,9 +225,13 @@ fn slave_without_lrw(rt: HostRuntime) {
     expect_case(&rt, slave_apart(rt.alloc()), "", WITHOUT_LRW);
 }
 
+// Behind the longest datagram what it left is read.
 #[test]
 fn longest_datagram(rt: HostRuntime) {
-    expect_cases(&rt, "case longest_datagram\nlongest");
+    expect_cases(
+        &rt,
+        "case longest_datagram\nlongest\nanswers aprd 15b10000 1 0101 > 5a00",
+    );
 }
 
 #[test]

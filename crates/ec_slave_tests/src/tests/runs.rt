@@ -3,7 +3,7 @@
 ghost use Rattle.std.specs.Prelude.{◌≤◌, ◌<◌, ◌+◌};
 
 use super::expect_cases;
-use super::steps::{frame_of, pass_frame};
+use super::steps::{data_of, frame_of, pass_frame};
 use ec_bits::{get, put};
 use ec_frame::Command::{self, Aprd, Apwr, Lrd, Lwr};
 use ec_slave::Slave;
@@ -89,14 +89,12 @@ impl Run {
     }
 }
 
-/// Compares the data of the one datagram of a frame.
-fn assert_data(rt: &impl Abort, run: Run, frame: &[u8], back: &[u8]) {
+/// Tells of which run something isn't as it must be.
+fn assert_run(rt: &impl Abort, run: Run, is_good: bool) {
     assert!(rt;
-        frame.get(12..12 + back.len()) == Some(back),
+        is_good,
         "{} bits from {} on, at {}",
-        run.count,
-        run.start,
-        run.physical
+        run.count, run.start, run.physical
     );
 }
 
@@ -111,7 +109,7 @@ fn expect_back(
 ) {
     let mut frame = frame_of(rt, command, address, sent);
     pass_frame(rt, slave, frame.as_mut_slice());
-    assert_data(rt, run, frame.as_slice(), back);
+    assert_run(rt, run, data_of(frame.as_slice()).starts_with(back));
 }
 
 /// Writes bytes, which come back as they are sent.
@@ -119,11 +117,13 @@ fn expect_written(rt: &impl Abort, slave: &mut Slave, run: Run, address: u32, by
     expect_back(rt, slave, run, (Apwr, address), bytes, bytes);
 }
 
-/// Sets an FMMU and the memory, and exchanges the data.
-fn expect_exchange(rt: &impl Abort, slave: &mut Slave, run: Run, memory: &[u8; 8]) {
-    expect_written(rt, slave, run, 0x0600_0000, &run.registers(READS));
-    expect_written(rt, slave, run, 0x1800_0000, memory);
+/// Reads the data over these bytes of memory.
+fn expect_read(rt: &impl Abort, slave: &mut Slave, run: Run, memory: &[u8; 8]) {
     expect_back(rt, slave, run, (Lrd, 0x0001_0000), &DATA, &run.read(memory));
+}
+
+/// Sets the FMMU so that it writes, and writes the data over these bytes of memory.
+fn expect_write(rt: &impl Abort, slave: &mut Slave, run: Run, memory: &[u8; 8]) {
     expect_written(rt, slave, run, 0x0600_0000, &run.registers(WRITES));
     expect_back(rt, slave, run, (Lwr, 0x0001_0000), &DATA, &DATA);
     expect_back(
@@ -136,34 +136,40 @@ fn expect_exchange(rt: &impl Abort, slave: &mut Slave, run: Run, memory: &[u8; 8
     );
 }
 
-/// The application puts a byte of the inputs, as it may.
-fn expect_put(rt: &impl Abort, slave: &mut Slave, run: Run, place: usize, byte: u8) {
-    assert!(rt;
-        slave.app_put(place, byte),
-        "byte {place} of {} bits at {}",
-        run.count,
-        run.physical
-    );
+/// Sets the memory, and exchanges the data.
+fn expect_exchange(rt: &impl Abort, slave: &mut Slave, run: Run, memory: &[u8; 8]) {
+    expect_written(rt, slave, run, 0x1800_0000, memory);
+    expect_read(rt, slave, run, memory);
+    expect_write(rt, slave, run, memory);
 }
 
-/// The application puts the bytes of memory that have a bit of the run.
-fn expect_value_put(rt: &impl Abort, slave: &mut Slave, run: Run, memory: &[u8; 8]) {
+/// The application puts the bytes of memory that have a bit of the run, as it may.
+fn expect_put(rt: &impl Abort, slave: &mut Slave, run: Run, memory: &[u8; 8]) {
     for place in 0..usize::from(run.byte_count()) {
-        expect_put(rt, slave, run, place, memory[1 + place]);
+        assert_run(rt, run, slave.app_put(place, memory[1 + place]));
     }
 }
 
-/// Sets an FMMU and, over its physical bytes, manager 3, of which the application puts the value, and reads the data.
-fn expect_value_read(rt: &impl Abort, slave: &mut Slave, run: Run, memory: &[u8; 8]) {
+/// Sets manager 3 over the run's physical bytes, of which the application puts the value, and reads the data.
+fn expect_value(rt: &impl Abort, slave: &mut Slave, run: Run, memory: &[u8; 8]) {
     let manager = [1, 0x18, run.byte_count(), 0, 0x20, 0, 1, 0];
-    expect_written(rt, slave, run, 0x0600_0000, &run.registers(READS));
     expect_written(rt, slave, run, 0x0818_0000, &manager);
-    expect_value_put(rt, slave, run, memory);
-    expect_back(rt, slave, run, (Lrd, 0x0001_0000), &DATA, &run.read(memory));
+    expect_put(rt, slave, run, memory);
+    expect_read(rt, slave, run, memory);
 }
 
-/// Each run of up to 40 bits, over ones, zeros and bits that differ. No manager has a byte of the memory.
-pub fn exchange_runs(rt: &impl Abort, slave: &mut Slave) {
+/// Sets an FMMU so that it reads. The run is one of a value, or of memory that no manager has a byte of.
+fn expect_run(rt: &impl Abort, slave: &mut Slave, run: Run, memory: &[u8; 8], is_value: bool) {
+    expect_written(rt, slave, run, 0x0600_0000, &run.registers(READS));
+    if is_value {
+        expect_value(rt, slave, run, memory);
+    } else {
+        expect_exchange(rt, slave, run, memory);
+    }
+}
+
+/// Each run of up to 40 bits, over ones, zeros and bits that differ. For those of a value the slave is in SAFEOP.
+pub fn take_runs(rt: &impl Abort, slave: &mut Slave, is_value: bool) {
     for memory in &MEMORIES {
         for start in 0..8 {
             for physical in 0..8 {
@@ -173,7 +179,7 @@ pub fn exchange_runs(rt: &impl Abort, slave: &mut Slave) {
                         physical,
                         count,
                     };
-                    expect_exchange(rt, slave, run, memory);
+                    expect_run(rt, slave, run, memory, is_value);
                 }
             }
         }
@@ -184,24 +190,6 @@ pub fn exchange_runs(rt: &impl Abort, slave: &mut Slave) {
 #[test]
 fn each_short_run_of_memory(rt: HostRuntime) {
     expect_cases(&rt, "case each_short_run_of_memory\nmemory_runs");
-}
-
-/// Each run of up to 40 bits of a value of ones, zeros and bits that differ. The slave is in SAFEOP.
-pub fn read_runs(rt: &impl Abort, slave: &mut Slave) {
-    for memory in &MEMORIES {
-        for start in 0..8 {
-            for physical in 0..8 {
-                for count in 1..41 {
-                    let run = Run {
-                        start,
-                        physical,
-                        count,
-                    };
-                    expect_value_read(rt, slave, run, memory);
-                }
-            }
-        }
-    }
 }
 
 /// The slave is led to SAFEOP first.

@@ -17,26 +17,34 @@
 //! | `gets PLACE > BYTE` | the application gets a byte of the outputs, or none |
 //! | `puts PLACE BYTE > 01`, `faults > 01` | the application puts a byte of the inputs, has a fault; whether it may, whether that counts: 00 if not |
 //! | `longest`, `nops` | `expect_longest` and `expect_nops` of `long` |
-//! | `memory_runs`, `value_runs` | `exchange_runs` and `read_runs` of `runs` |
+//! | `memory_runs`, `value_runs` | `take_runs` of `runs` |
 //! | `# WORDS` | nothing |
 use super::long::{expect_longest, expect_nops};
-use super::runs::{exchange_runs, read_runs};
+use super::runs::take_runs;
 use ec_frame::{Builder, Command, Frame, check};
 use ec_slave::Slave;
 use std::alloc::AllocError;
 use std::process::Abort;
 
-/// What is told where something isn't as it must be: the name of a case, and a line of it.
-pub type Told<'a> = (&'a str, &'a str);
+/// A line of a case: the case's name and all of the line are told where something isn't as it must be, and the line's parts are
+/// its word, what that is about, and what stands behind `>`.
+#[derive(Drop)]
+pub struct Line<'a> {
+    name: &'a str,
+    text: &'a str,
+    word: &'a str,
+    about: &'a str,
+    row: &'a str,
+}
 
 /// What stands before and behind the first place of a text.
 fn parts<'a>(rt: &impl Abort, text: &'a str, between: &str) -> (&'a str, &'a str) {
     text.split_once(between).expect(rt, text)
 }
 
-/// The same; all of the text and nothing, where that place isn't there.
+/// The same; where that place isn't there, all of the text and what is neither a row nor a number.
 fn halves<'a>(text: &'a str, between: &str) -> (&'a str, &'a str) {
-    text.split_once(between).unwrap_or((text, ""))
+    text.split_once(between).unwrap_or((text, "?"))
 }
 
 /// A physical address, or a place.
@@ -97,13 +105,13 @@ fn counted(rt: &(impl AllocGlobal + Abort), bytes: &[u8], counter: u8) -> Vec<u8
 }
 
 /// Compares bytes.
-pub fn assert_bytes(rt: &impl Abort, (name, line): Told<'_>, met: &[u8], wanted: &[u8]) {
-    assert_eq!(rt; met, wanted, "{name}: {line}");
+pub fn assert_bytes(rt: &impl Abort, line: &Line<'_>, met: &[u8], wanted: &[u8]) {
+    assert_eq!(rt; met, wanted, "{}: {}", line.name, line.text);
 }
 
 /// Compares bytes with a row.
-fn assert_row(rt: &(impl AllocGlobal + Abort), told: Told<'_>, met: &[u8], row: &str) {
-    assert_bytes(rt, told, met, &bytes_of(rt, row));
+fn assert_row(rt: &(impl AllocGlobal + Abort), line: &Line<'_>, met: &[u8], row: &str) {
+    assert_bytes(rt, line, met, &bytes_of(rt, row));
 }
 
 /// Passes a payload that is a frame. So many datagrams it has.
@@ -114,15 +122,10 @@ pub fn pass_frame(rt: &impl Abort, slave: &mut Slave, frame: &mut [u8]) -> usize
 }
 
 /// Passes a frame, and compares what comes back.
-fn expect_passed(
-    rt: &(impl AllocGlobal + Abort),
-    told: Told<'_>,
-    slave: &mut Slave,
-    (sent, back): (&str, &str),
-) {
-    let mut frame = bytes_of(rt, sent);
+fn expect_passed(rt: &(impl AllocGlobal + Abort), slave: &mut Slave, line: &Line<'_>) {
+    let mut frame = bytes_of(rt, line.about);
     pass_frame(rt, slave, &mut frame);
-    assert_row(rt, told, &frame, back);
+    assert_row(rt, line, &frame, line.row);
 }
 
 /// The frame of a datagram.
@@ -133,87 +136,84 @@ pub fn frame_of(rt: &impl Abort, command: Command, address: u32, sent: &[u8]) ->
 }
 
 /// What stands in the frame of a datagram from its data on.
-fn data_of(frame: &[u8]) -> &[u8] {
+pub fn data_of(frame: &[u8]) -> &[u8] {
     frame.get(12..).unwrap_or(&[])
 }
 
 /// Passes a datagram, and compares its data and its counter as they come back.
 pub fn expect_back(
     rt: &impl Abort,
-    told: Told<'_>,
     slave: &mut Slave,
+    line: &Line<'_>,
     (command, address): (Command, u32),
     sent: &[u8],
     wanted: &[u8],
 ) {
     let mut frame = frame_of(rt, command, address, sent);
     pass_frame(rt, slave, frame.as_mut_slice());
-    assert_bytes(rt, told, data_of(frame.as_slice()), wanted);
+    assert_bytes(rt, line, data_of(frame.as_slice()), wanted);
 }
 
 /// The same of data and a counter.
 fn expect_data(
     rt: &(impl AllocGlobal + Abort),
-    told: Told<'_>,
     slave: &mut Slave,
+    line: &Line<'_>,
     asked: (Command, u32),
     sent: &[u8],
     back: &[u8],
     counter: u8,
 ) {
-    expect_back(rt, told, slave, asked, sent, &counted(rt, back, counter));
+    expect_back(rt, slave, line, asked, sent, &counted(rt, back, counter));
+}
+
+/// The same of rows.
+fn expect_rows(
+    rt: &(impl AllocGlobal + Abort),
+    slave: &mut Slave,
+    line: &Line<'_>,
+    asked: (Command, u32),
+    counted: &str,
+) {
+    let (counter, sent) = parts(rt, counted, " ");
+    let counter = byte_of(rt, counter);
+    let (sent, back) = (bytes_of(rt, sent), bytes_of(rt, line.row));
+    expect_data(rt, slave, line, asked, &sent, &back, counter);
 }
 
 /// A datagram as a row.
-fn expect_answer(
-    rt: &(impl AllocGlobal + Abort),
-    told: Told<'_>,
-    slave: &mut Slave,
-    asked: &str,
-    back: &str,
-) {
-    let (command, rest) = parts(rt, asked, " ");
+fn expect_answer(rt: &(impl AllocGlobal + Abort), slave: &mut Slave, line: &Line<'_>) {
+    let (command, rest) = parts(rt, line.about, " ");
     let (address, rest) = parts(rt, rest, " ");
-    let (counter, sent) = parts(rt, rest, " ");
     let asked = (command_of(rt, command), address_of(rt, address));
-    let counter = byte_of(rt, counter);
-    expect_data(
-        rt,
-        told,
-        slave,
-        asked,
-        &bytes_of(rt, sent),
-        &bytes_of(rt, back),
-        counter,
-    );
+    expect_rows(rt, slave, line, asked, rest);
 }
 
 /// Writes from a physical address on; the data come back as they were.
 fn expect_written(
     rt: &(impl AllocGlobal + Abort),
-    told: Told<'_>,
     slave: &mut Slave,
+    line: &Line<'_>,
     ado: u16,
     bytes: &[u8],
     counter: u8,
 ) {
     let asked = (Command::Apwr, 65536 * u32::from(ado));
-    expect_data(rt, told, slave, asked, bytes, bytes, counter);
+    expect_data(rt, slave, line, asked, bytes, bytes, counter);
 }
 
 /// The same of a row.
 fn expect_row_written(
     rt: &(impl AllocGlobal + Abort),
-    told: Told<'_>,
     slave: &mut Slave,
-    about: &str,
+    line: &Line<'_>,
     counter: u8,
 ) {
-    let (ado, row) = parts(rt, about, " ");
+    let (ado, row) = parts(rt, line.about, " ");
     expect_written(
         rt,
-        told,
         slave,
+        line,
         word_of(rt, ado),
         &bytes_of(rt, row),
         counter,
@@ -221,29 +221,31 @@ fn expect_row_written(
 }
 
 /// Asks for a state.
-fn expect_state(
-    rt: &(impl AllocGlobal + Abort),
-    told: Told<'_>,
-    slave: &mut Slave,
-    control: &str,
-    status: &str,
-) {
-    expect_written(rt, told, slave, 0x0120, &bytes_of(rt, control), 1);
+fn expect_state(rt: &(impl AllocGlobal + Abort), slave: &mut Slave, line: &Line<'_>) {
+    expect_written(rt, slave, line, 0x0120, &bytes_of(rt, line.about), 1);
     slave.serve();
     let asked = (Command::Aprd, 0x0130_0000);
-    expect_data(rt, told, slave, asked, &[0; 6], &bytes_of(rt, status), 1);
+    expect_data(rt, slave, line, asked, &[0; 6], &bytes_of(rt, line.row), 1);
 }
 
 /// Writes a message into the mailbox.
-fn expect_message(rt: &(impl AllocGlobal + Abort), told: Told<'_>, slave: &mut Slave, row: &str) {
-    expect_written(rt, told, slave, 0x1000, &mailbox_of(rt, row), 1);
+fn expect_message(rt: &(impl AllocGlobal + Abort), slave: &mut Slave, line: &Line<'_>) {
+    expect_written(rt, slave, line, 0x1000, &mailbox_of(rt, line.about), 1);
     slave.serve();
 }
 
 /// Reads a message from the mailbox.
-fn expect_reply(rt: &(impl AllocGlobal + Abort), told: Told<'_>, slave: &mut Slave, row: &str) {
+fn expect_reply(rt: &(impl AllocGlobal + Abort), slave: &mut Slave, line: &Line<'_>) {
     let asked = (Command::Aprd, 0x1080_0000);
-    expect_data(rt, told, slave, asked, &[0; 128], &mailbox_of(rt, row), 1);
+    expect_data(
+        rt,
+        slave,
+        line,
+        asked,
+        &[0; 128],
+        &mailbox_of(rt, line.row),
+        1,
+    );
 }
 
 /// The application puts a byte; whether it may.
@@ -253,70 +255,66 @@ fn is_put(rt: &impl Abort, slave: &mut Slave, about: &str) -> bool {
 }
 
 /// A byte that is seen at the slave itself.
-fn byte_seen(rt: &impl Abort, slave: &mut Slave, word: &str, about: &str) -> Option<u8> {
-    match word {
-        "shows" => slave.byte(word_of(rt, about)),
+fn byte_seen(rt: &impl Abort, slave: &mut Slave, line: &Line<'_>) -> Option<u8> {
+    match line.word {
+        "shows" => slave.byte(word_of(rt, line.about)),
         "may_get" => u8::try_from(slave.app_sizes().0).ok(),
         "may_put" => u8::try_from(slave.app_sizes().1).ok(),
-        "gets" => slave.app_get(usize::from(word_of(rt, about))),
-        "puts" => Some(u8::from(is_put(rt, slave, about))),
+        "gets" => slave.app_get(usize::from(word_of(rt, line.about))),
+        "puts" => Some(u8::from(is_put(rt, slave, line.about))),
         "faults" => Some(u8::from(slave.fault())),
-        _ => panic!(rt; "{word}"),
+        word => panic!(rt; "{word}"),
     }
 }
 
 /// What is seen at the slave itself.
-fn expect_seen(
-    rt: &(impl AllocGlobal + Abort),
-    told: Told<'_>,
-    slave: &mut Slave,
-    (word, about): (&str, &str),
-    row: &str,
-) {
-    match word {
-        "outputs" => assert_row(rt, told, slave.outputs(), row),
-        "station" => assert_row(rt, told, &slave.station_address().to_be_bytes(), row),
-        _ => assert_row(rt, told, byte_seen(rt, slave, word, about).as_slice(), row),
-    }
-}
-
-/// Takes the step of a word, and what stands behind it and behind `>`.
-fn take_step(
-    rt: &(impl AllocGlobal + Abort),
-    told: Told<'_>,
-    slave: &mut Slave,
-    (word, about): (&str, &str),
-    row: &str,
-) {
-    match word {
-        "#" => {}
-        "serves" => slave.serve(),
-        "resets" => slave.reset(),
-        "longest" => expect_longest(rt, told, slave),
-        "nops" => expect_nops(rt, told, slave),
-        "memory_runs" => exchange_runs(rt, slave),
-        "value_runs" => read_runs(rt, slave),
-        "writes" => expect_row_written(rt, told, slave, about, 1),
-        "vain" => expect_row_written(rt, told, slave, about, 0),
-        "answers" => expect_answer(rt, told, slave, about, row),
-        "passes" => expect_passed(rt, told, slave, (about, row)),
-        "asks" => expect_state(rt, told, slave, about, row),
-        "sends" => expect_message(rt, told, slave, about),
-        "replies" => expect_reply(rt, told, slave, row),
-        _ => expect_seen(rt, told, slave, (word, about), row),
+fn expect_seen(rt: &(impl AllocGlobal + Abort), slave: &mut Slave, line: &Line<'_>) {
+    match line.word {
+        "outputs" => assert_row(rt, line, slave.outputs(), line.row),
+        "station" => assert_row(rt, line, &slave.station_address().to_be_bytes(), line.row),
+        _ => assert_row(rt, line, byte_seen(rt, slave, line).as_slice(), line.row),
     }
 }
 
 /// Takes the step of a line.
-fn take_line(rt: &(impl AllocGlobal + Abort), told: Told<'_>, slave: &mut Slave) {
-    let (done, row) = halves(told.1, " >");
-    take_step(rt, told, slave, halves(done, " "), row);
+fn take_step(rt: &(impl AllocGlobal + Abort), slave: &mut Slave, line: &Line<'_>) {
+    match line.word {
+        "#" => {}
+        "serves" => slave.serve(),
+        "resets" => slave.reset(),
+        "longest" => expect_longest(rt, slave, line),
+        "nops" => expect_nops(rt, slave, line),
+        "memory_runs" => take_runs(rt, slave, false),
+        "value_runs" => take_runs(rt, slave, true),
+        "writes" => expect_row_written(rt, slave, line, 1),
+        "vain" => expect_row_written(rt, slave, line, 0),
+        "answers" => expect_answer(rt, slave, line),
+        "passes" => expect_passed(rt, slave, line),
+        "asks" => expect_state(rt, slave, line),
+        "sends" => expect_message(rt, slave, line),
+        "replies" => expect_reply(rt, slave, line),
+        _ => expect_seen(rt, slave, line),
+    }
+}
+
+/// Takes a line apart, and its step.
+fn take_line(rt: &(impl AllocGlobal + Abort), name: &str, slave: &mut Slave, text: &str) {
+    let (done, row) = halves(text, " >");
+    let (word, about) = halves(done, " ");
+    let line = Line {
+        name,
+        text,
+        word,
+        about,
+        row,
+    };
+    take_step(rt, slave, &line);
 }
 
 /// Takes the steps of all lines, in their order.
 fn take_all(rt: &(impl AllocGlobal + Abort), name: &str, slave: &mut Slave, lines: &str) {
     for line in lines.lines() {
-        take_line(rt, (name, line), slave);
+        take_line(rt, name, slave, line);
     }
 }
 
