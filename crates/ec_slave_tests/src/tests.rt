@@ -8,6 +8,7 @@ mod overlaps;
 mod runs;
 mod steps;
 
+use self::firmware::mixed_slave;
 use self::steps::expect_case;
 use ec_device::{Identity, SlaveType};
 use ec_listed::Listed;
@@ -28,10 +29,27 @@ fn plain_slave(alloc: Global) -> Result<Slave, AllocError> {
     Slave::new(alloc, SlaveType::without_pdos(alloc), IDENTITY)
 }
 
-/// Takes the steps of each case on a slave without objects that was just switched on. Between cases stand empty lines.
-fn expect_cases(rt: &(impl AllocGlobal + Abort), cases: &str) {
+/// Which slave each case begins with.
+#[derive(Clone, Copy)]
+enum Kind {
+    /// One without objects.
+    Plain,
+    /// One with mailboxes, 12 bits of outputs and 16 bits of inputs.
+    Mixed,
+}
+
+/// A slave that was just switched on.
+fn slave_of(rt: &(impl AllocGlobal + Abort), kind: Kind) -> Result<Slave, AllocError> {
+    match kind {
+        Kind::Plain => plain_slave(rt.alloc()),
+        Kind::Mixed => mixed_slave(rt),
+    }
+}
+
+/// Takes the steps of each case on a slave that was just switched on, behind others. Between cases stand empty lines.
+fn expect_cases(rt: &(impl AllocGlobal + Abort), kind: Kind, before: &str, cases: &str) {
     for case in cases.split("\n\n") {
-        expect_case(rt, plain_slave(rt.alloc()), "", case);
+        expect_case(rt, slave_of(rt, kind), before, case);
     }
 }
 
@@ -199,7 +217,7 @@ answers lwr 00010001 0 0405 > 0405
 
 #[test]
 fn slaves_in_init(rt: HostRuntime) {
-    expect_cases(&rt, CASES);
+    expect_cases(&rt, Kind::Plain, "", CASES);
 }
 
 /// A slave without objects whose type takes no part in LRW.
@@ -230,13 +248,20 @@ fn slave_without_lrw(rt: HostRuntime) {
 fn longest_datagram(rt: HostRuntime) {
     expect_cases(
         &rt,
+        Kind::Plain,
+        "",
         "case longest_datagram\nlongest\nanswers aprd 15b10000 1 0101 > 5a00",
     );
 }
 
 #[test]
 fn frame_of_nops_passes_unchanged(rt: HostRuntime) {
-    expect_cases(&rt, "case frame_of_nops_passes_unchanged\nnops");
+    expect_cases(
+        &rt,
+        Kind::Plain,
+        "",
+        "case frame_of_nops_passes_unchanged\nnops",
+    );
 }
 
 /// Frames as they are sent and as they come back, each past a slave that was just switched on. A row of one stands in several
@@ -508,5 +533,5 @@ passes 3e10 \
 
 #[test]
 fn frames_past_a_slave(rt: HostRuntime) {
-    expect_cases(&rt, FRAMES);
+    expect_cases(&rt, Kind::Plain, "", FRAMES);
 }

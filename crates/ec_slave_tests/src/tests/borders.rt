@@ -1,7 +1,7 @@
 //! Datagrams that cross borders: logical runs those of managers, from plain memory into a value, from a value into its
 //! second buffer, from a third buffer into the next manager, and from one value into another; physical ones these too, that
 //! between registers and RAM, and those of the FMMUs' registers.
-use super::expect_cases;
+use super::{Kind, expect_cases};
 
 /// Managers 0 and 1 are set to two bytes each at 0x1102 and 0x1108 that the ring writes, with their spare buffers (0x0800), 2 and
 /// 3 to the same at 0x1402 and 0x1408 that it reads (0x0810); and FMMUs to sixteen bytes from logical address 0x00010000 on, or
@@ -172,5 +172,5 @@ shows 1101 > 0a
 
 #[test]
 fn datagrams_across_borders(rt: HostRuntime) {
-    expect_cases(&rt, CASES);
+    expect_cases(&rt, Kind::Plain, "", CASES);
 }

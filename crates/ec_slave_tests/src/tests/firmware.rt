@@ -1,5 +1,5 @@
 //! Firmware steps of a slave that frames reach.
-use super::steps::expect_case;
+use super::{Kind, expect_cases};
 use ec_device::{Device, Entry, Mailbox, Pdo, SlaveType};
 use ec_listed::Listed;
 use ec_slave::Slave;
@@ -71,13 +71,9 @@ fn mixed_kind(rt: &(impl AllocGlobal + Abort)) -> SlaveType {
     kind_of(rt, outputs, inputs)
 }
 
-/// Takes the steps of each case on a slave with mailboxes, 12 bits of outputs and 16 bits of inputs that was just switched on,
-/// behind others.
-fn expect_mixed(rt: &(impl AllocGlobal + Abort), before: &str, cases: &str) {
-    for case in cases.split("\n\n") {
-        let slave = Slave::new(rt.alloc(), mixed_kind(rt), DEVICE.identity(0));
-        expect_case(rt, slave, before, case);
-    }
+/// A slave of that type.
+pub fn mixed_slave(rt: &(impl AllocGlobal + Abort)) -> Result<Slave, AllocError> {
+    Slave::new(rt.alloc(), mixed_kind(rt), DEVICE.identity(0))
 }
 
 /// From power-on.
@@ -107,7 +103,7 @@ answers aprd 05020000 1 0000 00000000 00000000 > 0000 08000000 cdab0000
 
 #[test]
 fn slaves_from_power_on(rt: HostRuntime) {
-    expect_mixed(&rt, "", FROM_POWER_ON);
+    expect_cases(&rt, Kind::Mixed, "", FROM_POWER_ON);
 }
 
 /// From PREOP.
@@ -292,5 +288,5 @@ passes 0e10 0701 0200 3001 0200 0000 0800 0200 > 0e10 0701 0300 3001 0200 0000 0
 
 #[test]
 fn slaves_from_preop(rt: HostRuntime) {
-    expect_mixed(&rt, TO_PREOP, FROM_PREOP);
+    expect_cases(&rt, Kind::Mixed, TO_PREOP, FROM_PREOP);
 }

@@ -1,5 +1,5 @@
 //! Managers whose bytes lower-numbered managers govern: what is denied there changes nothing.
-use super::expect_cases;
+use super::{Kind, expect_cases};
 
 /// What each case is about stands before it.
 const CASES: &str = "\
@@ -64,5 +64,5 @@ shows 1100 > cc
 
 #[test]
 fn managers_under_managers(rt: HostRuntime) {
-    expect_cases(&rt, CASES);
+    expect_cases(&rt, Kind::Plain, "", CASES);
 }

@@ -2,8 +2,8 @@
 //! and over bits that differ, against bits that are put one by one.
 ghost use Rattle.std.specs.Prelude.{◌≤◌, ◌<◌, ◌+◌};
 
-use super::expect_cases;
 use super::steps::{data_of, frame_of, pass_frame};
+use super::{Kind, expect_cases};
 use ec_bits::{get, put};
 use ec_frame::Command::{self, Aprd, Apwr, Lrd, Lwr};
 use ec_slave::Slave;
@@ -189,7 +189,12 @@ pub fn take_runs(rt: &impl Abort, slave: &mut Slave, is_value: bool) {
 // Plain memory, of which no manager has a byte.
 #[test]
 fn each_short_run_of_memory(rt: HostRuntime) {
-    expect_cases(&rt, "case each_short_run_of_memory\nmemory_runs");
+    expect_cases(
+        &rt,
+        Kind::Plain,
+        "",
+        "case each_short_run_of_memory\nmemory_runs",
+    );
 }
 
 /// The slave is led to SAFEOP first.
@@ -203,5 +208,5 @@ value_runs
 // The value of a manager that has just the bytes of the run, in SAFEOP.
 #[test]
 fn each_short_run_of_a_value(rt: HostRuntime) {
-    expect_cases(&rt, VALUES);
+    expect_cases(&rt, Kind::Plain, "", VALUES);
 }

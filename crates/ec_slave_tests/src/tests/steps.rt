@@ -116,9 +116,13 @@ fn assert_row(rt: &(impl AllocGlobal + Abort), line: &Line<'_>, met: &[u8], row:
 
 /// Passes a payload that is a frame. So many datagrams it has.
 pub fn pass_frame(rt: &impl Abort, slave: &mut Slave, frame: &mut [u8]) -> usize {
-    let count = check(frame).expect(rt, "a frame");
-    slave.pass(frame);
-    count
+    match check(frame) {
+        Ok(count) => {
+            slave.pass(frame);
+            count
+        }
+        Err(_) => panic!(rt; "no frame"),
+    }
 }
 
 /// Passes a frame, and compares what comes back.
@@ -167,26 +171,22 @@ fn expect_data(
     expect_back(rt, slave, line, asked, sent, &counted(rt, back, counter));
 }
 
-/// The same of rows.
-fn expect_rows(
-    rt: &(impl AllocGlobal + Abort),
-    slave: &mut Slave,
-    line: &Line<'_>,
-    asked: (Command, u32),
-    counted: &str,
-) {
-    let (counter, sent) = parts(rt, counted, " ");
-    let counter = byte_of(rt, counter);
-    let (sent, back) = (bytes_of(rt, sent), bytes_of(rt, line.row));
-    expect_data(rt, slave, line, asked, &sent, &back, counter);
-}
-
 /// A datagram as a row.
 fn expect_answer(rt: &(impl AllocGlobal + Abort), slave: &mut Slave, line: &Line<'_>) {
     let (command, rest) = parts(rt, line.about, " ");
     let (address, rest) = parts(rt, rest, " ");
+    let (counter, sent) = parts(rt, rest, " ");
     let asked = (command_of(rt, command), address_of(rt, address));
-    expect_rows(rt, slave, line, asked, rest);
+    let counter = byte_of(rt, counter);
+    expect_data(
+        rt,
+        slave,
+        line,
+        asked,
+        &bytes_of(rt, sent),
+        &bytes_of(rt, line.row),
+        counter,
+    );
 }
 
 /// Writes from a physical address on; the data come back as they were.
