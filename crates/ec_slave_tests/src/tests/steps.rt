@@ -116,13 +116,9 @@ fn assert_row(rt: &(impl AllocGlobal + Abort), line: &Line<'_>, met: &[u8], row:
 
 /// Passes a payload that is a frame. So many datagrams it has.
 pub fn pass_frame(rt: &impl Abort, slave: &mut Slave, frame: &mut [u8]) -> usize {
-    match check(frame) {
-        Ok(count) => {
-            slave.pass(frame);
-            count
-        }
-        Err(_) => panic!(rt; "no frame"),
-    }
+    let count = check(frame).expect(rt, "a frame");
+    slave.pass(frame);
+    count
 }
 
 /// Passes a frame, and compares what comes back.
