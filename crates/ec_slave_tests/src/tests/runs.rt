@@ -2,13 +2,12 @@
 //! and over bits that differ, against bits that are put one by one.
 ghost use Rattle.std.specs.Prelude.{◌≤◌, ◌<◌, ◌+◌};
 
-use super::plain_slave;
-use super::steps::{frame_behind, take_all};
+use super::steps::{data_of, frame_of, pass_frame};
+use super::{Kind, expect_cases};
 use ec_bits::{get, put};
 use ec_frame::Command::{self, Aprd, Apwr, Lrd, Lwr};
 use ec_slave::Slave;
 use std::process::Abort;
-use std::test::Fail;
 
 /// The FMMU reads.
 const READS: u8 = 1;
@@ -29,7 +28,7 @@ const MEMORIES: [[u8; 8]; 3] = [
 
 /// So many bits from a bit of logical byte 0x00010001 on, and of physical byte 0x1801: one byte and more lie on both sides
 /// of them, in the data and in the eight bytes of memory from 0x1800 on.
-#[derive(Clone, Copy, Debug)]
+#[derive(Clone, Copy)]
 struct Run {
     start: u8,
     physical: u8,
@@ -90,62 +89,88 @@ impl Run {
     }
 }
 
+/// Tells of which run something isn't as it must be.
+fn assert_run(rt: &impl Abort, run: Run, is_good: bool) {
+    assert!(rt;
+        is_good,
+        "{} bits from {} on, at {}",
+        run.count, run.start, run.physical
+    );
+}
+
 /// Passes a datagram, and compares its data as they come back.
 fn expect_back(
     rt: &impl Abort,
     slave: &mut Slave,
     run: Run,
-    command: Command,
-    address: u32,
+    (command, address): (Command, u32),
     sent: &[u8],
     back: &[u8],
-) -> Result<(), Fail> {
-    let frame = frame_behind(slave, command, address, sent)?;
-    let met = frame.as_slice().get(12..12 + back.len());
-    assert_eq!(rt; met, Some(back), "{command:?} of {run:?}");
-    Ok(())
+) {
+    let mut frame = frame_of(rt, command, address, sent);
+    pass_frame(rt, slave, frame.as_mut_slice());
+    assert_run(rt, run, data_of(frame.as_slice()).starts_with(back));
 }
 
-/// Sets an FMMU and the memory, and exchanges the data.
-fn expect_exchange(
-    rt: &impl Abort,
-    slave: &mut Slave,
-    run: Run,
-    memory: &[u8; 8],
-) -> Result<(), Fail> {
-    let (reads, writes) = (run.registers(READS), run.registers(WRITES));
-    let written = run.written(memory);
-    expect_back(rt, slave, run, Apwr, 0x0600_0000, &reads, &reads)?;
-    expect_back(rt, slave, run, Apwr, 0x1800_0000, memory, memory)?;
-    expect_back(rt, slave, run, Lrd, 0x0001_0000, &DATA, &run.read(memory))?;
-    expect_back(rt, slave, run, Apwr, 0x0600_0000, &writes, &writes)?;
-    expect_back(rt, slave, run, Lwr, 0x0001_0000, &DATA, &DATA)?;
-    expect_back(rt, slave, run, Aprd, 0x1800_0000, &[0; 8], &written)
+/// Writes bytes, which come back as they are sent.
+fn expect_written(rt: &impl Abort, slave: &mut Slave, run: Run, address: u32, bytes: &[u8]) {
+    expect_back(rt, slave, run, (Apwr, address), bytes, bytes);
 }
 
-/// Sets an FMMU and, over its physical bytes, manager 3, of which the application puts the value, and reads the data.
-fn expect_value_read(
-    rt: &impl Abort,
-    slave: &mut Slave,
-    run: Run,
-    memory: &[u8; 8],
-) -> Result<(), Fail> {
-    let reads = run.registers(READS);
-    let manager = [1, 0x18, run.byte_count(), 0, 0x20, 0, 1, 0];
-    expect_back(rt, slave, run, Apwr, 0x0600_0000, &reads, &reads)?;
-    expect_back(rt, slave, run, Apwr, 0x0818_0000, &manager, &manager)?;
+/// Reads the data over these bytes of memory.
+fn expect_read(rt: &impl Abort, slave: &mut Slave, run: Run, memory: &[u8; 8]) {
+    expect_back(rt, slave, run, (Lrd, 0x0001_0000), &DATA, &run.read(memory));
+}
+
+/// Sets the FMMU so that it writes, and writes the data over these bytes of memory.
+fn expect_write(rt: &impl Abort, slave: &mut Slave, run: Run, memory: &[u8; 8]) {
+    expect_written(rt, slave, run, 0x0600_0000, &run.registers(WRITES));
+    expect_back(rt, slave, run, (Lwr, 0x0001_0000), &DATA, &DATA);
+    expect_back(
+        rt,
+        slave,
+        run,
+        (Aprd, 0x1800_0000),
+        &[0; 8],
+        &run.written(memory),
+    );
+}
+
+/// Sets the memory, and exchanges the data.
+fn expect_exchange(rt: &impl Abort, slave: &mut Slave, run: Run, memory: &[u8; 8]) {
+    expect_written(rt, slave, run, 0x1800_0000, memory);
+    expect_read(rt, slave, run, memory);
+    expect_write(rt, slave, run, memory);
+}
+
+/// The application puts the bytes of memory that have a bit of the run, as it may.
+fn expect_put(rt: &impl Abort, slave: &mut Slave, run: Run, memory: &[u8; 8]) {
     for place in 0..usize::from(run.byte_count()) {
-        assert!(rt;
-            slave.app_put(place, memory[1 + place]),
-            "byte {place} of {run:?}"
-        );
+        assert_run(rt, run, slave.app_put(place, memory[1 + place]));
     }
-    expect_back(rt, slave, run, Lrd, 0x0001_0000, &DATA, &run.read(memory))
 }
 
-/// Each run of up to 40 bits, over ones and zeros.
-fn exchange_runs(rt: &impl Abort, slave: &mut Slave) -> Result<(), Fail> {
-    for memory in MEMORIES {
+/// Sets manager 3 over the run's physical bytes, of which the application puts the value, and reads the data.
+fn expect_value(rt: &impl Abort, slave: &mut Slave, run: Run, memory: &[u8; 8]) {
+    let manager = [1, 0x18, run.byte_count(), 0, 0x20, 0, 1, 0];
+    expect_written(rt, slave, run, 0x0818_0000, &manager);
+    expect_put(rt, slave, run, memory);
+    expect_read(rt, slave, run, memory);
+}
+
+/// Sets an FMMU so that it reads. The run is one of a value, or of memory that no manager has a byte of.
+fn expect_run(rt: &impl Abort, slave: &mut Slave, run: Run, memory: &[u8; 8], is_value: bool) {
+    expect_written(rt, slave, run, 0x0600_0000, &run.registers(READS));
+    if is_value {
+        expect_value(rt, slave, run, memory);
+    } else {
+        expect_exchange(rt, slave, run, memory);
+    }
+}
+
+/// Each run of up to 40 bits, over ones, zeros and bits that differ. For those of a value the slave is in SAFEOP.
+pub fn take_runs(rt: &impl Abort, slave: &mut Slave, is_value: bool) {
+    for memory in &MEMORIES {
         for start in 0..8 {
             for physical in 0..8 {
                 for count in 1..41 {
@@ -154,54 +179,34 @@ fn exchange_runs(rt: &impl Abort, slave: &mut Slave) -> Result<(), Fail> {
                         physical,
                         count,
                     };
-                    expect_exchange(rt, slave, run, &memory)?;
+                    expect_run(rt, slave, run, memory, is_value);
                 }
             }
         }
     }
-    Ok(())
 }
 
 // Plain memory, of which no manager has a byte.
 #[test]
-fn each_short_run_of_memory(rt: HostRuntime) -> Result<(), Fail> {
-    let mut slave = plain_slave(rt.alloc())?;
-    exchange_runs(&rt, &mut slave)
+fn each_short_run_of_memory(rt: HostRuntime) {
+    expect_cases(
+        &rt,
+        Kind::Plain,
+        "",
+        "case each_short_run_of_memory\nmemory_runs",
+    );
 }
 
-/// Each run of up to 40 bits of a value of ones or zeros.
-fn read_runs(rt: &impl Abort, slave: &mut Slave) -> Result<(), Fail> {
-    for memory in MEMORIES {
-        for start in 0..8 {
-            for physical in 0..8 {
-                for count in 1..41 {
-                    let run = Run {
-                        start,
-                        physical,
-                        count,
-                    };
-                    expect_value_read(rt, slave, run, &memory)?;
-                }
-            }
-        }
-    }
-    Ok(())
-}
-
-/// The same of a slave that is led to SAFEOP first.
-fn read_runs_in_safeop(rt: &(impl AllocGlobal + Abort), slave: &mut Slave) -> Result<(), Fail> {
-    take_all(
-        rt,
-        "to SAFEOP",
-        slave,
-        "asks 0200 020000000000\nasks 0400 040000000000",
-    )?;
-    read_runs(rt, slave)
-}
+/// The slave is led to SAFEOP first.
+const VALUES: &str = "\
+case each_short_run_of_a_value
+asks 0200 > 020000000000
+asks 0400 > 040000000000
+value_runs
+";
 
 // The value of a manager that has just the bytes of the run, in SAFEOP.
 #[test]
-fn each_short_run_of_a_value(rt: HostRuntime) -> Result<(), Fail> {
-    let mut slave = plain_slave(rt.alloc())?;
-    read_runs_in_safeop(&rt, &mut slave)
+fn each_short_run_of_a_value(rt: HostRuntime) {
+    expect_cases(&rt, Kind::Plain, "", VALUES);
 }
