@@ -7,6 +7,10 @@ pub or_false : (a : Bool) → (a || false) ≡ a
 or_false true = refl
 or_false false = refl
 
+pub or_true_right : (a : Bool) → (a || true) ≡ true
+or_true_right true = refl
+or_true_right false = refl
+
 pub or_left : (a b : Bool) → (a || b) ≡ false → a ≡ false
 or_left true b h = h
 or_left false b h = refl
