@@ -2,7 +2,7 @@
 use Rattle.std.proofs.Common.{◌≡◌, ◌≢◌, ℕ, ◌+◌, ◌*◌, ◌≤◌, ◌||◌, ◌&&◌, not, eqb, Bool, true, false, cond, List, [], ◌∷◌, ◌++◌, refl, sym, ap, ◌∙◌, arith, inl, inr, Some, None, Option, option_map}
 use Rattle.std.specs.Prelude.{is_some}
 use Rattle.std.specs.List.{list_any}
-use Rattle.std.specs.BTreeMap.{BTreeMap, get, Updates, IsEmpty, is_at}
+use Rattle.std.specs.BTreeMap.{BTreeMap, get, IsEmpty, is_at}
 use Rattle.std.specs.Ordering.{nat_cmp}
 use Rattle.std.proofs.lemmas.Bool.{cases_Bool, cases_eq}
 use Rattle.std.proofs.lemmas.Bool.Decides.{nat_tests}
@@ -13,7 +13,6 @@ use Rattle.ec_link.specs.declared.objects.EntryRun.{EntryRun}
 use Rattle.ec_link.specs.Entries.{is_named, behind, entry_run, names_twice}
 use Rattle.ec_link.specs.Objects.{entry_key, HasRuns}
 use Rattle.ec_link.specs.Faults.{◌orelse◌}
-use Rattle.ec_link.proofs.Basics.{or_false}
 
 -- the bits of an entry behind others, if it has the name
 abbrev last_run : List Entry → Entry → ℕ → ℕ → Option EntryRun

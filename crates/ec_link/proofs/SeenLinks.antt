@@ -60,8 +60,6 @@ seen_step t i l old new d h lt is there set many =
 pub seen_all : (t : Contents) (i : ℕ) (seen : List VariableUse) → AreSeen t (take i t.links) seen → length t.links ≤ i → AreSeen t t.links seen
 seen_all t i seen h most = subst (λ (ls : List LinkRow). AreSeen t ls seen) (take_all i t.links most) h
 
-pub ruleset seen_steps = (seen_none, seen_step, seen_all)
-
 pub seen_at : (t : Contents) (seen : List VariableUse) (v : ℕ) (s : VariableUse) → AreSeen t t.links seen → v < length t.variables → s ≡ get_or seen v s → s.differs ≡ differ (units_of_variable t v t.links)
 seen_at t seen v s h lt is = ap (λ (x : VariableUse). x.differs) (is ∙ h.each v s lt)
 

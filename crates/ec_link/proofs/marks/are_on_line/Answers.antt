@@ -1,7 +1,6 @@
 use Rattle.std.proofs.Common.{◌≡◌, ◌∙◌, true, ap, sym, inl, inr, subst, arith, ℕ, get_or}
 use Rattle.std.proofs.lemmas.Bool.{cases_lt}
 use Rattle.std.proofs.lemmas.List.{get_or_default}
-use Rattle.ec_link.specs.declared.link_runs.LinkRun.{LinkRun}
 use Rattle.ec_link.specs.Marks.{is_on_line}
 use Rattle.ec_link.proofs.marks.are_on_line.Goals as goal
 

@@ -1,5 +1,4 @@
 use Rattle.std.proofs.Common.{◌+◌, ℕ, ap}
-use Rattle.ec_link.specs.declared.plan.Link.{Link}
 use Rattle.ec_link.proofs.Images.{image_at}
 use Rattle.ec_link.proofs.plan.link_of.Goals as goal
 
