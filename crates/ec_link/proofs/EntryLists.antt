@@ -2,7 +2,7 @@
 use Rattle.std.proofs.Common.{◌≡◌, ◌≢◌, ℕ, ◌+◌, ◌*◌, ◌≤◌, ◌||◌, ◌&&◌, not, eqb, Bool, true, false, cond, List, [], ◌∷◌, ◌++◌, refl, sym, ap, ◌∙◌, arith, inl, inr, Some, None, Option, option_map}
 use Rattle.std.specs.Prelude.{is_some}
 use Rattle.std.specs.List.{list_any}
-use Rattle.std.specs.BTreeMap.{BTreeMap, get, IsEmpty, is_at}
+use Rattle.std.specs.BTreeMap.{BTreeMap, get, is_at}
 use Rattle.std.specs.Ordering.{nat_cmp}
 use Rattle.std.proofs.lemmas.Bool.{cases_Bool, cases_eq}
 use Rattle.std.proofs.lemmas.Bool.Decides.{nat_tests}
@@ -102,9 +102,6 @@ twice_more (x ∷ xs) e =
 
 apart : (k q : ℕ) → k ≢ q → is_at (nat_cmp k) q ≡ false
 apart k q ne = grind (arith, nat_tests, ne)
-
-pub no_runs : (m : BTreeMap ℕ EntryRun) → IsEmpty m → HasRuns m []
-no_runs m e = record { each = λ index subindex low. rw e refl }
 
 same_key : (index subindex j k : ℕ) → subindex ≤ 255 → k ≤ 255 → entry_key j k ≡ entry_key index subindex → (j ≡ index) × (k ≡ subindex)
 same_key index subindex j k low small e = (omega arith, omega arith)
