@@ -1,5 +1,5 @@
 -- One link more among those that were seen.
-use Rattle.std.proofs.Common.{◌≡◌, ℕ, ◌+◌, ◌<◌, ◌≤◌, ◌||◌, not, eqb, Bool, true, false, List, [], ◌∷◌, ◌++◌, length, get_or, take, map, filter, replicate, refl, sym, ap, ◌∙◌, subst, arith, inl, inr, Some, slice_set}
+use Rattle.std.proofs.Common.{◌≡◌, ℕ, ◌+◌, ◌<◌, ◌≤◌, ◌||◌, ◌&&◌, not, eqb, Bool, true, false, List, [], ◌∷◌, ◌++◌, length, get_or, take, map, filter, replicate, refl, sym, ap, ◌∙◌, subst, arith, inl, inr, Some, slice_set}
 use Rattle.std.specs.List.{list_any}
 use Rattle.std.proofs.lemmas.Bool.{cases_eq}
 use Rattle.std.proofs.lemmas.Bool.Decides.{nat_tests}
@@ -7,11 +7,13 @@ use Rattle.std.proofs.lemmas.List.{take_more, take_all, map-append, get_or-set_s
 use Rattle.std.proofs.lemmas.List.Folds.{list_any-append}
 use Rattle.std.proofs.lemmas.List.Elements.{filter-append}
 use Rattle.ec_table.specs.declared.rows.LinkRow.{LinkRow}
+use Rattle.ec_table.specs.declared.rows.VariableRow.{VariableRow}
 use Rattle.ec_table.specs.Contents.{Contents}
 use Rattle.ec_link.specs.declared.faults.VariableUse.{VariableUse}
-use Rattle.ec_link.specs.Faults.{unit_of_link, differ, units_of_variable}
+use Rattle.ec_link.specs.Faults.{unit_of_link, differ, units_of_variable, split_variable}
+use Rattle.ec_link.specs.LinkRuns.{is_out}
 use Rattle.ec_link.specs.VariableUse.{nothing_seen, seen_more, seen_of, AreSeen}
-use Rattle.ec_link.proofs.Basics.{or_false}
+use Rattle.ec_link.proofs.Basics.{or_false, and_false}
 
 more_seen : (us : List ℕ) (u : ℕ) → seen_more (seen_of us) u ≡ seen_of (us ++ u ∷ [])
 more_seen [] u = refl
@@ -58,10 +60,16 @@ seen_step t i l old new d h lt is there set many =
 pub seen_all : (t : Contents) (i : ℕ) (seen : List VariableUse) → AreSeen t (take i t.links) seen → length t.links ≤ i → AreSeen t t.links seen
 seen_all t i seen h most = subst (λ (ls : List LinkRow). AreSeen t ls seen) (take_all i t.links most) h
 
-pub ruleset seen_steps = (seen_none, seen_step, seen_all)
-
 pub seen_at : (t : Contents) (seen : List VariableUse) (v : ℕ) (s : VariableUse) → AreSeen t t.links seen → v < length t.variables → s ≡ get_or seen v s → s.differs ≡ differ (units_of_variable t v t.links)
 seen_at t seen v s h lt is = ap (λ (x : VariableUse). x.differs) (is ∙ h.each v s lt)
+
+pub not_split : (t : Contents) (seen : List VariableUse) (v : ℕ) (w : VariableRow) (d : VariableUse) → AreSeen t t.links seen → v < length t.variables → (get_or seen v d).differs ≡ false → split_variable t v w ≡ false
+not_split t seen v w d h lt same =
+    let e : differ (units_of_variable t v t.links) ≡ false = sym (ap (λ (x : VariableUse). x.differs) (h.each v d lt)) ∙ same in
+    ap (λ (b : Bool). not (is_out w.direction) && b) e ∙ and_false (not (is_out w.direction))
+
+pub out_not_split : (t : Contents) (v : ℕ) (w : VariableRow) → is_out w.direction ≡ true → split_variable t v w ≡ false
+out_not_split t v w out = ap (λ (b : Bool). not b && differ (units_of_variable t v t.links)) out
 
 pub seen_count : (t : Contents) (seen : List VariableUse) → AreSeen t t.links seen → length seen ≡ length t.variables
 seen_count t seen h = h.as_many

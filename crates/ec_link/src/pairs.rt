@@ -1,5 +1,5 @@
 //! Whether two runs have a bit in common: by pairs, where they are few.
-ghost use Rattle.std.specs.Prelude.{◌≡◌, ◌+◌, nat_lt, ◌&&◌, All, IfOk};
+ghost use Rattle.std.specs.Prelude.{◌≡◌, ◌&&◌, All, IfOk};
 ghost use Rattle.std.specs.List.{list_any};
 ghost use Rattle.ec_link.specs.Faults.{first_at};
 ghost use Rattle.ec_link.specs.LinkRuns.{give_one_bit, linked_twice, runs_meet};

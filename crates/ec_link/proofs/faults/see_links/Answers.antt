@@ -1,3 +1,5 @@
+use Rattle.std.proofs.Common.{◌≤◌}
+use Rattle.ec_link.proofs.SeenLinks.{seen_none, seen_all}
 use Rattle.std.proofs.Common.{◌≡◌, ◌∙◌, ◌<◌, List, sym, ap, subst, get_or, length, slice_set}
 use Rattle.std.proofs.lemmas.List.{length-set, get_or_default}
 use Rattle.ec_table.specs.declared.rows.LinkRow.{LinkRow}
@@ -17,3 +19,10 @@ loop-link-preserved c =
     let value : c.seen_more.result ≡ seen_more (get_or c.loop-link.seen l.variable nothing_seen) _ = c.seen_more.ensures ∙ ap (seen_more (get_or c.loop-link.seen l.variable nothing_seen)) c.unit_of_link-unit.ensures in
     seen_step c.args.table.now c.loop-link.link-index l c.loop-link.seen (slice_set c.loop-link.seen l.variable c.seen_more.result) nothing_seen c.loop-link.invariant lt is there
     (ap (slice_set c.loop-link.seen l.variable) value) (length-set c.loop-link.seen l.variable c.seen_more.result)
+
+pub returns : goal.returns
+returns c =
+    seen_all c.args.table.now c.loop-link.link-index c.loop-link.seen c.loop-link.invariant (subst (λ (ls : List LinkRow). length ls ≤ c.loop-link.link-index) c.links-link-items.ensures.value c.loop-link-test.false)
+
+pub loop-link-init : goal.loop-link-init
+loop-link-init c = seen_none c.args.table.now c.args.seen.now c.requires.as_many c.requires.fresh

@@ -1,5 +1,7 @@
-use Rattle.std.proofs.Common.{refl, sym, rules}
-use Rattle.ec_link.proofs.ObjectLists.{known_at, known_more, known_steps, cloned, made_clone, row_is}
+use Rattle.std.proofs.Common.{refl, sym, subst}
+use Rattle.ec_table.specs.Objects.{entries_of}
+use Rattle.ec_link.specs.Objects.{AreEntryRuns}
+use Rattle.ec_link.proofs.ObjectLists.{known_at, known_more, cloned, row_is}
 use Rattle.ec_link.proofs.objects.runs_at.Goals as goal
 
 pub returns-in-Some-clause-runs : goal.returns-in-Some-clause-runs
@@ -12,5 +14,4 @@ pub returns-clause-new : goal.returns-clause-new
 returns-clause-new c =
     known_more c.args.table.now c.args.direction c.args.known.now c.insert.new.self (c.index-slaves-slave.result.type_place, c.assigned.result) c.in_ok-clone.field-0 c.args.slave c.index-slaves-slave.result
     (row_is c.args.table.now c.args.slave c.slaves.result.now c.index-slaves-slave.result _ c.slaves.ensures.value c.requires.there c.index-slaves-slave.is) refl (sym c.assigned.ensures)
-    (made_clone _ c.as_slice.result.now c.in_ok-runs_of.field-0 c.in_ok-runs.runs c.in_ok-clone.field-0 c.in_ok-runs.ensures.ok c.in_ok-clone.ensures.cases (search (rules, known_steps)) c.in_ok-runs_of.ensures.runs c.in_ok-runs_of.ensures.bits c.in_ok-runs_of.ensures.twice c.in_ok-entries.ensures.bits)
-    c.in_ok-insert.ensures.updates c.requires.old
+    (subst (AreEntryRuns (entries_of c.args.table.now c.args.slave c.args.direction)) (sym c.in_ok-clone.ensures.cases) c.in_ok-runs.ensures) c.in_ok-insert.ensures.updates c.requires.old
