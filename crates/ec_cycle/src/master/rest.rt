@@ -29,30 +29,17 @@ impl Rest {
         ensures fits { FitsPlan master.entry.plan result }
         ensures same { rejoined master.entry.plan result ≡ master.entry }
     {
-        let Master {
-            plan: _,
-            is_ready,
-            next,
-            outputs,
-            inputs,
-            runs,
-            input_runs,
-            expected,
-            number,
-            frames,
-            kept,
-        } = master;
         Rest {
-            is_ready,
-            next,
-            outputs,
-            inputs,
-            runs,
-            input_runs,
-            expected,
-            number,
-            frames,
-            kept,
+            is_ready: master.is_ready,
+            next: master.next,
+            outputs: master.outputs,
+            inputs: master.inputs,
+            runs: master.runs,
+            input_runs: master.input_runs,
+            expected: master.expected,
+            number: master.number,
+            frames: master.frames,
+            kept: master.kept,
         }
     }
 
@@ -61,30 +48,18 @@ impl Rest {
         requires { FitsPlan plan.now self }
         ensures { result ≡ rejoined plan.entry.now self }
     {
-        let Rest {
-            is_ready,
-            next,
-            outputs,
-            inputs,
-            runs,
-            input_runs,
-            expected,
-            number,
-            frames,
-            kept,
-        } = self;
         Master {
             plan,
-            is_ready,
-            next,
-            outputs,
-            inputs,
-            runs,
-            input_runs,
-            expected,
-            number,
-            frames,
-            kept,
+            is_ready: self.is_ready,
+            next: self.next,
+            outputs: self.outputs,
+            inputs: self.inputs,
+            runs: self.runs,
+            input_runs: self.input_runs,
+            expected: self.expected,
+            number: self.number,
+            frames: self.frames,
+            kept: self.kept,
         }
     }
 }

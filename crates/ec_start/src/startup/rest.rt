@@ -26,22 +26,13 @@ impl StartupRest {
         ensures fits { IsOfPlan startup.entry.plan result }
         ensures same { rejoined startup.entry.plan result ≡ startup.entry }
     {
-        let Startup {
-            slaves: _,
-            next,
-            place,
-            polls,
-            seen,
-            phase,
-            step,
-        } = startup;
         StartupRest {
-            next,
-            place,
-            polls,
-            seen,
-            phase,
-            step,
+            next: startup.next,
+            place: startup.place,
+            polls: startup.polls,
+            seen: startup.seen,
+            phase: startup.phase,
+            step: startup.step,
         }
     }
 
@@ -50,22 +41,14 @@ impl StartupRest {
         requires { IsOfPlan plan.now.slaves self }
         ensures { result ≡ rejoined plan.now.slaves self }
     {
-        let StartupRest {
-            next,
-            place,
-            polls,
-            seen,
-            phase,
-            step,
-        } = self;
         Startup {
             slaves: plan.slaves(),
-            next,
-            place,
-            polls,
-            seen,
-            phase,
-            step,
+            next: self.next,
+            place: self.place,
+            polls: self.polls,
+            seen: self.seen,
+            phase: self.phase,
+            step: self.step,
         }
     }
 }
