@@ -1,45 +1,64 @@
-//! All that a table holds, a line for each row.
+//! All that a table holds, a line for each row. Where memory is refused the test ends: so nothing here has another way out.
 ghost use Rattle.std.specs.Prelude.{◌<◌, length};
 
 use ec_device::{Entry, Mailbox, Pdo};
-use ec_table::{Direction, LinkRow, SlaveRow, Table, TypeRow};
-use std::alloc::{AllocError, Global};
+use ec_table::{Direction, LinkRow, SlaveRow, Table, TypeRow, VariableRow};
+use std::process::Abort;
 
-fn push_entries(text: &mut String, entries: &[Entry]) -> Result<(), AllocError> {
+/// Puts a part behind a text.
+pub fn push(rt: &impl Abort, text: &mut String, part: &str) {
+    text.push_str(part).expect(rt, "memory");
+}
+
+fn push_entry(rt: &impl Abort, text: &mut String, entry: &Entry) {
+    write!(text, " {}.{}.{}", entry.index, entry.subindex, entry.bits).expect(rt, "memory");
+}
+
+fn push_entries(rt: &impl Abort, text: &mut String, entries: &[Entry]) {
     for entry in entries {
-        write!(text, " {}.{}.{}", entry.index, entry.subindex, entry.bits)?;
+        push_entry(rt, text, entry);
     }
-    Ok(())
 }
 
-fn push_pdos(text: &mut String, pdos: &[Pdo]) -> Result<(), AllocError> {
+fn push_pdo(rt: &impl Abort, text: &mut String, pdo: &Pdo) {
+    write!(text, " {}:", pdo.index).expect(rt, "memory");
+    push_entries(rt, text, pdo.entries.as_slice());
+}
+
+fn push_pdos(rt: &impl Abort, text: &mut String, pdos: &[Pdo]) {
     for pdo in pdos {
-        write!(text, " {}:", pdo.index)?;
-        push_entries(text, pdo.entries.as_slice())?;
+        push_pdo(rt, text, pdo);
     }
-    Ok(())
 }
 
-fn push_numbers(text: &mut String, numbers: &[u16]) -> Result<(), AllocError> {
+fn push_number(rt: &impl Abort, text: &mut String, number: u16) {
+    write!(text, " {number}").expect(rt, "memory");
+}
+
+fn push_numbers(rt: &impl Abort, text: &mut String, numbers: &[u16]) {
     for number in numbers {
-        write!(text, " {number}")?;
+        push_number(rt, text, *number);
     }
-    Ok(())
 }
 
-fn push_mailbox(text: &mut String, mailbox: Option<Mailbox>) -> Result<(), AllocError> {
+fn push_areas(rt: &impl Abort, text: &mut String, mailbox: Mailbox) {
+    write!(
+        text,
+        "{}.{}.{}.{}",
+        mailbox.receive_start, mailbox.receive_size, mailbox.send_start, mailbox.send_size
+    )
+    .expect(rt, "memory");
+}
+
+fn push_mailbox(rt: &impl Abort, text: &mut String, mailbox: Option<Mailbox>) {
     match mailbox {
-        None => write!(text, "None"),
-        Some(m) => write!(
-            text,
-            "{}.{}.{}.{}",
-            m.receive_start, m.receive_size, m.send_start, m.send_size
-        ),
+        None => push(rt, text, "None"),
+        Some(mailbox) => push_areas(rt, text, mailbox),
     }
 }
 
 /// The name of a type and its device.
-fn push_device(text: &mut String, row: &TypeRow) -> Result<(), AllocError> {
+fn push_device(rt: &impl Abort, text: &mut String, row: &TypeRow) {
     let device = row.device;
     write!(
         text,
@@ -49,71 +68,100 @@ fn push_device(text: &mut String, row: &TypeRow) -> Result<(), AllocError> {
         device.product,
         device.revision
     )
+    .expect(rt, "memory");
 }
 
-fn push_type(text: &mut String, row: &TypeRow) -> Result<(), AllocError> {
-    push_device(text, row)?;
-    push_mailbox(text, row.mailbox)?;
+/// Where the process data of a type begin, and whether its slaves take part in LRW.
+fn push_starts(rt: &impl Abort, text: &mut String, row: &TypeRow) {
     let process = &row.process;
     write!(
         text,
         " {} {} {} out",
         process.out_start, process.in_start, row.lrw
-    )?;
-    push_pdos(text, row.pdos(Direction::Out))?;
-    text.push_str(" in")?;
-    push_pdos(text, row.pdos(Direction::In))?;
-    text.push('\n')
+    )
+    .expect(rt, "memory");
 }
 
-fn push_slave(text: &mut String, row: &SlaveRow) -> Result<(), AllocError> {
-    write!(text, "slave {} {} out", row.name.as_str(), row.type_place)?;
-    push_numbers(text, row.assigned(Direction::Out))?;
-    text.push_str(" in")?;
-    push_numbers(text, row.assigned(Direction::In))?;
-    write!(text, " {} {}:", row.serial, row.unit)
+fn push_type(rt: &impl Abort, text: &mut String, row: &TypeRow) {
+    push_device(rt, text, row);
+    push_mailbox(rt, text, row.mailbox);
+    push_starts(rt, text, row);
+    push_pdos(rt, text, row.pdos(Direction::Out));
+    push(rt, text, " in");
+    push_pdos(rt, text, row.pdos(Direction::In));
+    push(rt, text, "\n");
+}
+
+fn push_types(rt: &impl Abort, text: &mut String, rows: &[TypeRow]) {
+    for row in rows {
+        push_type(rt, text, row);
+    }
+}
+
+fn push_slave_name(rt: &impl Abort, text: &mut String, row: &SlaveRow) {
+    write!(text, "slave {} {} out", row.name.as_str(), row.type_place).expect(rt, "memory");
+}
+
+fn push_slave(rt: &impl Abort, text: &mut String, row: &SlaveRow) {
+    push_slave_name(rt, text, row);
+    push_numbers(rt, text, row.assigned(Direction::Out));
+    push(rt, text, " in");
+    push_numbers(rt, text, row.assigned(Direction::In));
+    write!(text, " {} {}:", row.serial, row.unit).expect(rt, "memory");
 }
 
 /// The entries that a slave assigns in a direction.
 fn push_objects(
-    alloc: Global,
+    rt: &(impl AllocGlobal + Abort),
     text: &mut String,
     table: &Table,
     slave: usize,
     direction: Direction,
-) -> Result<(), AllocError>
+)
     requires { slave < length table.now.slaves }
 {
-    let entries = table.entries_of(alloc, slave, direction)?;
-    push_entries(text, entries.as_slice())
+    let entries = table
+        .entries_of(rt.alloc(), slave, direction)
+        .expect(rt, "memory");
+    push_entries(rt, text, entries.as_slice());
 }
 
-fn push_slaves(alloc: Global, text: &mut String, table: &Table) -> Result<(), AllocError> {
-    for (place, row) in table.slaves().iter().enumerate() {
-        push_slave(text, row)?;
-        push_objects(alloc, text, table, place, Direction::Out)?;
-        text.push_str(" /")?;
-        push_objects(alloc, text, table, place, Direction::In)?;
-        text.push('\n')?;
-    }
-    Ok(())
+/// A slave, and the entries that it assigns.
+fn push_slave_at(rt: &(impl AllocGlobal + Abort), text: &mut String, table: &Table, slave: usize)
+    requires { slave < length table.now.slaves }
+{
+    push_slave(rt, text, &table.slaves()[slave]);
+    push_objects(rt, text, table, slave, Direction::Out);
+    push(rt, text, " /");
+    push_objects(rt, text, table, slave, Direction::In);
+    push(rt, text, "\n");
 }
 
-fn push_variables(text: &mut String, table: &Table) -> Result<(), AllocError> {
-    for row in table.variables() {
-        writeln!(
-            text,
-            "variable {} {:?} {}",
-            row.name.as_str(),
-            row.direction,
-            row.bits
-        )?;
+fn push_slaves(rt: &(impl AllocGlobal + Abort), text: &mut String, table: &Table) {
+    for slave in 0..table.slaves().len() {
+        push_slave_at(rt, text, table, slave);
     }
-    Ok(())
+}
+
+fn push_variable(rt: &impl Abort, text: &mut String, row: &VariableRow) {
+    writeln!(
+        text,
+        "variable {} {:?} {}",
+        row.name.as_str(),
+        row.direction,
+        row.bits
+    )
+    .expect(rt, "memory");
+}
+
+fn push_variables(rt: &impl Abort, text: &mut String, rows: &[VariableRow]) {
+    for row in rows {
+        push_variable(rt, text, row);
+    }
 }
 
 /// The ends of a link, by their places, and its bits.
-fn push_link(text: &mut String, row: &LinkRow) -> Result<(), AllocError> {
+fn push_link(rt: &impl Abort, text: &mut String, row: &LinkRow) {
     let bits = row.bits;
     writeln!(
         text,
@@ -126,27 +174,47 @@ fn push_link(text: &mut String, row: &LinkRow) -> Result<(), AllocError> {
         bits.entry_bit,
         bits.count
     )
+    .expect(rt, "memory");
+}
+
+fn push_links(rt: &impl Abort, text: &mut String, rows: &[LinkRow]) {
+    for row in rows {
+        push_link(rt, text, row);
+    }
+}
+
+fn push_table(rt: &(impl AllocGlobal + Abort), text: &mut String, table: &Table) {
+    writeln!(text, "{:?}", table.version()).expect(rt, "memory");
+    push_types(rt, text, table.types());
+    push_slaves(rt, text, table);
+    push_variables(rt, text, table.variables());
+    push_links(rt, text, table.links());
 }
 
 /// All that a table holds: a line for each row.
-pub fn push_table(alloc: Global, text: &mut String, table: &Table) -> Result<(), AllocError> {
-    writeln!(text, "{:?}", table.version())?;
-    for row in table.types() {
-        push_type(text, row)?;
+pub fn rows_of(rt: &(impl AllocGlobal + Abort), table: &Table) -> String {
+    let mut text = String::new(rt.alloc());
+    push_table(rt, &mut text, table);
+    text
+}
+
+/// The names of the variable and of the slave of a link.
+fn push_ends(rt: &impl Abort, text: &mut String, table: &Table, link: usize)
+    requires { link < length table.now.links }
+{
+    let (variable, slave) = (table.variable_of(link), table.slave_of(link));
+    writeln!(text, "{} {}", variable.name.as_str(), slave.name.as_str()).expect(rt, "memory");
+}
+
+fn push_all_ends(rt: &impl Abort, text: &mut String, table: &Table) {
+    for link in 0..table.links().len() {
+        push_ends(rt, text, table, link);
     }
-    push_slaves(alloc, text, table)?;
-    push_variables(text, table)?;
-    for row in table.links() {
-        push_link(text, row)?;
-    }
-    Ok(())
 }
 
 /// The names of the variable and of the slave of each link.
-pub fn push_ends(text: &mut String, table: &Table) -> Result<(), AllocError> {
-    for link in 0..table.links().len() {
-        let (variable, slave) = (table.variable_of(link), table.slave_of(link));
-        writeln!(text, "{} {}", variable.name.as_str(), slave.name.as_str())?;
-    }
-    Ok(())
+pub fn ends_of(rt: &(impl AllocGlobal + Abort), table: &Table) -> String {
+    let mut text = String::new(rt.alloc());
+    push_all_ends(rt, &mut text, table);
+    text
 }
