@@ -1,17 +1,21 @@
-//! All that a table holds, a line for each row. Where memory is refused the test ends: so nothing here has another way out.
+//! All that a table holds, a line for each row.
 ghost use Rattle.std.specs.Prelude.{◌<◌, length};
 
+use crate::tests::texts::{push_all, push_debug, push_numbers};
 use ec_device::{Entry, Mailbox, Pdo};
 use ec_table::{Direction, LinkRow, SlaveRow, Table, TypeRow, VariableRow};
 use std::process::Abort;
 
-/// Puts a part behind a text.
-pub fn push(rt: &impl Abort, text: &mut String, part: &str) {
-    text.push_str(part).expect(rt, "memory");
-}
-
 fn push_entry(rt: &impl Abort, text: &mut String, entry: &Entry) {
-    write!(text, " {}.{}.{}", entry.index, entry.subindex, entry.bits).expect(rt, "memory");
+    push_numbers(
+        rt,
+        text,
+        &[
+            (" ", entry.index as u64),
+            (".", entry.subindex as u64),
+            (".", entry.bits as u64),
+        ],
+    );
 }
 
 fn push_entries(rt: &impl Abort, text: &mut String, entries: &[Entry]) {
@@ -21,7 +25,8 @@ fn push_entries(rt: &impl Abort, text: &mut String, entries: &[Entry]) {
 }
 
 fn push_pdo(rt: &impl Abort, text: &mut String, pdo: &Pdo) {
-    write!(text, " {}:", pdo.index).expect(rt, "memory");
+    push_numbers(rt, text, &[(" ", pdo.index as u64)]);
+    push_all(rt, text, &[":"]);
     push_entries(rt, text, pdo.entries.as_slice());
 }
 
@@ -31,65 +36,64 @@ fn push_pdos(rt: &impl Abort, text: &mut String, pdos: &[Pdo]) {
     }
 }
 
-fn push_number(rt: &impl Abort, text: &mut String, number: u16) {
-    write!(text, " {number}").expect(rt, "memory");
-}
-
-fn push_numbers(rt: &impl Abort, text: &mut String, numbers: &[u16]) {
-    for number in numbers {
-        push_number(rt, text, *number);
+fn push_indices(rt: &impl Abort, text: &mut String, indices: &[u16]) {
+    for index in indices {
+        push_numbers(rt, text, &[(" ", *index as u64)]);
     }
-}
-
-fn push_areas(rt: &impl Abort, text: &mut String, mailbox: Mailbox) {
-    write!(
-        text,
-        "{}.{}.{}.{}",
-        mailbox.receive_start, mailbox.receive_size, mailbox.send_start, mailbox.send_size
-    )
-    .expect(rt, "memory");
 }
 
 fn push_mailbox(rt: &impl Abort, text: &mut String, mailbox: Option<Mailbox>) {
     match mailbox {
-        None => push(rt, text, "None"),
-        Some(mailbox) => push_areas(rt, text, mailbox),
+        None => push_all(rt, text, &[" None"]),
+        Some(mailbox) => push_numbers(
+            rt,
+            text,
+            &[
+                (" ", mailbox.receive_start as u64),
+                (".", mailbox.receive_size as u64),
+                (".", mailbox.send_start as u64),
+                (".", mailbox.send_size as u64),
+            ],
+        ),
     }
 }
 
 /// The name of a type and its device.
 fn push_device(rt: &impl Abort, text: &mut String, row: &TypeRow) {
-    let device = row.device;
-    write!(
+    push_all(rt, text, &["type ", row.name.as_str()]);
+    push_numbers(
+        rt,
         text,
-        "type {} {} {} {} ",
-        row.name.as_str(),
-        device.vendor,
-        device.product,
-        device.revision
-    )
-    .expect(rt, "memory");
+        &[
+            (" ", row.device.vendor as u64),
+            (" ", row.device.product as u64),
+            (" ", row.device.revision as u64),
+        ],
+    );
 }
 
 /// Where the process data of a type begin, and whether its slaves take part in LRW.
 fn push_starts(rt: &impl Abort, text: &mut String, row: &TypeRow) {
-    let process = &row.process;
-    write!(
+    push_numbers(
+        rt,
         text,
-        " {} {} {} out",
-        process.out_start, process.in_start, row.lrw
-    )
-    .expect(rt, "memory");
+        &[
+            (" ", row.process.out_start as u64),
+            (" ", row.process.in_start as u64),
+        ],
+    );
+    push_all(rt, text, &[if row.lrw { " true" } else { " false" }]);
 }
 
 fn push_type(rt: &impl Abort, text: &mut String, row: &TypeRow) {
     push_device(rt, text, row);
     push_mailbox(rt, text, row.mailbox);
     push_starts(rt, text, row);
+    push_all(rt, text, &[" out"]);
     push_pdos(rt, text, row.pdos(Direction::Out));
-    push(rt, text, " in");
+    push_all(rt, text, &[" in"]);
     push_pdos(rt, text, row.pdos(Direction::In));
-    push(rt, text, "\n");
+    push_all(rt, text, &["\n"]);
 }
 
 fn push_types(rt: &impl Abort, text: &mut String, rows: &[TypeRow]) {
@@ -98,16 +102,18 @@ fn push_types(rt: &impl Abort, text: &mut String, rows: &[TypeRow]) {
     }
 }
 
-fn push_slave_name(rt: &impl Abort, text: &mut String, row: &SlaveRow) {
-    write!(text, "slave {} {} out", row.name.as_str(), row.type_place).expect(rt, "memory");
-}
-
 fn push_slave(rt: &impl Abort, text: &mut String, row: &SlaveRow) {
-    push_slave_name(rt, text, row);
-    push_numbers(rt, text, row.assigned(Direction::Out));
-    push(rt, text, " in");
-    push_numbers(rt, text, row.assigned(Direction::In));
-    write!(text, " {} {}:", row.serial, row.unit).expect(rt, "memory");
+    push_all(rt, text, &["slave ", row.name.as_str()]);
+    push_numbers(rt, text, &[(" ", row.type_place as u64)]);
+    push_all(rt, text, &[" out"]);
+    push_indices(rt, text, row.assigned(Direction::Out));
+    push_all(rt, text, &[" in"]);
+    push_indices(rt, text, row.assigned(Direction::In));
+    push_numbers(
+        rt,
+        text,
+        &[(" ", row.serial as u64), (" ", row.unit as u64)],
+    );
 }
 
 /// The entries that a slave assigns in a direction.
@@ -131,10 +137,11 @@ fn push_slave_at(rt: &(impl AllocGlobal + Abort), text: &mut String, table: &Tab
     requires { slave < length table.now.slaves }
 {
     push_slave(rt, text, &table.slaves()[slave]);
+    push_all(rt, text, &[":"]);
     push_objects(rt, text, table, slave, Direction::Out);
-    push(rt, text, " /");
+    push_all(rt, text, &[" /"]);
     push_objects(rt, text, table, slave, Direction::In);
-    push(rt, text, "\n");
+    push_all(rt, text, &["\n"]);
 }
 
 fn push_slaves(rt: &(impl AllocGlobal + Abort), text: &mut String, table: &Table) {
@@ -144,14 +151,10 @@ fn push_slaves(rt: &(impl AllocGlobal + Abort), text: &mut String, table: &Table
 }
 
 fn push_variable(rt: &impl Abort, text: &mut String, row: &VariableRow) {
-    writeln!(
-        text,
-        "variable {} {:?} {}",
-        row.name.as_str(),
-        row.direction,
-        row.bits
-    )
-    .expect(rt, "memory");
+    push_all(rt, text, &["variable ", row.name.as_str(), " "]);
+    push_debug(rt, text, &row.direction);
+    push_numbers(rt, text, &[(" ", row.bits as u64)]);
+    push_all(rt, text, &["\n"]);
 }
 
 fn push_variables(rt: &impl Abort, text: &mut String, rows: &[VariableRow]) {
@@ -162,19 +165,20 @@ fn push_variables(rt: &impl Abort, text: &mut String, rows: &[VariableRow]) {
 
 /// The ends of a link, by their places, and its bits.
 fn push_link(rt: &impl Abort, text: &mut String, row: &LinkRow) {
-    let bits = row.bits;
-    writeln!(
+    push_numbers(
+        rt,
         text,
-        "link {} {} {} {} {} {} {}",
-        row.variable,
-        row.slave,
-        row.index,
-        row.subindex,
-        bits.variable_bit,
-        bits.entry_bit,
-        bits.count
-    )
-    .expect(rt, "memory");
+        &[
+            ("link ", row.variable as u64),
+            (" ", row.slave as u64),
+            (" ", row.index as u64),
+            (" ", row.subindex as u64),
+            (" ", row.bits.variable_bit as u64),
+            (" ", row.bits.entry_bit as u64),
+            (" ", row.bits.count as u64),
+        ],
+    );
+    push_all(rt, text, &["\n"]);
 }
 
 fn push_links(rt: &impl Abort, text: &mut String, rows: &[LinkRow]) {
@@ -184,7 +188,8 @@ fn push_links(rt: &impl Abort, text: &mut String, rows: &[LinkRow]) {
 }
 
 fn push_table(rt: &(impl AllocGlobal + Abort), text: &mut String, table: &Table) {
-    writeln!(text, "{:?}", table.version()).expect(rt, "memory");
+    push_debug(rt, text, &table.version());
+    push_all(rt, text, &["\n"]);
     push_types(rt, text, table.types());
     push_slaves(rt, text, table);
     push_variables(rt, text, table.variables());
@@ -202,8 +207,9 @@ pub fn rows_of(rt: &(impl AllocGlobal + Abort), table: &Table) -> String {
 fn push_ends(rt: &impl Abort, text: &mut String, table: &Table, link: usize)
     requires { link < length table.now.links }
 {
-    let (variable, slave) = (table.variable_of(link), table.slave_of(link));
-    writeln!(text, "{} {}", variable.name.as_str(), slave.name.as_str()).expect(rt, "memory");
+    let variable = table.variable_of(link).name.as_str();
+    let slave = table.slave_of(link).name.as_str();
+    push_all(rt, text, &[variable, " ", slave, "\n"]);
 }
 
 fn push_all_ends(rt: &impl Abort, text: &mut String, table: &Table) {

@@ -1,6 +1,80 @@
 /// `examples/three_slaves.toml`.
 pub const THREE_SLAVES: &str = ec_examples::THREE_SLAVES;
 
+/// The lines of the table of three slaves that are no comments.
+pub const PLAIN: &str = r#"[[type]]
+name = "do4"
+vendor = 0xABCD
+product = 1
+revision = 1
+out_start = 0x1100
+in_start = 0
+rxpdo = [ { index = 0x1600, entries = [[0x7000, 1, 4]] } ]
+[[type]]
+name = "di4"
+vendor = 0xABCD
+product = 2
+revision = 1
+out_start = 0
+in_start = 0x1100
+txpdo = [ { index = 0x1A00, entries = [[0x6000, 1, 4]] } ]
+[[type]]
+name = "mix"
+vendor = 0xABCD
+product = 3
+revision = 1
+mailbox = [0x1000, 128, 0x1080, 128]
+out_start = 0x1100
+in_start = 0x1400
+rxpdo = [ { index = 0x1600, entries = [[0x7010, 1, 12]] } ]
+txpdo = [ { index = 0x1A00, entries = [[0x6010, 1, 16]] } ]
+[[slave]]
+name = "s0"
+type = "do4"
+[[slave]]
+name = "s1"
+type = "di4"
+[[slave]]
+name = "s2"
+type = "mix"
+[[variable]]
+name = "a"
+dir = "out"
+bits = 4
+[[variable]]
+name = "b"
+dir = "out"
+bits = 12
+[[variable]]
+name = "c"
+dir = "in"
+bits = 4
+[[variable]]
+name = "d"
+dir = "in"
+bits = 16
+[[link]]
+var = "a"
+slave = "s0"
+index = 0x7000
+sub = 1
+[[link]]
+var = "b"
+slave = "s2"
+index = 0x7010
+sub = 1
+[[link]]
+var = "c"
+slave = "s1"
+index = 0x6000
+sub = 1
+[[link]]
+var = "d"
+slave = "s2"
+index = 0x6010
+sub = 1
+"#;
+
 /// `examples/small_machine.toml`.
 pub const SMALL_MACHINE: &str = ec_examples::SMALL_MACHINE;
 
@@ -13,6 +87,21 @@ revision = 1
 out_start = 0x1100
 in_start = 0
 rxpdo = [ { index = 0x1600, entries = [[0x7000, 1, 4]] } ]
+"#;
+
+/// A slave of that type, which writes its own variable: its number stands in each place of `#`.
+pub const NUMBERED: &str = r#"[[slave]]
+name = "s#"
+type = "do4"
+[[variable]]
+name = "v#"
+dir = "out"
+bits = 4
+[[link]]
+var = "v#"
+slave = "s#"
+index = 0x7000
+sub = 1
 "#;
 
 /// All that the table of three slaves holds, a line for each row.
@@ -50,4 +139,18 @@ link 1 0 28672 3 1 0 1
 link 2 0 24576 1 0 0 8
 link 3 1 28704 17 0 0 16
 link 4 1 24608 17 0 0 16
+";
+
+/// The same of three slaves of the type `do4`, each of which writes its own variable.
+pub const THREE_OF_A_TYPE_READ: &str = "One
+type do4 43981 1 1 None 4352 0 true out 5632: 28672.1.4 in
+slave s0 0 out 5632 in 0 0: 28672.1.4 /
+slave s1 0 out 5632 in 0 0: 28672.1.4 /
+slave s2 0 out 5632 in 0 0: 28672.1.4 /
+variable v0 Out 4
+variable v1 Out 4
+variable v2 Out 4
+link 0 0 28672 1 0 0 4
+link 1 1 28672 1 0 0 4
+link 2 2 28672 1 0 0 4
 ";

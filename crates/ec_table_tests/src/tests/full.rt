@@ -1,31 +1,27 @@
-//! What the slaves of a table show besides, before and after the table is shown in full.
+//! All that a table holds, and what its slaves show besides, before and after it is shown in full.
 ghost use Rattle.std.specs.Prelude.{◌<◌, length};
 
-use crate::tests::described::{push, rows_of};
-use crate::tests::examples::{SMALL_MACHINE, SMALL_MACHINE_READ, THREE_SLAVES, THREE_SLAVES_READ};
-use crate::tests::{assert_same, many_slaves, read};
+use crate::tests::described::rows_of;
+use crate::tests::examples::{
+    PLAIN, SMALL_MACHINE, SMALL_MACHINE_READ, THREE_OF_A_TYPE_READ, THREE_SLAVES, THREE_SLAVES_READ,
+};
+use crate::tests::texts::{assert_same, push_all};
+use crate::tests::{many_slaves, read};
 use ec_device::Face;
 use ec_table::Table;
 use std::process::Abort;
 
-/// What is said of whether a slave is the last of the ring.
-fn end_of(is_last: bool) -> &'static str {
-    if is_last { " is the last, " } else { ", " }
-}
-
+/// The name of a face, and whether its slave is the last of the ring.
 fn push_shown(rt: &impl Abort, text: &mut String, face: &Face) {
-    push(
-        rt,
-        text,
-        str::from_utf8(face.name.as_slice()).expect(rt, "a name"),
-    );
-    push(rt, text, end_of(face.is_last));
+    let name = str::from_utf8(face.name.as_slice()).expect(rt, "a name");
+    let end = if face.is_last { " is the last" } else { "" };
+    push_all(rt, text, &[name, end, ", "]);
 }
 
-/// The name of a face, and whether its slave is the last of the ring; `-` where there is no face.
+/// The same of a slave, and `-` where there is no face.
 fn push_face(rt: &impl Abort, text: &mut String, face: Option<&Face>) {
     match face {
-        None => push(rt, text, "-, "),
+        None => push_all(rt, text, &["-, "]),
         Some(face) => push_shown(rt, text, face),
     }
 }
@@ -51,15 +47,18 @@ fn faces_of(rt: &(impl AllocGlobal + Abort), table: &Table) -> String {
     text
 }
 
-/// Compares the faces of a table.
 fn assert_faces(rt: &(impl AllocGlobal + Abort), table: &Table, faces: &str) {
     assert_same(rt, faces_of(rt, table).as_str(), faces, "the faces");
+}
+
+fn assert_rows(rt: &(impl AllocGlobal + Abort), table: &Table, rows: &str) {
+    assert_same(rt, rows_of(rt, table).as_str(), rows, "the rows");
 }
 
 /// Compares the faces of a table, and all its rows.
 fn assert_table(rt: &(impl AllocGlobal + Abort), table: &Table, faces: &str, rows: &str) {
     assert_faces(rt, table, faces);
-    assert_same(rt, rows_of(rt, table).as_str(), rows, "the rows");
+    assert_rows(rt, table, rows);
 }
 
 /// Shows a table in full, twice, and compares the faces and the rows, before too.
@@ -94,6 +93,13 @@ fn reads_and_shows_the_examples(rt: HostRuntime) {
     );
     assert_read(
         &rt,
+        PLAIN,
+        "-, -, -, ",
+        "do4, di4, mix is the last, ",
+        THREE_SLAVES_READ,
+    );
+    assert_read(
+        &rt,
         SMALL_MACHINE,
         "-, -, ",
         "coupler, analog2 is the last, ",
@@ -101,20 +107,14 @@ fn reads_and_shows_the_examples(rt: HostRuntime) {
     );
 }
 
-/// Shows a table in full, and compares the faces.
-fn assert_shown_faces(rt: &(impl AllocGlobal + Abort), table: &mut Table, faces: &str) {
-    table.show_full();
-    assert_faces(rt, table, faces);
-}
-
-/// The same of the table that a text states.
-fn assert_text_shown(rt: &(impl AllocGlobal + Abort), text: &str, faces: &str) {
-    assert_shown_faces(rt, &mut read(rt, text), faces);
-}
-
 /// Of slaves of one type each has its own face.
 #[test]
 fn shows_the_last_of_a_type(rt: HostRuntime) {
-    let faces = "do4, do4, do4 is the last, ";
-    assert_text_shown(&rt, many_slaves(&rt, 3).as_str(), faces);
+    assert_read(
+        &rt,
+        many_slaves(&rt, 3).as_str(),
+        "-, -, -, ",
+        "do4, do4, do4 is the last, ",
+        THREE_OF_A_TYPE_READ,
+    );
 }
