@@ -18,17 +18,9 @@ fn read(rt: &(impl AllocGlobal + Abort), text: &str) -> Table {
     read_table(rt.alloc(), text).expect(rt, text)
 }
 
-/// Lets a table go: nothing was refused.
-fn unrefused(_table: Table) -> Option<TableError> {
-    None
-}
-
 /// Why a text states no table.
 fn refused(rt: &impl AllocGlobal, text: &str) -> Option<TableError> {
-    match read_table(rt.alloc(), text) {
-        Ok(table) => unrefused(table),
-        Err(error) => Some(error),
-    }
+    read_table(rt.alloc(), text).err()
 }
 
 fn push_place(rt: &impl Abort, text: &mut String, place: Option<Place>) {

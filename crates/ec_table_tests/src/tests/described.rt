@@ -2,7 +2,7 @@
 ghost use Rattle.std.specs.Prelude.{◌<◌, length};
 
 use crate::tests::texts::{push_all, push_debug, push_numbers};
-use ec_device::{Entry, Mailbox, Pdo};
+use ec_device::{Entry, Pdo};
 use ec_table::{Direction, LinkRow, SlaveRow, Table, TypeRow, VariableRow};
 use std::process::Abort;
 
@@ -36,42 +36,6 @@ fn push_pdos(rt: &impl Abort, text: &mut String, pdos: &[Pdo]) {
     }
 }
 
-fn push_indices(rt: &impl Abort, text: &mut String, indices: &[u16]) {
-    for index in indices {
-        push_numbers(rt, text, &[(" ", *index as u64)]);
-    }
-}
-
-fn push_mailbox(rt: &impl Abort, text: &mut String, mailbox: Option<Mailbox>) {
-    match mailbox {
-        None => push_all(rt, text, &[" None"]),
-        Some(mailbox) => push_numbers(
-            rt,
-            text,
-            &[
-                (" ", mailbox.receive_start as u64),
-                (".", mailbox.receive_size as u64),
-                (".", mailbox.send_start as u64),
-                (".", mailbox.send_size as u64),
-            ],
-        ),
-    }
-}
-
-/// The name of a type and its device.
-fn push_device(rt: &impl Abort, text: &mut String, row: &TypeRow) {
-    push_all(rt, text, &["type ", row.name.as_str()]);
-    push_numbers(
-        rt,
-        text,
-        &[
-            (" ", row.device.vendor as u64),
-            (" ", row.device.product as u64),
-            (" ", row.device.revision as u64),
-        ],
-    );
-}
-
 /// Where the process data of a type begin, and whether its slaves take part in LRW.
 fn push_starts(rt: &impl Abort, text: &mut String, row: &TypeRow) {
     push_numbers(
@@ -86,8 +50,10 @@ fn push_starts(rt: &impl Abort, text: &mut String, row: &TypeRow) {
 }
 
 fn push_type(rt: &impl Abort, text: &mut String, row: &TypeRow) {
-    push_device(rt, text, row);
-    push_mailbox(rt, text, row.mailbox);
+    push_all(rt, text, &["type ", row.name.as_str(), " "]);
+    push_debug(rt, text, &row.device);
+    push_all(rt, text, &[" "]);
+    push_debug(rt, text, &row.mailbox);
     push_starts(rt, text, row);
     push_all(rt, text, &[" out"]);
     push_pdos(rt, text, row.pdos(Direction::Out));
@@ -105,10 +71,10 @@ fn push_types(rt: &impl Abort, text: &mut String, rows: &[TypeRow]) {
 fn push_slave(rt: &impl Abort, text: &mut String, row: &SlaveRow) {
     push_all(rt, text, &["slave ", row.name.as_str()]);
     push_numbers(rt, text, &[(" ", row.type_place as u64)]);
-    push_all(rt, text, &[" out"]);
-    push_indices(rt, text, row.assigned(Direction::Out));
-    push_all(rt, text, &[" in"]);
-    push_indices(rt, text, row.assigned(Direction::In));
+    push_all(rt, text, &[" out "]);
+    push_debug(rt, text, &row.assigned(Direction::Out));
+    push_all(rt, text, &[" in "]);
+    push_debug(rt, text, &row.assigned(Direction::In));
     push_numbers(
         rt,
         text,
@@ -150,40 +116,17 @@ fn push_slaves(rt: &(impl AllocGlobal + Abort), text: &mut String, table: &Table
     }
 }
 
-fn push_variable(rt: &impl Abort, text: &mut String, row: &VariableRow) {
-    push_all(rt, text, &["variable ", row.name.as_str(), " "]);
-    push_debug(rt, text, &row.direction);
-    push_numbers(rt, text, &[(" ", row.bits as u64)]);
-    push_all(rt, text, &["\n"]);
-}
-
 fn push_variables(rt: &impl Abort, text: &mut String, rows: &[VariableRow]) {
     for row in rows {
-        push_variable(rt, text, row);
+        push_debug(rt, text, row);
+        push_all(rt, text, &["\n"]);
     }
-}
-
-/// The ends of a link, by their places, and its bits.
-fn push_link(rt: &impl Abort, text: &mut String, row: &LinkRow) {
-    push_numbers(
-        rt,
-        text,
-        &[
-            ("link ", row.variable as u64),
-            (" ", row.slave as u64),
-            (" ", row.index as u64),
-            (" ", row.subindex as u64),
-            (" ", row.bits.variable_bit as u64),
-            (" ", row.bits.entry_bit as u64),
-            (" ", row.bits.count as u64),
-        ],
-    );
-    push_all(rt, text, &["\n"]);
 }
 
 fn push_links(rt: &impl Abort, text: &mut String, rows: &[LinkRow]) {
     for row in rows {
-        push_link(rt, text, row);
+        push_debug(rt, text, row);
+        push_all(rt, text, &["\n"]);
     }
 }
 
