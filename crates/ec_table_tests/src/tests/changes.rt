@@ -1,85 +1,84 @@
 // Changes to the text of the table of three slaves. A line `ANSWER: OLD => NEW` says what is told of the text with NEW in
 // the place of its first OLD; a line `ANSWER: TEXT` what is told of that text alone. `|` is the end of a line.
 
-/// What is told of the table of three slaves without a line: each line that is no comment, in order.
-///
-/// Without a header the keys below it belong to what stands above: to the document, or to the element before.
-pub const LEFT_OUT: &str = r#"12 BadKey 0 0: [[type]]
-12 BadKey 1 0: name = "do4"
-12 BadKey 1 0: vendor = 0xABCD
-12 BadKey 1 0: product = 1
-12 BadKey 1 0: revision = 1
-12 BadKey 1 0: out_start = 0x1100
-12 BadKey 1 0: in_start = 0
-read: rxpdo = [ { index = 0x1600, entries = [[0x7000, 1, 4]] } ]
-11 Toml: [[type]]
-12 BadKey 1 1: name = "di4"
-12 BadKey 1 1: vendor = 0xABCD
-12 BadKey 1 1: product = 2
-12 BadKey 1 1: revision = 1
-12 BadKey 1 1: out_start = 0
-12 BadKey 1 1: in_start = 0x1100
-read: txpdo = [ { index = 0x1A00, entries = [[0x6000, 1, 4]] } ]
-11 Toml: [[type]]
-12 BadKey 1 2: name = "mix"
-12 BadKey 1 2: vendor = 0xABCD
-12 BadKey 1 2: product = 3
-12 BadKey 1 2: revision = 1
-read: mailbox = [0x1000, 128, 0x1080, 128]
-12 BadKey 1 2: out_start = 0x1100
-12 BadKey 1 2: in_start = 0x1400
-read: rxpdo = [ { index = 0x1600, entries = [[0x7010, 1, 12]] } ]
-read: txpdo = [ { index = 0x1A00, entries = [[0x6010, 1, 16]] } ]
-11 Toml: [[slave]]
-12 BadKey 2 0: name = "s0"
-12 BadKey 2 0: type = "do4"
-11 Toml: [[slave]]
-12 BadKey 2 1: name = "s1"
-12 BadKey 2 1: type = "di4"
-11 Toml: [[slave]]
-12 BadKey 2 2: name = "s2"
-12 BadKey 2 2: type = "mix"
-11 Toml: [[variable]]
-12 BadKey 3 0: name = "a"
-12 BadKey 3 0: dir = "out"
-12 BadKey 3 0: bits = 4
-11 Toml: [[variable]]
-12 BadKey 3 1: name = "b"
-12 BadKey 3 1: dir = "out"
-12 BadKey 3 1: bits = 12
-11 Toml: [[variable]]
-12 BadKey 3 2: name = "c"
-12 BadKey 3 2: dir = "in"
-12 BadKey 3 2: bits = 4
-11 Toml: [[variable]]
-12 BadKey 3 3: name = "d"
-12 BadKey 3 3: dir = "in"
-12 BadKey 3 3: bits = 16
-12 BadKey 3 3: [[link]]
-12 BadKey 4 0: var = "a"
-12 BadKey 4 0: slave = "s0"
-12 BadKey 4 0: index = 0x7000
-12 BadKey 4 0: sub = 1
-11 Toml: [[link]]
-12 BadKey 4 1: var = "b"
-12 BadKey 4 1: slave = "s2"
-12 BadKey 4 1: index = 0x7010
-12 BadKey 4 1: sub = 1
-11 Toml: [[link]]
-12 BadKey 4 2: var = "c"
-12 BadKey 4 2: slave = "s1"
-12 BadKey 4 2: index = 0x6000
-12 BadKey 4 2: sub = 1
-11 Toml: [[link]]
-12 BadKey 4 3: var = "d"
-12 BadKey 4 3: slave = "s2"
-12 BadKey 4 3: index = 0x6010
-12 BadKey 4 3: sub = 1
-"#;
-
-/// Changes to the document itself.
-pub const IN_THE_DOCUMENT: &str =
-    r#"13 BadValue 0 0: [[type]]|name = "do4" => version = 0|[[type]]|name = "do4"
+/// Each line left out, changes in each section, changes with more than one fault, and small texts. A line `# WORDS` tells
+/// nothing.
+pub const CHANGES: &str =
+    r#"# Without a line: each line of the text, in order. Without a header the keys below it belong to what stands above: to
+# the document, or to the element before.
+12 BadKey 0 0: [[type]]|name = "do4" => name = "do4"
+12 BadKey 1 0: [[type]]|name = "do4" => [[type]]
+12 BadKey 1 0: vendor = 0xABCD|product = 1 => product = 1
+12 BadKey 1 0: product = 1|revision = 1 => revision = 1
+12 BadKey 1 0: product = 1|revision = 1 => product = 1
+12 BadKey 1 0: out_start = 0x1100|in_start = 0 => in_start = 0
+12 BadKey 1 0: out_start = 0x1100|in_start = 0 => out_start = 0x1100
+read: rxpdo = [ { index = 0x1600, entries = [[0x7000, 1, 4]] } ]|[[type]] => [[type]]
+11 Toml: [[type]]|name = "di4" => name = "di4"
+12 BadKey 1 1: [[type]]|name = "di4" => [[type]]
+12 BadKey 1 1: vendor = 0xABCD|product = 2 => product = 2
+12 BadKey 1 1: product = 2|revision = 1 => revision = 1
+12 BadKey 1 1: product = 2|revision = 1 => product = 2
+12 BadKey 1 1: out_start = 0|in_start = 0x1100 => in_start = 0x1100
+12 BadKey 1 1: out_start = 0|in_start = 0x1100 => out_start = 0
+read: txpdo = [ { index = 0x1A00, entries = [[0x6000, 1, 4]] } ]|[[type]] => [[type]]
+11 Toml: [[type]]|name = "mix" => name = "mix"
+12 BadKey 1 2: [[type]]|name = "mix" => [[type]]
+12 BadKey 1 2: vendor = 0xABCD|product = 3 => product = 3
+12 BadKey 1 2: product = 3|revision = 1 => revision = 1
+12 BadKey 1 2: product = 3|revision = 1 => product = 3
+read: revision = 1|mailbox = [0x1000, 128, 0x1080, 128] => revision = 1
+12 BadKey 1 2: out_start = 0x1100|in_start = 0x1400 => in_start = 0x1400
+12 BadKey 1 2: out_start = 0x1100|in_start = 0x1400 => out_start = 0x1100
+read: in_start = 0x1400|rxpdo = [ { index = 0x1600, entries = [[0x7010, 1, 12]] } ] => in_start = 0x1400
+read: txpdo = [ { index = 0x1A00, entries = [[0x6010, 1, 16]] } ]|[[slave]] => [[slave]]
+11 Toml: [[slave]]|name = "s0" => name = "s0"
+12 BadKey 2 0: [[slave]]|name = "s0" => [[slave]]
+12 BadKey 2 0: type = "do4"|[[slave]] => [[slave]]
+11 Toml: [[slave]]|name = "s1" => name = "s1"
+12 BadKey 2 1: [[slave]]|name = "s1" => [[slave]]
+12 BadKey 2 1: type = "di4"|[[slave]] => [[slave]]
+11 Toml: [[slave]]|name = "s2" => name = "s2"
+12 BadKey 2 2: [[slave]]|name = "s2" => [[slave]]
+12 BadKey 2 2: name = "s2"|type = "mix" => name = "s2"
+11 Toml: [[variable]]|name = "a" => name = "a"
+12 BadKey 3 0: name = "a"|dir = "out" => dir = "out"
+12 BadKey 3 0: dir = "out"|bits = 4 => bits = 4
+12 BadKey 3 0: dir = "out"|bits = 4 => dir = "out"
+11 Toml: bits = 4|[[variable]] => bits = 4
+12 BadKey 3 1: name = "b"|dir = "out" => dir = "out"
+12 BadKey 3 1: dir = "out"|bits = 12 => bits = 12
+12 BadKey 3 1: dir = "out"|bits = 12 => dir = "out"
+11 Toml: bits = 12|[[variable]] => bits = 12
+12 BadKey 3 2: name = "c"|dir = "in" => dir = "in"
+12 BadKey 3 2: dir = "in"|bits = 4 => bits = 4
+12 BadKey 3 2: dir = "in"|bits = 4 => dir = "in"
+11 Toml: [[variable]]|name = "d" => name = "d"
+12 BadKey 3 3: name = "d"|dir = "in" => dir = "in"
+12 BadKey 3 3: dir = "in"|bits = 16 => bits = 16
+12 BadKey 3 3: bits = 16|[[link]] => [[link]]
+12 BadKey 3 3: [[link]]|var = "a" => var = "a"
+12 BadKey 4 0: [[link]]|var = "a" => [[link]]
+12 BadKey 4 0: var = "a"|slave = "s0" => var = "a"
+12 BadKey 4 0: index = 0x7000|sub = 1 => sub = 1
+12 BadKey 4 0: sub = 1|[[link]] => [[link]]
+11 Toml: sub = 1|[[link]] => sub = 1
+12 BadKey 4 1: [[link]]|var = "b" => [[link]]
+12 BadKey 4 1: var = "b"|slave = "s2" => var = "b"
+12 BadKey 4 1: index = 0x7010|sub = 1 => sub = 1
+12 BadKey 4 1: index = 0x7010|sub = 1 => index = 0x7010
+11 Toml: [[link]]|var = "c" => var = "c"
+12 BadKey 4 2: [[link]]|var = "c" => [[link]]
+12 BadKey 4 2: var = "c"|slave = "s1" => var = "c"
+12 BadKey 4 2: index = 0x6000|sub = 1 => sub = 1
+12 BadKey 4 2: index = 0x6000|sub = 1 => index = 0x6000
+11 Toml: [[link]]|var = "d" => var = "d"
+12 BadKey 4 3: [[link]]|var = "d" => [[link]]
+12 BadKey 4 3: var = "d"|slave = "s2" => var = "d"
+12 BadKey 4 3: index = 0x6010|sub = 1 => sub = 1
+12 BadKey 4 3: index = 0x6010|sub = 1 => index = 0x6010
+# Changes to the document itself.
+13 BadValue 0 0: [[type]]|name = "do4" => version = 0|[[type]]|name = "do4"
 13 BadValue 0 0: [[type]]|name = "do4" => version = 3|[[type]]|name = "do4"
 13 BadValue 0 0: [[type]]|name = "do4" => version = "1"|[[type]]|name = "do4"
 read: [[type]]|name = "do4" => version = 1|[[type]]|name = "do4"
@@ -89,10 +88,8 @@ read: [[type]]|name = "do4" => version = 2|[[type]]|name = "do4"
 12 BadKey 0 0: [[link]]|var = "d" => [[other]]|var = "d"
 15 UnknownName 4 0: [[slave]]|name = "s0"|type = "do4"|[[slave]]|name = "s1"|type = "di4"|[[slave]]|name = "s2"|type = "mix"| => |
 11 Toml: [[type]]|name = "do4" => slave = 1|[[type]]|name = "do4"
-"#;
-
-/// Changes to types.
-pub const IN_TYPES: &str = r#"13 BadValue 1 0: name = "do4" => name = 4
+# Changes to types.
+13 BadValue 1 0: name = "do4" => name = 4
 13 BadValue 1 0: name = "do4" => name = ""
 13 BadValue 1 0: name = "do4" => name = "do-4"
 13 BadValue 1 0: name = "do4" => name = "do 4"
@@ -183,10 +180,8 @@ read: rxpdo = [ { index = 0x1600, entries = [[0x7000, 1, 4]] } ] => rxpdo = []
 read: in_start = 0| => in_start = 0|lrw = false|
 12 BadKey 1 0: in_start = 0| => in_start = 0|other = false|
 14 TwiceNamed 1 2: name = "mix" => name = "di4"
-"#;
-
-/// Changes to slaves.
-pub const IN_SLAVES: &str = r#"14 TwiceNamed 2 2: name = "s2" => name = "s0"
+# Changes to slaves.
+14 TwiceNamed 2 2: name = "s2" => name = "s0"
 15 UnknownName 2 2: type = "mix" => type = "m"
 13 BadValue 2 0: name = "s0" => name = 0
 13 BadValue 2 0: type = "do4" => type = 0
@@ -220,10 +215,8 @@ read: type = "mix" => type = "mix"|serial = 4294967295
 13 BadValue 2 1: type = "di4" => type = "di4"|in = []
 read: type = "do4" => type = "do4"|out = [0x1600]|in = []
 15 UnknownName 2 0: type = "do4" => type = "do4"|out = [0x1601]
-"#;
-
-/// Changes to variables.
-pub const IN_VARIABLES: &str = r#"13 BadValue 3 0: name = "a" => name = 1
+# Changes to variables.
+13 BadValue 3 0: name = "a" => name = 1
 13 BadValue 3 0: name = "a" => name = ""
 13 BadValue 3 0: name = "a" => name = "a b"
 14 TwiceNamed 3 1: name = "a" => name = "b"
@@ -241,10 +234,8 @@ read: bits = 4| => bits = 64|
 12 BadKey 3 0: bits = 4| => bits = 4|unit = 1|
 14 TwiceNamed 3 2: name = "c" => name = "a"
 14 TwiceNamed 3 3: name = "d" => name = "c"
-"#;
-
-/// Changes to links.
-pub const IN_LINKS: &str = r#"15 UnknownName 4 1: var = "b" => var = "x"
+# Changes to links.
+15 UnknownName 4 1: var = "b" => var = "x"
 15 UnknownName 4 2: var = "c" => var = "x"
 15 UnknownName 4 3: var = "d" => var = "x"
 15 UnknownName 4 1: slave = "s2" => slave = "x"
@@ -281,10 +272,8 @@ read: index = 0x7010|sub = 1 => index = 0x7010|sub = 255
 13 BadValue 4 1: index = 0x7010|sub = 1 => index = 0x7010|sub = 1|bits = [0, 0, 65]
 13 BadValue 4 1: index = 0x7010|sub = 1 => index = 0x7010|sub = 1|bits = ["a", 0, 1]
 read: index = 0x7010|sub = 1 => index = 0x7010|sub = 1|bits = [63, 63, 64]
-"#;
-
-/// Changes with more than one fault: the first in the order of the tests is told.
-pub const IN_ORDER: &str = r#"13 BadValue 2 2: type = "mix" => type = "other"|serial = -1
+# Changes with more than one fault: the first in the order of the tests is told.
+13 BadValue 2 2: type = "mix" => type = "other"|serial = -1
 14 TwiceNamed 2 1: name = "s1"|type = "di4" => name = "s0"|type = "other"
 13 BadValue 2 1: name = "s1"|type = "di4" => name = "s0"|type = "di4"|serial = -1
 12 BadKey 2 1: name = "s1"|type = "di4" => name = "s0"|type = "di4"|serial = -1|other = 1
@@ -293,22 +282,8 @@ pub const IN_ORDER: &str = r#"13 BadValue 2 2: type = "mix" => type = "other"|se
 13 BadValue 3 3: bits = 16|[[link]]|var = "a" => bits = 0|[[link]]|vars = "a"
 12 BadKey 1 2: vendor = 0xABCD|product = 3 => vendor = -1|product = 3|other = 1
 13 BadValue 2 0: type = "do4"|[[slave]]|name = "s1"|type = "di4"|[[slave]]|name = "s2" => type = 1|[[slave]]|name = "s1"|type = "other"|[[slave]]|name = "s1"
-"#;
-
-/// Changes in version 2: here `version = 2` stands at the head of the text.
-pub const IN_VERSION_2: &str = r#"read: type = "mix" => type = "mix"|unit = 0
-read: type = "mix" => type = "mix"|unit = 63
-13 BadValue 2 2: type = "mix" => type = "mix"|unit = 64
-13 BadValue 2 2: type = "mix" => type = "mix"|unit = -1
-13 BadValue 2 2: type = "mix" => type = "mix"|unit = "1"
-13 BadValue 2 2: type = "mix" => type = "mix"|unit = 1.0
-13 BadValue 2 2: type = "mix" => type = "mix"|unit = [1]
-12 BadKey 3 0: name = "a" => name = "a"|unit = 1
-12 BadKey 1 1: product = 2 => product = 2|unit = 1
-"#;
-
-/// Texts that state little or nothing, after what is told of each.
-pub const SMALL_TEXTS: &str = r#"read:
+# Texts that state little or nothing, after what is told of each.
+read:
 read: # nothing
 read: type = []|slave = []|variable = []|link = []
 read: version = 1
@@ -335,4 +310,16 @@ read: version = 2|link = []
 12 BadKey 1 0: type = [{|}]
 11 Toml: version = 1e400
 13 BadValue 0 0: version = 1e300
+"#;
+
+/// Changes in version 2: here `version = 2` stands at the head of the text.
+pub const IN_VERSION_2: &str = r#"read: type = "mix" => type = "mix"|unit = 0
+read: type = "mix" => type = "mix"|unit = 63
+13 BadValue 2 2: type = "mix" => type = "mix"|unit = 64
+13 BadValue 2 2: type = "mix" => type = "mix"|unit = -1
+13 BadValue 2 2: type = "mix" => type = "mix"|unit = "1"
+13 BadValue 2 2: type = "mix" => type = "mix"|unit = 1.0
+13 BadValue 2 2: type = "mix" => type = "mix"|unit = [1]
+12 BadKey 3 0: name = "a" => name = "a"|unit = 1
+12 BadKey 1 1: product = 2 => product = 2|unit = 1
 "#;

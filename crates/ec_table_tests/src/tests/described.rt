@@ -1,152 +1,169 @@
 //! All that a table holds, a line for each row.
 ghost use Rattle.std.specs.Prelude.{◌<◌, length};
 
-use ec_device::{Entry, Mailbox, Pdo};
-use ec_table::{Direction, LinkRow, SlaveRow, Table, TypeRow};
-use std::alloc::{AllocError, Global};
+use crate::tests::texts::{push_all, push_debug, push_numbers};
+use ec_device::{Entry, Pdo};
+use ec_table::{Direction, LinkRow, SlaveRow, Table, TypeRow, VariableRow};
+use std::process::Abort;
 
-fn push_entries(text: &mut String, entries: &[Entry]) -> Result<(), AllocError> {
+fn push_entry(rt: &impl Abort, text: &mut String, entry: &Entry) {
+    push_numbers(
+        rt,
+        text,
+        &[
+            (" ", entry.index as u64),
+            (".", entry.subindex as u64),
+            (".", entry.bits as u64),
+        ],
+    );
+}
+
+fn push_entries(rt: &impl Abort, text: &mut String, entries: &[Entry]) {
     for entry in entries {
-        write!(text, " {}.{}.{}", entry.index, entry.subindex, entry.bits)?;
+        push_entry(rt, text, entry);
     }
-    Ok(())
 }
 
-fn push_pdos(text: &mut String, pdos: &[Pdo]) -> Result<(), AllocError> {
+fn push_pdo(rt: &impl Abort, text: &mut String, pdo: &Pdo) {
+    push_numbers(rt, text, &[(" ", pdo.index as u64)]);
+    push_all(rt, text, &[":"]);
+    push_entries(rt, text, pdo.entries.as_slice());
+}
+
+fn push_pdos(rt: &impl Abort, text: &mut String, pdos: &[Pdo]) {
     for pdo in pdos {
-        write!(text, " {}:", pdo.index)?;
-        push_entries(text, pdo.entries.as_slice())?;
-    }
-    Ok(())
-}
-
-fn push_numbers(text: &mut String, numbers: &[u16]) -> Result<(), AllocError> {
-    for number in numbers {
-        write!(text, " {number}")?;
-    }
-    Ok(())
-}
-
-fn push_mailbox(text: &mut String, mailbox: Option<Mailbox>) -> Result<(), AllocError> {
-    match mailbox {
-        None => write!(text, "None"),
-        Some(m) => write!(
-            text,
-            "{}.{}.{}.{}",
-            m.receive_start, m.receive_size, m.send_start, m.send_size
-        ),
+        push_pdo(rt, text, pdo);
     }
 }
 
-/// The name of a type and its device.
-fn push_device(text: &mut String, row: &TypeRow) -> Result<(), AllocError> {
-    let device = row.device;
-    write!(
+/// Where the process data of a type begin, and whether its slaves take part in LRW.
+fn push_starts(rt: &impl Abort, text: &mut String, row: &TypeRow) {
+    push_numbers(
+        rt,
         text,
-        "type {} {} {} {} ",
-        row.name.as_str(),
-        device.vendor,
-        device.product,
-        device.revision
-    )
+        &[
+            (" ", row.process.out_start as u64),
+            (" ", row.process.in_start as u64),
+        ],
+    );
+    push_all(rt, text, &[if row.lrw { " true" } else { " false" }]);
 }
 
-fn push_type(text: &mut String, row: &TypeRow) -> Result<(), AllocError> {
-    push_device(text, row)?;
-    push_mailbox(text, row.mailbox)?;
-    let process = &row.process;
-    write!(
+fn push_type(rt: &impl Abort, text: &mut String, row: &TypeRow) {
+    push_all(rt, text, &["type ", row.name.as_str(), " "]);
+    push_debug(rt, text, &row.device);
+    push_all(rt, text, &[" "]);
+    push_debug(rt, text, &row.mailbox);
+    push_starts(rt, text, row);
+    push_all(rt, text, &[" out"]);
+    push_pdos(rt, text, row.pdos(Direction::Out));
+    push_all(rt, text, &[" in"]);
+    push_pdos(rt, text, row.pdos(Direction::In));
+    push_all(rt, text, &["\n"]);
+}
+
+fn push_types(rt: &impl Abort, text: &mut String, rows: &[TypeRow]) {
+    for row in rows {
+        push_type(rt, text, row);
+    }
+}
+
+fn push_slave(rt: &impl Abort, text: &mut String, row: &SlaveRow) {
+    push_all(rt, text, &["slave ", row.name.as_str()]);
+    push_numbers(rt, text, &[(" ", row.type_place as u64)]);
+    push_all(rt, text, &[" out "]);
+    push_debug(rt, text, &row.assigned(Direction::Out));
+    push_all(rt, text, &[" in "]);
+    push_debug(rt, text, &row.assigned(Direction::In));
+    push_numbers(
+        rt,
         text,
-        " {} {} {} out",
-        process.out_start, process.in_start, row.lrw
-    )?;
-    push_pdos(text, row.pdos(Direction::Out))?;
-    text.push_str(" in")?;
-    push_pdos(text, row.pdos(Direction::In))?;
-    text.push('\n')
-}
-
-fn push_slave(text: &mut String, row: &SlaveRow) -> Result<(), AllocError> {
-    write!(text, "slave {} {} out", row.name.as_str(), row.type_place)?;
-    push_numbers(text, row.assigned(Direction::Out))?;
-    text.push_str(" in")?;
-    push_numbers(text, row.assigned(Direction::In))?;
-    write!(text, " {} {}:", row.serial, row.unit)
+        &[(" ", row.serial as u64), (" ", row.unit as u64)],
+    );
 }
 
 /// The entries that a slave assigns in a direction.
 fn push_objects(
-    alloc: Global,
+    rt: &(impl AllocGlobal + Abort),
     text: &mut String,
     table: &Table,
     slave: usize,
     direction: Direction,
-) -> Result<(), AllocError>
+)
     requires { slave < length table.now.slaves }
 {
-    let entries = table.entries_of(alloc, slave, direction)?;
-    push_entries(text, entries.as_slice())
+    let entries = table
+        .entries_of(rt.alloc(), slave, direction)
+        .expect(rt, "memory");
+    push_entries(rt, text, entries.as_slice());
 }
 
-fn push_slaves(alloc: Global, text: &mut String, table: &Table) -> Result<(), AllocError> {
-    for (place, row) in table.slaves().iter().enumerate() {
-        push_slave(text, row)?;
-        push_objects(alloc, text, table, place, Direction::Out)?;
-        text.push_str(" /")?;
-        push_objects(alloc, text, table, place, Direction::In)?;
-        text.push('\n')?;
+/// A slave, and the entries that it assigns.
+fn push_slave_at(rt: &(impl AllocGlobal + Abort), text: &mut String, table: &Table, slave: usize)
+    requires { slave < length table.now.slaves }
+{
+    push_slave(rt, text, &table.slaves()[slave]);
+    push_all(rt, text, &[":"]);
+    push_objects(rt, text, table, slave, Direction::Out);
+    push_all(rt, text, &[" /"]);
+    push_objects(rt, text, table, slave, Direction::In);
+    push_all(rt, text, &["\n"]);
+}
+
+fn push_slaves(rt: &(impl AllocGlobal + Abort), text: &mut String, table: &Table) {
+    for slave in 0..table.slaves().len() {
+        push_slave_at(rt, text, table, slave);
     }
-    Ok(())
 }
 
-fn push_variables(text: &mut String, table: &Table) -> Result<(), AllocError> {
-    for row in table.variables() {
-        writeln!(
-            text,
-            "variable {} {:?} {}",
-            row.name.as_str(),
-            row.direction,
-            row.bits
-        )?;
+fn push_variables(rt: &impl Abort, text: &mut String, rows: &[VariableRow]) {
+    for row in rows {
+        push_debug(rt, text, row);
+        push_all(rt, text, &["\n"]);
     }
-    Ok(())
 }
 
-/// The ends of a link, by their places, and its bits.
-fn push_link(text: &mut String, row: &LinkRow) -> Result<(), AllocError> {
-    let bits = row.bits;
-    writeln!(
-        text,
-        "link {} {} {} {} {} {} {}",
-        row.variable,
-        row.slave,
-        row.index,
-        row.subindex,
-        bits.variable_bit,
-        bits.entry_bit,
-        bits.count
-    )
+fn push_links(rt: &impl Abort, text: &mut String, rows: &[LinkRow]) {
+    for row in rows {
+        push_debug(rt, text, row);
+        push_all(rt, text, &["\n"]);
+    }
+}
+
+fn push_table(rt: &(impl AllocGlobal + Abort), text: &mut String, table: &Table) {
+    push_debug(rt, text, &table.version());
+    push_all(rt, text, &["\n"]);
+    push_types(rt, text, table.types());
+    push_slaves(rt, text, table);
+    push_variables(rt, text, table.variables());
+    push_links(rt, text, table.links());
 }
 
 /// All that a table holds: a line for each row.
-pub fn push_table(alloc: Global, text: &mut String, table: &Table) -> Result<(), AllocError> {
-    writeln!(text, "{:?}", table.version())?;
-    for row in table.types() {
-        push_type(text, row)?;
+pub fn rows_of(rt: &(impl AllocGlobal + Abort), table: &Table) -> String {
+    let mut text = String::new(rt.alloc());
+    push_table(rt, &mut text, table);
+    text
+}
+
+/// The names of the variable and of the slave of a link.
+fn push_ends(rt: &impl Abort, text: &mut String, table: &Table, link: usize)
+    requires { link < length table.now.links }
+{
+    let variable = table.variable_of(link).name.as_str();
+    let slave = table.slave_of(link).name.as_str();
+    push_all(rt, text, &[variable, " ", slave, "\n"]);
+}
+
+fn push_all_ends(rt: &impl Abort, text: &mut String, table: &Table) {
+    for link in 0..table.links().len() {
+        push_ends(rt, text, table, link);
     }
-    push_slaves(alloc, text, table)?;
-    push_variables(text, table)?;
-    for row in table.links() {
-        push_link(text, row)?;
-    }
-    Ok(())
 }
 
 /// The names of the variable and of the slave of each link.
-pub fn push_ends(text: &mut String, table: &Table) -> Result<(), AllocError> {
-    for link in 0..table.links().len() {
-        let (variable, slave) = (table.variable_of(link), table.slave_of(link));
-        writeln!(text, "{} {}", variable.name.as_str(), slave.name.as_str())?;
-    }
-    Ok(())
+pub fn ends_of(rt: &(impl AllocGlobal + Abort), table: &Table) -> String {
+    let mut text = String::new(rt.alloc());
+    push_all_ends(rt, &mut text, table);
+    text
 }
