@@ -1,6 +1,7 @@
-//! What a plan holds, but for the types, a line for each thing.
+//! What is told of a plan: of the whole but for the types a line for each thing, or of some of it.
 ghost use Rattle.std.specs.Prelude.{◌<◌, length};
 
+use ec_device::Face;
 use ec_link::{ExpectedCounters, Link, LinkError, Plan};
 use ec_regs::{encode_fmmu, encode_manager};
 use std::alloc::AllocError;
@@ -106,7 +107,7 @@ fn push_links(text: &mut String, way: &str, links: &[Link]) -> Result<(), AllocE
 }
 
 /// All that a plan holds, but for the types.
-pub fn push_plan(text: &mut String, plan: &Plan) -> Result<(), AllocError> {
+fn push_plan(text: &mut String, plan: &Plan) -> Result<(), AllocError> {
     push_slaves(text, plan)?;
     push_part_lines(text, plan)?;
     push_units(text, plan)?;
@@ -116,7 +117,7 @@ pub fn push_plan(text: &mut String, plan: &Plan) -> Result<(), AllocError> {
 }
 
 /// Address, bytes, counter and unit of each part, with commas between them.
-pub fn push_parts(text: &mut String, plan: &Plan) -> Result<(), AllocError> {
+fn push_parts(text: &mut String, plan: &Plan) -> Result<(), AllocError> {
     for (place, part) in plan.parts().iter().enumerate() {
         let gap = if place == 0 { "" } else { ", " };
         write!(text, "{gap}{} {} ", part.address, part.bytes)?;
@@ -127,10 +128,72 @@ pub fn push_parts(text: &mut String, plan: &Plan) -> Result<(), AllocError> {
 }
 
 /// A refusal in its machine form.
-pub fn push_refusal(text: &mut String, error: LinkError) -> Result<(), AllocError> {
+fn push_refusal(text: &mut String, error: LinkError) -> Result<(), AllocError> {
     let (number, name) = (error.number(), error.name());
     match error.value() {
         None => write!(text, "{number} {name}"),
         Some(value) => write!(text, "{number} {name} {value}"),
+    }
+}
+
+/// Of each link of the outputs: its slave, and its first bit in the slave's object.
+fn push_outputs(text: &mut String, plan: &Plan) -> Result<(), AllocError> {
+    for link in plan.out_links() {
+        write!(text, "{} {}, ", link.slave, link.object_bit)?;
+    }
+    Ok(())
+}
+
+/// The name of a face, and whether its slave is the last of the ring; `-` where there is no face.
+fn push_face(text: &mut String, face: Option<&Face>) -> Result<(), AllocError> {
+    let Some(face) = face else {
+        return text.push_str("-, ");
+    };
+    let name = str::from_utf8(face.name.as_slice()).unwrap_or("?");
+    let end = if face.is_last { " is the last" } else { "" };
+    write!(text, "{name}{end}, ")
+}
+
+/// The faces that a plan gives its slaves.
+fn push_faces(text: &mut String, plan: &Plan) -> Result<(), AllocError> {
+    for settings in plan.slaves() {
+        push_face(text, settings.kind.face())?;
+    }
+    Ok(())
+}
+
+/// What is told of a plan.
+#[derive(Clone, Copy)]
+pub enum Told {
+    /// All that it holds, but for the types.
+    Whole,
+    /// Address, bytes, counter and unit of each part.
+    Parts,
+    /// Where the links of the outputs go.
+    Outputs,
+    /// The faces of its slaves.
+    Faces,
+}
+
+/// What is told of a plan that was made.
+fn push_made(text: &mut String, told: Told, plan: &Plan) -> Result<(), AllocError> {
+    match told {
+        Told::Whole => push_plan(text, plan),
+        Told::Parts => push_parts(text, plan),
+        Told::Outputs => push_outputs(text, plan),
+        Told::Faces => push_faces(text, plan),
+    }
+}
+
+/// What is told of a plan, or why there is none. All plans of these tests are handed to this function, so here alone the proof
+/// has to follow how one goes away.
+pub fn push_told(
+    text: &mut String,
+    told: Told,
+    plan: Result<Plan, LinkError>,
+) -> Result<(), AllocError> {
+    match plan {
+        Ok(plan) => push_made(text, told, &plan),
+        Err(error) => push_refusal(text, error),
     }
 }
