@@ -6,7 +6,9 @@ mod tables;
 
 use self::described::{Told, push_told};
 use self::machines::{MACHINES, machine_of};
-use self::tables::{ASSIGNED, CHANGES, FACES, PLANS, SAID, THREE_SLAVES};
+use self::tables::{
+    ASSIGNED, CHANGES, FACES, FACES_IN_FULL, PLANS, SAID, SPLIT_PART, THREE_SLAVES,
+};
 use ec_link::{LinkError, compile};
 use ec_table::{Table, TableError, read_table};
 use std::process::Abort;
@@ -16,28 +18,11 @@ fn parts<'a>(rt: &impl Abort, text: &'a str, between: &str) -> (&'a str, &'a str
     text.split_once(between).expect(rt, text)
 }
 
-/// The same; all of the text is before, where nothing is looked for.
-fn halves<'a>(rt: &impl Abort, text: &'a str, between: &str) -> (&'a str, &'a str) {
-    match between {
-        "" => (text, ""),
-        _ => parts(rt, text, between),
-    }
-}
-
-/// A text with the change `OLD => NEW`: its first OLD is NEW then; with no OLD, NEW stands behind it.
+/// A text with the change `OLD => NEW`: its first OLD is NEW then.
 fn changed(rt: &(impl AllocGlobal + Abort), text: &str, change: &str) -> String {
     let (old, new) = parts(rt, change, " => ");
-    let (before, after) = halves(rt, text, old);
+    let (before, after) = parts(rt, text, old);
     format!(in rt.alloc(); "{before}{new}{after}").expect(rt, "memory")
-}
-
-/// A text with all of its changes, one behind the other.
-fn changed_by(rt: &(impl AllocGlobal + Abort), text: &str, changes: &str) -> String {
-    let mut made = String::from_str(rt.alloc(), text).expect(rt, "memory");
-    for change in changes.split(" & ") {
-        made = changed(rt, made.as_str(), change);
-    }
-    made
 }
 
 /// A line as several, `|` being the end of each.
@@ -45,15 +30,15 @@ fn with_ends(rt: &(impl AllocGlobal + Abort), line: &str) -> String {
     line.replace(rt.alloc(), "|", "\n").expect(rt, "memory")
 }
 
-/// A text with the changes of a line.
-fn text_of(rt: &(impl AllocGlobal + Abort), text: &str, changes: &str) -> String {
-    changed_by(rt, text, with_ends(rt, changes).as_str())
+/// A text with the change of a line.
+fn text_of(rt: &(impl AllocGlobal + Abort), text: &str, change: &str) -> String {
+    changed(rt, text, with_ends(rt, change).as_str())
 }
 
 /// What is told of the plan of a table, or why it has none.
 fn told_of(rt: &(impl AllocGlobal + Abort), told: Told, table: &Table) -> String {
     let mut text = String::new(rt.alloc());
-    push_told(&mut text, told, compile(rt.alloc(), table)).expect(rt, "memory");
+    push_told(rt, &mut text, told, compile(rt.alloc(), table));
     text
 }
 
@@ -94,16 +79,16 @@ fn expect_text(rt: &(impl AllocGlobal + Abort), told: Told, text: &str, wanted: 
     expect_table(rt, told, text, read_table(rt.alloc(), text), wanted, wanted);
 }
 
-/// Compares what is told of a text with changes: a row of it, of a line with the changes, and of what must be told.
+/// Compares what is told of a text with a change: a row of it, of a line with the change, and of what must be told.
 fn expect_row(rt: &(impl AllocGlobal + Abort), told: Told, row: (&str, &str, &str)) {
-    let (text, changes, wanted) = row;
-    expect_text(rt, told, text_of(rt, text, changes).as_str(), wanted);
+    let (text, change, wanted) = row;
+    expect_text(rt, told, text_of(rt, text, change).as_str(), wanted);
 }
 
-/// The same of a line `ANSWER: CHANGES` about the table of three slaves.
+/// The same of a line `ANSWER: CHANGE` about the table of three slaves.
 fn expect_change(rt: &(impl AllocGlobal + Abort), line: &str) {
-    let (wanted, changes) = parts(rt, line, ": ");
-    expect_row(rt, Told::Parts, (THREE_SLAVES, changes, wanted));
+    let (wanted, change) = parts(rt, line, ": ");
+    expect_row(rt, Told::Parts, (THREE_SLAVES, change, wanted));
 }
 
 #[test]
@@ -118,6 +103,7 @@ fn tells_the_first_fault(rt: HostRuntime) {
     for line in CHANGES.lines() {
         expect_change(&rt, line);
     }
+    expect_row(&rt, Told::Parts, SPLIT_PART);
 }
 
 /// Slaves of one type have their bits each by its own assignment.
@@ -148,9 +134,14 @@ fn plans_machines(rt: HostRuntime) {
 
 #[test]
 fn gives_slaves_faces(rt: HostRuntime) {
-    let (plain, in_full) = FACES;
-    let table = read_table(rt.alloc(), THREE_SLAVES);
-    expect_table(&rt, Told::Faces, THREE_SLAVES, table, plain, in_full);
+    expect_table(
+        &rt,
+        Told::Faces,
+        THREE_SLAVES,
+        read_table(rt.alloc(), THREE_SLAVES),
+        FACES,
+        FACES_IN_FULL,
+    );
 }
 
 /// What is said of an error.

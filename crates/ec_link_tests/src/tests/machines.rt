@@ -4,8 +4,8 @@ use std::process::Abort;
 
 /// Machines, links of each, and what is told of the parts of its plan, or why it has none.
 ///
-/// A machine is groups of slaves with `, ` between them: how many, whether they share sync unit 0 (`shared`) or have a unit each
-/// (`own`), and of each its bits of outputs and of inputs, and whether its type has LRW. In its types 0x7000 has the bits as
+/// A machine is groups of slaves with `, ` between them: how many, by how much the sync unit rises from slave to slave (0 or
+/// 1), and of each its bits of outputs and of inputs, and whether its type has LRW. In its types 0x7000 has the bits as
 /// entries of 64 bits and one with the rest, from subindex 1 on.
 ///
 /// A line of links is a link to 0x7000 of a slave: the variable `o` of 64 bits of outputs or `i` of inputs, the slave, the
@@ -13,77 +13,69 @@ use std::process::Abort;
 /// a bit linked twice is told first.
 pub const MACHINES: [(&str, &str, &str); 16] = [
     (
-        "5 shared 2048 0 true, 1 shared 1136 0 true, 1 shared 1 0 true",
+        "5 0 2048 0 true, 1 0 1136 0 true, 1 0 1 0 true",
         "",
         "65536 1422 12 0, 66958 1 2 0",
     ),
     (
-        "5 shared 2048 0 true, 1 shared 1137 0 true, 1 shared 1 0 true",
+        "5 0 2048 0 true, 1 0 1137 0 true, 1 0 1 0 true",
         "",
         "65536 1280 10 0, 66816 143 4 0",
     ),
+    ("2 0 2048 0 false, 1 0 1544 0 false", "", "65536 705 3/0 0"),
     (
-        "2 shared 2048 0 false, 1 shared 1544 0 false",
-        "",
-        "65536 705 3/0 0",
-    ),
-    (
-        "2 shared 2048 0 false, 1 shared 1545 0 false",
+        "2 0 2048 0 false, 1 0 1545 0 false",
         "",
         "65536 512 2/0 0, 66048 194 1/0 0",
     ),
+    ("1 0 2048 0 true, 1 0 1 2049 true", "", "21 TooManyBits 1"),
     (
-        "1 shared 2048 0 true, 1 shared 1 2049 true",
-        "",
-        "21 TooManyBits 1",
-    ),
-    (
-        "64 shared 2048 2048 true",
+        "64 0 2048 2048 true",
         "",
         "65536 1280 15 0, 66816 1280 15 0, 68096 1280 15 0, 69376 1280 15 0, \
          70656 1280 15 0, 71936 1280 15 0, 73216 1280 15 0, 74496 1280 15 0, \
          75776 1280 15 0, 77056 1280 15 0, 78336 1280 15 0, 79616 1280 15 0, \
          80896 1024 12 0",
     ),
-    ("65 shared 4 0 true", "", "22 TooManySlaves 65"),
-    ("33 own 4 0 true", "", "23 TooManyParts 33"),
+    ("65 0 4 0 true", "", "22 TooManySlaves 65"),
+    ("33 1 4 0 true", "", "23 TooManyParts 33"),
     (
-        "65 shared 4 4 true",
+        "65 0 4 4 true",
         "o 64 1 [0, 0, 2]\no 0 1 [0, 0, 2]\no 64 1 [0, 2, 2]\no 64 1 [0, 1, 1]",
         "19 LinkedTwice 3",
     ),
     (
-        "65 shared 4 4 true",
+        "65 0 4 4 true",
         "o 64 1 [0, 0, 2]\no 64 1 [0, 2, 2]",
         "22 TooManySlaves 65",
     ),
     (
-        "65 shared 4 4 true",
+        "65 0 4 4 true",
         "i 0 1 [0, 0, 2]\ni 64 1 [2, 0, 2]\ni 1 1 [1, 0, 2]",
         "19 LinkedTwice 2",
     ),
     (
-        "65 shared 4 4 true",
+        "65 0 4 4 true",
         "i 0 1 [0, 0, 4]\no 1 1 [0, 0, 4]\ni 64 1 [4, 0, 4]\no 0 1 [0, 0, 4]",
         "22 TooManySlaves 65",
     ),
     (
-        "1 shared 2112 2112 true",
+        "1 0 2112 2112 true",
         "o 0 33 [0, 0, 64]\no 0 32 [0, 0, 64]\no 0 33 [0, 63, 1]\no 0 32 [0, 0, 1]",
         "19 LinkedTwice 2",
     ),
     (
-        "1 shared 2112 2112 true",
+        "1 0 2112 2112 true",
         "o 0 33 [0, 0, 64]\no 0 32 [0, 0, 64]",
         "21 TooManyBits 0",
     ),
     (
-        "1 shared 2112 2112 true",
+        "1 0 2112 2112 true",
         "i 0 33 [0, 0, 32]\ni 0 33 [31, 32, 1]",
         "19 LinkedTwice 1",
     ),
     (
-        "1 shared 2112 2112 true",
+        "1 0 2112 2112 true",
         "i 0 33 [0, 0, 32]\ni 0 33 [32, 0, 32]",
         "21 TooManyBits 0",
     ),
@@ -106,73 +98,62 @@ fn number_of(rt: &impl Abort, digits: &str) -> usize {
 }
 
 /// Puts a text behind another.
-fn push(rt: &impl Abort, text: &mut String, more: &str) {
+pub fn push(rt: &impl Abort, text: &mut String, more: &str) {
     text.push_str(more).expect(rt, "memory");
 }
 
-/// An entry of so many bits, if it has any.
-fn push_entry(rt: &impl Abort, text: &mut String, place: u8, count: usize) {
-    if count > 0 {
-        write!(text, "[0x7000, {place}, {count}], ").expect(rt, "memory");
+/// Puts names, each with a number, and an end behind a text.
+pub fn push_numbers(rt: &impl Abort, text: &mut String, rows: &[(&str, usize)], end: &str) {
+    for (name, number) in rows {
+        write!(text, "{name}{number}").expect(rt, "memory");
     }
+    push(rt, text, end);
 }
 
 /// So many bits in entries of 64 bits and one with the rest; up to 4096.
 fn push_entries(rt: &impl Abort, text: &mut String, bits: &str) {
     let mut rest = number_of(rt, bits);
-    for place in 1..65u8 {
+    for place in 1..65 {
         let count = rest.min(64);
-        push_entry(rt, text, place, count);
+        if count > 0 {
+            push_numbers(rt, text, &[("[0x7000, ", place), (", ", count)], "], ");
+        }
         rest -= count;
     }
 }
 
-/// The head of a slave and of its type.
-fn push_head(rt: &impl Abort, text: &mut String, place: usize, unit: usize, lrw: &str) {
-    write!(
-        text,
-        "[[slave]]
-name = \"s{place}\"
-type = \"t{place}\"
-unit = {unit}
-[[type]]
-name = \"t{place}\"
+/// What stands in a slave's type behind its name and before its PDOs, but for whether it has LRW.
+const TYPE: &str = "\"
 vendor = 1
 product = 1
 revision = 1
 out_start = 0x1100
 in_start = 0x1800
-lrw = {lrw}
-"
-    )
-    .expect(rt, "memory");
-}
+lrw = ";
 
-/// The PDOs of a type.
-fn push_pdos(rt: &impl Abort, text: &mut String, outs: &str, ins: &str) {
-    push(rt, text, "rxpdo = [ { index = 0x1600, entries = [");
+/// A slave and its type.
+fn push_slave(rt: &impl Abort, text: &mut String, place: usize, slave: &str) {
+    let (step, bits) = parts(rt, slave, " ");
+    let (outs, rest) = parts(rt, bits, " ");
+    let (ins, lrw) = parts(rt, rest, " ");
+    let unit = place.saturating_mul(number_of(rt, step));
+    push_numbers(
+        rt,
+        text,
+        &[
+            ("[[slave]]\nname = \"s", place),
+            ("\"\ntype = \"t", place),
+            ("\"\nunit = ", unit),
+            ("\n[[type]]\nname = \"t", place),
+        ],
+        TYPE,
+    );
+    push(rt, text, lrw);
+    push(rt, text, "\nrxpdo = [ { index = 0x1600, entries = [");
     push_entries(rt, text, outs);
     push(rt, text, "] } ]\ntxpdo = [ { index = 0x1A00, entries = [");
     push_entries(rt, text, ins);
     push(rt, text, "] } ]\n");
-}
-
-/// The sync unit of a slave.
-fn unit_of(rt: &impl Abort, word: &str, place: usize) -> usize {
-    match word {
-        "shared" => 0,
-        "own" => place,
-        _ => panic!(rt; "{word}"),
-    }
-}
-
-/// A slave and its type.
-fn push_slave(rt: &impl Abort, text: &mut String, place: usize, slave: &str) {
-    let (unit, bits) = parts(rt, slave, " ");
-    let (outs, rest) = parts(rt, bits, " ");
-    let (ins, lrw) = parts(rt, rest, " ");
-    push_head(rt, text, place, unit_of(rt, unit, place), lrw);
-    push_pdos(rt, text, outs, ins);
 }
 
 /// A group of slaves, the first of which has a place; the place behind them.

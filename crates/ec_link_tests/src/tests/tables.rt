@@ -1,9 +1,85 @@
-//! Link tables, changes to them, and what is told of each. A change `OLD => NEW` puts NEW in the place of a text's first OLD; with
-//! no OLD, NEW is appended. Several changes stand one behind the other with ` & ` between them, and `|` is the end of a line.
+//! Link tables, changes to them, and what is told of each. A change `OLD => NEW` puts NEW in the place of a text's first OLD, and
+//! ` => ` changes nothing. `|` is the end of a line.
 use ec_link::{LinkError, LinkFault};
 
 /// The table of `examples/three_slaves.toml`, without its comments.
 pub const THREE_SLAVES: &str = ec_examples::BARE_THREE_SLAVES;
+
+/// The same with the second slave in a sync unit of its own.
+const TWO_UNITS: &str = r#"version = 2
+[[type]]
+name = "do4"
+vendor = 0xABCD
+product = 1
+revision = 1
+out_start = 0x1100
+in_start = 0
+rxpdo = [ { index = 0x1600, entries = [[0x7000, 1, 4]] } ]
+[[type]]
+name = "di4"
+vendor = 0xABCD
+product = 2
+revision = 1
+out_start = 0
+in_start = 0x1100
+txpdo = [ { index = 0x1A00, entries = [[0x6000, 1, 4]] } ]
+[[type]]
+name = "mix"
+vendor = 0xABCD
+product = 3
+revision = 1
+mailbox = [0x1000, 128, 0x1080, 128]
+out_start = 0x1100
+in_start = 0x1400
+rxpdo = [ { index = 0x1600, entries = [[0x7010, 1, 12]] } ]
+txpdo = [ { index = 0x1A00, entries = [[0x6010, 1, 16]] } ]
+[[slave]]
+name = "s0"
+type = "do4"
+[[slave]]
+name = "s1"
+type = "di4"
+unit = 1
+[[slave]]
+name = "s2"
+type = "mix"
+[[variable]]
+name = "a"
+dir = "out"
+bits = 4
+[[variable]]
+name = "b"
+dir = "out"
+bits = 12
+[[variable]]
+name = "c"
+dir = "in"
+bits = 4
+[[variable]]
+name = "d"
+dir = "in"
+bits = 16
+[[link]]
+var = "a"
+slave = "s0"
+index = 0x7000
+sub = 1
+[[link]]
+var = "b"
+slave = "s2"
+index = 0x7010
+sub = 1
+[[link]]
+var = "c"
+slave = "s1"
+index = 0x6000
+sub = 1
+[[link]]
+var = "d"
+slave = "s2"
+index = 0x6010
+sub = 1
+"#;
 
 /// The plan of the table of three slaves: a line for each slave, its managers and FMMUs that are set, as bytes in hex, the
 /// parts, the variables and the links.
@@ -68,27 +144,28 @@ unit 0
 image out 0 in 0
 ";
 
-/// Texts, changes to each, and what is told of its whole plan, or why it has none. The third has its second slave in a unit of
-/// its own; the last has, behind that, a variable of 8 bits with a half from each of the two units.
+/// Texts, a change to each, and what is told of its whole plan, or why it has none. In the last one a variable of 8 bits has a
+/// half from each of two units.
 pub const PLANS: [(&str, &str, &str); 4] = [
     ("", " => ", EMPTY_PLAN),
     (THREE_SLAVES, " => ", THREE_SLAVES_PLAN),
+    (TWO_UNITS, " => ", TWO_UNITS_PLAN),
     (
-        THREE_SLAVES,
-        r#"[[type]] => version = 2|[[type]] & type = "di4" => type = "di4"|unit = 1"#,
-        TWO_UNITS_PLAN,
-    ),
-    (
-        THREE_SLAVES,
-        r#"[[type]] => version = 2|[[type]] & type = "di4" => type = "di4"|unit = 1 &  => [[variable]]|name = "e"|dir = "in"|bits = 8|[[link]]|var = "e"|slave = "s1"|index = 0x6000|sub = 1|bits = [0, 0, 4]|[[link]]|var = "e"|slave = "s2"|index = 0x6010|sub = 1|bits = [4, 0, 4]|"#,
+        TWO_UNITS,
+        r#"index = 0x6010|sub = 1| => index = 0x6010|sub = 1|[[variable]]|name = "e"|dir = "in"|bits = 8|[[link]]|var = "e"|slave = "s1"|index = 0x6000|sub = 1|bits = [0, 0, 4]|[[link]]|var = "e"|slave = "s2"|index = 0x6010|sub = 1|bits = [4, 0, 4]|"#,
         "44 SplitVariable 4",
     ),
 ];
 
-/// Lines `ANSWER: CHANGES` about the table of three slaves. Of the parts, a plan tells address, bytes, counter and unit. In the
-/// second line the first of two units has a slave that takes no part in LRW, and so its part goes by LWR and LRD.
+/// The first of two units has a slave that takes no part in LRW, and so its part goes by LWR and LRD.
+pub const SPLIT_PART: (&str, &str, &str) = (
+    TWO_UNITS,
+    "in_start = 0| => in_start = 0|lrw = false|",
+    "65536 3 2/1 0, 65539 1 1 1",
+);
+
+/// Lines `ANSWER: CHANGE` about the table of three slaves. Of the parts, a plan tells address, bytes, counter and unit.
 pub const CHANGES: &str = r#"65536 3 2/2 0: in_start = 0| => in_start = 0|lrw = false|
-65536 3 2/1 0, 65539 1 1 1: [[type]] => version = 2|[[type]] & type = "di4" => type = "di4"|unit = 1 & in_start = 0| => in_start = 0|lrw = false|
 16 WrongDirection 0: slave = "s0"|index = 0x7000 => slave = "s1"|index = 0x6000
 16 WrongDirection 3: slave = "s2"|index = 0x6010 => slave = "s2"|index = 0x7010
 17 NoEntry 0: index = 0x7000 => index = 0x7001
@@ -102,8 +179,8 @@ pub const CHANGES: &str = r#"65536 3 2/2 0: in_start = 0| => in_start = 0|lrw = 
 19 LinkedTwice 2: index = 0x7010|sub = 1 => index = 0x7010|sub = 1|bits = [0, 0, 8]|[[link]]|var = "b"|slave = "s2"|index = 0x7010|sub = 1|bits = [0, 4, 8]
 65536 3 6 0: index = 0x7010|sub = 1 => index = 0x7010|sub = 1|bits = [0, 0, 6]|[[link]]|var = "b"|slave = "s2"|index = 0x7010|sub = 1|bits = [0, 6, 6]
 18 OutsideEntry 1: index = 0x7010|sub = 1 => index = 0x7010|sub = 1|bits = [0, 10, 4]|[[link]]|var = "b"|slave = "s2"|index = 0x7010|sub = 1|bits = [0, 0, 8]|[[link]]|var = "b"|slave = "s2"|index = 0x7010|sub = 1|bits = [0, 4, 8]
-19 LinkedTwice 4:  => [[link]]|var = "d"|slave = "s1"|index = 0x6000|sub = 1|bits = [15, 3, 1]|
-65536 3 6 0:  => [[variable]]|name = "e"|dir = "in"|bits = 4|[[link]]|var = "e"|slave = "s1"|index = 0x6000|sub = 1|
+19 LinkedTwice 4: index = 0x6010|sub = 1| => index = 0x6010|sub = 1|[[link]]|var = "d"|slave = "s1"|index = 0x6000|sub = 1|bits = [15, 3, 1]|
+65536 3 6 0: index = 0x6010|sub = 1| => index = 0x6010|sub = 1|[[variable]]|name = "e"|dir = "in"|bits = 4|[[link]]|var = "e"|slave = "s1"|index = 0x6000|sub = 1|
 20 EntryTwice 2: [0x7010, 1, 12] => [0x7010, 1, 12], [0x7010, 1, 4]
 65536 4 6 0: [0x7010, 1, 12] => [0, 0, 4], [0x7010, 1, 12], [0, 0, 4]
 24 AreasOverlap 2: in_start = 0x1400 => in_start = 0x1105
@@ -190,8 +267,11 @@ pub const ASSIGNED: [(&str, &str, &str); 2] = [
     ),
 ];
 
-/// The faces of the table of three slaves, before and after it is shown in full.
-pub const FACES: (&str, &str) = ("-, -, -, ", "do4, di4, mix is the last, ");
+/// The faces of the table of three slaves.
+pub const FACES: &str = "-, -, -, ";
+
+/// Its faces once it is shown in full.
+pub const FACES_IN_FULL: &str = "do4, di4, mix is the last, ";
 
 /// What is said of an error, of each kind.
 pub const SAID: [(LinkError, &str); 12] = [
