@@ -25,9 +25,9 @@ fn changed(rt: &(impl AllocGlobal + Abort), text: &str, change: &str) -> String 
     format!(in rt.alloc(); "{before}{new}{after}").expect(rt, "memory")
 }
 
-/// A line as several, `|` being the end of each.
-fn with_ends(rt: &(impl AllocGlobal + Abort), line: &str) -> String {
-    line.replace(rt.alloc(), "|", "\n").expect(rt, "memory")
+/// A text in which `|` is the end of a line too.
+fn with_ends(rt: &(impl AllocGlobal + Abort), text: &str) -> String {
+    text.replace(rt.alloc(), "|", "\n").expect(rt, "memory")
 }
 
 /// A text with the change of a line.
@@ -91,11 +91,16 @@ fn expect_change(rt: &(impl AllocGlobal + Abort), line: &str) {
     expect_row(rt, Told::Parts, (THREE_SLAVES, change, wanted));
 }
 
+/// Compares what is told of each row.
+fn expect_rows(rt: &(impl AllocGlobal + Abort), told: Told, rows: &[(&str, &str, &str)]) {
+    for row in rows {
+        expect_row(rt, told, *row);
+    }
+}
+
 #[test]
 fn plans_tables(rt: HostRuntime) {
-    for row in &PLANS {
-        expect_row(&rt, Told::Whole, *row);
-    }
+    expect_rows(&rt, Told::Whole, &PLANS);
 }
 
 #[test]
@@ -109,9 +114,7 @@ fn tells_the_first_fault(rt: HostRuntime) {
 /// Slaves of one type have their bits each by its own assignment.
 #[test]
 fn places_bits_by_assignment(rt: HostRuntime) {
-    for row in &ASSIGNED {
-        expect_row(&rt, Told::Outputs, *row);
-    }
+    expect_rows(&rt, Told::Outputs, &ASSIGNED);
 }
 
 /// The same of a row of `MACHINES`.

@@ -1,5 +1,5 @@
 //! Machines of many slaves or of large ones, each slave of a type of its own.
-use super::parts;
+use super::{parts, with_ends};
 use std::process::Abort;
 
 /// Machines, links of each, and what is told of the parts of its plan, or why it has none.
@@ -8,9 +8,8 @@ use std::process::Abort;
 /// 1), and of each its bits of outputs and of inputs, and whether its type has LRW. In its types 0x7000 has the bits as
 /// entries of 64 bits and one with the rest, from subindex 1 on.
 ///
-/// A line of links is a link to 0x7000 of a slave: the variable `o` of 64 bits of outputs or `i` of inputs, the slave, the
-/// subindex, and the first bit of the variable and of the entry and how many. Of 65 slaves, and of a slave with over 2048 bits,
-/// a bit linked twice is told first.
+/// Links come behind the variables `o` of 64 bits of outputs and `i` of inputs, and `|` is the end of a line too. Of 65 slaves, and
+/// of a slave with over 2048 bits, a bit linked twice is told first.
 pub const MACHINES: [(&str, &str, &str); 16] = [
     (
         "5 0 2048 0 true, 1 0 1136 0 true, 1 0 1 0 true",
@@ -41,56 +40,76 @@ pub const MACHINES: [(&str, &str, &str); 16] = [
     ("33 1 4 0 true", "", "23 TooManyParts 33"),
     (
         "65 0 4 4 true",
-        "o 64 1 [0, 0, 2]\no 0 1 [0, 0, 2]\no 64 1 [0, 2, 2]\no 64 1 [0, 1, 1]",
+        r#"[[variable]]|name = "o"|dir = "out"|bits = 64|[[variable]]|name = "i"|dir = "in"|bits = 64
+[[link]]|var = "o"|slave = "s64"|index = 0x7000|sub = 1|bits = [0, 0, 2]
+[[link]]|var = "o"|slave = "s0"|index = 0x7000|sub = 1|bits = [0, 0, 2]
+[[link]]|var = "o"|slave = "s64"|index = 0x7000|sub = 1|bits = [0, 2, 2]
+[[link]]|var = "o"|slave = "s64"|index = 0x7000|sub = 1|bits = [0, 1, 1]
+"#,
         "19 LinkedTwice 3",
     ),
     (
         "65 0 4 4 true",
-        "o 64 1 [0, 0, 2]\no 64 1 [0, 2, 2]",
+        r#"[[variable]]|name = "o"|dir = "out"|bits = 64|[[variable]]|name = "i"|dir = "in"|bits = 64
+[[link]]|var = "o"|slave = "s64"|index = 0x7000|sub = 1|bits = [0, 0, 2]
+[[link]]|var = "o"|slave = "s64"|index = 0x7000|sub = 1|bits = [0, 2, 2]
+"#,
         "22 TooManySlaves 65",
     ),
     (
         "65 0 4 4 true",
-        "i 0 1 [0, 0, 2]\ni 64 1 [2, 0, 2]\ni 1 1 [1, 0, 2]",
+        r#"[[variable]]|name = "o"|dir = "out"|bits = 64|[[variable]]|name = "i"|dir = "in"|bits = 64
+[[link]]|var = "i"|slave = "s0"|index = 0x7000|sub = 1|bits = [0, 0, 2]
+[[link]]|var = "i"|slave = "s64"|index = 0x7000|sub = 1|bits = [2, 0, 2]
+[[link]]|var = "i"|slave = "s1"|index = 0x7000|sub = 1|bits = [1, 0, 2]
+"#,
         "19 LinkedTwice 2",
     ),
     (
         "65 0 4 4 true",
-        "i 0 1 [0, 0, 4]\no 1 1 [0, 0, 4]\ni 64 1 [4, 0, 4]\no 0 1 [0, 0, 4]",
+        r#"[[variable]]|name = "o"|dir = "out"|bits = 64|[[variable]]|name = "i"|dir = "in"|bits = 64
+[[link]]|var = "i"|slave = "s0"|index = 0x7000|sub = 1|bits = [0, 0, 4]
+[[link]]|var = "o"|slave = "s1"|index = 0x7000|sub = 1|bits = [0, 0, 4]
+[[link]]|var = "i"|slave = "s64"|index = 0x7000|sub = 1|bits = [4, 0, 4]
+[[link]]|var = "o"|slave = "s0"|index = 0x7000|sub = 1|bits = [0, 0, 4]
+"#,
         "22 TooManySlaves 65",
     ),
     (
         "1 0 2112 2112 true",
-        "o 0 33 [0, 0, 64]\no 0 32 [0, 0, 64]\no 0 33 [0, 63, 1]\no 0 32 [0, 0, 1]",
+        r#"[[variable]]|name = "o"|dir = "out"|bits = 64|[[variable]]|name = "i"|dir = "in"|bits = 64
+[[link]]|var = "o"|slave = "s0"|index = 0x7000|sub = 33|bits = [0, 0, 64]
+[[link]]|var = "o"|slave = "s0"|index = 0x7000|sub = 32|bits = [0, 0, 64]
+[[link]]|var = "o"|slave = "s0"|index = 0x7000|sub = 33|bits = [0, 63, 1]
+[[link]]|var = "o"|slave = "s0"|index = 0x7000|sub = 32|bits = [0, 0, 1]
+"#,
         "19 LinkedTwice 2",
     ),
     (
         "1 0 2112 2112 true",
-        "o 0 33 [0, 0, 64]\no 0 32 [0, 0, 64]",
+        r#"[[variable]]|name = "o"|dir = "out"|bits = 64|[[variable]]|name = "i"|dir = "in"|bits = 64
+[[link]]|var = "o"|slave = "s0"|index = 0x7000|sub = 33|bits = [0, 0, 64]
+[[link]]|var = "o"|slave = "s0"|index = 0x7000|sub = 32|bits = [0, 0, 64]
+"#,
         "21 TooManyBits 0",
     ),
     (
         "1 0 2112 2112 true",
-        "i 0 33 [0, 0, 32]\ni 0 33 [31, 32, 1]",
+        r#"[[variable]]|name = "o"|dir = "out"|bits = 64|[[variable]]|name = "i"|dir = "in"|bits = 64
+[[link]]|var = "i"|slave = "s0"|index = 0x7000|sub = 33|bits = [0, 0, 32]
+[[link]]|var = "i"|slave = "s0"|index = 0x7000|sub = 33|bits = [31, 32, 1]
+"#,
         "19 LinkedTwice 1",
     ),
     (
         "1 0 2112 2112 true",
-        "i 0 33 [0, 0, 32]\ni 0 33 [32, 0, 32]",
+        r#"[[variable]]|name = "o"|dir = "out"|bits = 64|[[variable]]|name = "i"|dir = "in"|bits = 64
+[[link]]|var = "i"|slave = "s0"|index = 0x7000|sub = 33|bits = [0, 0, 32]
+[[link]]|var = "i"|slave = "s0"|index = 0x7000|sub = 33|bits = [32, 0, 32]
+"#,
         "21 TooManyBits 0",
     ),
 ];
-
-/// The variables of links.
-const VARIABLES: &str = r#"[[variable]]
-name = "o"
-dir = "out"
-bits = 64
-[[variable]]
-name = "i"
-dir = "in"
-bits = 64
-"#;
 
 /// A number.
 fn number_of(rt: &impl Abort, digits: &str) -> usize {
@@ -174,38 +193,10 @@ fn push_slaves(rt: &impl Abort, text: &mut String, slaves: &str) {
     }
 }
 
-/// A link.
-fn push_link(rt: &impl Abort, text: &mut String, link: &str) {
-    let (variable, rest) = parts(rt, link, " ");
-    let (slave, rest) = parts(rt, rest, " ");
-    let (sub, bits) = parts(rt, rest, " ");
-    write!(
-        text,
-        "[[link]]
-var = \"{variable}\"
-slave = \"s{slave}\"
-index = 0x7000
-sub = {sub}
-bits = {bits}
-"
-    )
-    .expect(rt, "memory");
-}
-
-/// The variables and all links, if there are any.
-fn push_links(rt: &impl Abort, text: &mut String, links: &str) {
-    if !links.is_empty() {
-        push(rt, text, VARIABLES);
-    }
-    for link in links.lines() {
-        push_link(rt, text, link);
-    }
-}
-
-/// The text of a machine with links.
+/// The text of a machine with links, if there are any.
 pub fn machine_of(rt: &(impl AllocGlobal + Abort), slaves: &str, links: &str) -> String {
     let mut text = String::from_str(rt.alloc(), "version = 2\n").expect(rt, "memory");
     push_slaves(rt, &mut text, slaves);
-    push_links(rt, &mut text, links);
+    push(rt, &mut text, with_ends(rt, links).as_str());
     text
 }
