@@ -5,81 +5,8 @@ use ec_link::{LinkError, LinkFault};
 /// The table of `examples/three_slaves.toml`, without its comments.
 pub const THREE_SLAVES: &str = ec_examples::BARE_THREE_SLAVES;
 
-/// The same with the second slave in a sync unit of its own.
-const TWO_UNITS: &str = r#"version = 2
-[[type]]
-name = "do4"
-vendor = 0xABCD
-product = 1
-revision = 1
-out_start = 0x1100
-in_start = 0
-rxpdo = [ { index = 0x1600, entries = [[0x7000, 1, 4]] } ]
-[[type]]
-name = "di4"
-vendor = 0xABCD
-product = 2
-revision = 1
-out_start = 0
-in_start = 0x1100
-txpdo = [ { index = 0x1A00, entries = [[0x6000, 1, 4]] } ]
-[[type]]
-name = "mix"
-vendor = 0xABCD
-product = 3
-revision = 1
-mailbox = [0x1000, 128, 0x1080, 128]
-out_start = 0x1100
-in_start = 0x1400
-rxpdo = [ { index = 0x1600, entries = [[0x7010, 1, 12]] } ]
-txpdo = [ { index = 0x1A00, entries = [[0x6010, 1, 16]] } ]
-[[slave]]
-name = "s0"
-type = "do4"
-[[slave]]
-name = "s1"
-type = "di4"
-unit = 1
-[[slave]]
-name = "s2"
-type = "mix"
-[[variable]]
-name = "a"
-dir = "out"
-bits = 4
-[[variable]]
-name = "b"
-dir = "out"
-bits = 12
-[[variable]]
-name = "c"
-dir = "in"
-bits = 4
-[[variable]]
-name = "d"
-dir = "in"
-bits = 16
-[[link]]
-var = "a"
-slave = "s0"
-index = 0x7000
-sub = 1
-[[link]]
-var = "b"
-slave = "s2"
-index = 0x7010
-sub = 1
-[[link]]
-var = "c"
-slave = "s1"
-index = 0x6000
-sub = 1
-[[link]]
-var = "d"
-slave = "s2"
-index = 0x6010
-sub = 1
-"#;
+/// The same, a line for each list, with the second slave in a sync unit of its own.
+const TWO_UNITS: &str = ec_examples::SHORT_TWO_UNITS;
 
 /// The plan of the table of three slaves: a line for each slave, its managers and FMMUs that are set, as bytes in hex, the
 /// parts, the variables and the links.
@@ -152,7 +79,7 @@ pub const PLANS: [(&str, &str, &str); 4] = [
     (TWO_UNITS, " => ", TWO_UNITS_PLAN),
     (
         TWO_UNITS,
-        r#"index = 0x6010|sub = 1| => index = 0x6010|sub = 1|[[variable]]|name = "e"|dir = "in"|bits = 8|[[link]]|var = "e"|slave = "s1"|index = 0x6000|sub = 1|bits = [0, 0, 4]|[[link]]|var = "e"|slave = "s2"|index = 0x6010|sub = 1|bits = [4, 0, 4]|"#,
+        r#"bits = 16 } ]|link = [  => bits = 16 }, { name = "e", dir = "in", bits = 8 } ]|link = [ { var = "e", slave = "s1", index = 0x6000, sub = 1, bits = [0, 0, 4] }, { var = "e", slave = "s2", index = 0x6010, sub = 1, bits = [4, 0, 4] }, "#,
         "44 SplitVariable 4",
     ),
 ];
@@ -160,7 +87,7 @@ pub const PLANS: [(&str, &str, &str); 4] = [
 /// The first of two units has a slave that takes no part in LRW, and so its part goes by LWR and LRD.
 pub const SPLIT_PART: (&str, &str, &str) = (
     TWO_UNITS,
-    "in_start = 0| => in_start = 0|lrw = false|",
+    "[[0x7000, 1, 4]] } ] } => [[0x7000, 1, 4]] } ], lrw = false }",
     "65536 3 2/1 0, 65539 1 1 1",
 );
 
