@@ -1,136 +1,228 @@
-//! What a plan holds, but for the types, a line for each thing.
+//! What is told of a plan: of the whole but for the types a line for each thing, or of some of it.
 ghost use Rattle.std.specs.Prelude.{◌<◌, length};
 
-use ec_link::{ExpectedCounters, Link, LinkError, Plan};
+use super::machines::{push, push_numbers};
+use ec_device::Face;
+use ec_link::{ExpectedCounters, Link, LinkError, PartPlan, Plan};
 use ec_regs::{encode_fmmu, encode_manager};
-use std::alloc::AllocError;
+use std::process::Abort;
 
-fn push_hex(text: &mut String, bytes: &[u8]) -> Result<(), AllocError> {
+/// A name, a place and bytes, as a line.
+fn push_bytes(rt: &impl Abort, text: &mut String, name: &str, place: usize, bytes: &[u8]) {
+    push_numbers(rt, text, &[(name, place)], " ");
     for byte in bytes {
-        write!(text, "{byte:02x}")?;
+        write!(text, "{byte:02x}").expect(rt, "memory");
     }
-    text.push('\n')
+    push(rt, text, "\n");
 }
 
 /// The managers of a slave that are set.
-fn push_managers(text: &mut String, plan: &Plan, slave: usize) -> Result<(), AllocError>
+fn push_managers(rt: &impl Abort, text: &mut String, plan: &Plan, slave: usize)
     requires { slave < length plan.now.slaves }
 {
     for (place, manager) in plan.settings(slave).managers.iter().enumerate() {
         if manager.activate == 1 {
-            write!(text, "sm {place} ")?;
-            push_hex(text, &encode_manager(manager))?;
+            push_bytes(rt, text, "sm ", place, &encode_manager(manager));
         }
     }
-    Ok(())
 }
 
 /// The FMMUs of a slave that are set.
-fn push_fmmus(text: &mut String, plan: &Plan, slave: usize) -> Result<(), AllocError>
+fn push_fmmus(rt: &impl Abort, text: &mut String, plan: &Plan, slave: usize)
     requires { slave < length plan.now.slaves }
 {
     for (place, fmmu) in plan.settings(slave).fmmus.iter().enumerate() {
         if fmmu.active {
-            write!(text, "fmmu {place} ")?;
-            push_hex(text, &encode_fmmu(fmmu))?;
+            push_bytes(rt, text, "fmmu ", place, &encode_fmmu(fmmu));
         }
     }
-    Ok(())
 }
 
-fn push_slaves(text: &mut String, plan: &Plan) -> Result<(), AllocError> {
+/// The part, the sync unit and the bits of a slave.
+fn push_slave(rt: &impl Abort, text: &mut String, plan: &Plan, slave: usize)
+    requires { slave < length plan.now.slaves }
+{
+    let share = plan.settings(slave).share;
+    push_numbers(
+        rt,
+        text,
+        &[
+            ("slave ", slave),
+            (" part ", plan.part_of(slave)),
+            (" unit ", usize::from(plan.unit_of(slave))),
+            (" out ", share.outs),
+            (" in ", share.ins),
+        ],
+        "\n",
+    );
+}
+
+fn push_slaves(rt: &impl Abort, text: &mut String, plan: &Plan) {
     for slave in 0..plan.slaves().len() {
-        let (part, unit) = (plan.part_of(slave), plan.unit_of(slave));
-        let share = plan.settings(slave).share;
-        let (outs, ins) = (share.outs, share.ins);
-        writeln!(
-            text,
-            "slave {slave} part {part} unit {unit} out {outs} in {ins}"
-        )?;
-        push_managers(text, plan, slave)?;
-        push_fmmus(text, plan, slave)?;
+        push_slave(rt, text, plan, slave);
+        push_managers(rt, text, plan, slave);
+        push_fmmus(rt, text, plan, slave);
     }
-    Ok(())
 }
 
-fn push_counter(text: &mut String, predicted: ExpectedCounters) -> Result<(), AllocError> {
+fn push_counter(rt: &impl Abort, text: &mut String, predicted: ExpectedCounters) {
     match predicted {
         ExpectedCounters::Lrw(count) => write!(text, "{count}"),
         ExpectedCounters::Split { write, read } => write!(text, "{write}/{read}"),
     }
+    .expect(rt, "memory");
 }
 
 /// Parts by the accessors that ask for each.
-fn push_part_lines(text: &mut String, plan: &Plan) -> Result<(), AllocError> {
+fn push_part_lines(rt: &impl Abort, text: &mut String, plan: &Plan) {
     for (place, part) in plan.parts().iter().enumerate() {
-        let (address, bytes) = (part.address, part.bytes);
-        write!(
+        let address = part.address as usize;
+        push_numbers(
+            rt,
             text,
-            "part {place} address {address} bytes {bytes} counter "
-        )?;
-        push_counter(text, plan.predicted(place))?;
-        writeln!(text, " unit {}", plan.unit_of_part(place))?;
+            &[
+                ("part ", place),
+                (" address ", address),
+                (" bytes ", part.bytes),
+            ],
+            " counter ",
+        );
+        push_counter(rt, text, plan.predicted(place));
+        let unit = usize::from(plan.unit_of_part(place));
+        push_numbers(rt, text, &[(" unit ", unit)], "\n");
     }
-    Ok(())
 }
 
-fn push_units(text: &mut String, plan: &Plan) -> Result<(), AllocError> {
+fn push_units(rt: &impl Abort, text: &mut String, plan: &Plan) {
     for unit in plan.units() {
-        writeln!(text, "unit {unit}")?;
+        push_numbers(rt, text, &[("unit ", usize::from(*unit))], "\n");
     }
-    Ok(())
 }
 
-fn push_image(text: &mut String, plan: &Plan) -> Result<(), AllocError> {
+fn push_image(rt: &impl Abort, text: &mut String, plan: &Plan) {
     let (outs, ins) = (plan.out_bits(), plan.in_bits());
-    writeln!(text, "image out {outs} in {ins}")?;
+    push_numbers(rt, text, &[("image out ", outs), (" in ", ins)], "\n");
     for (place, row) in plan.variables().iter().enumerate() {
         writeln!(
             text,
             "variable {place} {:?} from {} bits {}",
             row.direction, row.from, row.bits
-        )?;
+        )
+        .expect(rt, "memory");
     }
-    Ok(())
 }
 
-fn push_links(text: &mut String, way: &str, links: &[Link]) -> Result<(), AllocError> {
+/// Links, each a line behind the word of their direction.
+fn push_links(rt: &impl Abort, text: &mut String, image: &str, links: &[Link]) {
     for link in links {
-        writeln!(
+        push_numbers(
+            rt,
             text,
-            "{way} image {} slave {} object {} count {}",
-            link.image, link.slave, link.object_bit, link.count
-        )?;
+            &[
+                (image, link.image),
+                (" slave ", link.slave),
+                (" object ", link.object_bit),
+                (" count ", link.count),
+            ],
+            "\n",
+        );
     }
-    Ok(())
 }
 
 /// All that a plan holds, but for the types.
-pub fn push_plan(text: &mut String, plan: &Plan) -> Result<(), AllocError> {
-    push_slaves(text, plan)?;
-    push_part_lines(text, plan)?;
-    push_units(text, plan)?;
-    push_image(text, plan)?;
-    push_links(text, "out", plan.out_links())?;
-    push_links(text, "in", plan.in_links())
+fn push_plan(rt: &impl Abort, text: &mut String, plan: &Plan) {
+    push_slaves(rt, text, plan);
+    push_part_lines(rt, text, plan);
+    push_units(rt, text, plan);
+    push_image(rt, text, plan);
+    push_links(rt, text, "out image ", plan.out_links());
+    push_links(rt, text, "in image ", plan.in_links());
 }
 
-/// Address, bytes, counter and unit of each part, with commas between them.
-pub fn push_parts(text: &mut String, plan: &Plan) -> Result<(), AllocError> {
+/// Address, bytes, counter and unit of a part.
+fn push_part(rt: &impl Abort, text: &mut String, part: &PartPlan, predicted: ExpectedCounters) {
+    let address = part.address as usize;
+    push_numbers(rt, text, &[("", address), (" ", part.bytes)], " ");
+    push_counter(rt, text, predicted);
+    push_numbers(rt, text, &[(" ", usize::from(part.unit))], "");
+}
+
+/// All parts, with commas between them.
+fn push_parts(rt: &impl Abort, text: &mut String, plan: &Plan) {
     for (place, part) in plan.parts().iter().enumerate() {
-        let gap = if place == 0 { "" } else { ", " };
-        write!(text, "{gap}{} {} ", part.address, part.bytes)?;
-        push_counter(text, plan.predicted(place))?;
-        write!(text, " {}", part.unit)?;
+        if place > 0 {
+            push(rt, text, ", ");
+        }
+        push_part(rt, text, part, plan.predicted(place));
     }
-    Ok(())
 }
 
 /// A refusal in its machine form.
-pub fn push_refusal(text: &mut String, error: LinkError) -> Result<(), AllocError> {
-    let (number, name) = (error.number(), error.name());
-    match error.value() {
-        None => write!(text, "{number} {name}"),
-        Some(value) => write!(text, "{number} {name} {value}"),
+fn push_refusal(rt: &impl Abort, text: &mut String, error: LinkError) {
+    push_numbers(rt, text, &[("", usize::from(error.number()))], " ");
+    push(rt, text, error.name());
+    if let Some(value) = error.value() {
+        push_numbers(rt, text, &[(" ", value)], "");
+    }
+}
+
+/// Of each link of the outputs: its slave, and its first bit in the slave's object.
+fn push_outputs(rt: &impl Abort, text: &mut String, plan: &Plan) {
+    for link in plan.out_links() {
+        push_numbers(rt, text, &[("", link.slave), (" ", link.object_bit)], ", ");
+    }
+}
+
+/// The name of a face, and whether its slave is the last of the ring; `-` where there is no face.
+fn push_face(rt: &impl Abort, text: &mut String, face: Option<&Face>) {
+    match face {
+        None => push(rt, text, "-, "),
+        Some(face) => {
+            push(
+                rt,
+                text,
+                str::from_utf8(face.name.as_slice()).unwrap_or("?"),
+            );
+            push(rt, text, if face.is_last { " is the last, " } else { ", " });
+        }
+    }
+}
+
+/// The faces that a plan gives its slaves.
+fn push_faces(rt: &impl Abort, text: &mut String, plan: &Plan) {
+    for settings in plan.slaves() {
+        push_face(rt, text, settings.kind.face());
+    }
+}
+
+/// What is told of a plan.
+#[derive(Clone, Copy)]
+pub enum Told {
+    /// All that it holds, but for the types.
+    Whole,
+    /// Address, bytes, counter and unit of each part.
+    Parts,
+    /// Where the links of the outputs go.
+    Outputs,
+    /// The faces of its slaves.
+    Faces,
+}
+
+/// What is told of a plan that was made.
+fn push_made(rt: &impl Abort, text: &mut String, told: Told, plan: &Plan) {
+    match told {
+        Told::Whole => push_plan(rt, text, plan),
+        Told::Parts => push_parts(rt, text, plan),
+        Told::Outputs => push_outputs(rt, text, plan),
+        Told::Faces => push_faces(rt, text, plan),
+    }
+}
+
+/// What is told of a plan, or why there is none. All plans of these tests are handed to this function, so here alone the proof
+/// has to follow how one goes away.
+pub fn push_told(rt: &impl Abort, text: &mut String, told: Told, plan: Result<Plan, LinkError>) {
+    match plan {
+        Ok(plan) => push_made(rt, text, told, &plan),
+        Err(error) => push_refusal(rt, text, error),
     }
 }

@@ -1,12 +1,16 @@
-// Link tables, changes to them, and what is told of each. A line `ANSWER: OLD => NEW` says what is told of the text with NEW in
-// the place of its first OLD; with no OLD, NEW is appended. `|` is the end of a line.
+//! Link tables, changes to them, and what is told of each. A change `OLD => NEW` puts NEW in the place of a text's first OLD, and
+//! ` => ` changes nothing. `|` is the end of a line.
+use ec_link::{LinkError, LinkFault};
 
 /// The table of `examples/three_slaves.toml`, without its comments.
 pub const THREE_SLAVES: &str = ec_examples::BARE_THREE_SLAVES;
 
+/// The same, a line for each list, with the second slave in a sync unit of its own.
+const TWO_UNITS: &str = ec_examples::SHORT_TWO_UNITS;
+
 /// The plan of the table of three slaves: a line for each slave, its managers and FMMUs that are set, as bytes in hex, the
 /// parts, the variables and the links.
-pub const THREE_SLAVES_PLAN: &str = "slave 0 part 0 unit 0 out 4 in 0
+const THREE_SLAVES_PLAN: &str = "slave 0 part 0 unit 0 out 4 in 0
 sm 2 0011010024000100
 fmmu 0 00000100010000030011000201000000
 slave 1 part 0 unit 0 out 0 in 4
@@ -33,7 +37,7 @@ in image 4 slave 2 object 0 count 16
 ";
 
 /// The same with the second slave in a sync unit of its own.
-pub const TWO_UNITS_PLAN: &str = "slave 0 part 0 unit 0 out 4 in 0
+const TWO_UNITS_PLAN: &str = "slave 0 part 0 unit 0 out 4 in 0
 sm 2 0011010024000100
 fmmu 0 00000100010000030011000201000000
 slave 1 part 1 unit 1 out 0 in 4
@@ -62,12 +66,32 @@ in image 4 slave 2 object 0 count 16
 ";
 
 /// The plan of a table without slaves.
-pub const EMPTY_PLAN: &str = "part 0 address 65536 bytes 0 counter 0 unit 0
+const EMPTY_PLAN: &str = "part 0 address 65536 bytes 0 counter 0 unit 0
 unit 0
 image out 0 in 0
 ";
 
-/// Changes to the table of three slaves. Of the parts, a plan tells address, bytes, counter and unit.
+/// Texts, a change to each, and what is told of its whole plan, or why it has none. In the last one a variable of 8 bits has a
+/// half from each of two units.
+pub const PLANS: [(&str, &str, &str); 4] = [
+    ("", " => ", EMPTY_PLAN),
+    (THREE_SLAVES, " => ", THREE_SLAVES_PLAN),
+    (TWO_UNITS, " => ", TWO_UNITS_PLAN),
+    (
+        TWO_UNITS,
+        r#"bits = 16 } ]|link = [  => bits = 16 }, { name = "e", dir = "in", bits = 8 } ]|link = [ { var = "e", slave = "s1", index = 0x6000, sub = 1, bits = [0, 0, 4] }, { var = "e", slave = "s2", index = 0x6010, sub = 1, bits = [4, 0, 4] }, "#,
+        "44 SplitVariable 4",
+    ),
+];
+
+/// The first of two units has a slave that takes no part in LRW, and so its part goes by LWR and LRD.
+pub const SPLIT_PART: (&str, &str, &str) = (
+    TWO_UNITS,
+    "[[0x7000, 1, 4]] } ] } => [[0x7000, 1, 4]] } ], lrw = false }",
+    "65536 3 2/1 0, 65539 1 1 1",
+);
+
+/// Lines `ANSWER: CHANGE` about the table of three slaves. Of the parts, a plan tells address, bytes, counter and unit.
 pub const CHANGES: &str = r#"65536 3 2/2 0: in_start = 0| => in_start = 0|lrw = false|
 16 WrongDirection 0: slave = "s0"|index = 0x7000 => slave = "s1"|index = 0x6000
 16 WrongDirection 3: slave = "s2"|index = 0x6010 => slave = "s2"|index = 0x7010
@@ -82,8 +106,8 @@ pub const CHANGES: &str = r#"65536 3 2/2 0: in_start = 0| => in_start = 0|lrw = 
 19 LinkedTwice 2: index = 0x7010|sub = 1 => index = 0x7010|sub = 1|bits = [0, 0, 8]|[[link]]|var = "b"|slave = "s2"|index = 0x7010|sub = 1|bits = [0, 4, 8]
 65536 3 6 0: index = 0x7010|sub = 1 => index = 0x7010|sub = 1|bits = [0, 0, 6]|[[link]]|var = "b"|slave = "s2"|index = 0x7010|sub = 1|bits = [0, 6, 6]
 18 OutsideEntry 1: index = 0x7010|sub = 1 => index = 0x7010|sub = 1|bits = [0, 10, 4]|[[link]]|var = "b"|slave = "s2"|index = 0x7010|sub = 1|bits = [0, 0, 8]|[[link]]|var = "b"|slave = "s2"|index = 0x7010|sub = 1|bits = [0, 4, 8]
-19 LinkedTwice 4:  => [[link]]|var = "d"|slave = "s1"|index = 0x6000|sub = 1|bits = [15, 3, 1]|
-65536 3 6 0:  => [[variable]]|name = "e"|dir = "in"|bits = 4|[[link]]|var = "e"|slave = "s1"|index = 0x6000|sub = 1|
+19 LinkedTwice 4: index = 0x6010|sub = 1| => index = 0x6010|sub = 1|[[link]]|var = "d"|slave = "s1"|index = 0x6000|sub = 1|bits = [15, 3, 1]|
+65536 3 6 0: index = 0x6010|sub = 1| => index = 0x6010|sub = 1|[[variable]]|name = "e"|dir = "in"|bits = 4|[[link]]|var = "e"|slave = "s1"|index = 0x6000|sub = 1|
 20 EntryTwice 2: [0x7010, 1, 12] => [0x7010, 1, 12], [0x7010, 1, 4]
 65536 4 6 0: [0x7010, 1, 12] => [0, 0, 4], [0x7010, 1, 12], [0, 0, 4]
 24 AreasOverlap 2: in_start = 0x1400 => in_start = 0x1105
@@ -95,28 +119,8 @@ pub const CHANGES: &str = r#"65536 3 2/2 0: in_start = 0| => in_start = 0|lrw = 
 24 AreasOverlap 2: 0x1100|in_start = 0|rxpdo = [ { index = 0x1600, entries = [[0x7000, 1, 4]] } ]|[[type]]|name = "di4"|vendor = 0xABCD|product = 2|revision = 1|out_start = 0|in_start = 0x1100|txpdo = [ { index = 0x1A00, entries = [[0x6000, 1, 4]] } ]|[[type]]|name = "mix"|vendor = 0xABCD|product = 3|revision = 1|mailbox = [0x1000, 128, 0x1080, 128]|out_start = 0x1100 => 0x2FFE|in_start = 0|rxpdo = [ { index = 0x1600, entries = [[0x7000, 1, 4]] } ]|[[type]]|name = "di4"|vendor = 0xABCD|product = 2|revision = 1|out_start = 0|in_start = 0x1100|txpdo = [ { index = 0x1A00, entries = [[0x6000, 1, 4]] } ]|[[type]]|name = "mix"|vendor = 0xABCD|product = 3|revision = 1|mailbox = [0x1000, 128, 0x1080, 128]|out_start = 0x1400
 "#;
 
-/// A variable of 8 bits with a half from each of two sync units, behind the table of three slaves with its second slave in
-/// a unit of its own.
-pub const SPLIT_VARIABLE: &str = r#"[[variable]]
-name = "e"
-dir = "in"
-bits = 8
-[[link]]
-var = "e"
-slave = "s1"
-index = 0x6000
-sub = 1
-bits = [0, 0, 4]
-[[link]]
-var = "e"
-slave = "s2"
-index = 0x6010
-sub = 1
-bits = [4, 0, 4]
-"#;
-
 /// Slaves of one type, which assign both of its objects, one of them, or both turned round.
-pub const ASSIGNMENTS: &str = r#"[[type]]
+const ASSIGNMENTS: &str = r#"[[type]]
 name = "t"
 vendor = 1
 product = 1
@@ -178,3 +182,69 @@ slave = "s2"
 index = 0x7001
 sub = 1
 "#;
+
+/// What is told of these assignments: of each link its slave and its first bit in the slave's object; and of an entry that another
+/// slave of the type assigns.
+pub const ASSIGNED: [(&str, &str, &str); 2] = [
+    (ASSIGNMENTS, " => ", "0 8, 1 0, 2 0, 3 8, 4 0, 2 16, "),
+    (
+        ASSIGNMENTS,
+        r#"slave = "s2"|index = 0x7001 => slave = "s1"|index = 0x7001"#,
+        "17 NoEntry 5",
+    ),
+];
+
+/// The faces of the table of three slaves.
+pub const FACES: &str = "-, -, -, ";
+
+/// Its faces once it is shown in full.
+pub const FACES_IN_FULL: &str = "do4, di4, mix is the last, ";
+
+/// What is said of an error, of each kind.
+pub const SAID: [(LinkError, &str); 12] = [
+    (LinkError::Memory, "out of memory"),
+    (
+        LinkError::Refused(LinkFault::WrongDirection(7)),
+        "link 7: the slave assigns the entry in the other direction",
+    ),
+    (
+        LinkError::Refused(LinkFault::NoEntry(7)),
+        "link 7: the slave assigns no such entry",
+    ),
+    (
+        LinkError::Refused(LinkFault::OutsideEntry(7)),
+        "link 7: bits past the entry or the variable",
+    ),
+    (
+        LinkError::Refused(LinkFault::LinkedTwice(7)),
+        "link 7: a bit is linked twice",
+    ),
+    (
+        LinkError::Refused(LinkFault::EntryTwice(7)),
+        "slave 7: an entry is assigned twice",
+    ),
+    (
+        LinkError::Refused(LinkFault::TooManyBits(7)),
+        "slave 7: over 2048 bits in a direction",
+    ),
+    (
+        LinkError::Refused(LinkFault::TooManySlaves(65)),
+        "65 slaves, and 64 are the most",
+    ),
+    (
+        LinkError::Refused(LinkFault::TooManyParts(33)),
+        "33 parts, and 32 are the most",
+    ),
+    (
+        LinkError::Refused(LinkFault::AreasOverlap(7)),
+        "slave 7: two areas overlap",
+    ),
+    (
+        LinkError::Refused(LinkFault::OutsideRam(7)),
+        "slave 7: an area leaves the RAM",
+    ),
+    (
+        LinkError::Refused(LinkFault::SplitVariable(7)),
+        "variable 7: links from two sync units",
+    ),
+];
