@@ -10,78 +10,7 @@ use std::alloc::Global;
 use std::process::Abort;
 use std::test::Fail;
 
-const THREE_SLAVES: &str = "\
-[[type]]
-name = \"do4\"
-vendor = 0xABCD
-product = 1
-revision = 1
-out_start = 0x1100
-in_start = 0
-rxpdo = [ { index = 0x1600, entries = [[0x7000, 1, 4]] } ]
-[[type]]
-name = \"di4\"
-vendor = 0xABCD
-product = 2
-revision = 1
-out_start = 0
-in_start = 0x1100
-txpdo = [ { index = 0x1A00, entries = [[0x6000, 1, 4]] } ]
-[[type]]
-name = \"mix\"
-vendor = 0xABCD
-product = 3
-revision = 1
-mailbox = [0x1000, 128, 0x1080, 128]
-out_start = 0x1100
-in_start = 0x1400
-rxpdo = [ { index = 0x1600, entries = [[0x7010, 1, 12]] } ]
-txpdo = [ { index = 0x1A00, entries = [[0x6010, 1, 16]] } ]
-[[slave]]
-name = \"s0\"
-type = \"do4\"
-[[slave]]
-name = \"s1\"
-type = \"di4\"
-[[slave]]
-name = \"s2\"
-type = \"mix\"
-[[variable]]
-name = \"a\"
-dir = \"out\"
-bits = 4
-[[variable]]
-name = \"b\"
-dir = \"out\"
-bits = 12
-[[variable]]
-name = \"c\"
-dir = \"in\"
-bits = 4
-[[variable]]
-name = \"d\"
-dir = \"in\"
-bits = 16
-[[link]]
-var = \"a\"
-slave = \"s0\"
-index = 0x7000
-sub = 1
-[[link]]
-var = \"b\"
-slave = \"s2\"
-index = 0x7010
-sub = 1
-[[link]]
-var = \"c\"
-slave = \"s1\"
-index = 0x6000
-sub = 1
-[[link]]
-var = \"d\"
-slave = \"s2\"
-index = 0x6010
-sub = 1";
+const THREE_SLAVES: &str = ec_examples::BARE_THREE_SLAVES;
 
 /// So many calls of a wire never fail.
 const NEVER: u64 = u64::MAX;
