@@ -1,13 +1,12 @@
 //! The frame of a cycle past three slaves in OP, byte for byte.
+ghost use Rattle.std.specs.Prelude.{◌≡◌};
 ghost use Rattle.ec_link.specs.Usable.{IsUsable};
 
-use crate::tests::machines::{THREE_SLAVES, brought_up_from, plan_of, set, there, value_of};
+use crate::tests::machines::{THREE_SLAVES, brought_up, master_of, plan_of, set, value_of};
 use ec_cycle::{Master, Taken};
 use ec_link::Plan;
 use ec_ring::Ring;
-use std::alloc::Global;
 use std::process::Abort;
-use std::test::Fail;
 
 /// The frame of cycle 100 as it is sent, where the outputs are 10 and 291.
 const SENT: &str = "3310 \
@@ -21,98 +20,102 @@ const BACK: &str = "3310 \
     0764 0300 3001 0280 0000 0800 0300 \
     0c64 00000100 0300 0000 5aefbe 0600";
 
-/// The bytes of a row of hexadecimal digits with blanks between fields.
-fn bytes_of(alloc: Global, row: &str) -> Result<Vec<u8>, Fail> {
-    let mut bytes = Vec::new(alloc);
-    for field in row.split_whitespace() {
-        bytes.extend_from_slice(&hex::decode(alloc, field)?)?;
-    }
-    Ok(bytes)
+/// The digits of a row of hexadecimal digits with blanks between fields.
+fn digits_of(rt: &(impl AllocGlobal + Abort), row: &str) -> String {
+    row.replace(rt.alloc(), " ", "").expect(rt, "memory")
 }
 
-/// The application of a slave writes a byte of its inputs, if it may. What it does is told by no clause here, nor in the
-/// functions below, so they carry nothing of it.
-fn put(ring: &mut Ring, slave: usize, place: usize, byte: u8) -> bool {
-    slave < ring.len() && ring.slave_mut(slave).app_put(place, byte)
+fn bytes_of_digits(rt: &(impl AllocGlobal + Abort), digits: &str) -> Vec<u8> {
+    hex::decode(rt.alloc(), digits).expect(rt, digits)
 }
 
-/// A frame passes all slaves. Whether it is one.
-fn pass(ring: &mut Ring, frame: &mut [u8]) -> bool {
-    ring.pass_all(frame).is_ok()
+/// The bytes of a row.
+fn bytes_of(rt: &(impl AllocGlobal + Abort), row: &str) -> Vec<u8> {
+    bytes_of_digits(rt, digits_of(rt, row).as_str())
+}
+
+fn assert_bytes(rt: &impl Abort, met: &[u8], wanted: &[u8]) {
+    assert_eq!(rt; met, wanted);
+}
+
+/// Compares bytes with a row.
+fn assert_row(rt: &(impl AllocGlobal + Abort), met: &[u8], row: &str) {
+    assert_bytes(rt, met, &bytes_of(rt, row));
+}
+
+/// The application of a slave writes a byte of its inputs.
+fn put(rt: &impl Abort, ring: &mut Ring, slave: usize, place: usize, byte: u8) {
+    assert!(rt; slave < ring.len() && ring.slave_mut(slave).app_put(place, byte));
 }
 
 /// The applications write inputs, and the frame as it is sent passes all slaves. What comes back of it.
-fn passed(rt: &(impl AllocGlobal + Abort), ring: &mut Ring) -> Result<Vec<u8>, Fail> {
-    for (slave, place, byte) in [(1, 0, 5), (2, 0, 0xEF), (2, 1, 0xBE)] {
-        let is_put = put(ring, slave, place, byte);
-        assert!(rt; is_put);
-    }
-    let mut frame = bytes_of(rt.alloc(), SENT)?;
-    let is_frame = pass(ring, &mut frame);
-    assert!(rt; is_frame);
-    Ok(frame)
+fn passed(rt: &(impl AllocGlobal + Abort), ring: &mut Ring) -> Vec<u8> {
+    put(rt, ring, 1, 0, 5);
+    put(rt, ring, 2, 0, 0xEF);
+    put(rt, ring, 2, 1, 0xBE);
+    let mut frame = bytes_of(rt, SENT);
+    ring.pass_all(&mut frame).expect(rt, "a frame");
+    frame
 }
 
-/// Whether a cycle that sends 10 and 291 sends this frame.
-fn sends(master: &mut Master<'_>, frame: &[u8]) -> bool {
+/// A cycle that sends 10 and 291 is begun.
+fn begin(rt: &impl Abort, master: &mut Master<'_>) {
     set(master, 0, 10);
     set(master, 1, 291);
-    let begun = master.begin().is_ok();
-    begun && master.is_open() && 0 < master.parts() && master.frame(0) == frame
+    master.begin().expect(rt, "a cycle");
 }
 
-/// Whether a cycle is taken of which this came back.
-fn is_taken(master: &mut Master<'_>, payload: &[u8]) -> bool {
-    let kept = master.take(payload);
-    match master.close() {
-        Ok(report) => kept == Taken::Kept && report.is_taken(),
-        Err(_) => false,
+/// The frame of the open cycle is this.
+fn expect_frame(rt: &(impl AllocGlobal + Abort), master: &Master<'_>, row: &str) {
+    if !master.is_open() || master.parts() == 0 {
+        panic!(rt; "a cycle without a frame");
     }
+    assert_row(rt, master.frame(0), row);
 }
 
 /// A cycle of a ready master sends the frame.
-fn expect_sent(rt: &(impl AllocGlobal + Abort), master: &mut Master<'_>) -> Result<(), Fail> {
+fn expect_sent(rt: &(impl AllocGlobal + Abort), master: &mut Master<'_>) {
     assert_eq!(rt; master.next_number(), 100);
-    let frame = bytes_of(rt.alloc(), SENT)?;
-    let sends = sends(master, &frame);
-    assert!(rt; sends);
-    Ok(())
+    begin(rt, master);
+    expect_frame(rt, master, SENT);
 }
 
-/// The frame comes back from the slaves as it must.
-fn expect_back(rt: &(impl AllocGlobal + Abort), ring: &mut Ring) -> Result<Vec<u8>, Fail> {
-    let back = passed(rt, ring)?;
-    let wanted = bytes_of(rt.alloc(), BACK)?;
-    assert!(rt; back.as_slice() == wanted.as_slice());
-    Ok(back)
+/// A cycle is taken of which this came back.
+fn expect_taken(rt: &impl Abort, master: &mut Master<'_>, payload: &[u8]) {
+    let kept = master.take(payload);
+    let report = master.close().expect(rt, "an open cycle");
+    assert!(rt; kept == Taken::Kept && report.is_taken());
+}
+
+/// This comes back of the frame, as it must, and the cycle is taken.
+fn expect_back(rt: &(impl AllocGlobal + Abort), master: &mut Master<'_>, back: &[u8]) {
+    assert_row(rt, back, BACK);
+    expect_taken(rt, master, back);
+    assert_eq!(rt; (value_of(master, 2), value_of(master, 3)), (5, 48879));
 }
 
 /// A cycle of a ready master past its slaves.
-fn expect_cycle(
-    rt: &(impl AllocGlobal + Abort),
-    master: &mut Master<'_>,
-    mut ring: Ring,
-) -> Result<(), Fail> {
-    expect_sent(rt, master)?;
-    let back = expect_back(rt, &mut ring)?;
-    let is_taken = is_taken(master, &back);
-    assert!(rt; is_taken);
-    assert_eq!(rt; (value_of(master, 2), value_of(master, 3)), (5, 48879));
-    Ok(())
+fn expect_cycle(rt: &(impl AllocGlobal + Abort), master: &mut Master<'_>, mut ring: Ring) {
+    expect_sent(rt, master);
+    expect_back(rt, master, &passed(rt, &mut ring));
 }
 
 /// Brings the slaves of a plan up by frames from number 25 on, and runs a cycle.
-fn expect_frames(rt: &(impl AllocGlobal + Abort), plan: &Plan) -> Result<(), Fail>
+fn expect_frames(rt: &(impl AllocGlobal + Abort), plan: &Plan, mut master: Master<'_>)
+    requires { master.plan ≡ plan.now }
+{
+    let ring = brought_up(rt, plan, &mut master, 25);
+    expect_cycle(rt, &mut master, ring);
+}
+
+fn expect_frames_of(rt: &(impl AllocGlobal + Abort), plan: &Plan)
     requires { IsUsable plan.now }
 {
-    let mut master = Master::new(rt.alloc(), plan)?;
-    let ring = there(brought_up_from(rt.alloc(), plan, &mut master, 25))?;
-    expect_cycle(rt, &mut master, ring)
+    expect_frames(rt, plan, master_of(rt, plan));
 }
 
 // The master takes from the frame what the slaves' applications wrote.
 #[test]
-fn frame_of_a_cycle(rt: HostRuntime) -> Result<(), Fail> {
-    let plan = plan_of(rt.alloc(), THREE_SLAVES)?;
-    expect_frames(&rt, &plan)
+fn frame_of_a_cycle(rt: HostRuntime) {
+    expect_frames_of(&rt, &plan_of(&rt, THREE_SLAVES));
 }
