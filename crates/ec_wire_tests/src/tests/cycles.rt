@@ -4,7 +4,7 @@ ghost use Rattle.ec_link.specs.Usable.{IsUsable};
 
 use crate::tests::fakes::Fake;
 use crate::tests::machines::{
-    THREE_SLAVES, brought_up, full_table, master_of, plan_of, set, value_of, wire_to,
+    assert_same, brought_up, full_table, master_of, plan_of, plan_of_three, set, value_of, wire_to,
 };
 use ec_cycle::{CycleError, Master};
 use ec_link::Plan;
@@ -15,8 +15,9 @@ use std::process::Abort;
 /// An output variable, and the input variable that shows what its slave got a frame before. The slave is of the last part.
 type Mirror = (usize, usize);
 
-/// What is seen of a cycle: how it ended, the faults of its wire and the payloads that were received so far, and the input.
-type Seen = (&'static str, u64, usize, u64);
+/// What is seen of a cycle: its output, how it ended, the faults of its wire and the payloads that were received so far, and
+/// the input.
+type Seen = (u64, &'static str, u64, usize, u64);
 
 /// How a cycle ends over a wire.
 fn end_of(master: &mut Master<'_>, wire: &mut MemoryWire) -> &'static str {
@@ -28,33 +29,29 @@ fn end_of(master: &mut Master<'_>, wire: &mut MemoryWire) -> &'static str {
     }
 }
 
-/// Runs a cycle that sends this output.
+/// Runs a cycle that sends an output.
+fn run(master: &mut Master<'_>, wire: &mut MemoryWire, mirror: Mirror, output: u64) -> Seen {
+    set(master, mirror.0, output);
+    let end = end_of(master, wire);
+    let input = value_of(master, mirror.1);
+    (output, end, wire.failures(), wire.received_count(), input)
+}
+
 fn expect_run(
     rt: &impl Abort,
     master: &mut Master<'_>,
     wire: &mut MemoryWire,
     mirror: Mirror,
-    output: u64,
     seen: Seen,
 ) {
-    set(master, mirror.0, output);
-    let end = end_of(master, wire);
-    assert_eq!(rt;
-        (
-            end,
-            wire.failures(),
-            wire.received_count(),
-            value_of(master, mirror.1)
-        ),
-        seen,
-        "output {output}"
-    );
+    assert_same(rt, &run(master, wire, mirror, seen.0), &seen);
 }
 
 /// What must be seen of a cycle whose call of this number is a fault. Outputs are 1, 2, 3, .., two for each call.
 fn faulty(call: u32, parts: u16, before: u64) -> Seen {
+    let output = 2 * u64::from(call) + 1;
     let received = call.saturating_sub(u32::from(parts)) as usize;
-    ("a fault", 1, received, before)
+    (output, "a fault", 1, received, before)
 }
 
 /// And of the next cycle: what was still on the wire comes first, and is foreign. The slave shows what it got last.
@@ -62,7 +59,8 @@ fn recovered(call: u32, parts: u16) -> Seen {
     let parts = u64::from(parts);
     let call = u64::from(call);
     let shown = if call < parts { call } else { call + 1 };
-    ("taken", 1, (call.min(parts) + parts) as usize, call + shown)
+    let received = (call.min(parts) + parts) as usize;
+    (2 * call + 2, "taken", 1, received, call + shown)
 }
 
 /// Runs a cycle whose call of this number is a fault, and the next one.
@@ -74,11 +72,9 @@ fn expect_fault(
     parts: u16,
     call: u32,
 ) {
-    let seen = faulty(call, parts, value_of(master, mirror.1));
-    let output = 2 * u64::from(call) + 1;
-    expect_run(rt, master, wire, mirror, output, seen);
-    let seen = recovered(call, parts);
-    expect_run(rt, master, wire, mirror, output + 1, seen);
+    let before = value_of(master, mirror.1);
+    expect_run(rt, master, wire, mirror, faulty(call, parts, before));
+    expect_run(rt, master, wire, mirror, recovered(call, parts));
 }
 
 /// The same over a wire to slaves, which come back.
@@ -103,34 +99,48 @@ fn expect_each_fault(
     mirror: Mirror,
     parts: u16,
 ) {
-    assert_eq!(rt; master.parts(), usize::from(parts));
+    assert!(rt; master.parts() == usize::from(parts));
     for call in 0..2 * u32::from(parts) {
         ring = expect_fault_of(rt, master, ring, mirror, parts, call);
     }
 }
 
-/// Runs a cycle of a plan with a fault at each of its calls in turn.
-fn expect_faults_of(rt: &(impl AllocGlobal + Abort), plan: &Plan, mirror: Mirror, parts: u16)
-    requires { IsUsable plan.now }
+/// The same with slaves that have come up, and a master that is ready.
+fn expect_faults_of(
+    rt: &(impl AllocGlobal + Abort),
+    plan: &Plan,
+    master: &mut Master<'_>,
+    mirror: Mirror,
+    parts: u16,
+)
+    requires { master.old.plan ≡ plan.now }
 {
-    let mut master = master_of(rt, plan);
-    let ring = brought_up(rt, plan, &mut master, 0);
-    expect_each_fault(rt, &mut master, ring, mirror, parts);
+    let ring = brought_up(rt, plan, master, 0);
+    expect_each_fault(rt, master, ring, mirror, parts);
 }
 
-/// The same of a table.
-fn expect_faults(rt: &(impl AllocGlobal + Abort), text: &str, mirror: Mirror, parts: u16) {
-    expect_faults_of(rt, &plan_of(rt, text), mirror, parts);
+/// Runs a cycle of a plan with a fault at each of its calls in turn.
+fn expect_faults(rt: &(impl AllocGlobal + Abort), plan: &Plan, mirror: Mirror, parts: u16)
+    requires { IsUsable plan.now }
+{
+    expect_faults_of(rt, plan, &mut master_of(rt, plan), mirror, parts);
+}
+
+/// The plan of the slaves of `full_table`.
+fn full_plan(rt: &(impl AllocGlobal + Abort)) -> Plan
+    ensures { IsUsable result }
+{
+    plan_of(rt, full_table(rt).as_str())
 }
 
 #[test]
 fn each_call_fails_on_three_slaves(rt: HostRuntime) {
-    expect_faults(&rt, THREE_SLAVES, (1, 3), 1);
+    expect_faults(&rt, &plan_of_three(&rt), (1, 3), 1);
 }
 
 #[test]
 fn each_call_fails_on_many_slaves(rt: HostRuntime) {
-    expect_faults(&rt, full_table(&rt).as_str(), (0, 1), 13);
+    expect_faults(&rt, &full_plan(&rt), (0, 1), 13);
 }
 
 /// Brings the slaves of a plan up, where that is asked for.
@@ -151,9 +161,9 @@ fn error_over_spent(rt: &impl Abort, master: &mut Master<'_>) -> RunError {
 }
 
 /// A cycle over a spent wire ends by an error with this number and name.
-fn expect_error(rt: &impl Abort, master: &mut Master<'_>, wanted: (RunError, u8, &str)) {
+fn expect_error(rt: &impl Abort, master: &mut Master<'_>, wanted: (RunError, u8, &'static str)) {
     let error = error_over_spent(rt, master);
-    assert_eq!(rt; (error, error.number(), error.name()), wanted);
+    assert_same(rt, &(error, error.number(), error.name()), &wanted);
 }
 
 /// A cycle of a plan over a spent wire does so, where its slaves have come up or not.
@@ -161,7 +171,7 @@ fn expect_error_of(
     rt: &(impl AllocGlobal + Abort),
     plan: &Plan,
     is_up: bool,
-    wanted: (RunError, u8, &str),
+    wanted: (RunError, u8, &'static str),
 )
     requires { IsUsable plan.now }
 {
@@ -181,5 +191,5 @@ fn expect_refusals(rt: &(impl AllocGlobal + Abort), plan: &Plan)
 
 #[test]
 fn refusals_come_before_the_wire(rt: HostRuntime) {
-    expect_refusals(&rt, &plan_of(&rt, THREE_SLAVES));
+    expect_refusals(&rt, &plan_of_three(&rt));
 }

@@ -1,5 +1,5 @@
 //! The calls of a wire over memory, one after another.
-use crate::tests::machines::{READ, receive, send, three_slaves, wire_to};
+use crate::tests::machines::{READ, assert_same, receive, send, three_slaves, wire_to};
 use ec_wire::{MemoryWire, Wire};
 use std::process::Abort;
 
@@ -12,15 +12,17 @@ fn make_call(wire: &mut MemoryWire, call: &str) -> usize {
     }
 }
 
-/// Makes a call of which so many bytes are received, and after which there are so many faults.
-fn expect_call(rt: &impl Abort, wire: &mut MemoryWire, call: &str, seen: (usize, u64)) {
-    let count = make_call(wire, call);
-    assert_eq!(rt; (count, wire.failures()), seen, "{call}");
+/// A call, how many bytes are received, and the faults so far.
+type Row = (&'static str, (usize, u64));
+
+fn expect_call(rt: &impl Abort, wire: &mut MemoryWire, row: &Row) {
+    let count = make_call(wire, row.0);
+    assert_same(rt, &(row.0, (count, wire.failures())), row);
 }
 
-fn expect_calls(rt: &impl Abort, wire: &mut MemoryWire, rows: &[(&str, (usize, u64))]) {
-    for (call, seen) in rows {
-        expect_call(rt, wire, call, *seen);
+fn expect_calls(rt: &impl Abort, wire: &mut MemoryWire, rows: &[Row]) {
+    for row in rows {
+        expect_call(rt, wire, row);
     }
 }
 
@@ -38,7 +40,7 @@ fn expect_room(rt: &impl Abort, wire: &mut MemoryWire) {
             ("send", (0, 4)),
         ],
     );
-    assert_eq!(rt; wire.received_count(), 1);
+    assert!(rt; wire.received_count() == 1);
 }
 
 // The wire has room for one payload, and no call is a fault by its number.

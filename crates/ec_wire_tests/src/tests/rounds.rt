@@ -2,7 +2,7 @@
 ghost use Rattle.std.specs.Prelude.{◌≡◌};
 ghost use Rattle.ec_link.specs.Usable.{IsUsable};
 
-use crate::tests::machines::{THREE_SLAVES, brought_up, master_of, plan_of, set, value_of};
+use crate::tests::machines::{assert_same, brought_up, master_of, plan_of_three, set, value_of};
 use ec_cycle::{Master, Taken};
 use ec_link::Plan;
 use ec_ring::Ring;
@@ -34,13 +34,9 @@ fn bytes_of(rt: &(impl AllocGlobal + Abort), row: &str) -> Vec<u8> {
     bytes_of_digits(rt, digits_of(rt, row).as_str())
 }
 
-fn assert_bytes(rt: &impl Abort, met: &[u8], wanted: &[u8]) {
-    assert_eq!(rt; met, wanted);
-}
-
 /// Compares bytes with a row.
 fn assert_row(rt: &(impl AllocGlobal + Abort), met: &[u8], row: &str) {
-    assert_bytes(rt, met, &bytes_of(rt, row));
+    assert_same(rt, &met, &bytes_of(rt, row).as_slice());
 }
 
 /// The application of a slave writes a byte of its inputs.
@@ -48,13 +44,21 @@ fn put(rt: &impl Abort, ring: &mut Ring, slave: usize, place: usize, byte: u8) {
     assert!(rt; slave < ring.len() && ring.slave_mut(slave).app_put(place, byte));
 }
 
-/// The applications write inputs, and the frame as it is sent passes all slaves. What comes back of it.
-fn passed(rt: &(impl AllocGlobal + Abort), ring: &mut Ring) -> Vec<u8> {
+/// The applications write inputs.
+fn put_all(rt: &impl Abort, ring: &mut Ring) {
     put(rt, ring, 1, 0, 5);
     put(rt, ring, 2, 0, 0xEF);
     put(rt, ring, 2, 1, 0xBE);
+}
+
+fn pass(rt: &impl Abort, ring: &mut Ring, frame: &mut [u8]) {
+    ring.pass_all(frame).expect(rt, "a frame");
+}
+
+/// The frame as it is sent passes all slaves. What comes back of it.
+fn passed(rt: &(impl AllocGlobal + Abort), ring: &mut Ring) -> Vec<u8> {
     let mut frame = bytes_of(rt, SENT);
-    ring.pass_all(&mut frame).expect(rt, "a frame");
+    pass(rt, ring, &mut frame);
     frame
 }
 
@@ -75,47 +79,50 @@ fn expect_frame(rt: &(impl AllocGlobal + Abort), master: &Master<'_>, row: &str)
 
 /// A cycle of a ready master sends the frame.
 fn expect_sent(rt: &(impl AllocGlobal + Abort), master: &mut Master<'_>) {
-    assert_eq!(rt; master.next_number(), 100);
+    assert!(rt; master.next_number() == 100);
     begin(rt, master);
     expect_frame(rt, master, SENT);
 }
 
-/// A cycle is taken of which this came back.
-fn expect_taken(rt: &impl Abort, master: &mut Master<'_>, payload: &[u8]) {
-    let kept = master.take(payload);
-    let report = master.close().expect(rt, "an open cycle");
-    assert!(rt; kept == Taken::Kept && report.is_taken());
+/// Ends the open cycle, of which this came back.
+fn is_taken(rt: &impl Abort, master: &mut Master<'_>) -> bool {
+    master.close().expect(rt, "an open cycle").is_taken()
 }
 
 /// This comes back of the frame, as it must, and the cycle is taken.
 fn expect_back(rt: &(impl AllocGlobal + Abort), master: &mut Master<'_>, back: &[u8]) {
     assert_row(rt, back, BACK);
-    expect_taken(rt, master, back);
-    assert_eq!(rt; (value_of(master, 2), value_of(master, 3)), (5, 48879));
+    assert!(rt; master.take(back) == Taken::Kept);
+    assert!(rt; is_taken(rt, master));
+    assert_same(rt, &(value_of(master, 2), value_of(master, 3)), &(5, 48879));
 }
 
 /// A cycle of a ready master past its slaves.
-fn expect_cycle(rt: &(impl AllocGlobal + Abort), master: &mut Master<'_>, mut ring: Ring) {
+fn expect_cycle(rt: &(impl AllocGlobal + Abort), master: &mut Master<'_>, ring: &mut Ring) {
     expect_sent(rt, master);
-    expect_back(rt, master, &passed(rt, &mut ring));
+    put_all(rt, ring);
+    expect_back(rt, master, &passed(rt, ring));
+}
+
+fn expect_cycle_of(rt: &(impl AllocGlobal + Abort), mut ring: Ring, master: &mut Master<'_>) {
+    expect_cycle(rt, master, &mut ring);
 }
 
 /// Brings the slaves of a plan up by frames from number 25 on, and runs a cycle.
-fn expect_frames(rt: &(impl AllocGlobal + Abort), plan: &Plan, mut master: Master<'_>)
-    requires { master.plan ≡ plan.now }
+fn expect_frames(rt: &(impl AllocGlobal + Abort), plan: &Plan, master: &mut Master<'_>)
+    requires { master.old.plan ≡ plan.now }
 {
-    let ring = brought_up(rt, plan, &mut master, 25);
-    expect_cycle(rt, &mut master, ring);
+    expect_cycle_of(rt, brought_up(rt, plan, master, 25), master);
 }
 
 fn expect_frames_of(rt: &(impl AllocGlobal + Abort), plan: &Plan)
     requires { IsUsable plan.now }
 {
-    expect_frames(rt, plan, master_of(rt, plan));
+    expect_frames(rt, plan, &mut master_of(rt, plan));
 }
 
 // The master takes from the frame what the slaves' applications wrote.
 #[test]
 fn frame_of_a_cycle(rt: HostRuntime) {
-    expect_frames_of(&rt, &plan_of(&rt, THREE_SLAVES));
+    expect_frames_of(&rt, &plan_of_three(&rt));
 }

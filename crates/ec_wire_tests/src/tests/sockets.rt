@@ -3,14 +3,16 @@ ghost use Rattle.std.specs.Prelude.{◌≡◌};
 ghost use Rattle.ec_link.specs.Usable.{IsUsable};
 
 use crate::tests::machines::{
-    READ, THREE_SLAVES, bring_up, master_of, plan_of, receive, ring_of, send, set, startup_of,
+    READ, assert_same, bring_up, master_of, plan_of_three, receive, ring_of, send, set, startup_of,
     three_slaves, value_of,
 };
-use ec_cycle::Master;
+use ec_cycle::{Master, Report};
 use ec_link::{ExpectedCounters, Plan};
 use ec_ring::Ring;
 use ec_start::Startup;
-use ec_wire::{Echo, LoopWire, SocketFault, Sockets, UdpWire, Wire, run_cycle, serve_segment};
+use ec_wire::{
+    Echo, LoopWire, RunError, SocketFault, Sockets, UdpWire, Wire, run_cycle, serve_segment,
+};
 use std::net::{Ipv4Addr, Net, SocketAddr, SocketAddrV4, UdpSocket};
 use std::process::Abort;
 
@@ -44,16 +46,10 @@ fn send_reads(rt: &impl Abort, client: &UdpSocket, port: u16, count: u32) {
     }
 }
 
-/// Serves so many payloads, of which so many are answered and so many not.
-fn expect_served(
-    rt: &impl Abort,
-    ring: &mut Ring,
-    wire: &mut UdpWire,
-    count: u32,
-    wanted: (u32, u32),
-) {
+/// Serves so many payloads. How many were answered and how many not.
+fn served(rt: &impl Abort, ring: &mut Ring, wire: &mut UdpWire, count: u32) -> (u32, u32) {
     let served = serve_segment(ring, &mut Echo, wire, count).expect(rt, "a segment");
-    assert_eq!(rt; (served.answered, served.refused), wanted);
+    (served.answered, served.refused)
 }
 
 /// Serves a client that sends the broadcast so many times.
@@ -65,26 +61,25 @@ fn expect_all_served(
     count: u32,
 ) {
     send_reads(rt, client, wire.port(), count);
-    expect_served(rt, ring, wire, count, (count, 0));
-}
-
-fn assert_bytes(rt: &impl Abort, met: &[u8], wanted: &[u8]) {
-    assert_eq!(rt; met, wanted);
+    assert_same(rt, &served(rt, ring, wire, count), &(count, 0));
 }
 
 /// The answer comes back to a client from a port.
 fn expect_answer(rt: &impl Abort, client: &UdpSocket, port: u16) {
     let mut buffer = [0; 1500];
     let (count, sender) = client.recv_from(&mut buffer).expect(rt, "an answer");
-    assert_bytes(rt, &buffer[..count.min(1500)], &ANSWER);
-    assert_eq!(rt; sender, here(port));
+    assert_same(
+        rt,
+        &(&buffer[..count.min(1500)], sender),
+        &(&ANSWER[..], here(port)),
+    );
 }
 
 /// Serves three slaves to a client that sends bytes that are no frame, and then a broadcast.
 fn expect_both(rt: &impl Abort, ring: &mut Ring, wire: &mut UdpWire, client: &UdpSocket) {
     send_to(rt, client, wire.port(), &[1, 2, 3]);
     send_to(rt, client, wire.port(), &READ);
-    expect_served(rt, ring, wire, 2, (1, 1));
+    assert_same(rt, &served(rt, ring, wire, 2), &(1, 1));
     expect_answer(rt, client, wire.port());
 }
 
@@ -107,8 +102,8 @@ fn send_and_go(rt: &(impl Net + Abort), port: u16) {
 /// Serves a client that is gone.
 fn expect_gone(rt: &(impl Net + Abort), ring: &mut Ring, wire: &mut UdpWire) {
     send_and_go(rt, wire.port());
-    expect_served(rt, ring, wire, 3, (3, 0));
-    assert_eq!(rt; wire.failures(), 0);
+    assert_same(rt, &served(rt, ring, wire, 3), &(3, 0));
+    assert!(rt; wire.failures() == 0);
 }
 
 // Nobody is there any more to whom answers are sent.
@@ -129,7 +124,7 @@ fn expect_both_in_turn(
     expect_all_served(rt, ring, wire, silent, 3);
     expect_all_served(rt, ring, wire, client, 1);
     expect_answer(rt, client, wire.port());
-    assert_eq!(rt; wire.failures(), 0);
+    assert!(rt; wire.failures() == 0);
     expect_answer(rt, silent, wire.port());
 }
 
@@ -149,10 +144,15 @@ fn expect_in_use(rt: &(impl Net + Abort), wire: &UdpWire) {
     assert!(rt; UdpWire::bind(rt, wire.port()).is_err());
 }
 
+fn expect_name(rt: &impl Abort) {
+    let met = (SocketFault.number(), SocketFault.name());
+    assert_same(rt, &met, &(43, "Socket"));
+}
+
 #[test]
 fn port_in_use(rt: HostRuntime) {
+    expect_name(&rt);
     expect_in_use(&rt, &segment_of(&rt));
-    assert_eq!(rt; (SocketFault.number(), SocketFault.name()), (43, "Socket"));
 }
 
 /// A segment's socket, a master's, and one of a stranger to both.
@@ -185,23 +185,21 @@ fn make_call(rt: &impl Abort, pair: &mut Pair, call: &str, payload: &[u8]) -> us
     }
 }
 
-fn expect_call(rt: &impl Abort, pair: &mut Pair, (call, len, seen): Row) {
+fn expect_call(rt: &impl Abort, pair: &mut Pair, row: &Row) {
+    let (call, len, _) = *row;
     let count = make_call(rt, pair, call, &[7; 1600][..len.min(1600)]);
-    assert_eq!(rt;
-        (count, pair.master.failures(), pair.segment.failures()),
-        seen,
-        "{call} {len}"
-    );
+    let seen = (count, pair.master.failures(), pair.segment.failures());
+    assert_same(rt, &(call, len, seen), row);
 }
 
 fn expect_calls(rt: &impl Abort, pair: &mut Pair, rows: &[Row]) {
     for row in rows {
-        expect_call(rt, pair, *row);
+        expect_call(rt, pair, row);
     }
 }
 
 fn expect_received(rt: &impl Abort, wire: &mut UdpWire, count: usize, failures: u64) {
-    assert_eq!(rt; (receive(wire), wire.failures()), (count, failures));
+    assert_same(rt, &(receive(wire), wire.failures()), &(count, failures));
 }
 
 // A wire waits as long as it is told to, and then the receive is a fault.
@@ -290,9 +288,10 @@ fn calls_of_sockets(rt: HostRuntime) {
 /// What a wire received of a payload of 1550 fives, and nothing behind it.
 fn expect_cut(rt: &impl Abort, wire: &mut UdpWire, buffer: &mut [u8; 1600]) {
     let count = wire.recv(buffer);
-    assert_eq!(rt;
-        (count, wire.failures(), buffer[1471], buffer[1472]),
-        (1472, 0, 5, 0)
+    assert_same(
+        rt,
+        &(count, wire.failures(), buffer[1471], buffer[1472]),
+        &(1472, 0, 5, 0),
     );
 }
 
@@ -307,13 +306,35 @@ fn long_payloads_are_cut(rt: HostRuntime) {
     expect_long_cut(&rt, &mut segment_of(&rt), &client_of(&rt));
 }
 
-/// Runs a cycle that sends this number, and is taken by a counter of 6.
-fn expect_taken(rt: &impl Abort, master: &mut Master<'_>, wire: &mut LoopWire<Echo>, number: u64) {
+/// Whether a cycle was taken by a counter of 6.
+fn is_good(report: &Report) -> bool {
+    report.is_taken() && report.counters().as_slice() == [Some(ExpectedCounters::Lrw(6))].as_slice()
+}
+
+fn expect_good(rt: &impl Abort, report: Result<Report, RunError>) {
+    assert!(rt; is_good(&report.expect(rt, "a cycle")));
+}
+
+/// Runs a cycle that sends this number.
+fn run(
+    master: &mut Master<'_>,
+    wire: &mut LoopWire<Echo>,
+    number: u64,
+) -> Result<Report, RunError> {
     set(master, 0, number);
     set(master, 1, number);
-    let report = run_cycle(master, wire).expect(rt, "a cycle");
-    assert!(rt; report.is_taken());
-    assert!(rt; report.counters().as_slice() == [Some(ExpectedCounters::Lrw(6))].as_slice());
+    run_cycle(master, wire)
+}
+
+/// Runs two cycles that send 1 and 2. What the third and the fourth variable show then, and the wire's faults.
+fn seen_of_two(
+    rt: &impl Abort,
+    master: &mut Master<'_>,
+    wire: &mut LoopWire<Echo>,
+) -> (u64, u64, u64) {
+    expect_good(rt, run(master, wire, 1));
+    expect_good(rt, run(master, wire, 2));
+    (value_of(master, 2), value_of(master, 3), wire.failures())
 }
 
 /// A wire over two sockets to the slaves of a plan.
@@ -322,8 +343,7 @@ fn loop_to(rt: &(impl Net + AllocGlobal + Abort), plan: &Plan) -> LoopWire<Echo>
     LoopWire::new(sockets, ring_of(rt, plan), Echo)
 }
 
-/// Brings the slaves up over a wire, and runs two cycles that send 1 and 2. The third and the fourth variable show then that
-/// slave 1 has no outputs to show and slave 2 shows those of the first cycle.
+/// Brings the slaves up over a wire, and runs two cycles of slaves that show their outputs; slave 1 has none to show.
 fn expect_two(
     rt: &impl Abort,
     startup: &mut Startup<'_>,
@@ -333,12 +353,7 @@ fn expect_two(
     requires { startup.old.plan ≡ master.old.plan.slaves }
 {
     bring_up(rt, startup, wire, master);
-    expect_taken(rt, master, wire, 1);
-    expect_taken(rt, master, wire, 2);
-    assert_eq!(rt;
-        (value_of(master, 2), value_of(master, 3), wire.failures()),
-        (0, 1, 0)
-    );
+    assert_same(rt, &seen_of_two(rt, master, wire), &(0, 1, 0));
 }
 
 /// The same with a new master of a plan.
@@ -368,5 +383,5 @@ fn expect_loop_of(rt: &(impl Net + AllocGlobal + Abort), plan: &Plan)
 
 #[test]
 fn loop_of_three_slaves(rt: HostRuntime) {
-    expect_loop_of(&rt, &plan_of(&rt, THREE_SLAVES));
+    expect_loop_of(&rt, &plan_of_three(&rt));
 }

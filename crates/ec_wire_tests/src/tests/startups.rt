@@ -1,9 +1,9 @@
 //! Start-ups over wires.
 use crate::tests::fakes::Fake;
-use crate::tests::machines::{THREE_SLAVES, plan_of, ring_of, startup_of, wire_to};
+use crate::tests::machines::{assert_same, plan_of_three, ring_of, startup_of, wire_to};
 use ec_link::Plan;
 use ec_start::{StartError, Startup};
-use ec_wire::{Wire, bring_up_wire};
+use ec_wire::{MemoryWire, Wire, bring_up_wire};
 use std::process::Abort;
 
 /// How a start-up ended, and its next number.
@@ -16,17 +16,23 @@ fn run<W: Wire>(rt: &impl Abort, startup: &mut Startup<'_>, wire: &mut W) -> End
     (outcome, startup.next_number())
 }
 
-/// A start-up of a plan over memory ends so whose call of this number is a fault.
-fn expect_ended(rt: &(impl AllocGlobal + Abort), plan: &Plan, call: u64, ended: Ended) {
+/// A start-up over memory ends so whose call of this number is a fault.
+type Row = (u64, Ended);
+
+fn expect_ended(rt: &impl Abort, startup: &mut Startup<'_>, wire: &mut MemoryWire, row: &Row) {
+    assert_same(rt, &(row.0, run(rt, startup, wire)), row);
+}
+
+fn expect_ended_of(rt: &(impl AllocGlobal + Abort), plan: &Plan, row: &Row) {
     let mut startup = startup_of(rt, plan, 0);
-    let mut wire = wire_to(rt, ring_of(rt, plan), 75, call);
-    assert_eq!(rt; run(rt, &mut startup, &mut wire), ended, "call {call}");
+    let mut wire = wire_to(rt, ring_of(rt, plan), 75, row.0);
+    expect_ended(rt, &mut startup, &mut wire, row);
 }
 
 /// Start-ups of a plan over memory, each with a fault or none.
-fn expect_all_ended(rt: &(impl AllocGlobal + Abort), plan: &Plan, rows: &[(u64, Ended)]) {
-    for (call, ended) in rows {
-        expect_ended(rt, plan, *call, *ended);
+fn expect_all_ended(rt: &(impl AllocGlobal + Abort), plan: &Plan, rows: &[Row]) {
+    for row in rows {
+        expect_ended_of(rt, plan, row);
     }
 }
 
@@ -34,7 +40,7 @@ fn expect_all_ended(rt: &(impl AllocGlobal + Abort), plan: &Plan, rows: &[(u64, 
 fn comes_up_or_is_lost(rt: HostRuntime) {
     expect_all_ended(
         &rt,
-        &plan_of(&rt, THREE_SLAVES),
+        &plan_of_three(&rt),
         &[
             (u64::MAX, (Ok(()), 75)),
             (150, (Ok(()), 75)),
@@ -49,7 +55,8 @@ fn comes_up_or_is_lost(rt: HostRuntime) {
 /// A start-up over a strange wire is lost after 64 payloads.
 fn expect_lost(rt: &impl Abort, startup: &mut Startup<'_>, wire: &mut Fake) {
     let ended = run(rt, startup, wire);
-    assert_eq!(rt; (ended, wire.received()), ((Err(StartError::Lost), 1), 64));
+    let wanted = (64, (Err(StartError::Lost), 1));
+    assert_same(rt, &(wire.received(), ended), &wanted);
 }
 
 fn expect_lost_of(rt: &impl Abort, plan: &Plan) {
@@ -58,5 +65,5 @@ fn expect_lost_of(rt: &impl Abort, plan: &Plan) {
 
 #[test]
 fn strange_payloads_end_it(rt: HostRuntime) {
-    expect_lost_of(&rt, &plan_of(&rt, THREE_SLAVES));
+    expect_lost_of(&rt, &plan_of_three(&rt));
 }
