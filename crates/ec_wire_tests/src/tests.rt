@@ -7,3 +7,4 @@ mod memory;
 mod rounds;
 mod sockets;
 mod startups;
+mod trials;

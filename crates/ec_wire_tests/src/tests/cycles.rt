@@ -1,11 +1,9 @@
 //! Cycles over memory, of which each call is a fault in turn.
 ghost use Rattle.std.specs.Prelude.{◌≡◌};
-ghost use Rattle.ec_link.specs.Usable.{IsUsable};
 
 use crate::tests::fakes::Fake;
-use crate::tests::machines::{
-    assert_same, brought_up, full_table, master_of, plan_of, plan_of_three, set, value_of, wire_to,
-};
+use crate::tests::machines::{assert_same, brought_up, full_table, set, value_of, wire_to};
+use crate::tests::trials::{expect_of_table, expect_of_three};
 use ec_cycle::{CycleError, Master};
 use ec_link::Plan;
 use ec_ring::Ring;
@@ -105,8 +103,8 @@ fn expect_each_fault(
     }
 }
 
-/// The same with slaves that have come up, and a master that is ready.
-fn expect_faults_of(
+/// Brings the slaves of a plan up, and runs a cycle with a fault at each of its calls in turn.
+pub fn expect_faults(
     rt: &(impl AllocGlobal + Abort),
     plan: &Plan,
     master: &mut Master<'_>,
@@ -119,37 +117,14 @@ fn expect_faults_of(
     expect_each_fault(rt, master, ring, mirror, parts);
 }
 
-/// Runs a cycle of a plan with a fault at each of its calls in turn.
-fn expect_faults(rt: &(impl AllocGlobal + Abort), plan: &Plan, mirror: Mirror, parts: u16)
-    requires { IsUsable plan.now }
-{
-    expect_faults_of(rt, plan, &mut master_of(rt, plan), mirror, parts);
-}
-
-/// The plan of the slaves of `full_table`.
-fn full_plan(rt: &(impl AllocGlobal + Abort)) -> Plan
-    ensures { IsUsable result }
-{
-    plan_of(rt, full_table(rt).as_str())
-}
-
 #[test]
 fn each_call_fails_on_three_slaves(rt: HostRuntime) {
-    expect_faults(&rt, &plan_of_three(&rt), (1, 3), 1);
+    expect_of_three(&rt, "faults");
 }
 
 #[test]
 fn each_call_fails_on_many_slaves(rt: HostRuntime) {
-    expect_faults(&rt, &full_plan(&rt), (0, 1), 13);
-}
-
-/// Brings the slaves of a plan up, where that is asked for.
-fn prepare(rt: &(impl AllocGlobal + Abort), plan: &Plan, master: &mut Master<'_>, is_up: bool)
-    requires { master.old.plan ≡ plan.now }
-{
-    if is_up {
-        brought_up(rt, plan, master, 0);
-    }
+    expect_of_table(&rt, full_table(&rt).as_str(), "faults of many");
 }
 
 /// What a cycle over a spent wire ends by.
@@ -166,30 +141,22 @@ fn expect_error(rt: &impl Abort, master: &mut Master<'_>, wanted: (RunError, u8,
     assert_same(rt, &(error, error.number(), error.name()), &wanted);
 }
 
-/// A cycle of a plan over a spent wire does so, where its slaves have come up or not.
-fn expect_error_of(
-    rt: &(impl AllocGlobal + Abort),
-    plan: &Plan,
-    is_up: bool,
-    wanted: (RunError, u8, &'static str),
-)
-    requires { IsUsable plan.now }
-{
-    let mut master = master_of(rt, plan);
-    prepare(rt, plan, &mut master, is_up);
-    expect_error(rt, &mut master, wanted);
+/// The master is asked first: it isn't ready.
+pub fn expect_refusal(rt: &impl Abort, master: &mut Master<'_>) {
+    let not_ready = RunError::Refused(CycleError::NotReady);
+    expect_error(rt, master, (not_ready, 33, "NotReady"));
 }
 
-/// The master is asked first; at its last value the count of faults can't rise, and each call is a fault.
-fn expect_refusals(rt: &(impl AllocGlobal + Abort), plan: &Plan)
-    requires { IsUsable plan.now }
+/// At its last value the count of faults can't rise, and each call is a fault.
+pub fn expect_spent(rt: &(impl AllocGlobal + Abort), plan: &Plan, master: &mut Master<'_>)
+    requires { master.old.plan ≡ plan.now }
 {
-    let not_ready = RunError::Refused(CycleError::NotReady);
-    expect_error_of(rt, plan, false, (not_ready, 33, "NotReady"));
-    expect_error_of(rt, plan, true, (RunError::Wire, 37, "Wire"));
+    brought_up(rt, plan, master, 0);
+    expect_error(rt, master, (RunError::Wire, 37, "Wire"));
 }
 
 #[test]
 fn refusals_come_before_the_wire(rt: HostRuntime) {
-    expect_refusals(&rt, &plan_of_three(&rt));
+    expect_of_three(&rt, "refusal");
+    expect_of_three(&rt, "spent wire");
 }

@@ -13,6 +13,9 @@ use ec_wire::{MemoryWire, Wire, bring_up_wire};
 use std::fmt::Debug;
 use std::process::Abort;
 
+/// Three slaves: 4 outputs; 4 inputs; 12 outputs and 16 inputs. Variable `d` is what slave 2 makes of `b`.
+pub const THREE_SLAVES: &str = ec_examples::SHORT_THREE_SLAVES;
+
 /// A broadcast that reads two bytes.
 pub const READ: [u8; 16] = [14, 16, 7, 1, 0, 0, 0x30, 1, 2, 0, 0, 0, 0, 0, 0, 0];
 
@@ -100,14 +103,6 @@ pub fn plan_of(rt: &(impl AllocGlobal + Abort), text: &str) -> Plan
     compiled(rt, &table_of(rt, text))
 }
 
-/// The plan of three slaves: 4 outputs; 4 inputs; 12 outputs and 16 inputs. Variable `d` is what slave 2 makes of `b`. Here
-/// alone their table is named, since a proof takes longer where a long text is.
-pub fn plan_of_three(rt: &(impl AllocGlobal + Abort)) -> Plan
-    ensures { IsUsable result }
-{
-    plan_of(rt, ec_examples::SHORT_THREE_SLAVES)
-}
-
 /// A slave as it is switched on.
 fn slave_of(rt: &(impl AllocGlobal + Abort), settings: &SlavePlan) -> Slave {
     let identity = settings.kind.device().identity(0);
@@ -130,7 +125,7 @@ pub fn ring_of(rt: &(impl AllocGlobal + Abort), plan: &Plan) -> Ring {
 
 /// Three slaves as they are switched on.
 pub fn three_slaves(rt: &(impl AllocGlobal + Abort)) -> Ring {
-    ring_of(rt, &plan_of_three(rt))
+    ring_of(rt, &plan_of(rt, THREE_SLAVES))
 }
 
 /// A wire over memory, with room for so many payloads, whose call of this number is a fault.

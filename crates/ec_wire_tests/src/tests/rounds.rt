@@ -1,8 +1,8 @@
 //! The frame of a cycle past three slaves in OP, byte for byte.
 ghost use Rattle.std.specs.Prelude.{◌≡◌};
-ghost use Rattle.ec_link.specs.Usable.{IsUsable};
 
-use crate::tests::machines::{assert_same, brought_up, master_of, plan_of_three, set, value_of};
+use crate::tests::machines::{assert_same, brought_up, set, value_of};
+use crate::tests::trials::expect_of_three;
 use ec_cycle::{Master, Taken};
 use ec_link::Plan;
 use ec_ring::Ring;
@@ -109,20 +109,14 @@ fn expect_cycle_of(rt: &(impl AllocGlobal + Abort), mut ring: Ring, master: &mut
 }
 
 /// Brings the slaves of a plan up by frames from number 25 on, and runs a cycle.
-fn expect_frames(rt: &(impl AllocGlobal + Abort), plan: &Plan, master: &mut Master<'_>)
+pub fn expect_frames(rt: &(impl AllocGlobal + Abort), plan: &Plan, master: &mut Master<'_>)
     requires { master.old.plan ≡ plan.now }
 {
     expect_cycle_of(rt, brought_up(rt, plan, master, 25), master);
 }
 
-fn expect_frames_of(rt: &(impl AllocGlobal + Abort), plan: &Plan)
-    requires { IsUsable plan.now }
-{
-    expect_frames(rt, plan, &mut master_of(rt, plan));
-}
-
 // The master takes from the frame what the slaves' applications wrote.
 #[test]
 fn frame_of_a_cycle(rt: HostRuntime) {
-    expect_frames_of(&rt, &plan_of_three(&rt));
+    expect_of_three(&rt, "frames");
 }

@@ -1,11 +1,10 @@
 //! Segments and loops over the system's sockets.
 ghost use Rattle.std.specs.Prelude.{◌≡◌};
-ghost use Rattle.ec_link.specs.Usable.{IsUsable};
 
 use crate::tests::machines::{
-    READ, assert_same, bring_up, master_of, plan_of_three, receive, ring_of, send, set, startup_of,
-    three_slaves, value_of,
+    READ, assert_same, bring_up, receive, ring_of, send, set, startup_of, three_slaves, value_of,
 };
+use crate::tests::trials::expect_of_three;
 use ec_cycle::{Master, Report};
 use ec_link::{ExpectedCounters, Plan};
 use ec_ring::Ring;
@@ -356,32 +355,19 @@ fn expect_two(
     assert_same(rt, &seen_of_two(rt, master, wire), &(0, 1, 0));
 }
 
-/// The same with a new master of a plan.
-fn expect_loop(
-    rt: &(impl AllocGlobal + Abort),
-    plan: &Plan,
-    startup: &mut Startup<'_>,
-    wire: &mut LoopWire<Echo>,
-)
-    requires usable { IsUsable plan.now }
-    requires same { startup.old.plan ≡ plan.now.slaves }
-{
-    expect_two(rt, startup, &mut master_of(rt, plan), wire);
-}
-
 /// The same over a new loop to the slaves of a plan.
-fn expect_loop_of(rt: &(impl Net + AllocGlobal + Abort), plan: &Plan)
-    requires { IsUsable plan.now }
+pub fn expect_loop(rt: &(impl Net + AllocGlobal + Abort), plan: &Plan, master: &mut Master<'_>)
+    requires { master.old.plan ≡ plan.now }
 {
-    expect_loop(
+    expect_two(
         rt,
-        plan,
         &mut startup_of(rt, plan, 0),
+        master,
         &mut loop_to(rt, plan),
     );
 }
 
 #[test]
 fn loop_of_three_slaves(rt: HostRuntime) {
-    expect_loop_of(&rt, &plan_of_three(&rt));
+    expect_of_three(&rt, "loop");
 }

@@ -1,26 +1,35 @@
 //! Start-ups over wires.
 use crate::tests::fakes::Fake;
-use crate::tests::machines::{assert_same, plan_of_three, ring_of, startup_of, wire_to};
+use crate::tests::machines::{assert_same, ring_of, startup_of, wire_to};
+use crate::tests::trials::expect_of_three;
 use ec_link::Plan;
 use ec_start::{StartError, Startup};
 use ec_wire::{MemoryWire, Wire, bring_up_wire};
 use std::process::Abort;
 
 /// How a start-up ended, and its next number.
-type Ended = (Result<(), StartError>, u64);
+type Ended = (&'static str, u64);
+
+fn end_of(startup: &Startup<'_>) -> &'static str {
+    match startup.outcome() {
+        Some(Ok(())) => "ready",
+        Some(Err(StartError::Lost)) => "lost",
+        Some(Err(_)) => "failed",
+        None => "not ended",
+    }
+}
 
 /// Runs a start-up over a wire.
-fn run<W: Wire>(rt: &impl Abort, startup: &mut Startup<'_>, wire: &mut W) -> Ended {
+fn run<W: Wire>(startup: &mut Startup<'_>, wire: &mut W) -> Ended {
     bring_up_wire(startup, wire);
-    let outcome = startup.outcome().expect(rt, "an end");
-    (outcome, startup.next_number())
+    (end_of(startup), startup.next_number())
 }
 
 /// A start-up over memory ends so whose call of this number is a fault.
 type Row = (u64, Ended);
 
 fn expect_ended(rt: &impl Abort, startup: &mut Startup<'_>, wire: &mut MemoryWire, row: &Row) {
-    assert_same(rt, &(row.0, run(rt, startup, wire)), row);
+    assert_same(rt, &(row.0, run(startup, wire)), row);
 }
 
 fn expect_ended_of(rt: &(impl AllocGlobal + Abort), plan: &Plan, row: &Row) {
@@ -29,41 +38,46 @@ fn expect_ended_of(rt: &(impl AllocGlobal + Abort), plan: &Plan, row: &Row) {
     expect_ended(rt, &mut startup, &mut wire, row);
 }
 
-/// Start-ups of a plan over memory, each with a fault or none.
-fn expect_all_ended(rt: &(impl AllocGlobal + Abort), plan: &Plan, rows: &[Row]) {
+fn expect_rows(rt: &(impl AllocGlobal + Abort), plan: &Plan, rows: &[Row]) {
     for row in rows {
         expect_ended_of(rt, plan, row);
     }
 }
 
-#[test]
-fn comes_up_or_is_lost(rt: HostRuntime) {
-    expect_all_ended(
-        &rt,
-        &plan_of_three(&rt),
+/// Start-ups of a plan over memory, each with a fault or none.
+pub fn expect_all_ended(rt: &(impl AllocGlobal + Abort), plan: &Plan) {
+    expect_rows(
+        rt,
+        plan,
         &[
-            (u64::MAX, (Ok(()), 75)),
-            (150, (Ok(()), 75)),
-            (0, (Err(StartError::Lost), 1)),
-            (1, (Err(StartError::Lost), 1)),
-            (74, (Err(StartError::Lost), 38)),
-            (149, (Err(StartError::Lost), 75)),
+            (u64::MAX, ("ready", 75)),
+            (150, ("ready", 75)),
+            (0, ("lost", 1)),
+            (1, ("lost", 1)),
+            (74, ("lost", 38)),
+            (149, ("lost", 75)),
         ],
     );
 }
 
+#[test]
+fn comes_up_or_is_lost(rt: HostRuntime) {
+    expect_of_three(&rt, "start-ups");
+}
+
 /// A start-up over a strange wire is lost after 64 payloads.
-fn expect_lost(rt: &impl Abort, startup: &mut Startup<'_>, wire: &mut Fake) {
-    let ended = run(rt, startup, wire);
-    let wanted = (64, (Err(StartError::Lost), 1));
+fn expect_lost_over(rt: &impl Abort, startup: &mut Startup<'_>, wire: &mut Fake) {
+    let ended = run(startup, wire);
+    let wanted = (64, ("lost", 1));
     assert_same(rt, &(wire.received(), ended), &wanted);
 }
 
-fn expect_lost_of(rt: &impl Abort, plan: &Plan) {
-    expect_lost(rt, &mut startup_of(rt, plan, 0), &mut Fake::strange());
+/// The same of a start-up of a plan.
+pub fn expect_lost(rt: &impl Abort, plan: &Plan) {
+    expect_lost_over(rt, &mut startup_of(rt, plan, 0), &mut Fake::strange());
 }
 
 #[test]
 fn strange_payloads_end_it(rt: HostRuntime) {
-    expect_lost_of(&rt, &plan_of_three(&rt));
+    expect_of_three(&rt, "strange payloads");
 }
