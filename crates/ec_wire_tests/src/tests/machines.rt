@@ -1,145 +1,198 @@
-//! Machines to run: their tables, plans, slaves and start-ups.
-ghost use Rattle.std.specs.Prelude.{◌≡◌, IfOk, IfSome};
+//! Machines to run: their tables, plans, slaves and start-ups. What calls of libraries promise is told by no clause here that
+//! isn't asked for, so those who call these functions carry nothing of it.
+ghost use Rattle.std.specs.Prelude.{◌≡◌};
 ghost use Rattle.ec_link.specs.Usable.{IsUsable};
 
 use ec_cycle::Master;
-use ec_link::{Plan, compile};
+use ec_link::{Plan, SlavePlan, compile};
 use ec_ring::Ring;
 use ec_slave::Slave;
 use ec_start::{Phase, Startup};
-use ec_table::read_table;
+use ec_table::{Table, read_table};
 use ec_wire::{MemoryWire, Wire, bring_up_wire};
-use std::alloc::{AllocError, Global};
-use std::test::Fail;
+use std::fmt::Debug;
+use std::process::Abort;
 
 /// Three slaves: 4 outputs; 4 inputs; 12 outputs and 16 inputs. Variable `d` is what slave 2 makes of `b`.
 pub const THREE_SLAVES: &str = ec_examples::SHORT_THREE_SLAVES;
 
-/// The 32 entries of 64 bits that a slave of `full_table` has each way, as a table writes them.
-fn full_entries(alloc: Global) -> Result<String, AllocError> {
-    let mut entries = String::new(alloc);
-    for sub in 1..33u8 {
-        entries.push_str(format!(in alloc; "[0x7000, {sub}, 64], ")?.as_str())?;
-    }
-    Ok(entries)
-}
+/// A broadcast that reads two bytes.
+pub const READ: [u8; 16] = [14, 16, 7, 1, 0, 0, 0x30, 1, 2, 0, 0, 0, 0, 0, 0, 0];
 
-/// The variables, the links and the type of `full_table`.
-fn full_head(alloc: Global) -> Result<String, AllocError> {
-    let entries = full_entries(alloc)?;
-    format!(in alloc;
-        "variable = [ {{ name = \"a\", dir = \"out\", bits = 64 }}, {{ name = \"b\", dir = \"in\", bits = 64 }} ]
-link = [ {{ var = \"a\", slave = \"s63\", index = 0x7000, sub = 1 }}, {{ var = \"b\", slave = \"s63\", index = 0x7000, sub = 1 }} ]
+/// The variables, the links and the type of `full_table`, up to the type's entries.
+const FULL_HEAD: &str =
+    r#"variable = [ { name = "a", dir = "out", bits = 64 }, { name = "b", dir = "in", bits = 64 } ]
+link = [ { var = "a", slave = "s63", index = 0x7000, sub = 1 }, { var = "b", slave = "s63", index = 0x7000, sub = 1 } ]
 [[type]]
-name = \"full\"
+name = "full"
 vendor = 1
 product = 1
 revision = 1
 out_start = 0x1100
 in_start = 0x1800
-rxpdo = [ {{ index = 0x1600, entries = [{entries}] }} ]
-txpdo = [ {{ index = 0x1A00, entries = [{entries}] }} ]
-"
-    )
+rxpdo = [ { index = 0x1600, entries = ["#;
+
+/// Compares what is met with what is wanted.
+pub fn assert_same<T: Debug + PartialEq>(rt: &impl Abort, met: &T, wanted: &T) {
+    assert_eq!(rt; met, wanted);
+}
+
+fn push(rt: &impl Abort, text: &mut String, part: &str) {
+    text.push_str(part).expect(rt, "memory");
+}
+
+fn push_item(rt: &impl Abort, text: &mut String, before: &str, number: u8, after: &str) {
+    write!(text, "{before}{number}{after}").expect(rt, "memory");
+}
+
+/// Puts items behind a text, one for each number from `first` on, up to `end`.
+fn push_items(
+    rt: &impl Abort,
+    text: &mut String,
+    (before, after): (&str, &str),
+    first: u8,
+    end: u8,
+) {
+    for number in first..end {
+        push_item(rt, text, before, number, after);
+    }
+}
+
+/// The 32 entries of 64 bits that a slave of `full_table` has each way.
+fn push_entries(rt: &impl Abort, text: &mut String) {
+    push_items(rt, text, ("[0x7000, ", ", 64], "), 1, 33);
+}
+
+fn push_full(rt: &impl Abort, text: &mut String) {
+    push(rt, text, FULL_HEAD);
+    push_entries(rt, text);
+    push(rt, text, "] } ]\ntxpdo = [ { index = 0x1A00, entries = [");
+    push_entries(rt, text);
+    push(rt, text, "] } ]\n");
+    push_items(
+        rt,
+        text,
+        ("[[slave]]\nname = \"s", "\"\ntype = \"full\"\n"),
+        0,
+        64,
+    );
 }
 
 /// A table of 64 slaves of 2048 bits each way, in 13 parts. Its input variable is what the last slave makes of its output
 /// variable.
-pub fn full_table(alloc: Global) -> Result<String, AllocError> {
-    let mut text = full_head(alloc)?;
-    for place in 0..64u8 {
-        let slave = format!(in alloc; "[[slave]]\nname = \"s{place}\"\ntype = \"full\"\n")?;
-        text.push_str(slave.as_str())?;
-    }
-    Ok(text)
+pub fn full_table(rt: &(impl AllocGlobal + Abort)) -> String {
+    let mut text = String::new(rt.alloc());
+    push_full(rt, &mut text);
+    text
+}
+
+fn table_of(rt: &(impl AllocGlobal + Abort), text: &str) -> Table {
+    read_table(rt.alloc(), text).expect(rt, "a table")
+}
+
+fn compiled(rt: &(impl AllocGlobal + Abort), table: &Table) -> Plan
+    ensures { IsUsable result }
+{
+    compile(rt.alloc(), table).expect(rt, "a plan")
 }
 
 /// The plan of a table.
-pub fn plan_of(alloc: Global, text: &str) -> Result<Plan, Fail>
-    ensures { IfOk result IsUsable }
+pub fn plan_of(rt: &(impl AllocGlobal + Abort), text: &str) -> Plan
+    ensures { IsUsable result }
 {
-    let table = read_table(alloc, text)?;
-    Ok(compile(alloc, &table)?)
+    compiled(rt, &table_of(rt, text))
 }
 
-/// What must be there.
-pub fn there<T: Drop>(value: Option<T>) -> Result<T, Fail> {
-    match value {
-        Some(value) => Ok(value),
-        None => Err("a machine that can't be had".into()),
+/// A slave as it is switched on.
+fn slave_of(rt: &(impl AllocGlobal + Abort), settings: &SlavePlan) -> Slave {
+    let identity = settings.kind.device().identity(0);
+    let kind = settings.kind.copied(rt.alloc()).expect(rt, "memory");
+    Slave::new(rt.alloc(), kind, identity).expect(rt, "memory")
+}
+
+fn push_slaves(rt: &(impl AllocGlobal + Abort), slaves: &mut Vec<Slave>, plan: &Plan) {
+    for settings in plan.slaves() {
+        slaves.push(slave_of(rt, settings)).expect(rt, "memory");
     }
 }
 
 /// The slaves of a plan as they are switched on.
-pub fn ring_of(alloc: Global, plan: &Plan) -> Result<Ring, AllocError> {
-    let mut slaves = Vec::new(alloc);
-    for settings in plan.slaves() {
-        let identity = settings.kind.device().identity(0);
-        slaves.push(Slave::new(alloc, settings.kind.copied(alloc)?, identity)?)?;
-    }
-    Ok(Ring::new(slaves))
+pub fn ring_of(rt: &(impl AllocGlobal + Abort), plan: &Plan) -> Ring {
+    let mut slaves = Vec::new(rt.alloc());
+    push_slaves(rt, &mut slaves, plan);
+    Ring::new(slaves)
 }
 
 /// Three slaves as they are switched on.
-pub fn three_slaves(alloc: Global) -> Result<Ring, Fail> {
-    let plan = plan_of(alloc, THREE_SLAVES)?;
-    Ok(ring_of(alloc, &plan)?)
+pub fn three_slaves(rt: &(impl AllocGlobal + Abort)) -> Ring {
+    ring_of(rt, &plan_of(rt, THREE_SLAVES))
+}
+
+/// A wire over memory, with room for so many payloads, whose call of this number is a fault.
+pub fn wire_to(rt: &(impl AllocGlobal + Abort), ring: Ring, room: usize, call: u64) -> MemoryWire {
+    MemoryWire::new(rt.alloc(), ring, room, call).expect(rt, "memory")
+}
+
+/// A master of a plan.
+pub fn master_of<'p>(rt: &(impl AllocGlobal + Abort), plan: &'p Plan) -> Master<'p>
+    requires { IsUsable plan.now }
+    ensures { result.plan ≡ plan.now }
+{
+    Master::new(rt.alloc(), plan).expect(rt, "memory")
 }
 
 /// A start-up of a plan whose first frame has this number.
 #[tactic(auto, unfolding(ec_start::specs::Running::begun))]
-pub fn startup_from(plan: &Plan, number: u64) -> Option<Startup<'_>>
-    ensures { IfSome result (λ s. s.plan ≡ plan.now.slaves) }
+pub fn startup_of<'p>(rt: &impl Abort, plan: &'p Plan, number: u64) -> Startup<'p>
+    ensures { result.plan ≡ plan.now.slaves }
 {
     if !Startup::can_start(plan) {
-        return None;
+        panic!(rt; "no start-up");
     }
-    Some(Startup::new(plan, number))
+    Startup::new(plan, number)
 }
 
-/// A start-up of a plan.
-pub fn startup_of(plan: &Plan) -> Option<Startup<'_>>
-    ensures { IfSome result (λ s. s.plan ≡ plan.now.slaves) }
-{
-    startup_from(plan, 0)
-}
-
-/// Brings the slaves up over a wire. Whether they have come up, and the master is ready.
-pub fn are_up<W: Wire>(startup: &mut Startup<'_>, wire: &mut W, master: &mut Master<'_>) -> bool
+/// Brings the slaves up over a wire, and makes the master ready.
+pub fn bring_up<W: Wire>(
+    rt: &impl Abort,
+    startup: &mut Startup<'_>,
+    wire: &mut W,
+    master: &mut Master<'_>,
+)
     requires { startup.old.plan ≡ master.old.plan.slaves }
 {
     bring_up_wire(startup, wire);
     match startup.phase() {
         Phase::Ready => master.ready(startup),
-        _ => return false,
+        _ => panic!(rt; "slaves that don't come up"),
     }
-    true
+}
+
+/// The slaves of a wire once they have come up.
+fn brought_up_over(
+    rt: &impl Abort,
+    startup: &mut Startup<'_>,
+    mut wire: MemoryWire,
+    master: &mut Master<'_>,
+) -> Ring
+    requires { startup.old.plan ≡ master.old.plan.slaves }
+{
+    bring_up(rt, startup, &mut wire, master);
+    wire.into_ring()
 }
 
 /// Brings the slaves of a plan up over memory by frames from this number on, and makes the master ready.
-pub fn brought_up_from(
-    alloc: Global,
+pub fn brought_up(
+    rt: &(impl AllocGlobal + Abort),
     plan: &Plan,
     master: &mut Master<'_>,
     number: u64,
-) -> Option<Ring>
+) -> Ring
     requires { master.old.plan ≡ plan.now }
 {
-    let mut startup = startup_from(plan, number)?;
-    let ring = ring_of(alloc, plan).ok()?;
-    let mut wire = MemoryWire::new(alloc, ring, 3000, u64::MAX).ok()?;
-    if are_up(&mut startup, &mut wire, master) {
-        Some(wire.into_ring())
-    } else {
-        None
-    }
-}
-
-/// Brings the slaves of a plan up over memory, and makes the master ready.
-pub fn brought_up(alloc: Global, plan: &Plan, master: &mut Master<'_>) -> Option<Ring>
-    requires { master.old.plan ≡ plan.now }
-{
-    brought_up_from(alloc, plan, master, 0)
+    let mut startup = startup_of(rt, plan, number);
+    let wire = wire_to(rt, ring_of(rt, plan), 3000, u64::MAX);
+    brought_up_over(rt, &mut startup, wire, master)
 }
 
 /// Sets an output variable, where it holds the value.
@@ -156,4 +209,15 @@ pub fn value_of(master: &Master<'_>, variable: usize) -> u64 {
     } else {
         0
     }
+}
+
+/// Sends a payload. Nothing is received.
+pub fn send<W: Wire>(wire: &mut W, payload: &[u8]) -> usize {
+    wire.send(payload);
+    0
+}
+
+/// How many bytes of a payload are received.
+pub fn receive<W: Wire>(wire: &mut W) -> usize {
+    wire.recv(&mut [0; 1600])
 }

@@ -1,13 +1,12 @@
 //! The frame of a cycle past three slaves in OP, byte for byte.
-ghost use Rattle.ec_link.specs.Usable.{IsUsable};
+ghost use Rattle.std.specs.Prelude.{◌≡◌};
 
-use crate::tests::machines::{THREE_SLAVES, brought_up_from, plan_of, set, there, value_of};
+use crate::tests::machines::{assert_same, brought_up, set, value_of};
+use crate::tests::trials::expect_of_three;
 use ec_cycle::{Master, Taken};
 use ec_link::Plan;
 use ec_ring::Ring;
-use std::alloc::Global;
 use std::process::Abort;
-use std::test::Fail;
 
 /// The frame of cycle 100 as it is sent, where the outputs are 10 and 291.
 const SENT: &str = "3310 \
@@ -21,98 +20,103 @@ const BACK: &str = "3310 \
     0764 0300 3001 0280 0000 0800 0300 \
     0c64 00000100 0300 0000 5aefbe 0600";
 
-/// The bytes of a row of hexadecimal digits with blanks between fields.
-fn bytes_of(alloc: Global, row: &str) -> Result<Vec<u8>, Fail> {
-    let mut bytes = Vec::new(alloc);
-    for field in row.split_whitespace() {
-        bytes.extend_from_slice(&hex::decode(alloc, field)?)?;
-    }
-    Ok(bytes)
+/// The digits of a row of hexadecimal digits with blanks between fields.
+fn digits_of(rt: &(impl AllocGlobal + Abort), row: &str) -> String {
+    row.replace(rt.alloc(), " ", "").expect(rt, "memory")
 }
 
-/// The application of a slave writes a byte of its inputs, if it may. What it does is told by no clause here, nor in the
-/// functions below, so they carry nothing of it.
-fn put(ring: &mut Ring, slave: usize, place: usize, byte: u8) -> bool {
-    slave < ring.len() && ring.slave_mut(slave).app_put(place, byte)
+fn bytes_of_digits(rt: &(impl AllocGlobal + Abort), digits: &str) -> Vec<u8> {
+    hex::decode(rt.alloc(), digits).expect(rt, digits)
 }
 
-/// A frame passes all slaves. Whether it is one.
-fn pass(ring: &mut Ring, frame: &mut [u8]) -> bool {
-    ring.pass_all(frame).is_ok()
+/// The bytes of a row.
+fn bytes_of(rt: &(impl AllocGlobal + Abort), row: &str) -> Vec<u8> {
+    bytes_of_digits(rt, digits_of(rt, row).as_str())
 }
 
-/// The applications write inputs, and the frame as it is sent passes all slaves. What comes back of it.
-fn passed(rt: &(impl AllocGlobal + Abort), ring: &mut Ring) -> Result<Vec<u8>, Fail> {
-    for (slave, place, byte) in [(1, 0, 5), (2, 0, 0xEF), (2, 1, 0xBE)] {
-        let is_put = put(ring, slave, place, byte);
-        assert!(rt; is_put);
-    }
-    let mut frame = bytes_of(rt.alloc(), SENT)?;
-    let is_frame = pass(ring, &mut frame);
-    assert!(rt; is_frame);
-    Ok(frame)
+/// Compares bytes with a row.
+fn assert_row(rt: &(impl AllocGlobal + Abort), met: &[u8], row: &str) {
+    assert_same(rt, &met, &bytes_of(rt, row).as_slice());
 }
 
-/// Whether a cycle that sends 10 and 291 sends this frame.
-fn sends(master: &mut Master<'_>, frame: &[u8]) -> bool {
+/// The application of a slave writes a byte of its inputs.
+fn put(rt: &impl Abort, ring: &mut Ring, slave: usize, place: usize, byte: u8) {
+    assert!(rt; slave < ring.len() && ring.slave_mut(slave).app_put(place, byte));
+}
+
+/// The applications write inputs.
+fn put_all(rt: &impl Abort, ring: &mut Ring) {
+    put(rt, ring, 1, 0, 5);
+    put(rt, ring, 2, 0, 0xEF);
+    put(rt, ring, 2, 1, 0xBE);
+}
+
+fn pass(rt: &impl Abort, ring: &mut Ring, frame: &mut [u8]) {
+    ring.pass_all(frame).expect(rt, "a frame");
+}
+
+/// The frame as it is sent passes all slaves. What comes back of it.
+fn passed(rt: &(impl AllocGlobal + Abort), ring: &mut Ring) -> Vec<u8> {
+    let mut frame = bytes_of(rt, SENT);
+    pass(rt, ring, &mut frame);
+    frame
+}
+
+/// A cycle that sends 10 and 291 is begun.
+fn begin(rt: &impl Abort, master: &mut Master<'_>) {
     set(master, 0, 10);
     set(master, 1, 291);
-    let begun = master.begin().is_ok();
-    begun && master.is_open() && 0 < master.parts() && master.frame(0) == frame
+    master.begin().expect(rt, "a cycle");
 }
 
-/// Whether a cycle is taken of which this came back.
-fn is_taken(master: &mut Master<'_>, payload: &[u8]) -> bool {
-    let kept = master.take(payload);
-    match master.close() {
-        Ok(report) => kept == Taken::Kept && report.is_taken(),
-        Err(_) => false,
+/// The frame of the open cycle is this.
+fn expect_frame(rt: &(impl AllocGlobal + Abort), master: &Master<'_>, row: &str) {
+    if !master.is_open() || master.parts() == 0 {
+        panic!(rt; "a cycle without a frame");
     }
+    assert_row(rt, master.frame(0), row);
 }
 
 /// A cycle of a ready master sends the frame.
-fn expect_sent(rt: &(impl AllocGlobal + Abort), master: &mut Master<'_>) -> Result<(), Fail> {
-    assert_eq!(rt; master.next_number(), 100);
-    let frame = bytes_of(rt.alloc(), SENT)?;
-    let sends = sends(master, &frame);
-    assert!(rt; sends);
-    Ok(())
+fn expect_sent(rt: &(impl AllocGlobal + Abort), master: &mut Master<'_>) {
+    assert!(rt; master.next_number() == 100);
+    begin(rt, master);
+    expect_frame(rt, master, SENT);
 }
 
-/// The frame comes back from the slaves as it must.
-fn expect_back(rt: &(impl AllocGlobal + Abort), ring: &mut Ring) -> Result<Vec<u8>, Fail> {
-    let back = passed(rt, ring)?;
-    let wanted = bytes_of(rt.alloc(), BACK)?;
-    assert!(rt; back.as_slice() == wanted.as_slice());
-    Ok(back)
+/// Ends the open cycle, of which this came back.
+fn is_taken(rt: &impl Abort, master: &mut Master<'_>) -> bool {
+    master.close().expect(rt, "an open cycle").is_taken()
+}
+
+/// This comes back of the frame, as it must, and the cycle is taken.
+fn expect_back(rt: &(impl AllocGlobal + Abort), master: &mut Master<'_>, back: &[u8]) {
+    assert_row(rt, back, BACK);
+    assert!(rt; master.take(back) == Taken::Kept);
+    assert!(rt; is_taken(rt, master));
+    assert_same(rt, &(value_of(master, 2), value_of(master, 3)), &(5, 48879));
 }
 
 /// A cycle of a ready master past its slaves.
-fn expect_cycle(
-    rt: &(impl AllocGlobal + Abort),
-    master: &mut Master<'_>,
-    mut ring: Ring,
-) -> Result<(), Fail> {
-    expect_sent(rt, master)?;
-    let back = expect_back(rt, &mut ring)?;
-    let is_taken = is_taken(master, &back);
-    assert!(rt; is_taken);
-    assert_eq!(rt; (value_of(master, 2), value_of(master, 3)), (5, 48879));
-    Ok(())
+fn expect_cycle(rt: &(impl AllocGlobal + Abort), master: &mut Master<'_>, ring: &mut Ring) {
+    expect_sent(rt, master);
+    put_all(rt, ring);
+    expect_back(rt, master, &passed(rt, ring));
+}
+
+fn expect_cycle_of(rt: &(impl AllocGlobal + Abort), mut ring: Ring, master: &mut Master<'_>) {
+    expect_cycle(rt, master, &mut ring);
 }
 
 /// Brings the slaves of a plan up by frames from number 25 on, and runs a cycle.
-fn expect_frames(rt: &(impl AllocGlobal + Abort), plan: &Plan) -> Result<(), Fail>
-    requires { IsUsable plan.now }
+pub fn expect_frames(rt: &(impl AllocGlobal + Abort), plan: &Plan, master: &mut Master<'_>)
+    requires { master.old.plan ≡ plan.now }
 {
-    let mut master = Master::new(rt.alloc(), plan)?;
-    let ring = there(brought_up_from(rt.alloc(), plan, &mut master, 25))?;
-    expect_cycle(rt, &mut master, ring)
+    expect_cycle_of(rt, brought_up(rt, plan, master, 25), master);
 }
 
 // The master takes from the frame what the slaves' applications wrote.
 #[test]
-fn frame_of_a_cycle(rt: HostRuntime) -> Result<(), Fail> {
-    let plan = plan_of(rt.alloc(), THREE_SLAVES)?;
-    expect_frames(&rt, &plan)
+fn frame_of_a_cycle(rt: HostRuntime) {
+    expect_of_three(&rt, "frames");
 }

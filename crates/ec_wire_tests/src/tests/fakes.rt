@@ -1,0 +1,55 @@
+//! A wire that carries nothing.
+ghost use Rattle.std.specs.Prelude.{◌≡◌};
+
+use ec_wire::Wire;
+
+/// Each receive brings a payload of up to so many bytes, and the count of faults stays as it is; at its last value each call is
+/// a fault.
+#[derive(Drop)]
+pub struct Fake {
+    failures: u64,
+    bytes: usize,
+    received: u64,
+}
+
+impl Fake {
+    /// A wire on which every call is a fault.
+    pub fn spent() -> Fake {
+        Fake {
+            failures: u64::MAX,
+            bytes: 0,
+            received: 0,
+        }
+    }
+
+    /// A wire that brings nothing but payloads of one byte.
+    pub fn strange() -> Fake {
+        Fake {
+            failures: 0,
+            bytes: 1,
+            received: 0,
+        }
+    }
+
+    /// How many payloads were received.
+    pub fn received(&self) -> u64 {
+        self.received
+    }
+}
+
+impl Wire for Fake {
+    ghost use Rattle.ec_wire.specs.Wires.{silent};
+
+    ghost state = { λ w. silent w.failures };
+
+    fn failures(&self) -> u64 {
+        self.failures
+    }
+
+    fn send(&mut self, _payload: &[u8]) {}
+
+    fn recv(&mut self, buffer: &mut [u8]) -> usize {
+        self.received = self.received.saturating_add(1);
+        buffer.len().min(self.bytes)
+    }
+}
