@@ -1,16 +1,17 @@
 -- What a datagram brings to a slave that is set up as usual, and takes from it, as copies.
-use Rattle.std.proofs.Common.{ℕ, ◌+◌, ◌-◌, ◌*◌, ◌<◌, ◌≤◌, ◌≡◌, Bool, false, Option, Some, None, is_some, unwrap_or, ◌&&◌, if◌then◌else◌, nat_lt, List, [], ◌∷◌, length, set, get_or-set_other, slice_index, refl, sym, ◌∙◌, ap, arith, inl, inr}
+use Rattle.std.proofs.Common.{ℕ, ◌+◌, ◌-◌, ◌*◌, ◌<◌, ◌≤◌, ◌≡◌, Bool, true, false, Option, Some, None, is_some, unwrap_or, if◌then◌else◌, nat_lt, List, length, slice_index, refl, sym, ◌∙◌, ap, arith, inl, inr}
 use Rattle.std.proofs.lemmas.Bool.{both_ways, cases_lt, cases_Bool, lt-ltb, le-ltb}
 use Rattle.std.proofs.lemmas.List.{length-replicate}
 use Rattle.ec_bits.specs.Bits.{bit, copied, run_told, within, zeros, bytes_of_bits}
 use Rattle.ec_bits.proofs.AnyLaws.{if_true, if_false, within_true, within_above, within_parts}
 use Rattle.ec_bits.proofs.BitLaws.{overlay_alike}
-use Rattle.ec_fmmu.specs.Areas.{Area}
+use Rattle.ec_fmmu.specs.declared.area.MappedArea.{MappedArea}
+use Rattle.ec_fmmu.specs.Areas.{Area, IsMappedBy, area}
 use Rattle.ec_fmmu.specs.Applied.{Place}
-use Rattle.ec_sync.specs.SyncManager.{SyncManager, may_write, no_manager}
-use Rattle.ec_slave.specs.State.{SlaveState, manager_at, with_memory}
-use Rattle.ec_slave.specs.Exchange.{inputs_into, outputs_from, takes, with_outputs, with_published}
-use Rattle.ec_slave.specs.Usual.{bits_from}
+use Rattle.ec_sync.specs.SyncManager.{SyncManager}
+use Rattle.ec_slave.specs.State.{SlaveState, fmmus, with_memory}
+use Rattle.ec_slave.specs.Exchange.{IsMapped, inputs_into, outputs_from}
+use Rattle.ec_slave.specs.Usual.{LiesIn, bits_from}
 use Rattle.ec_slave.proofs.Wholly.{told_wholly, small-zeros}
 
 -- a copy of the first `n` of the bits that are left tells what is told, where no more are left in the value
@@ -86,36 +87,21 @@ outputs_are a p bytes start len s n l =
     (ap (λ (j : ℕ). if nat_lt j a.outs then Some (bit bytes (a.out_at - p.from + (0 + k))) else None) first
     ∙ ap (λ (j : ℕ). if nat_lt k a.outs then Some (bit bytes j) else None) at)))
 
--- ---- managers 2 and 3
+-- a slave whose managers became others, or didn't
+pub slave_exchanged : (s : SlaveState) (b : Bool) (ms : List SyncManager) → with_memory s s.memory (if b then ms else s.managers) ≡ (if b then with_memory s s.memory ms else s)
+slave_exchanged s true ms = refl
+slave_exchanged s false ms = refl
 
-set_own : (ms : List SyncManager) → length ms ≡ 4 → set ms 2 (manager_at ms 2) ≡ ms
-set_own [] e = absurd (omega (arith, e))
-set_own (a ∷ []) e = absurd (omega (arith, e))
-set_own (a ∷ b ∷ []) e = absurd (omega (arith, e))
-set_own (a ∷ b ∷ c ∷ ms) e = refl
+-- ---- an area that the FMMUs map
 
--- a slave whose manager 2 took the outputs, or didn't
-pub slave_taken : (s : SlaveState) (a : Area) (out : List ℕ) (m x : SyncManager) → length s.managers ≡ 4 → m ≡ manager_at s.managers 2
-    → x ≡ (if nat_lt 0 a.outs && may_write m then with_published m out else m)
-    → with_memory s s.memory (set s.managers 2 x) ≡ (if takes s a then with_outputs s out else s)
-slave_taken s a out m x four second after =
-    let here : x ≡ (if takes s a then with_published (manager_at s.managers 2) out else manager_at s.managers 2)
-    = after ∙ ap (λ (y : SyncManager). if nat_lt 0 a.outs && may_write y then with_published y out else y) second in
-    elim (cases_Bool (takes s a)) [
-      | inl t ↦ ap (λ (y : SyncManager). with_memory s s.memory (set s.managers 2 y)) (here ∙ if_true _ _ _ t) ∙ sym (if_true (takes s a) (with_outputs s out) s t)
-      | inr f ↦
-          ap (λ (y : SyncManager). with_memory s s.memory (set s.managers 2 y)) (here ∙ if_false _ _ _ f)
-          ∙ (ap (with_memory s s.memory) (set_own s.managers four) ∙ sym (if_false (takes s a) (with_outputs s out) s f))
-    ]
-
--- whose manager 3 is as it was
-pub third_after : (s t : SlaveState) (a : Area) (out : List ℕ) → t ≡ (if takes s a then with_outputs s out else s) → manager_at t.managers 3 ≡ manager_at s.managers 3
-third_after s t a out e =
-    let new : SyncManager = with_published (manager_at s.managers 2) out in
-    ap (λ (y : SlaveState). manager_at y.managers 3) e
-    ∙ elim (cases_Bool (takes s a)) as (λ _. manager_at (if takes s a then with_outputs s out else s).managers 3 ≡ manager_at s.managers 3) [
-      | inl t ↦
-          ap (λ (y : SlaveState). manager_at y.managers 3) (if_true (takes s a) (with_outputs s out) s t)
-          ∙ get_or-set_other s.managers 2 3 new no_manager (λ z. omega (arith, z))
-      | inr f ↦ ap (λ (y : SlaveState). manager_at y.managers 3) (if_false (takes s a) (with_outputs s out) s f)
-    ]
+pub is_mapped : (s : SlaveState) (m : MappedArea) → length s.managers ≡ 4 → IsMappedBy (fmmus s) m
+    → LiesIn s.managers 2 m.out_start m.outs → LiesIn s.managers 3 m.in_start m.ins → IsMapped s (area m)
+is_mapped s m four by out own = record {
+  four = four;
+  reads = by.reads;
+  writes = by.writes;
+  in_governed = own.governed;
+  out_governed = out.governed;
+  in_buffer = own.buffer;
+  out_buffer = out.buffer;
+}

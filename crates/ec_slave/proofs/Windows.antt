@@ -122,6 +122,19 @@ unfolding may_write_byte
 write-register ms busy touched a h =
     if_true (nat_lt a ram_start) (takes_writes busy a) (nat_lt a ram_end && writes_under ms touched a (governor ms a)) (lt-ltb a ram_start h)
 
+-- a byte of the RAM is read, or written, as its governor lets it
+pub read-governed : (ms : List SyncManager) (touched : ℕ → Bool) (a : ℕ) (o : Option ℕ) → ram_start ≤ a → a < ram_end → governor ms a ≡ o → may_read_byte ms touched a ≡ reads_under ms touched a o
+unfolding may_read_byte
+read-governed ms touched a o lo hi g =
+    ap (λ (x : Bool). x || (nat_lt a ram_end && reads_under ms touched a (governor ms a))) (le-ltb a ram_start lo)
+    ∙ (ap (λ (x : Bool). x && reads_under ms touched a (governor ms a)) (lt-ltb a ram_end hi) ∙ ap (reads_under ms touched a) g)
+
+pub write-governed : (ms : List SyncManager) (busy : Bool) (touched : ℕ → Bool) (a : ℕ) (o : Option ℕ) → ram_start ≤ a → a < ram_end → governor ms a ≡ o → may_write_byte ms busy touched a ≡ writes_under ms touched a o
+unfolding may_write_byte
+write-governed ms busy touched a o lo hi g =
+    if_false (nat_lt a ram_start) (takes_writes busy a) (nat_lt a ram_end && writes_under ms touched a (governor ms a)) (le-ltb a ram_start lo)
+    ∙ (ap (λ (x : Bool). x && writes_under ms touched a (governor ms a)) (lt-ltb a ram_end hi) ∙ ap (writes_under ms touched a) g)
+
 -- bytes of the RAM that are alike may be written or not alike
 pub write-alike : (ms : List SyncManager) (busy : Bool) (touched : ℕ → Bool) (a b : ℕ) → ram_start ≤ a → ram_start ≤ b → nat_lt a ram_end ≡ nat_lt b ram_end
     → governor ms a ≡ governor ms b → ((n : ℕ) → governor ms b ≡ Some n → in_first_buffer (manager_at ms n) a ≡ in_first_buffer (manager_at ms n) b)

@@ -17,6 +17,7 @@ mod managers;
 mod reading;
 mod writing;
 
+use crate::logical::exchange::{is_held, is_plain, spanned_area};
 use crate::logical::managers::access_managers;
 use crate::logical::reading::read_logical;
 use crate::logical::writing::write_logical;
@@ -44,15 +45,15 @@ impl Slave {
         ensures bytes { bytes.new ≡ (mapped_met self.old role (record { from = from; bits = 8 * length bytes.old }) bytes.old).bytes }
         ensures added { result ≡ (mapped_met self.old role (record { from = from; bits = 8 * length bytes.old }) bytes.old).added }
     {
-        match self.spanned_area(from, 8 * bytes.len() as u64) {
-            Some(mapped) if self.is_held(&mapped) => {
-                self.exchange_area(&mapped, role, from, bytes)
+        if let Some(mapped) = spanned_area(&self.fmmus, from, 8 * bytes.len() as u64) {
+            if is_held(&self.managers, &mapped) {
+                return self.exchange_area(&mapped, role, from, bytes);
             }
-            Some(mapped) if self.is_plain(&mapped) => {
-                self.exchange_plain(&mapped, role, from, bytes)
+            if is_plain(&self.managers, &mapped) {
+                return self.exchange_plain(&mapped, role, from, bytes);
             }
-            _ => self.access_any_bits(role, from, bytes),
         }
+        self.access_any_bits(role, from, bytes)
     }
 
     /// A datagram that reads and writes: its data are copied only where a bit that is read may also

@@ -1,5 +1,6 @@
 //! A slave: its memory, sync managers, AL state, SII and objects.
 ghost use Rattle.std.specs.Prelude.{◌≡◌, ◌+◌, ◌*◌, ◌<◌, ◌≤◌, ◌^◌, ℕ, length, slice_index, IfOk, IfSome, if◌then◌else◌, [], ◌∷◌, Option, Some, None, nat_lt};
+ghost use Rattle.ec_bits.specs.Bits.{zeros};
 ghost use Rattle.ec_regs.specs.Memory.{al_status, ram_start, ram_end};
 ghost use Rattle.ec_sync.specs.SyncManager.{no_manager};
 ghost use Rattle.ec_sii.specs.SiiImage.{image_of};
@@ -84,23 +85,25 @@ impl Slave {
     pub fn new(alloc: Global, kind: SlaveType, identity: Identity) -> Result<Slave, AllocError>
         ensures { IfOk result (λ s. s ≡ power_on kind identity) }
     {
-        let image = SiiImage::of(alloc, &kind, identity)?;
-        let dictionary = Dictionary::new(alloc, kind, identity)?;
-        Slave::switched_on(alloc, dictionary, Port::new(image))
+        let ram = new_ram(alloc)?;
+        let objects = new_objects(alloc, kind, identity)?;
+        Ok(Slave::switched_on(ram, objects))
     }
 
-    /// A slave with these objects and this SII as the power comes on.
+    /// A slave of these parts as the power comes on.
     #[tactic(auto, unfolding(crate::specs::State::power_on))]
-    fn switched_on(alloc: Global, dictionary: Dictionary, port: Port) -> Result<Slave, AllocError>
-        requires objects { dictionary ≡ new_dictionary dictionary.kind dictionary.identity }
-        requires image { port ≡ idle_port (image_of dictionary.kind dictionary.identity) }
-        ensures { IfOk result (λ s. s ≡ power_on dictionary.kind dictionary.identity) }
+    fn switched_on(ram: (Vec<u8>, Vec<SyncManager>), objects: (Dictionary, Port)) -> Slave
+        requires memory { ram.0.items ≡ zeros memory_length }
+        requires managers { ram.1.items ≡ no_manager ∷ no_manager ∷ no_manager ∷ no_manager ∷ [] }
+        requires objects { objects.0 ≡ new_dictionary objects.0.kind objects.0.identity }
+        requires image { objects.1 ≡ idle_port (image_of objects.0.kind objects.0.identity) }
+        ensures { result ≡ power_on objects.0.kind objects.0.identity }
     {
-        let memory = vec![in alloc; 0; memory_len()]?;
-        let managers = new_managers(alloc)?;
+        let (memory, managers) = ram;
+        let (dictionary, port) = objects;
         let fmmus = read_fmmus(&memory);
         let link = DataLink::new(dictionary.kind().face());
-        Ok(Slave {
+        Slave {
             dictionary,
             memory,
             fmmus,
@@ -109,7 +112,7 @@ impl Slave {
             port,
             link,
             replies: 0,
-        })
+        }
     }
 
     /// The station address (registers 0x0010 and 0x0011).
@@ -257,6 +260,30 @@ fn part_of(bytes: &[u8], at: usize, count: usize) -> Option<&[u8]>
         return None;
     }
     Some(&bytes[at..at + count])
+}
+
+/// The memory and the sync managers of a slave as the power comes on.
+fn new_ram(alloc: Global) -> Result<(Vec<u8>, Vec<SyncManager>), AllocError>
+    ensures memory { IfOk result (λ r. r.0.items ≡ zeros memory_length) }
+    ensures managers { IfOk result (λ r. r.1.items ≡ no_manager ∷ no_manager ∷ no_manager ∷ no_manager ∷ []) }
+{
+    let managers = new_managers(alloc)?;
+    let memory = vec![in alloc; 0; memory_len()]?;
+    Ok((memory, managers))
+}
+
+/// The objects of a slave, and its SII, as the power comes on.
+fn new_objects(
+    alloc: Global,
+    kind: SlaveType,
+    identity: Identity,
+) -> Result<(Dictionary, Port), AllocError>
+    ensures objects { IfOk result (λ r. r.0 ≡ new_dictionary kind identity) }
+    ensures image { IfOk result (λ r. r.1 ≡ idle_port (image_of kind identity)) }
+{
+    let image = SiiImage::of(alloc, &kind, identity)?;
+    let dictionary = Dictionary::new(alloc, kind, identity)?;
+    Ok((dictionary, Port::new(image)))
 }
 
 /// Four sync managers as the power comes on.

@@ -1,23 +1,25 @@
 //! A logical datagram at a slave that is set up as usual, all of whose process data it has: the outputs are taken and the inputs
 //! given, a copy each. They are the values of managers 2 and 3, or lie in the RAM itself.
 
-ghost use Rattle.std.specs.Prelude.{◌≡◌, ◌+◌, ◌-◌, ◌*◌, ◌<◌, ◌≤◌, ◌^◌, ◌&&◌, ℕ, IfSome, true, false, if◌then◌else◌, length, nat_lt, slice_index};
+ghost use Rattle.std.specs.Prelude.{◌≡◌, ◌+◌, ◌-◌, ◌*◌, ◌<◌, ◌≤◌, ◌^◌, ◌&&◌, ℕ, IfSome, None, true, false, if◌then◌else◌, length, nat_lt, set, slice_index};
+ghost use Rattle.std.specs.Int.{from_bool};
 ghost use Rattle.std.specs.Bool.{OnTrue};
-ghost use Rattle.ec_bits.specs.Bits.{bytes_of_bits, copied};
+ghost use Rattle.ec_bits.specs.Bits.{bytes_of_bits, copied, within};
 ghost use Rattle.ec_regs.specs.Memory.{ram_end};
 ghost use Rattle.ec_fmmu.specs.Applied.{Place};
 ghost use Rattle.ec_fmmu.specs.Areas.{area, IsMappedBy, Spans};
 ghost use Rattle.ec_sync.specs.SyncManager.{may_read, may_write};
-ghost use Rattle.ec_sync.specs.Governing.{governs};
-ghost use Rattle.ec_slave.specs.Exchange.{IsBufferAt, IsMapped, gives, inputs_into, inputs_of, outputs_from, takes, with_outputs, with_published};
-ghost use Rattle.ec_slave.specs.Mapped.{mapped_met};
-ghost use Rattle.ec_slave.specs.State.{fmmus, manager_at, with_memory};
+ghost use Rattle.ec_sync.specs.Governing.{governor, governs};
+ghost use Rattle.ec_slave.specs.Exchange.{IsBufferAt, IsMapped, inputs_into, outputs_from, with_published};
+ghost use Rattle.ec_slave.specs.Mapped.{at_bits, mapped_met, weight};
+ghost use Rattle.ec_slave.specs.Roles.{is_reading, is_writing};
+ghost use Rattle.ec_slave.specs.State.{manager_at};
 ghost use Rattle.ec_slave.specs.Usual.{IsPlain, LiesFree, LiesIn, bits_from};
 
 use crate::role::Role;
 use crate::slave::Slave;
 use ec_bits::{copy_by_words, within};
-use ec_fmmu::MappedArea;
+use ec_fmmu::{FmmuTable, MappedArea};
 use ec_regs::registers::RAM_END;
 use ec_sync::{SyncManager, Touching, Writing};
 
@@ -42,46 +44,37 @@ fn is_buffer(manager: &SyncManager, start: u64, len: u64) -> bool
         && u64::from(settings.length) == len
 }
 
-/// Whether so many bits from an address on, if there are any, are the value of manager 2, and no lower manager governs a byte
-/// of it. False says nothing.
-fn has_outputs(managers: &[SyncManager], start: u64, bits: u64) -> bool
-    requires four { length managers.now ≡ 4 }
-    requires small { bits < 2 ^ 42 }
-    ensures { OnTrue result (LiesIn managers.now 2 start bits) }
+/// Whether none of these managers governs one of the bytes from one address on and below another. False says nothing.
+fn are_clear(managers: &[SyncManager], start: usize, end: usize) -> bool
+    ensures { OnTrue result ((a : ℕ) → start ≤ a → a < end → governor managers.now a ≡ None) }
 {
-    if bits == 0 {
-        return true;
+    for manager in managers {
+        if !is_clear(manager, start, end) {
+            return false;
+        }
     }
-    let len = (bits + 7) / 8;
-    if !is_buffer(&managers[2], start, len) {
-        return false;
-    }
-    let (first, end) = (start as usize, (start + len) as usize);
-    is_clear(&managers[0], first, end) && is_clear(&managers[1], first, end)
+    true
 }
 
-/// The same of manager 3.
-fn has_inputs(managers: &[SyncManager], start: u64, bits: u64) -> bool
-    requires four { length managers.now ≡ 4 }
+/// Whether so many bits from an address on, if there are any, are the value of this manager, and no lower manager governs a byte
+/// of it. False says nothing.
+fn has_value(managers: &[SyncManager], place: usize, start: u64, bits: u64) -> bool
+    requires place { place < length managers.now }
     requires small { bits < 2 ^ 42 }
-    ensures { OnTrue result (LiesIn managers.now 3 start bits) }
+    ensures { OnTrue result (LiesIn managers.now place start bits) }
 {
     if bits == 0 {
         return true;
     }
     let len = (bits + 7) / 8;
-    if !is_buffer(&managers[3], start, len) {
+    if !is_buffer(&managers[place], start, len) {
         return false;
     }
-    let (first, end) = (start as usize, (start + len) as usize);
-    is_clear(&managers[0], first, end)
-        && is_clear(&managers[1], first, end)
-        && is_clear(&managers[2], first, end)
+    are_clear(&managers[..place], start as usize, (start + len) as usize)
 }
 
 /// Whether so many bits from an address on lie in the RAM itself, and no manager governs a byte of them. False says nothing.
 fn is_free(managers: &[SyncManager], start: u64, bits: u64) -> bool
-    requires four { length managers.now ≡ 4 }
     requires inside { start ≤ ram_end }
     requires small { bits < 2 ^ 42 }
     ensures { OnTrue result (LiesFree managers.now start bits) }
@@ -90,14 +83,49 @@ fn is_free(managers: &[SyncManager], start: u64, bits: u64) -> bool
         return true;
     }
     let stop = start + (bits + 7) / 8;
-    if stop > RAM_END as u64 {
+    stop <= RAM_END as u64 && are_clear(managers, start as usize, stop as usize)
+}
+
+/// Whether managers 2 and 3 hold an area that the FMMUs map. False says nothing.
+pub(super) fn is_held(managers: &[SyncManager], mapped: &MappedArea) -> bool
+    requires four { length managers.now ≡ 4 }
+    requires outs { mapped.now.outs < 2 ^ 42 }
+    requires ins { mapped.now.ins < 2 ^ 42 }
+    ensures outs { OnTrue result (LiesIn managers.now 2 mapped.now.out_start mapped.now.outs) }
+    ensures ins { OnTrue result (LiesIn managers.now 3 mapped.now.in_start mapped.now.ins) }
+{
+    has_value(managers, 2, mapped.out_start, mapped.outs)
+        && has_value(managers, 3, mapped.in_start, mapped.ins)
+}
+
+/// Whether an area begins in the RAM, and no bit of its inputs is one of its outputs. False says nothing.
+fn is_apart(mapped: &MappedArea) -> bool
+    requires outs { mapped.now.outs < 2 ^ 42 }
+    requires ins { mapped.now.ins < 2 ^ 42 }
+    ensures outs { OnTrue result (mapped.now.out_start ≤ ram_end) }
+    ensures ins { OnTrue result (mapped.now.in_start ≤ ram_end) }
+    ensures apart { OnTrue result ((q : ℕ) → within (8 * mapped.now.in_start) mapped.now.ins q ≡ true → within (8 * mapped.now.out_start) mapped.now.outs q ≡ false) }
+{
+    let last = RAM_END as u64;
+    if (mapped.out_start > last) | (mapped.in_start > last) {
         return false;
     }
-    let (first, end) = (start as usize, stop as usize);
-    is_clear(&managers[0], first, end)
-        && is_clear(&managers[1], first, end)
-        && is_clear(&managers[2], first, end)
-        && is_clear(&managers[3], first, end)
+    let out_end = 8 * mapped.out_start + mapped.outs;
+    let in_end = 8 * mapped.in_start + mapped.ins;
+    (out_end <= 8 * mapped.in_start) | (in_end <= 8 * mapped.out_start)
+}
+
+/// Whether an area that the FMMUs map lies in the RAM itself. False says nothing.
+pub(super) fn is_plain(managers: &[SyncManager], mapped: &MappedArea) -> bool
+    requires outs { mapped.now.outs < 2 ^ 42 }
+    requires ins { mapped.now.ins < 2 ^ 42 }
+    ensures outs { OnTrue result (LiesFree managers.now mapped.now.out_start mapped.now.outs) }
+    ensures ins { OnTrue result (LiesFree managers.now mapped.now.in_start mapped.now.ins) }
+    ensures apart { OnTrue result ((q : ℕ) → within (8 * mapped.now.in_start) mapped.now.ins q ≡ true → within (8 * mapped.now.out_start) mapped.now.outs q ≡ false) }
+{
+    is_apart(mapped)
+        && is_free(managers, mapped.out_start, mapped.outs)
+        && is_free(managers, mapped.in_start, mapped.ins)
 }
 
 /// Whether the `bits` logical bits from `from` on have a whole area.
@@ -213,46 +241,107 @@ fn give_inputs(manager: &SyncManager, mapped: &MappedArea, from: u64, bytes: &mu
     true
 }
 
+/// The area that the FMMUs map, if the `bits` logical bits from `from` on have it whole.
+pub(super) fn spanned_area(fmmus: &FmmuTable, from: u64, bits: u64) -> Option<MappedArea>
+    requires { from + bits < 2 ^ 64 }
+    ensures mapped { IfSome result (λ m. IsMappedBy fmmus.now m) }
+    ensures spans { IfSome result (λ m. Spans (record { from = from; bits = bits }) (area m)) }
+{
+    let mapped = fmmus.area()?;
+    if spans(&mapped, from, bits) {
+        Some(mapped)
+    } else {
+        None
+    }
+}
+
+/// A datagram that has a whole area, which managers 2 and 3 hold: its outputs are taken first, as they came, and then the inputs
+/// given.
+fn exchange_values(
+    managers: &mut [SyncManager],
+    mapped: &MappedArea,
+    role: Role,
+    from: u64,
+    bytes: &mut [u8],
+) -> u16
+    requires small { from + 8 * length bytes.old < 2 ^ 64 }
+    requires four { length managers.old ≡ 4 }
+    requires outs { 0 < mapped.now.outs → IsBufferAt (manager_at managers.old 2).settings mapped.now.out_start (bytes_of_bits mapped.now.outs) }
+    requires ins { 0 < mapped.now.ins → IsBufferAt (manager_at managers.old 3).settings mapped.now.in_start (bytes_of_bits mapped.now.ins) }
+    requires spans { Spans (record { from = from; bits = 8 * length bytes.old }) (area mapped.now) }
+    ensures managers { let m = manager_at managers.old 2 in
+        managers.new ≡ (if is_writing role && (nat_lt 0 mapped.now.outs && may_write m)
+        then set managers.old 2 (with_published m (outputs_from (area mapped.now) (at_bits from bytes.old) bytes.old)) else managers.old) }
+    ensures bytes { let m = manager_at managers.old 3 in
+        bytes.new ≡ (if is_reading role && (nat_lt 0 mapped.now.ins && may_read m)
+        then inputs_into (area mapped.now) (at_bits from bytes.old) m.buffer.published bytes.old else bytes.old) }
+    ensures added { result ≡ from_bool (is_reading role && (nat_lt 0 mapped.now.ins && may_read (manager_at managers.old 3)))
+        + weight role * from_bool (is_writing role && (nat_lt 0 mapped.now.outs && may_write (manager_at managers.old 2))) }
+{
+    let is_written = role.writes() && take_outputs(&mut managers[2], mapped, from, bytes);
+    let is_read = role.reads() && give_inputs(&managers[3], mapped, from, bytes);
+    role.count(is_read, is_written)
+}
+
+/// Gets the inputs of an area of the RAM itself from there.
+fn get_inputs(memory: &[u8], mapped: &MappedArea, from: u64, bytes: &mut [u8])
+    requires small { from + 8 * length bytes.old < 2 ^ 64 }
+    requires room { length memory.now ≡ ram_end }
+    requires inside { mapped.now.in_start + bytes_of_bits mapped.now.ins ≤ ram_end }
+    requires first { from ≤ mapped.now.in_at }
+    requires last { mapped.now.in_at + mapped.now.ins ≤ from + 8 * length bytes.old }
+    ensures { bytes.new ≡ copied bytes.old (mapped.now.in_at - from) memory.now (8 * mapped.now.in_start) mapped.now.ins }
+{
+    let to = (mapped.in_at - from) as usize;
+    let at = 8 * mapped.in_start as usize;
+    copy_by_words(bytes, to, memory, at, mapped.ins as usize);
+}
+
+/// Puts the outputs of an area of the RAM itself there.
+fn put_outputs(memory: &mut [u8], mapped: &MappedArea, from: u64, bytes: &[u8])
+    requires small { from + 8 * length bytes.now < 2 ^ 64 }
+    requires room { length memory.old ≡ ram_end }
+    requires inside { mapped.now.out_start + bytes_of_bits mapped.now.outs ≤ ram_end }
+    requires first { from ≤ mapped.now.out_at }
+    requires last { mapped.now.out_at + mapped.now.outs ≤ from + 8 * length bytes.now }
+    ensures { memory.new ≡ copied memory.old (8 * mapped.now.out_start) bytes.now (mapped.now.out_at - from) mapped.now.outs }
+{
+    let to = 8 * mapped.out_start as usize;
+    let at = (mapped.out_at - from) as usize;
+    copy_by_words(memory, to, bytes, at, mapped.outs as usize);
+}
+
+/// A datagram that has a whole area, which lies in the memory itself: its outputs are put there first, as they came, and then
+/// the inputs gotten.
+fn exchange_memory(
+    memory: &mut [u8],
+    mapped: &MappedArea,
+    role: Role,
+    from: u64,
+    bytes: &mut [u8],
+) -> u16
+    requires small { from + 8 * length bytes.old < 2 ^ 64 }
+    requires room { length memory.old ≡ ram_end }
+    requires outs { mapped.now.out_start + bytes_of_bits mapped.now.outs ≤ ram_end }
+    requires ins { mapped.now.in_start + bytes_of_bits mapped.now.ins ≤ ram_end }
+    requires spans { Spans (record { from = from; bits = 8 * length bytes.old }) (area mapped.now) }
+    ensures memory { memory.new ≡ (if is_writing role
+        then copied memory.old (8 * mapped.now.out_start) bytes.old (mapped.now.out_at - from) mapped.now.outs else memory.old) }
+    ensures bytes { bytes.new ≡ (if is_reading role
+        then copied bytes.old (mapped.now.in_at - from) memory.new (8 * mapped.now.in_start) mapped.now.ins else bytes.old) }
+    ensures added { result ≡ from_bool (is_reading role && nat_lt 0 mapped.now.ins) + weight role * from_bool (is_writing role && nat_lt 0 mapped.now.outs) }
+{
+    let (reads, writes) = (role.reads(), role.writes());
+    if writes {
+        put_outputs(memory, mapped, from, bytes);
+    }
+    if reads {
+        get_inputs(memory, mapped, from, bytes);
+    }
+    role.count(reads & (mapped.ins > 0), writes & (mapped.outs > 0))
+}
+
 impl Slave {
-    /// The area that the FMMUs map, if the `bits` logical bits from `from` on have it whole.
-    pub(super) fn spanned_area(&self, from: u64, bits: u64) -> Option<MappedArea>
-        requires { from + bits < 2 ^ 64 }
-        ensures mapped { IfSome result (λ m. IsMappedBy (fmmus self.now) m) }
-        ensures spans { IfSome result (λ m. Spans (record { from = from; bits = bits }) (area m)) }
-    {
-        let mapped = self.fmmus.area()?;
-        if spans(&mapped, from, bits) {
-            Some(mapped)
-        } else {
-            None
-        }
-    }
-
-    /// Whether managers 2 and 3 hold an area that the FMMUs map. False says nothing.
-    pub(super) fn is_held(&self, mapped: &MappedArea) -> bool
-        requires { IsMappedBy (fmmus self.now) mapped.now }
-        ensures { OnTrue result (IsMapped self.now (area mapped.now)) }
-    {
-        has_outputs(&self.managers, mapped.out_start, mapped.outs)
-            && has_inputs(&self.managers, mapped.in_start, mapped.ins)
-    }
-
-    /// Whether an area that the FMMUs map lies in the RAM itself. False says nothing.
-    pub(super) fn is_plain(&self, mapped: &MappedArea) -> bool
-        requires { IsMappedBy (fmmus self.now) mapped.now }
-        ensures { OnTrue result (IsPlain self.now (area mapped.now)) }
-    {
-        let last = RAM_END as u64;
-        if mapped.out_start > last || mapped.in_start > last {
-            return false;
-        }
-        let out_end = 8 * mapped.out_start + mapped.outs;
-        let in_end = 8 * mapped.in_start + mapped.ins;
-        (out_end <= 8 * mapped.in_start || in_end <= 8 * mapped.out_start)
-            && is_free(&self.managers, mapped.out_start, mapped.outs)
-            && is_free(&self.managers, mapped.in_start, mapped.ins)
-    }
-
     /// A datagram that has the whole area: its outputs are taken first, as they came, and then the inputs given.
     pub(super) fn exchange_area(
         &mut self,
@@ -268,9 +357,7 @@ impl Slave {
         ensures bytes { bytes.new ≡ (mapped_met self.old role (record { from = from; bits = 8 * length bytes.old }) bytes.old).bytes }
         ensures added { result ≡ (mapped_met self.old role (record { from = from; bits = 8 * length bytes.old }) bytes.old).added }
     {
-        let is_written = role.writes() && self.take_area(mapped, from, bytes);
-        let is_read = role.reads() && self.give_area(mapped, from, bytes);
-        role.count(is_read, is_written)
+        exchange_values(&mut self.managers, mapped, role, from, bytes)
     }
 
     /// A datagram that has the whole area, which lies in the RAM itself: its outputs are put there first, as they came, and then
@@ -289,68 +376,6 @@ impl Slave {
         ensures bytes { bytes.new ≡ (mapped_met self.old role (record { from = from; bits = 8 * length bytes.old }) bytes.old).bytes }
         ensures added { result ≡ (mapped_met self.old role (record { from = from; bits = 8 * length bytes.old }) bytes.old).added }
     {
-        let (reads, writes) = (role.reads(), role.writes());
-        if writes {
-            self.put_area(mapped, from, bytes);
-        }
-        if reads {
-            self.get_area(mapped, from, bytes);
-        }
-        role.count(reads & (mapped.ins > 0), writes & (mapped.outs > 0))
-    }
-
-    /// Gives the inputs of an area that a datagram has whole, if it has any and may be read. Answers whether.
-    fn give_area(&self, mapped: &MappedArea, from: u64, bytes: &mut [u8]) -> bool
-        requires small { from + 8 * length bytes.old < 2 ^ 64 }
-        requires four { length self.now.managers ≡ 4 }
-        requires buffer { 0 < mapped.now.ins → IsBufferAt (manager_at self.now.managers 3).settings mapped.now.in_start (bytes_of_bits mapped.now.ins) }
-        requires first { from ≤ mapped.now.in_at }
-        requires last { mapped.now.in_at + mapped.now.ins ≤ from + 8 * length bytes.old }
-        ensures given { result ≡ gives self.now (area mapped.now) }
-        ensures bytes { let place : Place = record { from = from; bits = 8 * length bytes.old } in
-            bytes.new ≡ (if gives self.now (area mapped.now)
-            then inputs_into (area mapped.now) place (inputs_of self.now) bytes.old else bytes.old) }
-    {
-        give_inputs(&self.managers[3], mapped, from, bytes)
-    }
-
-    /// Takes the outputs of an area that a datagram has whole, if it has any and may be written. Answers whether.
-    fn take_area(&mut self, mapped: &MappedArea, from: u64, bytes: &[u8]) -> bool
-        requires small { from + 8 * length bytes.now < 2 ^ 64 }
-        requires mapped { IsMapped self.old (area mapped.now) }
-        requires spans { Spans (record { from = from; bits = 8 * length bytes.now }) (area mapped.now) }
-        ensures taken { result ≡ takes self.old (area mapped.now) }
-        ensures slave { let place : Place = record { from = from; bits = 8 * length bytes.now } in
-            self.new ≡ (if takes self.old (area mapped.now)
-            then with_outputs self.old (outputs_from (area mapped.now) place bytes.now) else self.old) }
-    {
-        take_outputs(&mut self.managers[2], mapped, from, bytes)
-    }
-
-    /// Gets the inputs of an area of the RAM itself from there.
-    fn get_area(&self, mapped: &MappedArea, from: u64, bytes: &mut [u8])
-        requires small { from + 8 * length bytes.old < 2 ^ 64 }
-        requires room { length self.now.memory ≡ ram_end }
-        requires inside { mapped.now.in_start + bytes_of_bits mapped.now.ins ≤ ram_end }
-        requires first { from ≤ mapped.now.in_at }
-        requires last { mapped.now.in_at + mapped.now.ins ≤ from + 8 * length bytes.old }
-        ensures { bytes.new ≡ copied bytes.old (mapped.now.in_at - from) self.now.memory (8 * mapped.now.in_start) mapped.now.ins }
-    {
-        let to = (mapped.in_at - from) as usize;
-        let at = 8 * mapped.in_start as usize;
-        copy_by_words(bytes, to, &self.memory, at, mapped.ins as usize);
-    }
-
-    /// Puts the outputs of an area of the RAM itself there.
-    fn put_area(&mut self, mapped: &MappedArea, from: u64, bytes: &[u8])
-        requires small { from + 8 * length bytes.now < 2 ^ 64 }
-        requires plain { IsPlain self.old (area mapped.now) }
-        requires spans { Spans (record { from = from; bits = 8 * length bytes.now }) (area mapped.now) }
-        ensures { self.new ≡ with_memory self.old
-            (copied self.old.memory (8 * mapped.now.out_start) bytes.now (mapped.now.out_at - from) mapped.now.outs) self.old.managers }
-    {
-        let to = 8 * mapped.out_start as usize;
-        let at = (mapped.out_at - from) as usize;
-        copy_by_words(&mut self.memory, to, bytes, at, mapped.outs as usize);
+        exchange_memory(&mut self.memory, mapped, role, from, bytes)
     }
 }

@@ -39,7 +39,7 @@ pub(crate) fn reads_byte(
         None => true,
         Some(place) => {
             let manager = &managers[place];
-            manager.in_first_buffer(address) && manager.is_covered(from, len) && manager.may_read()
+            manager.in_first_buffer(address) & (manager.is_covered(from, len) & manager.may_read())
         }
     }
 }
@@ -171,7 +171,7 @@ fn writes_byte(
         None => true,
         Some(place) => {
             let manager = &managers[place];
-            manager.in_first_buffer(address) && manager.is_covered(from, len) && manager.may_write()
+            manager.in_first_buffer(address) & (manager.is_covered(from, len) & manager.may_write())
         }
     }
 }

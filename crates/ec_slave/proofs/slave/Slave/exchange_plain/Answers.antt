@@ -1,81 +1,86 @@
-use Rattle.std.proofs.Common.{ℕ, ◌≡◌, ◌+◌, ◌-◌, ◌*◌, ◌∙◌, ◌&&◌, Bool, true, false, List, length, nat_lt, if◌then◌else◌, sym, ap}
-use Rattle.std.specs.Int.{from_bool}
-use Rattle.ec_bits.specs.Bits.{copied, run_told}
-use Rattle.ec_bits.proofs.BitLaws.{length-overlay}
-use Rattle.ec_regs.specs.Memory.{ram_end}
+use Rattle.std.proofs.Common.{ℕ, ◌≡◌, ◌-◌, ◌*◌, ◌++◌, ◌∙◌, Bool, true, false, List, length, take, drop, if◌then◌else◌, refl, sym, ap, arith}
+use Rattle.ec_bits.specs.Bits.{copied}
 use Rattle.ec_fmmu.specs.Applied.{Place}
-use Rattle.ec_fmmu.specs.Areas.{Area, area}
-use Rattle.ec_slave.specs.State.{SlaveState, MetBytes, with_memory}
+use Rattle.ec_fmmu.specs.Areas.{Area, Spans, area}
+use Rattle.ec_slave.specs.State.{SlaveState, MetBytes, fmmus, fmmus_of, with_memory}
 use Rattle.ec_slave.specs.Roles.{is_reading, is_writing}
-use Rattle.ec_slave.specs.Mapped.{weight}
-use Rattle.ec_slave.proofs.Plain.{plain_placed, read_after}
+use Rattle.ec_slave.specs.Mapped.{at_bits, weight}
+use Rattle.ec_slave.specs.Usual.{IsPlain}
+use Rattle.ec_slave.proofs.Exchanges.{take_front}
+use Rattle.ec_slave.proofs.Moves.{decoded-mapped}
+use Rattle.ec_slave.proofs.Plain.{memory_put, plain_placed, read_after}
 use Rattle.ec_slave.proofs.slave.Slave.exchange_plain.Goals as goal
-use Rattle.ec_slave.proofs.slave.Slave.exchange_plain.Goals.{then-writes, else-writes, then-reads, else-reads}
 
-pub get_area-requires-clause-room : goal.get_area-requires-clause-room
-get_area-requires-clause-room c =
+abbrev put_if : Bool → SlaveState → Area → Place → List ℕ → List ℕ → List ℕ
+put_if b s a p bytes memory = if b then copied memory (8 * a.out_start) bytes (a.out_at - p.from) a.outs else memory
+
+still_decoded : (b : Bool) (s : SlaveState) (a : Area) (p : Place) (bytes : List ℕ) → IsPlain s a → Spans p a → fmmus_of s.memory ≡ fmmus_of (put_if b s a p bytes s.memory)
+still_decoded true s a p bytes h c = decoded-mapped s.managers (fmmus s) p bytes s.memory ∙ ap fmmus_of (memory_put s a p bytes h c)
+still_decoded false s a p bytes h c = refl
+
+gotten : (b : Bool) (s : SlaveState) (a : Area) (p : Place) (bytes : List ℕ) → IsPlain s a
+    → copied bytes (a.in_at - p.from) (put_if b s a p bytes s.memory) (8 * a.in_start) a.ins ≡ copied bytes (a.in_at - p.from) s.memory (8 * a.in_start) a.ins
+gotten true s a p bytes h = read_after s a bytes bytes (a.out_at - p.from) (a.in_at - p.from) h
+gotten false s a p bytes h = refl
+
+pub invariant_of-self : goal.invariant_of-self
+invariant_of-self c =
     let s : SlaveState = c.args.self.now in
     let a : Area = area c.args.mapped.now in
-    let at : ℕ = a.out_at - c.args.from in
-    elim c.if-writes.branch as (λ _. length c.if-writes.self.memory ≡ ram_end) [
-      | then-writes w ↦
-          ap (λ (y : SlaveState). length y.memory) (w.self-is ∙ w.put_area.ensures)
-          ∙ (length-overlay s.memory (run_told (8 * a.out_start) c.args.bytes.now at a.outs) ∙ c.requires.plain.room)
-      | else-writes w ↦ ap (λ (y : SlaveState). length y.memory) w.self-is ∙ c.requires.plain.room
-    ]
+    let bytes : List ℕ = c.args.bytes.now in
+    let p : Place = at_bits c.args.from bytes in
+    let new : List ℕ = c.exchange_memory.new.memory in
+    let own = c.deref_mut.ensures.value in
+    let ok = c.self.inside.memory.ok in
+    let long = c.exchange_memory.auto.memory in
+    let memory = ap (λ (x : SlaveState). x.memory) c.self.view_is in
+    let front : take c.self.inside.memory.len (new ++ drop (length new) c.self.inside.memory.items) ≡ new
+    = take_front new _ c.self.inside.memory.len (omega (arith, ap length own, ok, long)) in
+    let put : new ≡ put_if (is_writing c.args.role) s a p bytes s.memory
+    = c.exchange_memory.ensures.memory ∙ ap (put_if (is_writing c.args.role) s a p bytes) (own ∙ memory) in
+    record {
+      room = ap length front ∙ (long ∙ (ap length own ∙ c.self.invariant.room));
+      four = c.self.invariant.four;
+      decoded = c.self.invariant.decoded ∙ (ap fmmus_of memory
+          ∙ (still_decoded (is_writing c.args.role) s a p bytes c.requires.plain c.requires.spans ∙ ap fmmus_of (sym (front ∙ put))));
+      image = c.self.invariant.image;
+    }
 
 pub returns-clause-slave : goal.returns-clause-slave
 returns-clause-slave c =
     let s : SlaveState = c.args.self.now in
     let a : Area = area c.args.mapped.now in
     let bytes : List ℕ = c.args.bytes.now in
-    let p : Place = record { from = c.args.from; bits = 8 * length bytes } in
+    let p : Place = at_bits c.args.from bytes in
     let role = c.args.role in
-    let put : List ℕ = copied s.memory (8 * a.out_start) bytes (a.out_at - p.from) a.outs in
-    let law = ap (λ (m : MetBytes). m.slave) (plain_placed (is_reading role) (is_writing role) (weight role) s a p bytes c.requires.plain c.requires.spans) in
-    elim c.if-writes.branch [
-      | then-writes w ↦
-          let writing : is_writing role ≡ true = sym c.writes-writes.ensures ∙ w.if-writes.true in
-          w.self-is ∙ (w.put_area.ensures ∙ sym (law ∙ ap (λ (b : Bool). with_memory s (if b then put else s.memory) s.managers) writing))
-      | else-writes w ↦
-          let writing : is_writing role ≡ false = sym c.writes-writes.ensures ∙ w.if-writes.false in
-          w.self-is ∙ sym (law ∙ ap (λ (b : Bool). with_memory s (if b then put else s.memory) s.managers) writing)
-    ]
+    let new : List ℕ = c.exchange_memory.new.memory in
+    let own = c.deref_mut.ensures.value in
+    let ok = c.self.inside.memory.ok in
+    let long = c.exchange_memory.auto.memory in
+    let all : List ℕ = take c.self.inside.memory.len (new ++ drop (length new) c.self.inside.memory.items) in
+    let front : all ≡ new = take_front new _ c.self.inside.memory.len (omega (arith, ap length own, ok, long)) in
+    let memory = own ∙ ap (λ (x : SlaveState). x.memory) c.self.view_is in
+    ap (λ (x : SlaveState). with_memory x all x.managers) c.self.view_is
+    ∙ (ap (λ (xs : List ℕ). with_memory s xs s.managers) (front ∙ (c.exchange_memory.ensures.memory ∙ ap (put_if (is_writing role) s a p bytes) memory))
+    ∙ sym (ap (λ (m : MetBytes). m.slave) (plain_placed (is_reading role) (is_writing role) (weight role) s a p bytes c.requires.plain c.requires.spans)))
 
 pub returns-clause-bytes : goal.returns-clause-bytes
 returns-clause-bytes c =
     let s : SlaveState = c.args.self.now in
     let a : Area = area c.args.mapped.now in
     let bytes : List ℕ = c.args.bytes.now in
-    let p : Place = record { from = c.args.from; bits = 8 * length bytes } in
+    let p : Place = at_bits c.args.from bytes in
     let role = c.args.role in
-    let at : ℕ = a.out_at - p.from in
-    let to : ℕ = a.in_at - p.from in
-    let got = λ (xs : List ℕ). copied bytes to xs (8 * a.in_start) a.ins in
-    let law = ap (λ (m : MetBytes). m.bytes) (plain_placed (is_reading role) (is_writing role) (weight role) s a p bytes c.requires.plain c.requires.spans) in
-    elim c.if-reads.branch [
-      | then-reads w ↦
-          let reading : is_reading role ≡ true = sym c.reads-reads.ensures ∙ w.if-reads.true in
-          let same : got c.if-writes.self.memory ≡ got s.memory = elim c.if-writes.branch [
-            | then-writes u ↦
-                ap (λ (y : SlaveState). got y.memory) (u.self-is ∙ u.put_area.ensures)
-                ∙ read_after s a bytes bytes at to c.requires.plain
-            | else-writes u ↦ ap (λ (y : SlaveState). got y.memory) u.self-is
-          ] in
-          w.bytes-is ∙ (w.get_area.ensures ∙ (same ∙ sym (law ∙ ap (λ (b : Bool). if b then got s.memory else bytes) reading)))
-      | else-reads w ↦
-          let reading : is_reading role ≡ false = sym c.reads-reads.ensures ∙ w.if-reads.false in
-          w.bytes-is ∙ sym (law ∙ ap (λ (b : Bool). if b then got s.memory else bytes) reading)
-    ]
+    let memory = c.deref_mut.ensures.value ∙ ap (λ (x : SlaveState). x.memory) c.self.view_is in
+    let put = c.exchange_memory.ensures.memory ∙ ap (put_if (is_writing role) s a p bytes) memory in
+    c.exchange_memory.ensures.bytes
+    ∙ (ap (λ (xs : List ℕ). if is_reading role then copied bytes (a.in_at - p.from) xs (8 * a.in_start) a.ins else bytes) put
+    ∙ (ap (λ (xs : List ℕ). if is_reading role then xs else bytes) (gotten (is_writing role) s a p bytes c.requires.plain)
+    ∙ sym (ap (λ (m : MetBytes). m.bytes) (plain_placed (is_reading role) (is_writing role) (weight role) s a p bytes c.requires.plain c.requires.spans))))
 
 pub returns-clause-added : goal.returns-clause-added
 returns-clause-added c =
-    let s : SlaveState = c.args.self.now in
-    let a : Area = area c.args.mapped.now in
     let bytes : List ℕ = c.args.bytes.now in
-    let p : Place = record { from = c.args.from; bits = 8 * length bytes } in
     let role = c.args.role in
-    let law = ap (λ (m : MetBytes). m.added) (plain_placed (is_reading role) (is_writing role) (weight role) s a p bytes c.requires.plain c.requires.spans) in
-    c.count.ensures
-    ∙ (ap (λ (b : Bool). from_bool (b && nat_lt 0 a.ins) + weight role * from_bool (c.writes-writes.result && nat_lt 0 a.outs)) c.reads-reads.ensures
-    ∙ (ap (λ (b : Bool). from_bool (is_reading role && nat_lt 0 a.ins) + weight role * from_bool (b && nat_lt 0 a.outs)) c.writes-writes.ensures ∙ sym law))
+    c.exchange_memory.ensures.added
+    ∙ sym (ap (λ (m : MetBytes). m.added) (plain_placed (is_reading role) (is_writing role) (weight role) c.args.self.now (area c.args.mapped.now) (at_bits c.args.from bytes) bytes c.requires.plain c.requires.spans))

@@ -1,0 +1,24 @@
+use Rattle.std.proofs.Common.{ℕ, Bool, ◌≡◌, ◌<◌, ◌∙◌, ◌&&◌, List, length, Option, Some, refl, sym, ap, subst}
+use Rattle.std.specs.Option.{IfSome}
+use Rattle.ec_bits.specs.Bits.{within}
+use Rattle.ec_sync.specs.SyncManager.{SyncManager, may_write}
+use Rattle.ec_sync.specs.Governing.{covers, in_first_buffer}
+use Rattle.ec_slave.specs.State.{manager_at}
+use Rattle.ec_slave.proofs.Applications.{indexed}
+use Rattle.ec_slave.proofs.Windows.{write-governed}
+use Rattle.ec_slave.proofs.physical.bytes.writes_byte.Goals as goal
+
+pub returns-in-Some : goal.returns-in-Some
+returns-in-Some c =
+    let ms : List SyncManager = c.args.managers.now in
+    let a : ℕ = c.args.address in
+    let n : ℕ = c.in-Some.place in
+    let t : ℕ → Bool = within c.args.from c.args.len in
+    let x : SyncManager = c.index-managers-place.result in
+    let there : n < length ms = subst (λ (o : Option ℕ). IfSome o (λ k. k < length ms)) c.in-Some.is c.requires.within in
+    let own : x ≡ manager_at ms n = indexed ms ms n x there c.index-managers-place.is refl in
+    ap (λ (b : Bool). b && (c.is_covered.result && c.may_write.result)) c.in_first_buffer.ensures
+    ∙ (ap (λ (b : Bool). in_first_buffer x a && (b && c.may_write.result)) c.is_covered.ensures
+    ∙ (ap (λ (b : Bool). in_first_buffer x a && (covers t x && b)) c.may_write.ensures.value
+    ∙ (ap (λ (m : SyncManager). in_first_buffer m a && (covers t m && may_write m)) own
+    ∙ sym (write-governed ms c.args.is_busy t a (Some n) c.if-address-lt-RAM_START.false c.if-address-ge-RAM_END.false (sym (c.requires.owner c.if-address-lt-RAM_START.false) ∙ c.in-Some.is)))))

@@ -1,0 +1,46 @@
+use Rattle.std.proofs.Common.{◌≡◌, ◌∙◌, List, length, ap, subst}
+use Rattle.ec_regs.specs.declared.fmmu.FmmuSettings.{FmmuSettings}
+use Rattle.ec_fmmu.specs.declared.area.MappedArea.{MappedArea}
+use Rattle.ec_fmmu.specs.Areas.{IsMappedBy}
+use Rattle.ec_sync.specs.SyncManager.{SyncManager}
+use Rattle.ec_slave.specs.State.{SlaveState, fmmus, fmmus_of}
+use Rattle.ec_slave.specs.Usual.{LiesFree, LiesIn}
+use Rattle.ec_slave.proofs.Usual.{is_mapped}
+use Rattle.ec_slave.proofs.slave.Slave.access_bits.Goals as goal
+
+pub exchange_area-requires : goal.exchange_area-requires
+exchange_area-requires c =
+    let s : SlaveState = c.args.self.now in
+    let m : MappedArea = c.in-Some.mapped in
+    let managers = ap (λ (x : SlaveState). x.managers) c.self.view_is in
+    let same : c.deref.result.now ≡ s.managers = c.deref.ensures.value ∙ managers in
+    let decoded : c.self.inside.fmmus ≡ fmmus s = c.self.invariant.decoded ∙ ap (λ (x : SlaveState). fmmus_of x.memory) c.self.view_is in
+    let four : length s.managers ≡ 4 = subst (λ (ms : List SyncManager). length ms ≡ 4) managers c.self.invariant.four in
+    record {
+      small = c.requires.small;
+      mapped = is_mapped s m four (subst (λ (fs : List FmmuSettings). IsMappedBy fs m) decoded c.in-Some.ensures.mapped)
+          (subst (λ (ms : List SyncManager). LiesIn ms 2 m.out_start m.outs) same c.if-is_held.ensures.outs)
+          (subst (λ (ms : List SyncManager). LiesIn ms 3 m.in_start m.ins) same c.if-is_held.ensures.ins);
+      spans = c.in-Some.ensures.spans;
+    }
+
+pub exchange_plain-requires : goal.exchange_plain-requires
+exchange_plain-requires c =
+    let s : SlaveState = c.args.self.now in
+    let m : MappedArea = c.in-Some.mapped in
+    let managers = ap (λ (x : SlaveState). x.managers) c.self.view_is in
+    let same : c.deref-in-Some.result.now ≡ s.managers = c.deref-in-Some.ensures.value ∙ managers in
+    let by : IsMappedBy (fmmus s) m = subst (λ (fs : List FmmuSettings). IsMappedBy fs m) (c.self.invariant.decoded ∙ ap (λ (x : SlaveState). fmmus_of x.memory) c.self.view_is) c.in-Some.ensures.mapped in
+    record {
+      small = c.requires.small;
+      plain = record {
+        room = subst (λ (x : SlaveState). length x.memory ≡ 0x3000) c.self.view_is c.self.invariant.room;
+        four = subst (λ (ms : List SyncManager). length ms ≡ 4) managers c.self.invariant.four;
+        reads = by.reads;
+        writes = by.writes;
+        ins_free = subst (λ (ms : List SyncManager). LiesFree ms m.in_start m.ins) same c.if-is_plain.ensures.ins;
+        outs_free = subst (λ (ms : List SyncManager). LiesFree ms m.out_start m.outs) same c.if-is_plain.ensures.outs;
+        apart = c.if-is_plain.ensures.apart;
+      };
+      spans = c.in-Some.ensures.spans;
+    }
