@@ -1,15 +1,19 @@
 -- What a slave becomes by a logical datagram, as its code finds it.
-use Rattle.std.proofs.Common.{ℕ, ◌-◌, ◌*◌, ◌<◌, ◌≡◌, ◌||◌, Bool, true, false, Option, None, refl, sym, ◌∙◌, ap, arith, List, [], ◌∷◌, ◌++◌, option_map}
+use Rattle.std.proofs.Common.{ℕ, ◌-◌, ◌*◌, ◌<◌, ◌≡◌, ◌||◌, Bool, true, false, Option, None, refl, sym, ◌∙◌, ap, arith, List, [], ◌∷◌, ◌++◌, option_map, if◌then◌else◌}
 use Rattle.std.proofs.lemmas.Bool.{and_right}
 use Rattle.ec_bits.specs.Bits.{bit, overlay}
 use Rattle.ec_bits.proofs.AnyLaws.{if_false, if_none, within_below}
 use Rattle.ec_bits.proofs.BitLaws.{overlay_own}
 use Rattle.ec_regs.specs.declared.fmmu.FmmuSettings.{FmmuSettings}
-use Rattle.ec_regs.specs.Memory.{ram_start, ram_end}
+use Rattle.ec_regs.specs.Memory.{al_control, ram_start, ram_end}
 use Rattle.ec_sync.specs.SyncManager.{SyncManager}
 use Rattle.ec_fmmu.specs.Pairs.{unmapped, reaches_physical, is_ram_bit}
 use Rattle.ec_fmmu.specs.Sets.{source_after, writers}
 use Rattle.ec_fmmu.specs.Applied.{Place, inside_place, touched_by_reading, touched_by_writing}
+use Rattle.ec_al.specs.Al.{Al, requesting}
+use Rattle.ec_sii.specs.Port.{Sii, written}
+use Rattle.ec_dl.specs.DataLink.{DataLink, dl_written}
+use Rattle.ec_slave.specs.Physical.{Window, memory_written, physical_after, physical_managers, touches}
 use Rattle.ec_slave.specs.State.{SlaveState, fmmus, fmmus_of, with_memory}
 use Rattle.ec_slave.specs.Untouched.{byte-overlay}
 use Rattle.ec_slave.specs.Managers.{is_ungoverned, manager_after}
@@ -77,3 +81,17 @@ some_found ms a b fs gs p bytes x y hx ha hy hb hf =
     let hy_2 : y ≡ some_manager_written [] gs p bytes ms
     = hy ∙ (ap (λ (k : List SyncManager). some_manager_written [] fs p bytes k) hb ∙ ap (λ (g : List FmmuSettings). some_manager_written [] g p bytes ms) hf) in
     ap (λ (z : Bool). z || y) hx_2 ∙ (ap (λ (z : Bool). some_plain_written ms gs p bytes || z) hy_2 ∙ sym (some_written-is ms gs p bytes))
+
+-- ---- a physical datagram that writes
+
+pub physically_written : (s : SlaveState) (reads : Bool) (w : Window) (memory : List ℕ) (managers : List SyncManager) (al : Al) (sii : Sii) (link : DataLink)
+    → memory ≡ memory_written s.managers w s.memory → managers ≡ physical_managers [] reads true w 0 s.managers
+    → al ≡ (if touches w al_control then requesting s.al else s.al) → sii ≡ written s.sii w.from w.bytes → link ≡ dl_written s.link w.from w.bytes
+    → record s { memory = memory; managers = managers; al = al; sii = sii; link = link } ≡ physical_after s reads true w
+unfolding physical_after
+physically_written s reads w memory managers al sii link m n a p l =
+    ap (λ (x : List ℕ). record s { memory = x; managers = managers; al = al; sii = sii; link = link }) m
+    ∙ (ap (λ (x : List SyncManager). record s { memory = memory_written s.managers w s.memory; managers = x; al = al; sii = sii; link = link }) n
+    ∙ (ap (λ (x : Al). record s { memory = memory_written s.managers w s.memory; managers = physical_managers [] reads true w 0 s.managers; al = x; sii = sii; link = link }) a
+    ∙ (ap (λ (x : Sii). record s { memory = memory_written s.managers w s.memory; managers = physical_managers [] reads true w 0 s.managers; al = if touches w al_control then requesting s.al else s.al; sii = x; link = link }) p
+    ∙ ap (λ (x : DataLink). record s { memory = memory_written s.managers w s.memory; managers = physical_managers [] reads true w 0 s.managers; al = if touches w al_control then requesting s.al else s.al; sii = written s.sii w.from w.bytes; link = x }) l)))

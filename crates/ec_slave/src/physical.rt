@@ -149,7 +149,7 @@ impl Slave {
         let is_kept = self.link.write(from, bytes);
         write_managers(&mut self.managers, reads, from, bytes);
         renew_fmmus(&mut self.fmmus, &self.memory, from, bytes.len());
-        is_some || is_kept
+        is_some | is_kept
     }
 
     /// Reads into the bytes of a datagram, and answers whether one was read. Who governs bytes, and whether they may be
@@ -198,7 +198,7 @@ impl Slave {
         }
         let is_some = !bytes.is_empty();
         for (i, byte) in bytes.iter_mut().enumerate() {
-            let shown = self.register_at(from + i);
+            let shown = self.register(from + i);
             *byte = read_over(joining, *byte, shown);
         }
         is_some

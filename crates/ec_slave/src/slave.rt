@@ -1,6 +1,6 @@
 //! A slave: its memory, sync managers, AL state, SII and objects.
-ghost use Rattle.std.specs.Prelude.{◌≡◌, ◌+◌, ◌*◌, ◌<◌, ◌≤◌, ◌^◌, ℕ, length, slice_index, IfOk, IfSome, if◌then◌else◌, [], ◌∷◌, Option, Some, None, nat_lt};
-ghost use Rattle.ec_bits.specs.Bits.{zeros};
+ghost use Rattle.std.specs.Prelude.{◌≡◌, ◌+◌, ◌*◌, ◌<◌, ◌≤◌, ◌^◌, ◌||◌, true, ℕ, length, slice_index, IfOk, IfSome, if◌then◌else◌, [], ◌∷◌, Option, Some, None, nat_lt};
+ghost use Rattle.ec_bits.specs.Bits.{within, zeros};
 ghost use Rattle.ec_regs.specs.Memory.{al_status, ram_start, ram_end};
 ghost use Rattle.ec_sync.specs.SyncManager.{no_manager};
 ghost use Rattle.ec_sii.specs.SiiImage.{image_of};
@@ -13,6 +13,7 @@ ghost use Rattle.ec_slave.specs.State.{SlaveState, memory_length, power_on, stat
 use crate::fmmus::read_fmmus;
 use crate::reach::governor;
 use ec_al::Al;
+use ec_bits::within;
 use ec_coe::Dictionary;
 use ec_device::{Identity, SlaveType};
 use ec_dl::DataLink;
@@ -27,16 +28,10 @@ use ec_sync::SyncManager;
 use std::alloc::{AllocError, Global};
 use std::marker::Model;
 
-/// The high byte of the station address.
-const STATION_ADDRESS_HIGH: usize = STATION_ADDRESS + 1;
-/// The high byte of AL control.
-const AL_CONTROL_HIGH: usize = AL_CONTROL + 1;
-/// The high byte of AL status.
-const AL_STATUS_HIGH: usize = AL_STATUS + 1;
-/// The high byte of the AL status code.
-const AL_STATUS_CODE_HIGH: usize = AL_STATUS_CODE + 1;
-/// The first address after the SII port.
-const SII_END: usize = SII_DATA + 4;
+/// The number of bytes of the SII port.
+const SII_SIZE: usize = SII_DATA + 4 - SII_CONTROL;
+/// The number of bytes of the managers' registers.
+const MANAGERS_SIZE: usize = SYNC_MANAGERS_END - SYNC_MANAGERS;
 
 /// A simulated slave.
 #[derive(Drop)]
@@ -156,7 +151,7 @@ impl Slave {
         ensures { result ≡ byte_at self.now address }
     {
         if address < RAM_START {
-            self.register_at(address)
+            self.register(address)
         } else {
             self.ram_byte(owner, address)
         }
@@ -190,15 +185,6 @@ impl Slave {
         }
     }
 
-    /// What the address of a register reads.
-    #[tactic(auto, unfolding(crate::specs::Physical::byte_at))]
-    pub(crate) fn register_at(&self, address: usize) -> u8
-        requires { address < ram_start }
-        ensures { result ≡ byte_at self.now address }
-    {
-        self.register(address)
-    }
-
     /// What the two registers of the AL status read, the low byte first.
     #[tactic(auto, unfolding(crate::specs::Physical::byte_at, crate::specs::Physical::register_byte))]
     pub(crate) fn status_bytes(&self) -> (u8, u8)
@@ -224,30 +210,54 @@ impl Slave {
         }
     }
 
-    /// What a register reads.
-    #[tactic(auto, unfolding(crate::specs::Physical::register_byte))]
-    fn register(&self, address: usize) -> u8
+    /// What the address of a register reads.
+    pub(crate) fn register(&self, address: usize) -> u8
         requires { address < ram_start }
-        ensures { result ≡ register_byte self.now address }
+        ensures { result ≡ byte_at self.now address }
     {
-        match address {
-            NUMBER_OF_FMMUS => FMMU_COUNT,
-            NUMBER_OF_SYNC_MANAGERS => MANAGER_COUNT,
-            RAM_SIZE => RAM_KIB,
-            STATION_ADDRESS | STATION_ADDRESS_HIGH => self.memory[address],
-            AL_CONTROL | AL_CONTROL_HIGH | FMMUS..FMMUS_END => self.memory[address],
-            AL_STATUS => (self.al.status_word() % 256) as u8,
-            AL_STATUS_HIGH => (self.al.status_word() / 256) as u8,
-            AL_STATUS_CODE => (self.al.code() % 256) as u8,
-            AL_STATUS_CODE_HIGH => (self.al.code() / 256) as u8,
-            SII_CONTROL..SII_END => self.port.read(address),
-            SYNC_MANAGERS..SYNC_MANAGERS_END => {
-                let place = (address - SYNC_MANAGERS) / MANAGER_SIZE;
-                self.managers[place].register(address % MANAGER_SIZE)
-            }
-            _ => self.link.read(address),
+        if within(NUMBER_OF_FMMUS, 3, address) {
+            return constant(address);
         }
+        if is_in_memory(address) {
+            return self.memory[address];
+        }
+        if within(AL_STATUS, 2, address) {
+            return self.al.status_word().to_le_bytes()[address - AL_STATUS];
+        }
+        if within(AL_STATUS_CODE, 2, address) {
+            return self.al.code().to_le_bytes()[address - AL_STATUS_CODE];
+        }
+        if within(SII_CONTROL, SII_SIZE, address) {
+            return self.port.read(address);
+        }
+        if within(SYNC_MANAGERS, MANAGERS_SIZE, address) {
+            let place = (address - SYNC_MANAGERS) / MANAGER_SIZE;
+            return self.managers[place].register(address % MANAGER_SIZE);
+        }
+        self.link.read(address)
     }
+}
+
+/// What the registers read that say how much a slave has.
+#[tactic(auto, unfolding(crate::specs::Physical::register_byte))]
+fn constant(address: usize) -> u8
+    requires { within 4 3 address ≡ true }
+    ensures { (s : SlaveState) → result ≡ register_byte s address }
+{
+    match address {
+        RAM_SIZE => RAM_KIB,
+        NUMBER_OF_FMMUS => FMMU_COUNT,
+        _ => MANAGER_COUNT,
+    }
+}
+
+/// Whether a register reads what datagrams stored in the memory.
+fn is_in_memory(address: usize) -> bool
+    ensures { result ≡ (within 16 2 address || (within 288 2 address || within 1536 64 address)) }
+{
+    within(STATION_ADDRESS, 2, address)
+        || within(AL_CONTROL, 2, address)
+        || within(FMMUS, FMMUS_END - FMMUS, address)
 }
 
 /// So many bytes from a place on, if there are as many.

@@ -16,7 +16,7 @@ loop-i-preserved c =
     let i : ℕ = c.loop-i.i in
     let f : ℕ → Option ℕ = byte_read s c.args.joining w in
     told-step0 i _ f c.loop-i.bytes _ _ c.loop-i.invariant
-    (read-given s c.args.joining w i c.loop-i.bytes _ _ (read-register s.managers (touches w) (w.from + i) (omega arith)) c.loop-i.invariant c.register_at-shown.ensures c.read_over.ensures) refl
+    (read-given s c.args.joining w i c.loop-i.bytes _ _ (read-register s.managers (touches w) (w.from + i) (omega arith)) c.loop-i.invariant c.register-shown.ensures c.read_over.ensures) refl
 
 pub returns-clause-bytes : goal.returns-clause-bytes
 returns-clause-bytes c =

@@ -1,12 +1,16 @@
-use Rattle.std.proofs.Common.{◌≡◌, ◌+◌, ◌&&◌, ◌++◌, length, take, drop, arith, List, ℕ, ap, ◌∙◌, sym, if◌then◌else◌, nat_lt}
+use Rattle.std.proofs.Common.{[], ◌≡◌, ◌+◌, ◌&&◌, ◌||◌, ◌++◌, Bool, true, length, take, drop, arith, List, ℕ, ap, ◌∙◌, sym, if◌then◌else◌, nat_lt}
 use Rattle.std.proofs.lemmas.Grind.{common_steps}
 use Rattle.ec_regs.specs.declared.fmmu.FmmuSettings.{FmmuSettings}
 use Rattle.ec_sync.specs.SyncManager.{SyncManager}
-use Rattle.ec_slave.specs.State.{fmmus_of}
-use Rattle.ec_slave.specs.Physical.{Window, memory_written}
+use Rattle.ec_slave.specs.State.{SlaveState, fmmus_of}
+use Rattle.ec_slave.specs.Physical.{Window, memory_written, physical_managers, some_byte_written, touches}
 use Rattle.ec_slave.proofs.Decoded.{decoded-kept}
-use Rattle.ec_sii.specs.Port.{Sii}
+use Rattle.ec_sii.specs.Port.{Sii, written}
 use Rattle.ec_slave.proofs.Assigning.{written-image}
+use Rattle.ec_regs.specs.Memory.{al_control}
+use Rattle.ec_al.specs.Al.{requesting}
+use Rattle.ec_dl.specs.DataLink.{dl_takes, dl_written}
+use Rattle.ec_slave.proofs.Moves.{physically_written}
 use Rattle.ec_slave.proofs.Exchanges.{take_front}
 use Rattle.ec_slave.proofs.slave.Slave.write_bytes.Goals as goal
 
@@ -34,3 +38,41 @@ invariant_of-self c =
           ∙ ap fmmus_of (sym (front ∙ written))));
       image = ap (λ (p : Sii). p.image) c.write.ensures ∙ (written-image c.self.inside.port c.args.from c.args.bytes.now ∙ c.self.invariant.image);
     }
+
+pub returns-clause-slave : goal.returns-clause-slave
+returns-clause-slave c =
+    let s : SlaveState = c.args.self.now in
+    let w : Window = record { from = c.args.from; bytes = c.args.bytes.now } in
+    let new : List ℕ = c.write_physical-is_some.new.memory in
+    let own = c.deref_mut.ensures.value in
+    let ok = c.self.inside.memory.ok in
+    let long = c.write_physical-is_some.auto.memory in
+    let all : List ℕ = take c.self.inside.memory.len (new ++ drop (length new) c.self.inside.memory.items) in
+    let front : all ≡ new = take_front new _ c.self.inside.memory.len (omega (arith, ap length own, ok, long)) in
+    let met : List SyncManager = c.write_managers.new.managers in
+    let own_2 = c.deref_mut-2.ensures.value in
+    let ok_2 = c.self.inside.managers.ok in
+    let long_2 = c.write_managers.auto.managers in
+    let each : List SyncManager = take c.self.inside.managers.len (met ++ drop (length met) c.self.inside.managers.items) in
+    let front_2 : each ≡ met = take_front met _ c.self.inside.managers.len (omega (arith, ap length own_2, ok_2, long_2)) in
+    let memory = ap (λ (x : SlaveState). x.memory) c.self.view_is in
+    let managers = ap (λ (x : SlaveState). x.managers) c.self.view_is in
+    ap (λ (x : SlaveState). record x { memory = all; managers = each; al = c.request_if.new.al; sii = c.write.new.self; link = c.write-is_kept.new.self }) c.self.view_is
+    ∙ physically_written s c.args.reads w all each _ _ _
+    (front ∙ (c.write_physical-is_some.ensures.memory ∙ (ap (λ (xs : List ℕ). memory_written c.deref.result.now w xs) (own ∙ memory)
+    ∙ ap (λ (ms : List SyncManager). memory_written ms w s.memory) (c.deref.ensures.value ∙ managers))))
+    (front_2 ∙ (c.write_managers.ensures ∙ ap (physical_managers [] c.args.reads true w 0) (own_2 ∙ managers)))
+    (c.request_if.ensures ∙ (ap (λ (b : Bool). if b then requesting c.self.inside.al else c.self.inside.al) c.within.ensures
+    ∙ ap (λ (x : SlaveState). if touches w al_control then requesting x.al else x.al) c.self.view_is))
+    (c.write.ensures ∙ ap (λ (x : SlaveState). written x.sii w.from w.bytes) c.self.view_is)
+    (c.write-is_kept.ensures.after ∙ ap (λ (x : SlaveState). dl_written x.link w.from w.bytes) c.self.view_is)
+
+pub returns-clause-some : goal.returns-clause-some
+returns-clause-some c =
+    let s : SlaveState = c.args.self.now in
+    let w : Window = record { from = c.args.from; bytes = c.args.bytes.now } in
+    let managers = ap (λ (x : SlaveState). x.managers) c.self.view_is in
+    ap (λ (b : Bool). b || c.write-is_kept.result)
+    (c.write_physical-is_some.ensures.some ∙ (ap (λ (ms : List SyncManager). some_byte_written ms c.is_busy-is_busy.result w) (c.deref.ensures.value ∙ managers)
+    ∙ ap (λ (b : Bool). some_byte_written s.managers b w) (c.is_busy-is_busy.ensures ∙ ap (λ (x : SlaveState). x.sii.busy) c.self.view_is)))
+    ∙ ap (λ (b : Bool). some_byte_written s.managers s.sii.busy w || b) (c.write-is_kept.ensures.some ∙ ap (λ (x : SlaveState). dl_takes x.link w.from (length w.bytes)) c.self.view_is)
