@@ -95,3 +95,9 @@ physically_written s reads w memory managers al sii link m n a p l =
     ∙ (ap (λ (x : Al). record s { memory = memory_written s.managers w s.memory; managers = physical_managers [] reads true w 0 s.managers; al = x; sii = sii; link = link }) a
     ∙ (ap (λ (x : Sii). record s { memory = memory_written s.managers w s.memory; managers = physical_managers [] reads true w 0 s.managers; al = if touches w al_control then requesting s.al else s.al; sii = x; link = link }) p
     ∙ ap (λ (x : DataLink). record s { memory = memory_written s.managers w s.memory; managers = physical_managers [] reads true w 0 s.managers; al = if touches w al_control then requesting s.al else s.al; sii = written s.sii w.from w.bytes; link = x }) l)))
+
+-- that only reads
+pub physically_read : (s : SlaveState) (w : Window) (managers : List SyncManager) → managers ≡ physical_managers [] true false w 0 s.managers
+    → record s { managers = managers } ≡ physical_after s true false w
+unfolding physical_after
+physically_read s w managers n = ap (λ (x : List SyncManager). record s { managers = x }) n

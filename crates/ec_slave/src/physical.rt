@@ -76,7 +76,7 @@ impl Slave {
         }
     }
 
-    /// The same, with a copy of its own.
+    /// A datagram that reads and writes, with a copy of the bytes as they were received.
     #[inline(never)]
     fn read_write_copied_bytes(&mut self, joining: bool, from: usize, bytes: &mut [u8]) -> u16
         requires small { from + length bytes.old < 2 ^ 32 }
@@ -89,24 +89,6 @@ impl Slave {
         let mut copy = [0; MAX_DATA];
         let received = &mut copy[..bytes.len()];
         received.copy_from_slice(bytes);
-        self.read_write_bytes(joining, from, received, bytes)
-    }
-
-    /// A datagram that reads and writes, of which `received` is a copy of the bytes.
-    fn read_write_bytes(
-        &mut self,
-        joining: bool,
-        from: usize,
-        received: &[u8],
-        bytes: &mut [u8],
-    ) -> u16
-        requires small { from + length bytes.old < 2 ^ 32 }
-        requires same { received.now ≡ bytes.old }
-        ensures slave { self.new ≡ physical_after self.old true true (record { from = from; bytes = bytes.old }) }
-        ensures bytes { bytes.new ≡ retold bytes.old (byte_read self.old joining (record { from = from; bytes = bytes.old })) }
-        ensures added { result ≡ from_bool (some_byte_read self.old.managers (record { from = from; bytes = bytes.old }))
-            + 2 * from_bool (is_written self.old (record { from = from; bytes = bytes.old })) }
-    {
         let is_read = self.read_physical(joining, from, bytes);
         let is_written = self.write_bytes(true, from, received);
         is_read as u16 + 2 * is_written as u16

@@ -36,3 +36,19 @@ returns c =
     ∙ (ap (λ (x : State). managers_entered s.al.state x c.deref_mut.result.now) new ∙ ap (managers_entered s.al.state a.state) (own ∙ managers)))))
     (c.replies_in-self-inside.ensures ∙ (ap (λ (x : State). replies_entered x c.state-new.result c.self.inside.replies) old
     ∙ (ap (λ (x : State). replies_entered s.al.state x c.self.inside.replies) new ∙ ap (replies_entered s.al.state a.state) replies)))
+
+pub invariant_of-self : goal.invariant_of-self
+invariant_of-self c =
+    let met : List SyncManager = c.enter_state.new.managers in
+    let own = c.deref_mut.ensures.value in
+    let ok = c.self.inside.managers.ok in
+    let long = c.enter_state.auto.managers in
+    record {
+      room = c.self.invariant.room;
+      four = ap length (take_front met _ c.self.inside.managers.len (omega (arith, ap length own, ok, long))) ∙ (long ∙ (ap length own ∙ c.self.invariant.four));
+      decoded = c.self.invariant.decoded;
+      image = c.self.invariant.image;
+    }
+
+pub enter_state-requires : goal.enter_state-requires
+enter_state-requires c = ap length c.deref_mut.ensures.value ∙ c.self.invariant.four

@@ -1,12 +1,13 @@
-use Rattle.std.proofs.Common.{ℕ, ◌≡◌, ◌+◌, ◌*◌, ◌∙◌, ◌&&◌, ◌++◌, List, length, take, drop, set, nat_lt, if◌then◌else◌, sym, ap, arith}
+use Rattle.std.proofs.Common.{ℕ, ◌≡◌, ◌+◌, ◌*◌, ◌∙◌, ◌&&◌, ◌++◌, List, length, take, drop, set, nat_lt, if◌then◌else◌, sym, ap, subst, arith}
 use Rattle.std.specs.Int.{from_bool}
+use Rattle.ec_bits.specs.Bits.{bytes_of_bits}
 use Rattle.ec_fmmu.specs.Applied.{Place}
 use Rattle.ec_fmmu.specs.Areas.{Area, area}
 use Rattle.ec_sync.specs.SyncManager.{SyncManager, may_read, may_write}
 use Rattle.ec_slave.specs.State.{SlaveState, MetBytes, manager_at, with_memory}
 use Rattle.ec_slave.specs.Roles.{is_reading, is_writing}
 use Rattle.ec_slave.specs.Mapped.{at_bits, weight}
-use Rattle.ec_slave.specs.Exchange.{inputs_into, outputs_from, takes, with_published}
+use Rattle.ec_slave.specs.Exchange.{IsBufferAt, inputs_into, outputs_from, takes, with_published}
 use Rattle.ec_slave.proofs.ExchangeLaw.{exchange_placed}
 use Rattle.ec_slave.proofs.Exchanges.{take_front}
 use Rattle.ec_slave.proofs.Usual.{slave_exchanged}
@@ -57,3 +58,29 @@ returns-clause-added c =
     ∙ (ap (λ (ms : List SyncManager). from_bool (is_reading role && (nat_lt 0 a.ins && may_read (manager_at ms 3)))
         + weight role * from_bool (is_writing role && (nat_lt 0 a.outs && may_write (manager_at ms 2)))) managers
     ∙ sym (ap (λ (m : MetBytes). m.added) (exchange_placed (is_reading role) (is_writing role) (weight role) s a p bytes c.requires.mapped c.requires.spans)))
+
+pub invariant_of-self : goal.invariant_of-self
+invariant_of-self c =
+    let met : List SyncManager = c.exchange_values.new.managers in
+    let own = c.deref_mut.ensures.value in
+    let ok = c.self.inside.managers.ok in
+    let long = c.exchange_values.auto.managers in
+    record {
+      room = c.self.invariant.room;
+      four = ap length (take_front met _ c.self.inside.managers.len (omega (arith, ap length own, ok, long))) ∙ (long ∙ (ap length own ∙ c.self.invariant.four));
+      decoded = c.self.invariant.decoded;
+      image = c.self.invariant.image;
+    }
+
+pub exchange_values-requires : goal.exchange_values-requires
+exchange_values-requires c =
+    let a : Area = area c.args.mapped.now in
+    let own = c.deref_mut.ensures.value in
+    let managers = own ∙ ap (λ (x : SlaveState). x.managers) c.self.view_is in
+    record {
+      small = c.requires.small;
+      four = ap length own ∙ c.self.invariant.four;
+      outs = λ h. subst (λ (ms : List SyncManager). IsBufferAt (manager_at ms 2).settings a.out_start (bytes_of_bits a.outs)) (sym managers) (c.requires.mapped.out_buffer h);
+      ins = λ h. subst (λ (ms : List SyncManager). IsBufferAt (manager_at ms 3).settings a.in_start (bytes_of_bits a.ins)) (sym managers) (c.requires.mapped.in_buffer h);
+      spans = c.requires.spans;
+    }

@@ -28,3 +28,16 @@ returns-clause-slave c =
     ap (λ (x : SlaveState). with_memory x c.self.inside.memory.items (take c.self.inside.managers.len (new ++ drop (length new) c.self.inside.managers.items))) c.self.view_is
     ∙ slave_read s _ _ fs p q c.args.bytes.now c.read_logical-is_read.new.bytes memory (c.self.invariant.decoded ∙ ap fmmus_of memory) place
     (front ∙ (c.access_managers.ensures.after ∙ ap (λ (ms : List SyncManager). logical_managers [] true false fs q c.read_logical-is_read.new.bytes ms) (own ∙ managers)))
+
+pub invariant_of-self : goal.invariant_of-self
+invariant_of-self c =
+    let met : List SyncManager = c.access_managers.new.managers in
+    let own = c.deref_mut.ensures.value in
+    let ok = c.self.inside.managers.ok in
+    let long = c.access_managers.auto.managers in
+    record {
+      room = c.self.invariant.room;
+      four = ap length (take_front met _ c.self.inside.managers.len (omega (arith, ap length own, ok, long))) ∙ (long ∙ (ap length own ∙ c.self.invariant.four));
+      decoded = c.self.invariant.decoded;
+      image = c.self.invariant.image;
+    }

@@ -1,5 +1,4 @@
 use Rattle.std.proofs.Common.{[], ◌≡◌, ◌*◌, ◌++◌, length, take, drop, arith, List, ℕ, ap, ◌∙◌, sym, true}
-use Rattle.std.proofs.lemmas.Grind.{common_steps}
 use Rattle.ec_bits.specs.Bits.{overlay}
 use Rattle.ec_regs.specs.declared.fmmu.FmmuSettings.{FmmuSettings}
 use Rattle.ec_sync.specs.SyncManager.{SyncManager}
@@ -22,7 +21,8 @@ invariant_of-self c =
     = take_front new _ c.self.inside.memory.len (omega (arith, ap length own, ok, long)) in
     record {
       room = ap length front ∙ (long ∙ (ap length own ∙ c.self.invariant.room));
-      four = grind (arith, common_steps);
+      four = ap length (take_front c.access_managers-in_manager.new.managers _ c.self.inside.managers.len (let own_2 = c.deref_mut-2.ensures.value in let ok_2 = c.self.inside.managers.ok in let long_2 = c.access_managers-in_manager.auto.managers in omega (arith, ap length own_2, ok_2, long_2)))
+          ∙ (c.access_managers-in_manager.auto.managers ∙ (ap length c.deref_mut-2.ensures.value ∙ c.self.invariant.four));
       decoded = c.self.invariant.decoded ∙ (ap fmmus_of (sym own)
           ∙ (decoded-mapped c.deref.result.now c.self.inside.fmmus p c.args.bytes.now old
           ∙ ap fmmus_of (sym (front ∙ c.write_logical-in_memory.ensures.memory))));

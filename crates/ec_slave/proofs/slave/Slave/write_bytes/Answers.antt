@@ -1,5 +1,4 @@
 use Rattle.std.proofs.Common.{[], ◌≡◌, ◌+◌, ◌&&◌, ◌||◌, ◌++◌, Bool, true, length, take, drop, arith, List, ℕ, ap, ◌∙◌, sym, if◌then◌else◌, nat_lt}
-use Rattle.std.proofs.lemmas.Grind.{common_steps}
 use Rattle.ec_regs.specs.declared.fmmu.FmmuSettings.{FmmuSettings}
 use Rattle.ec_sync.specs.SyncManager.{SyncManager}
 use Rattle.ec_slave.specs.State.{SlaveState, fmmus_of}
@@ -31,7 +30,8 @@ invariant_of-self c =
     let now : c.deref-2.result.now ≡ memory_written ms w old = c.deref-2.ensures.value ∙ (front ∙ written) in
     record {
       room = ap length front ∙ (long ∙ room);
-      four = grind (arith, common_steps);
+      four = ap length (take_front c.write_managers.new.managers _ c.self.inside.managers.len (let own_2 = c.deref_mut-2.ensures.value in let ok_2 = c.self.inside.managers.ok in let long_2 = c.write_managers.auto.managers in omega (arith, ap length own_2, ok_2, long_2)))
+          ∙ (c.write_managers.auto.managers ∙ (ap length c.deref_mut-2.ensures.value ∙ c.self.invariant.four));
       decoded = c.renew_fmmus.ensures
           ∙ (ap (λ (xs : List ℕ). if nat_lt w.from 1600 && nat_lt 1536 (w.from + length w.bytes) then fmmus_of xs else fs) now
           ∙ (decoded-kept ms w old fs room (c.self.invariant.decoded ∙ ap fmmus_of (sym own))
