@@ -1,5 +1,5 @@
 -- What a register reads, by where it lies.
-use Rattle.std.proofs.Common.{ℕ, ◌+◌, ◌-◌, ◌/◌, ◌%◌, ◌<◌, ◌≤◌, ◌≡◌, ◌==◌, ◌||◌, Bool, true, false, refl, sym, ◌∙◌, ap, inl, inr, arith, slice_index}
+use Rattle.std.proofs.Common.{ℕ, ◌-◌, ◌/◌, ◌%◌, ◌<◌, ◌≤◌, ◌≡◌, ◌==◌, ◌||◌, Bool, true, false, refl, ◌∙◌, ap, arith, slice_index}
 use Rattle.std.specs.Int.{to_le_bytes, w16}
 use Rattle.std.proofs.lemmas.Bool.{both_ways, eqb-true, false_from_ne_true, lt-ltb}
 use Rattle.ec_bits.specs.Bits.{within}

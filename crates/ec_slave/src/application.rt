@@ -1,6 +1,6 @@
 //! What a slave's application reads and writes, and the slave switched off and on.
 
-ghost use Rattle.std.specs.Prelude.{◌≡◌, ◌<◌, [], ◌∷◌, length, is_some, option_map, unwrap_or};
+ghost use Rattle.std.specs.Prelude.{◌≡◌, ◌<◌, [], ◌∷◌, length, if◌then◌else◌, is_some, option_map, unwrap_or};
 ghost use Rattle.ec_sync.specs.SyncManager.{no_manager};
 ghost use Rattle.ec_slave.specs.State.{power_on};
 ghost use Rattle.ec_slave.specs.Application.{is_running as runs_in, outputs_shown, get_size, put_size, input_put, inputs_put, output_got, output_taken, outputs_taken};
@@ -27,19 +27,10 @@ impl Slave {
         ensures put { result.1 ≡ put_size self.now }
     {
         let is_running = is_running(self.al.state());
-        let outputs = &self.managers[2];
-        let inputs = &self.managers[3];
+        let (outputs, inputs) = (&self.managers[2], &self.managers[3]);
         (
-            if is_running && outputs.may_app_get() {
-                outputs.settings().length as usize
-            } else {
-                0
-            },
-            if is_running && inputs.may_app_put() {
-                inputs.settings().length as usize
-            } else {
-                0
-            },
+            size_if(is_running & outputs.may_app_get(), outputs),
+            size_if(is_running & inputs.may_app_put(), inputs),
         )
     }
 
@@ -107,6 +98,17 @@ impl Slave {
         self.link = DataLink::new(self.dictionary.kind().face());
         self.dictionary.reset();
         self.replies = 0;
+    }
+}
+
+/// How many bytes a manager has that the application is granted, or 0.
+fn size_if(is_granted: bool, manager: &SyncManager) -> usize
+    ensures { result ≡ (if is_granted then manager.now.settings.length else 0) }
+{
+    if is_granted {
+        manager.settings().length as usize
+    } else {
+        0
     }
 }
 

@@ -16,7 +16,12 @@ pub(crate) fn governor(managers: &[SyncManager], address: usize) -> Option<usize
     ensures value { result ≡ governor_of managers.now address }
     ensures within { IfSome result (λ n. n < length managers.now) }
 {
-    managers.iter().position(|manager| manager.governs(address))
+    for (place, manager) in managers.iter().enumerate() {
+        if manager.governs(address) {
+            return Some(place);
+        }
+    }
+    None
 }
 
 /// The governor of a byte of the RAM, if it has one; none of a register.

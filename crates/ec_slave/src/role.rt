@@ -11,7 +11,7 @@ use crate::slave::Slave;
 use ec_frame::Command;
 
 /// What a slave does with the data of a datagram.
-#[derive(Clone, Copy, Debug, PartialEq, Eq)]
+#[derive(Clone, Copy)]
 pub(crate) enum Role {
     /// It lets the datagram pass.
     Nothing,

@@ -145,12 +145,12 @@ fn spans(mapped: &MappedArea, from: u64, bits: u64) -> bool
 /// The value that begins at `start` and has `len` bytes, to whose first bits data bits are brought, one after the other from `at`
 /// on; the bits behind them are 0.
 #[derive(Clone, Copy)]
-struct Outputs<'a> {
-    start: usize,
-    len: usize,
-    bytes: &'a [u8],
-    at: usize,
-    count: usize,
+pub(super) struct Outputs<'a> {
+    pub(super) start: usize,
+    pub(super) len: usize,
+    pub(super) bytes: &'a [u8],
+    pub(super) at: usize,
+    pub(super) count: usize,
     ghost fits: { at + count ≤ 8 * length bytes.now },
     ghost small: { 8 * length bytes.now < 2 ^ 64 },
     ghost whole: { 8 * len < count + 8 },

@@ -1,7 +1,7 @@
 //! What a logical datagram does to the sync managers.
 
-ghost use Rattle.std.specs.Prelude.{◌≡◌, ◌<◌, ◌≤◌, ◌+◌, ◌*◌, ◌^◌, ◌&&◌, ℕ, length, [], Some, IfSome, if◌then◌else◌, ◌-◌, slice_index};
-ghost use Rattle.ec_bits.specs.Bits.{bit, copied, zeros};
+ghost use Rattle.std.specs.Prelude.{◌≡◌, ◌<◌, ◌≤◌, ◌+◌, ◌*◌, ◌^◌, ◌&&◌, ℕ, length, [], Some, IfSome, if◌then◌else◌};
+ghost use Rattle.ec_bits.specs.Bits.{bit};
 ghost use Rattle.ec_regs.specs.Memory.{ram_end};
 ghost use Rattle.ec_sync.specs.SyncManager.{ring_written};
 ghost use Rattle.ec_fmmu.specs.Applied.{Place, touched_by_reading, touched_by_writing};
@@ -9,10 +9,10 @@ ghost use Rattle.ec_slave.specs.Managers.{is_ungoverned, is_written_by, manager_
 ghost use Rattle.ec_slave.specs.Logical.{logical_managers, plain_bit, logical_value};
 ghost use Rattle.ec_slave.specs.Written.{some_manager_written};
 
+use crate::logical::exchange::Outputs;
 use crate::logical::writing::Ungoverned;
 use crate::reach::{read_manager, write_manager};
 use crate::runs::are_ungoverned;
-use ec_bits::{copy_by_words, within};
 use ec_fmmu::{FmmuTable, apply_write, is_touched_by_reading, is_touched_by_writing, whole_source};
 use ec_sync::{SyncManager, Touching, Writing};
 
@@ -111,56 +111,6 @@ impl Bits<'_> {
     }
 }
 
-/// The `len` bytes from `start` on, to each bit of which a data bit is brought, one after the other from `at` on.
-#[derive(Clone, Copy)]
-struct Whole<'a> {
-    start: usize,
-    len: usize,
-    bytes: &'a [u8],
-    at: usize,
-    ghost fits: { at + 8 * len ≤ 8 * length bytes.now },
-    ghost small: { at + 8 * len < 2 ^ 64 },
-}
-
-impl Touching for Whole<'_> {
-    ghost use Rattle.ec_bits.specs.Bits.{within};
-
-    ghost touched = { λ w a. within w.start w.len a };
-
-    fn touches(&self, address: usize) -> bool {
-        within(self.start, self.len, address)
-    }
-}
-
-impl Writing for Whole<'_> {
-    ghost use Rattle.std.specs.Prelude.{◌+◌, ◌-◌, ◌*◌};
-    ghost use Rattle.ec_bits.specs.Bits.{copied, zeros};
-    ghost use Rattle.ec_sync.specs.Touching.{all_touched};
-
-    ghost written = { λ w start len. copied (zeros len) 0 w.bytes.now (w.at + 8 * (start - w.start)) (8 * len) };
-
-    ghost zero_untouched = { λ w start len k first last inside untouched.
-        absurd (all_touched w.start w.len start len k first last inside untouched) };
-
-    fn fill(&self, start: usize, value: &mut [u8]) {
-        self.copy(start, value);
-    }
-}
-
-impl Whole<'_> {
-    /// Fills a value that begins at `start` and lies within its bytes.
-    fn copy(&self, start: usize, value: &mut [u8])
-        requires low { self.now.start ≤ start }
-        requires high { start + length value.old ≤ self.now.start + self.now.len }
-        requires small { (k : ℕ) → slice_index value.old k < 256 }
-        ensures { value.new ≡ copied (zeros (length value.old)) 0 self.now.bytes.now (self.now.at + 8 * (start - self.now.start)) (8 * length value.old) }
-    {
-        let at = self.at + 8 * (start - self.start);
-        let count = 8 * value.len();
-        copy_by_words(value, 0, self.bytes, at, count);
-    }
-}
-
 /// Each of the four managers meets a logical datagram whose first logical bit is `from`, from the
 /// last to the first, so that each finds the lower-numbered ones as they were. One that the
 /// datagram writes takes a whole value: 0 in the bits that aren't brought to it. Answers whether one
@@ -242,11 +192,12 @@ fn write_bits(manager: &mut SyncManager, access: &Bits<'_>) -> bool
     let bytes = access.bytes;
     match access.source(start, len) {
         Some(at) => {
-            manager.store(&Whole {
+            manager.store(&Outputs {
                 start,
                 len,
                 bytes,
                 at,
+                count: 8 * len,
             });
             true
         }

@@ -1,14 +1,13 @@
-use Rattle.std.proofs.Common.{ℕ, ◌+◌, ◌*◌, ◌<◌, ◌≡◌, ◌∙◌, ◌&&◌, Bool, true, false, List, length, set, nat_lt, if◌then◌else◌, get_or, get_or-set_other, refl, sym, ap, subst, arith}
+use Rattle.std.proofs.Common.{ℕ, ◌+◌, ◌*◌, ◌≡◌, ◌∙◌, ◌&&◌, Bool, true, false, List, set, nat_lt, if◌then◌else◌, get_or, get_or-set_other, refl, sym, ap, arith}
 use Rattle.std.proofs.lemmas.List.{set-get_or}
 use Rattle.std.specs.Int.{from_bool}
-use Rattle.ec_bits.specs.Bits.{bytes_of_bits}
 use Rattle.ec_fmmu.specs.Applied.{Place}
 use Rattle.ec_fmmu.specs.Areas.{Area, area}
 use Rattle.ec_sync.specs.SyncManager.{SyncManager, may_read, may_write, no_manager}
 use Rattle.ec_slave.specs.State.{manager_at}
 use Rattle.ec_slave.specs.Roles.{is_reading, is_writing}
 use Rattle.ec_slave.specs.Mapped.{at_bits, weight}
-use Rattle.ec_slave.specs.Exchange.{IsBufferAt, inputs_into, outputs_from, with_published}
+use Rattle.ec_slave.specs.Exchange.{inputs_into, outputs_from, with_published}
 use Rattle.ec_slave.proofs.Applications.{indexed}
 use Rattle.ec_slave.proofs.logical.exchange.exchange_values.Goals as goal
 use Rattle.ec_slave.proofs.logical.exchange.exchange_values.Goals.{then-writes, else-writes, then-reads, else-reads}

@@ -1,11 +1,13 @@
 use Rattle.std.proofs.Common.{ℕ, ◌≡◌, ◌+◌, ◌-◌, ◌*◌, ◌<◌, ◌∙◌, Some, List, length, ap, subst, sym, arith, is_some, true}
-use Rattle.ec_bits.specs.Bits.{bit, copied, zeros}
+use Rattle.ec_bits.specs.Bits.{bit}
 use Rattle.ec_bits.proofs.AnyLaws.{if_true}
 use Rattle.ec_regs.specs.declared.manager.SyncManagerSettings.{SyncManagerSettings}
 use Rattle.ec_sync.specs.SyncManager.{SyncManager, ring_written}
 use Rattle.ec_fmmu.specs.Applied.{Place, touched_by_writing}
 use Rattle.ec_slave.specs.Managers.{is_ungoverned, is_written_by}
 use Rattle.ec_slave.specs.Logical.{plain_bit}
+use Rattle.ec_slave.specs.Usual.{bits_from}
+use Rattle.ec_slave.proofs.Usual.{copied_from}
 use Rattle.ec_slave.proofs.Wholly.{wholly-written, wholly-copied}
 use Rattle.ec_slave.proofs.logical.managers.write_bits.Goals as goal
 
@@ -28,6 +30,8 @@ returns-in-Some c =
     record {
       written = sym written;
       after = c.store.ensures
-          ∙ (ap (λ (a : SyncManagerSettings). ring_written m (copied (zeros m.settings.length) 0 bytes (at + 8 * (m.settings.start - a.start)) (8 * m.settings.length))) c.settings-start.ensures
-          ∙ (ap (ring_written m) (wholly-copied lower fs p bytes m.settings.start m.settings.length at here) ∙ sym (if_true _ _ _ written)));
+          ∙ (ap (λ (a : SyncManagerSettings). ring_written m (bits_from bytes at (8 * c.settings-len.result.length) (8 * (m.settings.start - a.start)) m.settings.length)) c.settings-start.ensures
+          ∙ (ap (λ (b : SyncManagerSettings). ring_written m (bits_from bytes at (8 * b.length) (8 * (m.settings.start - m.settings.start)) m.settings.length)) c.settings-len.ensures
+          ∙ (ap (ring_written m) (sym (copied_from bytes at (8 * m.settings.length) (8 * (m.settings.start - m.settings.start)) m.settings.length (8 * m.settings.length) (omega arith) (omega arith))
+          ∙ wholly-copied lower fs p bytes m.settings.start m.settings.length at here) ∙ sym (if_true _ _ _ written))));
     }

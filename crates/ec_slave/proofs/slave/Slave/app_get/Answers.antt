@@ -1,4 +1,5 @@
 use Rattle.std.proofs.Common.{◌≡◌, ◌<◌, ◌∙◌, ap, sym, arith, length}
+use Rattle.std.proofs.lemmas.List.{length-set}
 use Rattle.ec_sync.specs.SyncManager.{SyncManager, app_got, after_get}
 use Rattle.ec_slave.specs.State.{SlaveState, manager_at}
 use Rattle.ec_slave.specs.Application.{is_running, with_manager}
@@ -16,3 +17,11 @@ returns-clause-after c =
     ∙ got_after s c.args.place c.app_get.new.self
     (sym (ap is_running al) ∙ (sym (c.is_running.ensures ∙ ap is_running c.state.ensures) ∙ c.if-not-is_running.false))
     (c.app_get.ensures.after ∙ ap (λ (m : SyncManager). after_get m (app_got m c.args.place)) here)
+
+pub invariant_of-self : goal.invariant_of-self
+invariant_of-self c = record {
+  room = c.self.invariant.room;
+  four = length-set c.self.inside.managers.items 2 c.app_get.new.self ∙ c.self.invariant.four;
+  decoded = c.self.invariant.decoded;
+  image = c.self.invariant.image;
+}

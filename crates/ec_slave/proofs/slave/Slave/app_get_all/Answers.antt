@@ -1,4 +1,5 @@
 use Rattle.std.proofs.Common.{◌≡◌, ◌<◌, ◌∙◌, None, ap, sym, arith, length}
+use Rattle.std.proofs.lemmas.List.{length-set}
 use Rattle.ec_sync.specs.SyncManager.{SyncManager}
 use Rattle.ec_slave.specs.State.{SlaveState, manager_at}
 use Rattle.ec_slave.specs.Application.{get_size, with_manager}
@@ -23,3 +24,11 @@ returns-else-output_count-gt0 c =
     let size = c.app_sizes-output_count.ensures.get in
     let there = c.if-output_count-gt0.false in
     sym (none_taken c.args.self.now (get_size c.args.self.now) (omega (arith, size, there)))
+
+pub invariant_of-self : goal.invariant_of-self
+invariant_of-self c = record {
+  room = c.self.invariant.room;
+  four = length-set c.self.inside.managers.items 2 c.app_get_all.new.self ∙ c.self.invariant.four;
+  decoded = c.self.invariant.decoded;
+  image = c.self.invariant.image;
+}

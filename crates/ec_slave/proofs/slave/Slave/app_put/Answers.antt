@@ -1,4 +1,5 @@
 use Rattle.std.proofs.Common.{◌≡◌, ◌<◌, ◌∙◌, ap, sym, arith, length, unwrap_or}
+use Rattle.std.proofs.lemmas.List.{length-set}
 use Rattle.ec_sync.specs.SyncManager.{SyncManager, app_put}
 use Rattle.ec_slave.specs.State.{SlaveState, manager_at}
 use Rattle.ec_slave.specs.Application.{is_running, with_manager}
@@ -16,3 +17,11 @@ returns-clause-after c =
     ∙ put_after s c.args.place c.args.byte c.app_put.new.self
     (sym (ap is_running al) ∙ (sym (c.is_running.ensures ∙ ap is_running c.state.ensures) ∙ c.if-not-is_running.false))
     (c.app_put.ensures.after ∙ ap (λ (m : SyncManager). unwrap_or (app_put m c.args.place c.args.byte) m) here)
+
+pub invariant_of-self : goal.invariant_of-self
+invariant_of-self c = record {
+  room = c.self.invariant.room;
+  four = length-set c.self.inside.managers.items 3 c.app_put.new.self ∙ c.self.invariant.four;
+  decoded = c.self.invariant.decoded;
+  image = c.self.invariant.image;
+}

@@ -1,4 +1,5 @@
 use Rattle.std.proofs.Common.{◌≡◌, ◌<◌, ◌∙◌, ap, sym, arith, length}
+use Rattle.std.proofs.lemmas.List.{length-set}
 use Rattle.ec_sync.specs.SyncManager.{SyncManager, may_app_put}
 use Rattle.ec_slave.specs.State.{SlaveState, manager_at}
 use Rattle.ec_slave.specs.Application.{with_manager}
@@ -35,3 +36,11 @@ returns-then-not-is_empty c =
 pub returns-else-not-is_empty : goal.returns-else-not-is_empty
 returns-else-not-is_empty c =
     sym (none_put c.args.self.now c.args.inputs.now (empty c.is_empty.result (length c.args.inputs.now) c.is_empty.ensures c.if-not-is_empty.false))
+
+pub invariant_of-self : goal.invariant_of-self
+invariant_of-self c = record {
+  room = c.self.invariant.room;
+  four = length-set c.self.inside.managers.items 3 c.app_put_all.new.self ∙ c.self.invariant.four;
+  decoded = c.self.invariant.decoded;
+  image = c.self.invariant.image;
+}

@@ -1,9 +1,8 @@
-use Rattle.std.proofs.Common.{ℕ, ◌≡◌, ◌-◌, ◌/◌, ◌%◌, ◌∙◌, List, true, false, length, sym, ap, arith, slice_index}
+use Rattle.std.proofs.Common.{ℕ, ◌-◌, ◌/◌, ◌%◌, ◌∙◌, List, sym, ap, arith, slice_index}
 use Rattle.std.proofs.lemmas.List.{get_or_default}
 use Rattle.std.specs.Int.{to_le_bytes, w16}
-use Rattle.ec_bits.specs.Bits.{within}
 use Rattle.ec_bits.proofs.AnyLaws.{within_parts}
-use Rattle.ec_al.specs.Al.{Al, status_word}
+use Rattle.ec_al.specs.Al.{status_word}
 use Rattle.ec_dl.specs.DataLink.{dl_byte}
 use Rattle.ec_sii.specs.Port.{sii_byte}
 use Rattle.ec_sync.specs.SyncManager.{SyncManager}
