@@ -46,14 +46,12 @@ pub fn slaves_stay_slaves()
 
 /// After a datagram that writes, a register reads the byte that it brought, if it is stored, else what it read before; and
 /// each manager has the settings that were written to it and is empty, or is as it was.
-#[tactic(auto, using(crate::proofs::Registers::registers_after_write, crate::proofs::Registers::managers_after_write))]
 pub fn registers_after_write()
     ensures registers { RegistersAfterWrite }
     ensures managers { ManagersAfterWrite }
 {}
 
 /// A logical datagram moves the bits that the FMMUs map, and no other; what it leaves in a manager has 0 elsewhere.
-#[tactic(auto, using(crate::proofs::Registers::logical_bit_by_bit, crate::proofs::Registers::value_bit_by_bit))]
 pub fn logical_bit_by_bit()
     ensures bits { LogicalBitByBit }
     ensures value { ValueBitByBit }
@@ -77,13 +75,11 @@ pub fn counts_by_role()
 {}
 
 /// A logical datagram that maps nothing of a slave changes neither.
-#[tactic(auto, using(crate::proofs::Misses::misses))]
 pub fn logical_misses()
     ensures { MissesLaw }
 {}
 
 /// A slave whose FMMUs map its area exchanges exactly its outputs and its inputs with a logical datagram over it.
-#[tactic(auto, using(crate::proofs::ExchangeLaw::exchange))]
 pub fn exchange()
     ensures { ExchangeLaw }
 {}
@@ -106,7 +102,6 @@ pub fn logical_against_all()
 {}
 
 /// What an access does to a manager is a step of a manager's run, of which the laws of `ec_sync` speak.
-#[tactic(auto, using(crate::proofs::Steps::accesses_are_steps))]
 pub fn accesses_are_steps()
     ensures { AccessesAreSteps }
 {}
@@ -183,7 +178,6 @@ pub fn assignments_are_proper()
 {}
 
 /// What a slave is that was just switched on; the values of its managers are as long as their settings say.
-#[tactic(auto, using(crate::proofs::SwitchedOn::switched_on, crate::proofs::SwitchedOn::on_whole))]
 pub fn slaves_are_switched_on()
     ensures known { SlavesAreSwitchedOn }
     ensures whole { SwitchedOnWhole }

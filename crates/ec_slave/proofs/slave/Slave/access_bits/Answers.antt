@@ -1,4 +1,4 @@
-use Rattle.std.proofs.Common.{◌≡◌, ◌∙◌, List, length, ap, subst}
+use Rattle.std.proofs.Common.{◌≡◌, ◌∙◌, List, length, ap, subst, arith}
 use Rattle.ec_regs.specs.declared.fmmu.FmmuSettings.{FmmuSettings}
 use Rattle.ec_fmmu.specs.declared.area.MappedArea.{MappedArea}
 use Rattle.ec_fmmu.specs.Areas.{IsMappedBy}
@@ -44,3 +44,17 @@ exchange_plain-requires c =
       };
       spans = c.in-Some.ensures.spans;
     }
+
+pub is_held-requires : goal.is_held-requires
+is_held-requires c =
+    let by = c.in-Some.ensures.mapped in
+    let outs = by.small_outs in
+    let ins = by.small_ins in
+    record { four = ap length c.deref.ensures.value ∙ c.self.invariant.four; outs = omega (arith, outs); ins = omega (arith, ins) }
+
+pub is_plain-requires : goal.is_plain-requires
+is_plain-requires c =
+    let by = c.in-Some.ensures.mapped in
+    let outs = by.small_outs in
+    let ins = by.small_ins in
+    record { outs = omega (arith, outs); ins = omega (arith, ins) }

@@ -1,0 +1,5 @@
+use Rattle.ec_slave.proofs.ExchangeLaw.{exchange}
+use Rattle.ec_slave.proofs.laws.exchange.Goals as goal
+
+pub returns : goal.returns
+returns c = exchange

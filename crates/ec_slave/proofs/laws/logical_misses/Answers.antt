@@ -1,0 +1,5 @@
+use Rattle.ec_slave.proofs.Misses.{misses}
+use Rattle.ec_slave.proofs.laws.logical_misses.Goals as goal
+
+pub returns : goal.returns
+returns c = misses

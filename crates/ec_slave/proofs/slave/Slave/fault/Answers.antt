@@ -1,0 +1,22 @@
+use Rattle.std.proofs.Common.{◌≡◌, ◌<◌, ◌∙◌, true, length, ap, sym, arith}
+use Rattle.std.proofs.lemmas.List.{length-set}
+use Rattle.ec_al.specs.Al.{Al, is_operational}
+use Rattle.ec_al.specs.Al as al
+use Rattle.ec_sync.specs.SyncManager.{SyncManager}
+use Rattle.ec_slave.specs.State.{SlaveState, manager_at}
+use Rattle.ec_slave.specs.Application.{with_manager}
+use Rattle.ec_slave.specs.Faulting.{faulted, locked_empty}
+use Rattle.ec_slave.proofs.Applications.{indexed}
+use Rattle.ec_slave.proofs.Stepping.{faulted-by}
+use Rattle.ec_slave.proofs.slave.Slave.fault.Goals as goal
+
+pub returns-clause-after : goal.returns-clause-after
+returns-clause-after c =
+    let s : SlaveState = c.args.self.now in
+    let four : 2 < length c.self.inside.managers.items = omega (arith, c.self.invariant.four) in
+    let managers = ap (λ (x : SlaveState). x.managers) c.self.view_is in
+    let here : c.index_mut.result.now ≡ manager_at s.managers 2 = indexed _ s.managers 2 _ four c.index_mut.ensures.value managers in
+    let own = ap (λ (x : SlaveState). x.al) c.self.view_is in
+    let running : is_operational s.al.state ≡ true = sym (ap (λ (x : Al). is_operational x.state) own) ∙ ap is_operational (c.fault.ensures.taken.0 c.if-not-fault.false) in
+    ap (λ (x : SlaveState). with_manager (record x { al = c.fault.new.self }) 2 c.lock.new.manager) c.self.view_is
+    ∙ faulted-by s c.fault.new.self c.lock.new.manager running (c.fault.ensures.state ∙ ap al.faulted own) (c.lock.ensures ∙ ap locked_empty here)
