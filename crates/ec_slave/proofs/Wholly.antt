@@ -16,24 +16,6 @@ use Rattle.ec_slave.specs.Written.{some_brought}
 use Rattle.ec_slave.proofs.Exchanges.{one_written, exchanged_from, written_from, written_from-next, take_front, drop_front}
 use Rattle.ec_slave.proofs.SomeWritten.{same_truth, if-some}
 
-either-told : (o : Option Bool) (a b : Bool) → is_some o ≡ true → unwrap_or o a ≡ unwrap_or o b
-either-told None a b h = absurd (false≢true h)
-either-told (Some x) a b h = refl
-
-small-all : (xs : List ℕ) → ((k : ℕ) → slice_index xs k < 256) → All (λ x. x < 256) xs
-small-all xs h = λ k d l. subst (λ (n : ℕ). n < 256) (get_or_default xs k 0 d l) (h k)
-
-pub told_wholly : (xs ys : List ℕ) (f : ℕ → Option Bool) → length xs ≡ length ys → ((k : ℕ) → slice_index xs k < 256) → ((k : ℕ) → slice_index ys k < 256)
-    → ((i : ℕ) → i < 8 * length xs → is_some (f i) ≡ true) → overlay xs f ≡ overlay ys f
-told_wholly xs ys f e a b h =
-    let lx = length-overlay xs f in
-    let ly = length-overlay ys f in
-    same_bits (overlay xs f) (overlay ys f) (lx ∙ (e ∙ sym ly)) (overlay_keeps_bytes xs f (small-all xs a)) (overlay_keeps_bytes ys f (small-all ys b))
-    (λ i l.
-    let inside : i < 8 * length xs = omega (arith, l, lx) in
-    let inside_2 : i < 8 * length ys = omega (arith, l, lx, e) in
-    bit-overlay xs f i inside ∙ (either-told (f i) (bit xs i) (bit ys i) (h i inside) ∙ sym (bit-overlay ys f i inside_2)))
-
 -- ---- one manager
 
 some-mapped : (bytes : List ℕ) (o : Option ℕ) → is_some (option_map (bit bytes) o) ≡ is_some o
@@ -111,12 +93,10 @@ wholly-written lower fs p bytes m may some h =
 -- and its value is one copy
 pub wholly-copied : (lower : List SyncManager) (fs : List FmmuSettings) (p : Place) (bytes : List ℕ) (start len at : ℕ)
     → ((k : ℕ) → k < 8 * len → plain_bit lower fs p bytes (8 * start + k) ≡ Some (bit bytes (at + k)))
-    → copied (zeros len) 0 bytes (at + 8 * (start - start)) (8 * len) ≡ logical_value lower fs p bytes start len
+    → copied (zeros len) 0 bytes at (8 * len) ≡ logical_value lower fs p bytes start len
 wholly-copied lower fs p bytes start len at h =
     let n : length (zeros len) ≡ len = length-replicate len 0 in
-    let z : at + 8 * (start - start) ≡ at = omega arith in
-    ap (λ (x : ℕ). copied (zeros len) 0 bytes x (8 * len)) z
-    ∙ overlay_alike (zeros len) (run_told 0 bytes at (8 * len)) (λ k. plain_bit lower fs p bytes (8 * start + k)) (λ k l.
+    overlay_alike (zeros len) (run_told 0 bytes at (8 * len)) (λ k. plain_bit lower fs p bytes (8 * start + k)) (λ k l.
     let i : k < 8 * len = omega (arith, l, n) in
     let o : k - 0 ≡ k = omega arith in
     ap (λ (x : Option Bool). unwrap_or x (bit (zeros len) k))
@@ -167,9 +147,3 @@ written_from-step ms before reading writing fs p bytes n d a b l was ha hb =
     ap₂ (λ (x y : Bool). x || y) ha one
     ∙ (either-way writing (written_from ms fs p bytes (n + 1)) (one_written A fs p bytes m)
     ∙ ap (λ (z : Bool). writing && z) (sym (written_from-next ms fs p bytes n d l)))
-
-pub small-zeros : (n k : ℕ) → slice_index (zeros n) k < 256
-small-zeros n k = elim (cases_lt k n) [
-  | inl l ↦ let z : slice_index (zeros n) k ≡ 0 = get_or-replicate n k 0 0 l in omega (arith, z)
-  | inr g ↦ let z : slice_index (zeros n) k ≡ 0 = get_or_past (zeros n) k 0 (let e = length-replicate {A = ℕ} n 0 in omega (arith, e, g)) in omega (arith, z)
-]

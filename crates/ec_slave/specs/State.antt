@@ -1,5 +1,5 @@
 -- What a slave is at an instant (ETG.1000.3 and .5; the memory is this project's profile).
-use Rattle.std.specs.Prelude.{ℕ, ◌+◌, ◌*◌, ◌%◌, List, [], ◌∷◌, map, get_or, slice_index}
+use Rattle.std.specs.Prelude.{ℕ, ◌+◌, ◌*◌, ◌%◌, List, [], ◌∷◌, map, slice_index}
 use Rattle.ec_bits.specs.Bits.{zeros}
 use Rattle.ec_device.specs.declared.slave_type.Identity.{Identity}
 use Rattle.ec_regs.specs.declared.fmmu.FmmuSettings.{FmmuSettings}
@@ -8,6 +8,7 @@ use Rattle.ec_regs.specs.Memory.{station_address, fmmu_place, ram_end}
 use Rattle.ec_regs.specs.Fmmus.{fmmu_of}
 use Rattle.ec_frame.specs.Datagram.{Datagram}
 use Rattle.ec_sync.specs.SyncManager.{SyncManager, no_manager}
+pub use Rattle.ec_exchange.specs.Values.{manager_at}
 use Rattle.ec_al.specs.Al.{Al}
 use Rattle.ec_al.specs.Al as al
 use Rattle.ec_dl.specs.DataLink.{DataLink, new_data_link}
@@ -43,9 +44,6 @@ with_memory s memory managers = record s { memory = memory; managers = managers 
 -- the station address, two registers, the low byte first (ETG.1000.4, "Station address")
 abbrev pub station_of : SlaveState → ℕ
 station_of s = slice_index s.memory station_address + 256 * slice_index s.memory (station_address + 1)
-
-abbrev pub manager_at : List SyncManager → ℕ → SyncManager
-manager_at ms n = get_or ms n no_manager
 
 -- the four FMMUs, as their registers say
 abbrev pub fmmus_of : List ℕ → List FmmuSettings

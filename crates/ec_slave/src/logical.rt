@@ -17,13 +17,13 @@ mod managers;
 mod reading;
 mod writing;
 
-use crate::logical::exchange::{is_held, is_plain, spanned_area};
 use crate::logical::managers::access_managers;
 use crate::logical::reading::read_logical;
 use crate::logical::writing::write_logical;
 use crate::passing::MAX_DATA;
 use crate::role::Role;
 use crate::slave::Slave;
+use ec_exchange::{is_held, is_plain, spanned_area};
 
 impl Slave {
     /// Whether no FMMU has one of so many logical bits in its range, so that a datagram over them

@@ -9,10 +9,10 @@ ghost use Rattle.ec_slave.specs.Managers.{is_ungoverned, is_written_by, manager_
 ghost use Rattle.ec_slave.specs.Logical.{logical_managers, plain_bit, logical_value};
 ghost use Rattle.ec_slave.specs.Written.{some_manager_written};
 
-use crate::logical::exchange::Outputs;
 use crate::logical::writing::Ungoverned;
 use crate::reach::{read_manager, write_manager};
 use crate::runs::are_ungoverned;
+use ec_exchange::take_value;
 use ec_fmmu::{FmmuTable, apply_write, is_touched_by_reading, is_touched_by_writing, whole_source};
 use ec_sync::{SyncManager, Touching, Writing};
 
@@ -189,16 +189,9 @@ fn write_bits(manager: &mut SyncManager, access: &Bits<'_>) -> bool
     }
     let start = manager.settings().start as usize;
     let len = manager.settings().length as usize;
-    let bytes = access.bytes;
     match access.source(start, len) {
         Some(at) => {
-            manager.store(&Outputs {
-                start,
-                len,
-                bytes,
-                at,
-                count: 8 * len,
-            });
+            take_value(manager, access.bytes, at);
             true
         }
         None => write_manager(access.lower, manager, access),

@@ -6,8 +6,6 @@ use Rattle.ec_sync.specs.SyncManager.{SyncManager, ring_written}
 use Rattle.ec_fmmu.specs.Applied.{Place, touched_by_writing}
 use Rattle.ec_slave.specs.Managers.{is_ungoverned, is_written_by}
 use Rattle.ec_slave.specs.Logical.{plain_bit}
-use Rattle.ec_slave.specs.Usual.{bits_from}
-use Rattle.ec_slave.proofs.Usual.{copied_from}
 use Rattle.ec_slave.proofs.Wholly.{wholly-written, wholly-copied}
 use Rattle.ec_slave.proofs.logical.managers.write_bits.Goals as goal
 
@@ -29,9 +27,6 @@ returns-in-Some c =
     = wholly-written lower fs p bytes m (sym may.value) (omega arith) (λ k l. ap is_some (here k l)) in
     record {
       written = sym written;
-      after = c.store.ensures
-          ∙ (ap (λ (a : SyncManagerSettings). ring_written m (bits_from bytes at (8 * c.settings-len.result.length) (8 * (m.settings.start - a.start)) m.settings.length)) c.settings-start.ensures
-          ∙ (ap (λ (b : SyncManagerSettings). ring_written m (bits_from bytes at (8 * b.length) (8 * (m.settings.start - m.settings.start)) m.settings.length)) c.settings-len.ensures
-          ∙ (ap (ring_written m) (sym (copied_from bytes at (8 * m.settings.length) (8 * (m.settings.start - m.settings.start)) m.settings.length (8 * m.settings.length) (omega arith) (omega arith))
-          ∙ wholly-copied lower fs p bytes m.settings.start m.settings.length at here) ∙ sym (if_true _ _ _ written))));
+      after = c.take_value.ensures
+          ∙ (ap (ring_written m) (wholly-copied lower fs p bytes m.settings.start m.settings.length at here) ∙ sym (if_true _ _ _ written));
     }

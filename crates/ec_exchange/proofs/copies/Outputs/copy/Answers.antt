@@ -1,8 +1,8 @@
 use Rattle.std.proofs.Common.{ℕ, ◌≡◌, ◌+◌, ◌*◌, ◌∙◌, List, length, ap, arith}
 use Rattle.ec_bits.specs.Bits.{copied, zeros}
-use Rattle.ec_slave.proofs.Usual.{copied_from, wholly_from}
-use Rattle.ec_slave.proofs.logical.exchange.Outputs.copy.Goals as goal
-use Rattle.ec_slave.proofs.logical.exchange.Outputs.copy.Goals.{then-count-bits, else-count-bits}
+use Rattle.ec_exchange.proofs.CopiedBits.{copied_from, wholly_from}
+use Rattle.ec_exchange.proofs.copies.Outputs.copy.Goals as goal
+use Rattle.ec_exchange.proofs.copies.Outputs.copy.Goals.{then-count-bits, else-count-bits}
 
 pub returns : goal.returns
 returns c =

@@ -6,8 +6,8 @@ use Rattle.ec_fmmu.specs.Applied.{Place}
 use Rattle.ec_fmmu.specs.Areas.{area}
 use Rattle.ec_sync.specs.SyncManager.{may_read}
 use Rattle.ec_sync.proofs.Lengths.{buffer_length_set}
-use Rattle.ec_slave.proofs.Usual.{copied_into}
-use Rattle.ec_slave.proofs.logical.exchange.give_inputs.Goals as goal
+use Rattle.ec_exchange.proofs.CopiedBits.{copied_into}
+use Rattle.ec_exchange.proofs.copies.give_inputs.Goals as goal
 
 pub copy_by_words-requires-clause-there : goal.copy_by_words-requires-clause-there
 copy_by_words-requires-clause-there c =

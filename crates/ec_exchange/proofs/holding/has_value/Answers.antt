@@ -3,12 +3,12 @@ use Rattle.std.proofs.lemmas.Bool.{OnTrue_at, OnTrue_from}
 use Rattle.ec_bits.specs.Bits.{bytes_of_bits}
 use Rattle.ec_sync.specs.SyncManager.{SyncManager}
 use Rattle.ec_sync.specs.Governing.{governs}
-use Rattle.ec_slave.specs.State.{manager_at}
-use Rattle.ec_slave.specs.Exchange.{IsBufferAt}
-use Rattle.ec_slave.specs.Usual.{LiesIn}
-use Rattle.ec_slave.proofs.Applications.{indexed}
-use Rattle.ec_slave.proofs.Governors.{position_from-first}
-use Rattle.ec_slave.proofs.logical.exchange.has_value.Goals as goal
+use Rattle.ec_exchange.specs.Values.{manager_at}
+use Rattle.ec_exchange.specs.Values.{IsBufferAt}
+use Rattle.ec_exchange.specs.Values.{LiesIn}
+use Rattle.ec_exchange.proofs.Managers.{indexed}
+use Rattle.ec_exchange.proofs.Managers.{position_from-first}
+use Rattle.ec_exchange.proofs.holding.has_value.Goals as goal
 
 pub returns : goal.returns
 returns c =

@@ -1,10 +1,10 @@
 use Rattle.std.proofs.Common.{ℕ, suc, ◌+◌, ◌≡◌, ◌<◌, ◌∙◌, List, false, length, take, refl, ap, sym, arith}
 use Rattle.ec_sync.specs.SyncManager.{SyncManager}
 use Rattle.ec_sync.specs.Governing.{governor, governs}
-use Rattle.ec_slave.specs.State.{manager_at}
-use Rattle.ec_slave.proofs.Applications.{indexed}
-use Rattle.ec_slave.proofs.Governors.{position_from-more}
-use Rattle.ec_slave.proofs.logical.exchange.are_clear.Goals as goal
+use Rattle.ec_exchange.specs.Values.{manager_at}
+use Rattle.ec_exchange.proofs.Managers.{indexed}
+use Rattle.ec_exchange.proofs.Managers.{position_from-more}
+use Rattle.ec_exchange.proofs.holding.are_clear.Goals as goal
 
 pub loop-manager-preserved : goal.loop-manager-preserved
 loop-manager-preserved c = λ a lo hi.

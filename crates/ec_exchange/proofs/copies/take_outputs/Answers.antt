@@ -4,9 +4,9 @@ use Rattle.ec_bits.proofs.AnyLaws.{if_true, if_false}
 use Rattle.ec_fmmu.specs.Applied.{Place}
 use Rattle.ec_fmmu.specs.Areas.{area}
 use Rattle.ec_sync.specs.SyncManager.{may_write}
-use Rattle.ec_slave.specs.Exchange.{with_published}
-use Rattle.ec_slave.proofs.Usual.{outputs_are}
-use Rattle.ec_slave.proofs.logical.exchange.take_outputs.Goals as goal
+use Rattle.ec_exchange.specs.Values.{with_published}
+use Rattle.ec_exchange.proofs.CopiedBits.{outputs_are}
+use Rattle.ec_exchange.proofs.copies.take_outputs.Goals as goal
 
 pub returns : goal.returns
 returns c =

@@ -1,0 +1,12 @@
+//! Process data that are exchanged as copies: whether sync managers, or the RAM itself, hold the area that FMMUs map, and what a
+//! logical datagram that has the whole area brings there and takes from there.
+//!
+//! A slave that is set up as usual is one of these two cases. What a datagram does otherwise, bit by bit, `ec_slave` says, and
+//! proves that both are the same.
+#![tactic(auto)]
+
+mod copies;
+mod holding;
+
+pub use crate::copies::{get_inputs, give_inputs, put_outputs, take_outputs, take_value};
+pub use crate::holding::{is_held, is_plain, spanned_area};
