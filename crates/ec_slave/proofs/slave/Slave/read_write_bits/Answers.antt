@@ -1,4 +1,4 @@
-use Rattle.std.proofs.Common.{ℕ, ◌+◌, ◌*◌, ◌≡◌, ◌∙◌, Bool, List, length, true, ap}
+use Rattle.std.proofs.Common.{ℕ, ◌+◌, ◌*◌, ◌≡◌, ◌∙◌, Bool, List, true, ap}
 use Rattle.std.specs.Int.{from_bool}
 use Rattle.ec_bits.specs.Bits.{overlay}
 use Rattle.ec_regs.specs.declared.fmmu.FmmuSettings.{FmmuSettings}

@@ -1,4 +1,4 @@
-use Rattle.std.proofs.Common.{ℕ, ◌≡◌, ◌<◌, ◌∙◌, ◌&&◌, not, Bool, true, false, refl, if◌then◌else◌, nat_lt, Option, Some, None, Result, Ok, Err, List, length, sym, ap, arith, option_and_then, rules}
+use Rattle.std.proofs.Common.{ℕ, ◌≡◌, ◌∙◌, ◌&&◌, not, Bool, true, false, refl, if◌then◌else◌, nat_lt, Option, Some, None, Result, Ok, Err, List, sym, ap, arith, option_and_then, rules}
 use Rattle.std.specs.Result.{MatchResult, result_ok}
 use Rattle.std.specs.Bool.{then_some}
 use Rattle.ec_coe.specs.declared.message.Message.{Message}
