@@ -91,7 +91,7 @@ impl Slave {
         self.fmmus.is_apart()
     }
 
-    /// The same, with a copy of its own.
+    /// The same, with a copy of the data as they were received.
     #[inline(never)]
     fn read_write_copied_bits(&mut self, from: u64, bytes: &mut [u8]) -> u16
         requires { FitsFrame from bytes.old }
@@ -102,17 +102,6 @@ impl Slave {
         let mut copy = [0; MAX_DATA];
         let received = &mut copy[..bytes.len()];
         received.copy_from_slice(bytes);
-        self.read_write_bits(from, received, bytes)
-    }
-
-    /// A datagram that reads and writes, of which `received` is a copy of the data.
-    fn read_write_bits(&mut self, from: u64, received: &[u8], bytes: &mut [u8]) -> u16
-        requires small { from + 8 * length bytes.old < 2 ^ 64 }
-        requires same { received.now ≡ bytes.old }
-        ensures slave { self.new ≡ slave_exchanged self.old from bytes.old }
-        ensures bytes { bytes.new ≡ bytes_exchanged self.old from bytes.old }
-        ensures added { result ≡ count_exchanged self.old from bytes.old }
-    {
         let is_read = read_logical(&self.memory, &self.managers, &self.fmmus, from, bytes);
         let is_written = self.write_bits(true, from, received);
         is_read as u16 + 2 * is_written as u16

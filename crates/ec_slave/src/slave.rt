@@ -11,7 +11,7 @@ ghost use Rattle.ec_slave.specs.Physical.{byte_at, register_byte};
 ghost use Rattle.ec_slave.specs.State.{SlaveState, memory_length, power_on, station_of};
 
 use crate::fmmus::read_fmmus;
-use crate::reach::governor;
+use crate::reach::owner_of;
 use ec_al::Al;
 use ec_bits::within;
 use ec_coe::Dictionary;
@@ -119,28 +119,15 @@ impl Slave {
     }
 
     /// What an address reads now, as a datagram would find it; none past the RAM's end.
-    #[tactic(auto, unfolding(crate::specs::Physical::byte_at))]
     pub fn byte(&self, address: u16) -> Option<u8>
         ensures { result ≡ (if nat_lt address ram_end then Some (byte_at self.now address) else None) }
     {
         let address = address as usize;
         if address < RAM_END {
-            Some(self.byte_at(address))
+            Some(self.byte_under(owner_of(&self.managers, address), address))
         } else {
             None
         }
-    }
-
-    /// What an address reads.
-    #[tactic(auto, unfolding(crate::specs::Physical::byte_at))]
-    pub(crate) fn byte_at(&self, address: usize) -> u8
-        requires { address < ram_end }
-        ensures { result ≡ byte_at self.now address }
-    {
-        if address < RAM_START {
-            return self.register(address);
-        }
-        self.ram_byte(governor(&self.managers, address), address)
     }
 
     /// What an address reads that has this governor, or none, if it lies in the RAM.
@@ -151,9 +138,11 @@ impl Slave {
         ensures { result ≡ byte_at self.now address }
     {
         if address < RAM_START {
-            self.register(address)
-        } else {
-            self.ram_byte(owner, address)
+            return self.register(address);
+        }
+        match owner {
+            None => self.memory[address],
+            Some(place) => self.managers[place].shown_byte(address),
         }
     }
 
@@ -193,21 +182,6 @@ impl Slave {
     {
         let word = self.al.status_word();
         ((word % 256) as u8, (word / 256) as u8)
-    }
-
-    /// What an address of the RAM reads that has this governor, or none.
-    #[tactic(auto, unfolding(crate::specs::Physical::byte_at))]
-    fn ram_byte(&self, owner: Option<usize>, address: usize) -> u8
-        requires ram { ram_start ≤ address }
-        requires inside { address < ram_end }
-        requires within { IfSome owner (λ n. n < length self.now.managers) }
-        requires owner { owner ≡ governor_of self.now.managers address }
-        ensures { result ≡ byte_at self.now address }
-    {
-        match owner {
-            None => self.memory[address],
-            Some(place) => self.managers[place].shown_byte(address),
-        }
     }
 
     /// What the address of a register reads.

@@ -1,11 +1,9 @@
 use Rattle.std.proofs.Common.{◌≡◌, ◌<◌, ◌∙◌, true, length, ap, sym, arith}
-use Rattle.std.proofs.lemmas.List.{length-set}
 use Rattle.ec_al.specs.Al.{Al, is_operational}
 use Rattle.ec_al.specs.Al as al
-use Rattle.ec_sync.specs.SyncManager.{SyncManager}
 use Rattle.ec_slave.specs.State.{SlaveState, manager_at}
 use Rattle.ec_slave.specs.Application.{with_manager}
-use Rattle.ec_slave.specs.Faulting.{faulted, locked_empty}
+use Rattle.ec_slave.specs.Faulting.{locked_empty}
 use Rattle.ec_slave.proofs.Applications.{indexed}
 use Rattle.ec_slave.proofs.Stepping.{faulted-by}
 use Rattle.ec_slave.proofs.slave.Slave.fault.Goals as goal

@@ -1,4 +1,4 @@
-use Rattle.std.proofs.Common.{ℕ, ◌+◌, ◌*◌, ◌≡◌, ◌∙◌, Bool, List, length, true, ap}
+use Rattle.std.proofs.Common.{ℕ, ◌+◌, ◌*◌, ◌≡◌, ◌∙◌, Bool, List, true, ap}
 use Rattle.std.specs.Int.{from_bool}
 use Rattle.ec_bits.specs.Bits.{overlay}
 use Rattle.ec_regs.specs.declared.fmmu.FmmuSettings.{FmmuSettings}
@@ -7,11 +7,11 @@ use Rattle.ec_fmmu.specs.Applied.{Place}
 use Rattle.ec_slave.specs.State.{SlaveState, fmmus, fmmus_of}
 use Rattle.ec_slave.specs.Logical.{logical_after, read_bit, some_read, some_written}
 use Rattle.ec_slave.specs.Mapped.{at_bits}
-use Rattle.ec_slave.proofs.slave.Slave.read_write_bits.Goals as goal
+use Rattle.ec_slave.proofs.slave.Slave.read_write_copied_bits.Goals as goal
 
 pub returns-clause-slave : goal.returns-clause-slave
 returns-clause-slave c =
-    c.write_bits-is_written.ensures.slave ∙ ap (λ (xs : List ℕ). logical_after c.args.self.now true true (at_bits c.args.from xs) xs) c.requires.same
+    c.write_bits-is_written.ensures.slave ∙ ap (λ (xs : List ℕ). logical_after c.args.self.now true true (at_bits c.args.from xs) xs) c.copy_from_slice.ensures.after
 
 pub returns-clause-bytes : goal.returns-clause-bytes
 returns-clause-bytes c =
@@ -34,6 +34,6 @@ returns-clause-added c =
     ∙ (ap (λ (ms : List SyncManager). some_read s.memory ms c.self.inside.fmmus p) (c.deref-2.ensures.value ∙ ap (λ (x : SlaveState). x.managers) c.self.view_is)
     ∙ ap (λ (fs : List FmmuSettings). some_read s.memory s.managers fs p) (c.self.invariant.decoded ∙ ap (λ (x : SlaveState). fmmus_of x.memory) c.self.view_is))) in
     let written : c.write_bits-is_written.result ≡ some_written s.managers (fmmus s) p b
-    = c.write_bits-is_written.ensures.some ∙ ap (λ (xs : List ℕ). some_written s.managers (fmmus s) (at_bits c.args.from xs) xs) c.requires.same in
+    = c.write_bits-is_written.ensures.some ∙ ap (λ (xs : List ℕ). some_written s.managers (fmmus s) (at_bits c.args.from xs) xs) c.copy_from_slice.ensures.after in
     ap (λ (r : Bool). from_bool r + 2 * from_bool c.write_bits-is_written.result) read
     ∙ ap (λ (w : Bool). from_bool (some_read s.memory s.managers (fmmus s) p) + 2 * from_bool w) written
