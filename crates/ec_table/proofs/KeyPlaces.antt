@@ -1,8 +1,7 @@
 -- The values under the keys of a table, found in one pass over its members.
-use Rattle.std.proofs.lemmas.Grind.{common_steps}
-use Rattle.std.proofs.Common.{drop, ◌≡◌, ◌≢◌, ◌<◌, ◌≤◌, ◌+◌, ◌⊎◌, inl, inr, ℕ, slice_set, get_or-set_same, get_or-set_other, Bool, true, false, ◌||◌, ◌&&◌, not, List, [], ◌∷◌, ◌++◌, length, take, map, get_or, Option, Some, None, is_some, Ordering, Less, Equal, Greater, nat_cmp, Bor, codes, refl, ap, sym, ◌∙◌, subst, arith}
+use Rattle.std.proofs.Common.{drop, ◌≡◌, ◌≢◌, ◌<◌, ◌≤◌, ◌+◌, ℕ, slice_set, get_or-set_same, get_or-set_other, Bool, true, false, ◌&&◌, not, List, [], ◌∷◌, ◌++◌, length, take, map, get_or, Option, Some, None, is_some, Ordering, Less, Equal, Greater, nat_cmp, Bor, codes, refl, ap, sym, ◌∙◌, subst, arith}
 use mathlib.Core.Bool.{cond}
-use Rattle.std.specs.List.{list_any, list_all, position, position_or_len}
+use Rattle.std.specs.List.{list_all, position, position_or_len}
 use Rattle.std.specs.Str.{bytes_eq}
 use Rattle.std.specs.Cmp.Lexicographic.{slice_cmp}
 use Rattle.std.specs.Ordering.{match_ordering, is_eq}
