@@ -74,10 +74,7 @@ fn link_at(
     let index = number_in(place, index, 1, MAX_U16)?;
     let subindex = number_in(place, subindex, 0, MAX_U8)?;
     let bits = link_bits_in(place, bits)?;
-    let Some(at) = variables.place_of(variable_name) else {
-        return Err(Fault::UnknownName(place));
-    };
-    let Some(variable) = variables.as_slice().get(at) else {
+    let Some((at, variable)) = variables.find(variable_name) else {
         return Err(Fault::UnknownName(place));
     };
     let Some(slave) = slaves.place_of(slave_name) else {

@@ -126,10 +126,7 @@ fn slave_of_type(
     ensures value { Gives result (slave_of_type types.now place name.now type_name.now written) }
     ensures name { IfOk result (λ s. s.name ≡ name.now) }
 {
-    let Some(at) = types.place_of(type_name) else {
-        return Err(TableError::Refused(Fault::UnknownName(place)));
-    };
-    let Some(slave_type) = types.as_slice().get(at) else {
+    let Some((at, slave_type)) = types.find(type_name) else {
         return Err(TableError::Refused(Fault::UnknownName(place)));
     };
     let process = &slave_type.process;
