@@ -12,7 +12,7 @@ use crate::fields::{name_in, number_or_0, numbers_in};
 use crate::keys::{Shape, values_of};
 use crate::named::{Named, NamedRows};
 use crate::pdos::{LAST_INPUT_INDEX, LAST_OUTPUT_INDEX, has_twice, indices_of, is_index};
-use crate::rows::{Name, SlaveRow, TypeRow, Version};
+use crate::rows::{Name, ProcessData, SlaveRow, TypeRow, Version};
 use ec_device::{FIRST_INPUT_INDEX, FIRST_OUTPUT_INDEX, Pdo};
 use ec_listed::Listed;
 use std::alloc::{AllocError, Global};
@@ -129,17 +129,36 @@ fn slave_of_type(
     let Some((at, slave_type)) = types.find(type_name) else {
         return Err(TableError::Refused(Fault::UnknownName(place)));
     };
-    let process = &slave_type.process;
-    let row = SlaveRow {
+    let row = row_of(alloc, name, at, &slave_type.process, written)?;
+    test_assigned(place, slave_type, &row)?;
+    Ok(row)
+}
+
+/// A slave's row: of objects that aren't written, all of its type.
+fn row_of(
+    alloc: Global,
+    name: &str,
+    type_place: usize,
+    process: &ProcessData,
+    written: Written,
+) -> Result<SlaveRow, AllocError>
+    ensures { IfOk result (λ s. s ≡ record {
+      name = name.now;
+      type_place = type_place;
+      outputs = unwrap_or written.outputs (indices_of process.now.outputs);
+      inputs = unwrap_or written.inputs (indices_of process.now.inputs);
+      serial = written.serial;
+      unit = written.unit;
+    }) }
+{
+    Ok(SlaveRow {
         name: Name::new(alloc, name)?,
-        type_place: at,
+        type_place,
         outputs: written_or_all(alloc, written.outputs, process.outputs.as_slice())?,
         inputs: written_or_all(alloc, written.inputs, process.inputs.as_slice())?,
         serial: written.serial,
         unit: written.unit,
-    };
-    test_assigned(place, slave_type, &row)?;
-    Ok(row)
+    })
 }
 
 /// Tests whether the objects that a slave assigns are its type's, and all of them in order where it has no mailbox.
