@@ -1,5 +1,5 @@
 //! The blocks of a capture.
-ghost use Rattle.std.specs.Prelude.{◌≡◌, ◌≤◌, ◌<◌, ◌+◌, ◌^◌, ◌++◌, [], ◌∷◌, length, option_map};
+ghost use Rattle.std.specs.Prelude.{◌≡◌, ◌≤◌, ◌<◌, ◌+◌, ◌^◌, ◌++◌, length, option_map};
 ghost use Rattle.std.specs.List.{flat_map};
 ghost use Rattle.ec_capture.specs.Blocks.{block_bytes, number, options_bytes, padding, zeros};
 ghost use Rattle.ec_capture.specs.Captures.{IsComment, IsSeen, IsText, comment_bytes, ethernet_head, ethernet_size, interface_block, packet_block, section_block, seen_as};

@@ -1,5 +1,5 @@
 //! Remarks on a text, and how they are told.
-ghost use Rattle.std.specs.Prelude.{◌≡◌, ◌++◌, ◌∷◌, [], All, OnOk, string_bytes};
+ghost use Rattle.std.specs.Prelude.{◌≡◌, ◌++◌, [], All, OnOk, string_bytes};
 ghost use Rattle.ec_outline.specs.Remarks.{StandsIn, heading};
 
 use crate::spot::{Span, Spot, spot_of};

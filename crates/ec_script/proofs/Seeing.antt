@@ -1,5 +1,5 @@
 -- Runs that a watcher saw, one after the other.
-use Rattle.std.proofs.Common.{◌≡◌, ◌∙◌, refl, sym, ap, subst, List, [], ◌∷◌, ◌++◌, Bool, true, false}
+use Rattle.std.proofs.Common.{◌≡◌, refl, sym, subst, List, [], ◌∷◌, ◌++◌, Bool, true, false}
 use Rattle.ec_world.specs.declared.event.Event.{Event}
 use Rattle.ec_world.specs.World.{WorldState, IsStep}
 use Rattle.ec_script.specs.Seeing.{SawAll, Sees}

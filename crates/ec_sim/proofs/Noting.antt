@@ -1,5 +1,5 @@
 -- What a watcher saw of a run is noted.
-use Rattle.std.proofs.Common.{ℕ, ◌≡◌, refl, sym, subst, List, [], ◌∷◌, ◌++◌}
+use Rattle.std.proofs.Common.{ℕ, refl, sym, subst, List, [], ◌∷◌, ◌++◌}
 use Rattle.ec_capture.specs.Captures.{Seen}
 use Rattle.ec_capture.specs.Recordings.{Notes}
 use Rattle.ec_capture.proofs.Noting.{notes_nothing, notes_then}

@@ -11,7 +11,7 @@ use Rattle.ec_table.specs.declared.rows.ProcessData.{ProcessData}
 use Rattle.ec_table.specs.declared.rows.TypeRow.{TypeRow}
 use Rattle.ec_table.specs.declared.rows.SlaveRow.{SlaveRow}
 use Rattle.ec_table.specs.declared.rows.VariableRow.{VariableRow}
-use Rattle.ec_table.specs.declared.fields.Shape.TheVariants as shape
+use Rattle.ec_table.specs.declared.keys.Shape.TheVariants as shape
 use Rattle.ec_table.specs.Fields.{must, keys_are, number_in, name_in, mailbox_in, truth_in, version_in, section_in, link_bits_in}
 use Rattle.ec_table.specs.InOrder.{rows_after}
 use Rattle.ec_table.specs.Names.{is_named, place_named}

@@ -7,7 +7,7 @@ use Rattle.ec_table.specs.declared.fault.Fault.{Fault}
 use Rattle.ec_table.specs.declared.fault.Fault.TheVariants.{Toml, BadKey, BadValue}
 use Rattle.ec_table.specs.declared.fault.Place.{Place}
 use Rattle.ec_table.specs.declared.rows.Version.{Version}
-use Rattle.ec_table.specs.declared.fields.Shape.TheVariants as shape
+use Rattle.ec_table.specs.declared.keys.Shape.TheVariants as shape
 use Rattle.ec_table.specs.Fields.{◌>>=◌, must, keys_are, number_in, in_range, magnitude, version_in, section_in, are_tables}
 use Rattle.ec_table.specs.Reading.{top, table_of_document, table_of}
 use Rattle.ec_table.specs.Laws.{DocumentFaultsInOrder}

@@ -1,9 +1,11 @@
--- the map of a TOML table beside its members
+-- the values of a TOML array beside its items
 pub mod Lookups
--- a key that is not some name
+-- where neither of two tests passes
 pub mod Apart
 -- one more key of an element that is read in one pass
 pub mod OnePass
+-- the values under the keys of an element, found in one pass
+pub mod KeyPlaces
 -- a name's place, and one more name
 pub mod Naming
 -- one row of a section, and the end

@@ -24,7 +24,7 @@ some_from_test : (b : Bool) (n : ℕ) → is_some (cond b (Some n) None) ≡ b
 some_from_test true n = refl
 some_from_test false n = refl
 
-has_place : {X : Type 0} (p : X → Bool) (xs : List X) → is_some (position p xs) ≡ list_any p xs
+pub has_place : {X : Type 0} (p : X → Bool) (xs : List X) → is_some (position p xs) ≡ list_any p xs
 has_place p xs = some_from_test (nat_lt (position_or_len p xs) (length xs)) (position_or_len p xs) ∙ is_before_end p xs
 
 -- where n of l elements fail, one more, and whether it passes

@@ -20,7 +20,7 @@ use Rattle.ec_table.specs.declared.rows.Direction.TheVariants.{Out, In}
 use Rattle.ec_table.specs.declared.rows.ProcessData.{ProcessData}
 use Rattle.ec_table.specs.declared.rows.TypeRow.{TypeRow}
 use Rattle.ec_table.specs.declared.rows.VariableRow.{VariableRow}
-use Rattle.ec_table.specs.declared.fields.Shape.TheVariants as shape
+use Rattle.ec_table.specs.declared.keys.Shape.TheVariants as shape
 use Rattle.ec_table.specs.Contents.{pdos_toward}
 use Rattle.ec_table.specs.Fields.{◌>>=◌, must, keys_are, mailbox_of, mailbox_in, direction_in, truth_in}
 use Rattle.ec_table.specs.InOrder.{members_in, rows_after}

@@ -29,7 +29,7 @@ use Rattle.ec_table.specs.declared.rows.SlaveRow.{SlaveRow}
 use Rattle.ec_table.specs.declared.rows.VariableRow.{VariableRow}
 use Rattle.ec_table.specs.declared.rows.LinkBits.{LinkBits}
 use Rattle.ec_table.specs.declared.rows.LinkRow.{LinkRow}
-use Rattle.ec_table.specs.declared.fields.Shape.TheVariants as shape
+use Rattle.ec_table.specs.declared.keys.Shape.TheVariants as shape
 use Rattle.ec_table.specs.Contents.{pdos_toward, assigned_toward}
 use Rattle.ec_table.specs.Fields.{must, each_key, is_key, has_required, keys_are, link_bits_of, link_bits_in, number_or_0, version_in, section_in}
 use Rattle.ec_table.specs.InOrder.{rows_after}

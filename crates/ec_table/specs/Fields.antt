@@ -17,8 +17,8 @@ use Rattle.ec_device.specs.declared.slave_type.Mailbox.{Mailbox}
 use Rattle.ec_table.specs.declared.rows.Version.{Version}
 use Rattle.ec_table.specs.declared.rows.Version.TheVariants as versions
 use Rattle.ec_table.specs.declared.rows.LinkBits.{LinkBits}
-use Rattle.ec_table.specs.declared.fields.Shape.{Shape}
-use Rattle.ec_table.specs.declared.fields.Shape.TheVariants as shape
+use Rattle.ec_table.specs.declared.keys.Shape.{Shape}
+use Rattle.ec_table.specs.declared.keys.Shape.TheVariants as shape
 
 -- a letter, a digit or `_`
 abbrev pub is_name_byte : ℕ → Bool

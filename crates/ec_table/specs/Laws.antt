@@ -24,7 +24,7 @@ use Rattle.ec_table.specs.Fields.{keys_are, version_in, section_in}
 use Rattle.ec_device.specs.Objects.{bits_of, assigned_entries}
 use Rattle.ec_table.specs.Objects.{object_bits, entries_of, type_of}
 use Rattle.ec_table.specs.Writing.{document_of}
-use Rattle.ec_table.specs.declared.fields.Shape.TheVariants as shape
+use Rattle.ec_table.specs.declared.keys.Shape.TheVariants as shape
 
 -- What is accepted has unique names, known references, values in range, and assigned objects of its type without a double.
 abbrev pub AcceptedIsSound : Type 0

@@ -9,7 +9,7 @@ use Rattle.ec_table.specs.declared.fault.Place.{Place}
 use Rattle.ec_device.specs.declared.slave_type.Entry.{Entry}
 use Rattle.ec_device.specs.declared.slave_type.Pdo.{Pdo}
 use Rattle.ec_table.specs.declared.rows.Version.TheVariants as versions
-use Rattle.ec_table.specs.declared.fields.Shape.TheVariants as shape
+use Rattle.ec_table.specs.declared.keys.Shape.TheVariants as shape
 use Rattle.ec_table.specs.Fields.{◌>>=◌, must, keys_are, number_in}
 use Rattle.ec_table.specs.InOrder.{members_in, rows_after}
 

@@ -1,14 +1,9 @@
 //! Values of keys, with their ranges.
-ghost use Rattle.std.specs.Prelude.{◌≡◌, ◌≢◌, ◌≤◌, [], IfOk, string_bytes, Some};
-ghost use Rattle.std.specs.Bool.{MatchBool};
+ghost use Rattle.std.specs.Prelude.{◌≡◌, ◌≤◌, [], IfOk};
 ghost use Rattle.std.specs.List.{list_all};
-ghost use Rattle.std.specs.Option.{option_or};
-ghost use Rattle.std.specs.Map.{keys_of};
 ghost use Rattle.toml.specs.Data.{get_member};
 ghost use Rattle.toml.specs.View.{view, table_view, items_view};
-ghost use Rattle.ec_table.specs.declared.rows.Version.TheVariants as version;
-ghost use Rattle.ec_table.specs.declared.fields.Shape.TheVariants as shape;
-ghost use Rattle.ec_table.specs.Fields.{number_or_0, version_in, is_name_byte, is_name, is_key, each_key, keys_are, number_in, name_in, is_table, are_tables, section_in, seen, result_seen, result_items};
+ghost use Rattle.ec_table.specs.Fields.{number_or_0, version_in, is_name_byte, is_name, number_in, name_in, is_table, are_tables, section_in, seen, result_seen, result_items};
 ghost use Rattle.ec_table.specs.InOrder.{Gives, rows_after};
 ghost use Rattle.ec_table.specs.Pdos.{number_row, number_list, numbers_in};
 
@@ -23,17 +18,6 @@ pub const MAX_U16: u32 = u16::MAX as u32;
 /// The largest number of 8 bits, as a subindex has.
 pub const MAX_U8: u32 = u8::MAX as u32;
 
-/// A kind of table in a document.
-#[derive(Clone, Copy)]
-pub enum Shape {
-    Document,
-    Type,
-    Pdo,
-    Slave,
-    Variable,
-    Link,
-}
-
 /// Whether a text is a name: 1 to 32 ASCII letters, digits and `_`.
 pub fn is_name(text: &str) -> bool
     ensures { result ≡ is_name text.now }
@@ -46,40 +30,6 @@ pub fn member<'a>(members: &'a toml::Table, key: &str) -> Option<&'a Value>
     ensures { seen result ≡ get_member key.now (table_view members.now) }
 {
     members.get(key)
-}
-
-/// Whether a key is this name, whose length the type knows: so each byte is compared with one that is known too.
-#[inline(always)]
-pub fn is<const N: usize>(key: &str, name: &[u8; N]) -> bool
-    ensures { MatchBool result (key.now ≡ name.now) (key.now ≢ name.now) }
-{
-    let bytes = key.as_bytes();
-    if bytes.len() != N {
-        return false;
-    }
-    for i in 0..N {
-        if bytes[i] != name[i] {
-            return false;
-        }
-    }
-    true
-}
-
-/// The first of the values that were met under a key: the one that was found, else this.
-pub fn first<'a>(found: Option<&'a Value>, value: &'a Value) -> Option<&'a Value>
-    ensures { seen result ≡ option_or (seen found.entry) (Some (view value.now)) }
-{
-    match found {
-        Some(_) => found,
-        None => Some(value),
-    }
-}
-
-/// Whether a document has no unknown key; there is none that it must have.
-pub fn are_document_keys(document: &toml::Table) -> bool
-    ensures { result ≡ keys_are shape.Document version.One (table_view document.now) }
-{
-    each_key(document)
 }
 
 /// A number from `low` to `high`.
@@ -190,27 +140,6 @@ fn are_name_bytes(bytes: &[u8]) -> bool
     ensures { result ≡ list_all is_name_byte bytes.now }
 {
     bytes.iter().all(|byte| is_name_byte(*byte))
-}
-
-fn is_document_key(key: &str) -> bool
-    ensures { result ≡ is_key shape.Document version.One key.now }
-{
-    matches!(key, "version" | "type" | "slave" | "variable" | "link")
-}
-
-/// The same, said of the keys of the map that a table is.
-fn each_map_key(document: &toml::Table) -> bool
-    ensures { result
-        ≡ list_all (λ k. is_key shape.Document version.One (string_bytes k)) (keys_of document.now.entries) }
-{
-    document.keys().all(|key| is_document_key(key.as_str()))
-}
-
-#[tactic(auto, using(crate::proofs::Lookups::each_key_of))]
-fn each_key(document: &toml::Table) -> bool
-    ensures { result ≡ each_key (is_key shape.Document version.One) (table_view document.now) }
-{
-    each_map_key(document)
 }
 
 #[tactic(auto, unfolding(crate::specs::Pdos::number_list))]

@@ -3,6 +3,7 @@
 
 mod fault;
 mod fields;
+mod keys;
 pub mod laws;
 mod links;
 mod named;

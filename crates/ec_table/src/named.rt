@@ -1,5 +1,5 @@
 //! Names, each of which stands once.
-ghost use Rattle.std.specs.Prelude.{◌≡◌, [], ◌∷◌, ◌++◌, false, IfOk};
+ghost use Rattle.std.specs.Prelude.{◌≡◌, [], ◌∷◌, ◌++◌, false, IfOk, IfSome, Some, option_map, slice_get};
 ghost use Rattle.ec_table.specs.Names.{is_named, place_named};
 
 use ec_listed::Listed;
@@ -45,18 +45,20 @@ impl<'a, X: Named> NamedRows<'a, X> {
         }
     }
 
-    /// The rows in order.
-    pub fn as_slice(&self) -> &[X]
-        ensures { result.now ≡ self.now }
-    {
-        self.rows.as_slice()
-    }
-
     /// The place of the row with a name.
     pub fn place_of(&self, name: &str) -> Option<usize>
         ensures { result ≡ place_named X.name name.now self.now }
     {
         self.places.get(name).copied()
+    }
+
+    /// The row with a name, and its place.
+    pub fn find(&self, name: &str) -> Option<(usize, &X)>
+        ensures place { option_map (λ r. r.0) result ≡ place_named X.name name.now self.now }
+        ensures row { IfSome result (λ r. slice_get self.now r.0 ≡ Some r.1.now) }
+    {
+        let place = self.place_of(name)?;
+        Some((place, &self.rows.as_slice()[place]))
     }
 
     /// Whether some row has the name.

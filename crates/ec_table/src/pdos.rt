@@ -1,16 +1,15 @@
 //! The PDOs that a type states.
-ghost use Rattle.std.specs.Prelude.{◌≡◌, ◌==◌, ◌||◌, [], IfOk, is_some, IfSome, not};
+ghost use Rattle.std.specs.Prelude.{◌≡◌, ◌==◌, ◌||◌, [], IfOk, not};
 ghost use Rattle.std.specs.List.{list_any};
 ghost use Rattle.toml.specs.View.{view, table_view, items_view};
-ghost use Rattle.ec_table.specs.declared.rows.Version.TheVariants as version;
-ghost use Rattle.ec_table.specs.declared.fields.Shape.TheVariants as shape;
-ghost use Rattle.ec_table.specs.Fields.{is_key, keys_are, seen};
-ghost use Rattle.ec_table.specs.Values.{ArePdoValues, PutsPdoValue};
+ghost use Rattle.ec_table.specs.Fields.{seen};
 ghost use Rattle.ec_table.specs.InOrder.{Gives, rows_after};
 ghost use Rattle.ec_table.specs.Pdos.{entry_of, entry_row, array_of, array_in, pdo_of, pdo_row, pdos_in, indices_of, has_twice};
 
 use crate::fault::{Fault, Place, TableError};
-use crate::fields::{MAX_U8, MAX_U16, first, is, number_in};
+use crate::fields::{MAX_U8, MAX_U16, number_in};
+use crate::keys::{Shape, values_of};
+use crate::rows::Version;
 use ec_device::{
     Entry, FIRST_INPUT_INDEX, FIRST_OUTPUT_INDEX, MAX_ENTRIES, MAX_ENTRY_BITS, MAX_PDOS,
     PDO_INDICES, Pdo,
@@ -23,13 +22,6 @@ use toml::Value;
 pub const LAST_OUTPUT_INDEX: u16 = FIRST_OUTPUT_INDEX + (PDO_INDICES - 1);
 /// The last index of an input PDO.
 pub const LAST_INPUT_INDEX: u16 = FIRST_INPUT_INDEX + (PDO_INDICES - 1);
-
-/// What stands under the keys of a PDO's table.
-#[derive(Clone, Copy)]
-pub struct PdoValues<'a> {
-    pub index: Option<&'a Value>,
-    pub entries: Option<&'a Value>,
-}
 
 /// The PDOs of one direction, none where they are left out.
 pub fn pdos_in(
@@ -65,6 +57,26 @@ pub fn has_twice(numbers: &[u16]) -> bool
     match numbers {
         [] => false,
         [first, rest @ ..] => is_in(*first, rest) || has_twice(rest),
+    }
+}
+
+/// Whether some object's index stands twice.
+pub fn have_twice(pdos: &[Pdo]) -> bool
+    ensures { result ≡ has_twice (indices_of pdos.now) }
+{
+    match pdos {
+        [] => false,
+        [first, rest @ ..] => is_index(first.index, rest) || have_twice(rest),
+    }
+}
+
+/// Whether a number is the index of one of the objects.
+pub fn is_index(number: u16, pdos: &[Pdo]) -> bool
+    ensures { result ≡ list_any (λ y. y == number) (indices_of pdos.now) }
+{
+    match pdos {
+        [] => false,
+        [first, rest @ ..] => first.index == number || is_index(number, rest),
     }
 }
 
@@ -138,53 +150,16 @@ fn pdo_of(
 ) -> Result<Pdo, TableError>
     ensures { Gives result (pdo_of place low high (table_view members.now)) }
 {
-    let Some(values) = pdo_values(members) else {
+    let Some(values) = values_of(Shape::Pdo, Version::Two, members) else {
         return Err(TableError::Refused(Fault::BadValue(place)));
     };
-    let index = number_in(place, values.index, u32::from(low), u32::from(high))?;
-    let entries = entries_in(alloc, place, values.entries)?;
+    let (index, entries) = (values.at(0), values.at(1));
+    let index = number_in(place, index, u32::from(low), u32::from(high))?;
+    let entries = entries_in(alloc, place, entries)?;
     Ok(Pdo {
         index: index as u16,
         entries,
     })
-}
-
-/// What stands under the keys of a PDO's table, if it has no unknown key and none is missing.
-fn pdo_values<'a>(members: &'a toml::Table) -> Option<PdoValues<'a>>
-    ensures keys { is_some result ≡ keys_are shape.Pdo version.One (table_view members.now) }
-    ensures values { IfSome result (λ v. ArePdoValues v (table_view members.now)) }
-{
-    let mut values = PdoValues {
-        index: None,
-        entries: None,
-    };
-    for (key, value) in members.iter() {
-        values = with_pdo_value(values, key.as_str(), value)?;
-    }
-    if values.index.is_some() && values.entries.is_some() {
-        Some(values)
-    } else {
-        None
-    }
-}
-
-/// The values found, and one more under its key, if a PDO may have that.
-fn with_pdo_value<'a>(
-    mut values: PdoValues<'a>,
-    key: &str,
-    value: &'a Value,
-) -> Option<PdoValues<'a>>
-    ensures known { is_some result ≡ is_key shape.Pdo version.One key.now }
-    ensures value { IfSome result (λ v. PutsPdoValue values.entry v key.now (view value.now)) }
-{
-    if is(key, b"index") {
-        values.index = first(values.index, value);
-    } else if is(key, b"entries") {
-        values.entries = first(values.entries, value);
-    } else {
-        return None;
-    }
-    Some(values)
 }
 
 fn entries_in(

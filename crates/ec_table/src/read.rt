@@ -4,7 +4,8 @@ ghost use Rattle.ec_table.specs.InOrder.{Gives};
 ghost use Rattle.ec_table.specs.Reading.{table_of_document, table_of_sections, table_of};
 
 use crate::fault::{Fault, Place, Section, TableError};
-use crate::fields::{are_document_keys, member, section_in, version_in};
+use crate::fields::{member, section_in, version_in};
+use crate::keys::{Shape, values_of};
 use crate::links::links_of;
 use crate::rows::Version;
 use crate::slaves::slaves_of;
@@ -36,13 +37,13 @@ fn table_of_document(alloc: Global, document: &toml::Table) -> Result<Table, Tab
         element: 0,
     };
     let version = version_in(top, member(document, "version"))?;
-    if !are_document_keys(document) {
+    let Some(values) = values_of(Shape::Document, version, document) else {
         return Err(TableError::Refused(Fault::BadKey(top)));
-    }
-    let types = section_in(top, member(document, "type"))?;
-    let slaves = section_in(top, member(document, "slave"))?;
-    let variables = section_in(top, member(document, "variable"))?;
-    let links = section_in(top, member(document, "link"))?;
+    };
+    let types = section_in(top, values.at(1))?;
+    let slaves = section_in(top, values.at(2))?;
+    let variables = section_in(top, values.at(3))?;
+    let links = section_in(top, values.at(4))?;
     table_of_sections(alloc, version, types, slaves, variables, links)
 }
 

@@ -1,20 +1,18 @@
 //! The slaves that elements state.
-ghost use Rattle.std.specs.Prelude.{◌≡◌, ◌||◌, [], false, IfOk, unwrap_or, is_some, IfSome};
+ghost use Rattle.std.specs.Prelude.{◌≡◌, ◌||◌, [], false, Err, IfErr, IfOk, Ok, OnOk, unwrap_or};
 ghost use Rattle.toml.specs.View.{view, table_view, items_view};
-ghost use Rattle.ec_table.specs.declared.fields.Shape.TheVariants as shape;
-ghost use Rattle.ec_table.specs.Fields.{is_key, keys_are};
-ghost use Rattle.ec_table.specs.Values.{AreSlaveValues, PutsSlaveValue};
 ghost use Rattle.ec_table.specs.Pdos.{has_twice, indices_of};
-ghost use Rattle.ec_table.specs.InOrder.{Gives, GivesNamed, one_more, rows_after};
+ghost use Rattle.ec_table.specs.InOrder.{Gives, GivesNamed, rows_after};
 ghost use Rattle.ec_table.specs.Names.{is_named};
 ghost use Rattle.ec_table.specs.declared.rows.SlaveRow.{SlaveRow};
-ghost use Rattle.ec_table.specs.Reading.{all_in, assigned_in, slave_at, slave_element, slave_of_type};
+ghost use Rattle.ec_table.specs.Reading.{all_in, assigned_in, same_list, slave_at, slave_element, slave_of_type};
 
 use crate::fault::{Fault, Place, Section, TableError};
-use crate::fields::{first, is, name_in, number_or_0, numbers_in};
+use crate::fields::{name_in, number_or_0, numbers_in};
+use crate::keys::{Shape, values_of};
 use crate::named::{Named, NamedRows};
-use crate::pdos::{LAST_INPUT_INDEX, LAST_OUTPUT_INDEX, has_twice, indices_of, is_in};
-use crate::rows::{Name, SlaveRow, TypeRow, Version};
+use crate::pdos::{LAST_INPUT_INDEX, LAST_OUTPUT_INDEX, has_twice, indices_of, is_index};
+use crate::rows::{Name, ProcessData, SlaveRow, TypeRow, Version};
 use ec_device::{FIRST_INPUT_INDEX, FIRST_OUTPUT_INDEX, Pdo};
 use ec_listed::Listed;
 use std::alloc::{AllocError, Global};
@@ -22,17 +20,6 @@ use toml::Value;
 
 impl Named for SlaveRow {
     ghost name = { λ s. s.name };
-}
-
-/// What stands under the keys of a slave's element.
-#[derive(Clone, Copy)]
-pub struct SlaveValues<'a> {
-    pub name: Option<&'a Value>,
-    pub type_name: Option<&'a Value>,
-    pub outputs: Option<&'a Value>,
-    pub inputs: Option<&'a Value>,
-    pub serial: Option<&'a Value>,
-    pub unit: Option<&'a Value>,
 }
 
 /// What a slave's element writes beside names.
@@ -45,7 +32,7 @@ pub struct Written {
 }
 
 /// The slaves of the section, in order.
-#[tactic(auto, using(crate::proofs::InOrder::rows_more_all))]
+#[tactic(auto, using(crate::proofs::InOrder::rows_all))]
 pub fn slaves_of<'a>(
     alloc: Global,
     version: Version,
@@ -56,49 +43,36 @@ pub fn slaves_of<'a>(
 {
     let mut found = NamedRows::new(alloc);
     for (element, value) in elements.iter().enumerate() {
-        found = with_slave_element(alloc, version, types, element, value, found)?;
+        let (name, row) = slave_element(alloc, version, types, element, value, &found)?;
+        found = found.with(name, row)?;
     }
     Ok(found)
 }
 
-fn with_slave_element<'a>(
+/// The slave that an element of the section states, beside its name, which no slave found has.
+fn slave_element<'a>(
     alloc: Global,
     version: Version,
     types: &NamedRows<'_, TypeRow>,
     element: usize,
     value: &'a Value,
-    found: NamedRows<'a, SlaveRow>,
-) -> Result<NamedRows<'a, SlaveRow>, TableError>
-    ensures { Gives result
-        (one_more found.entry (slave_element version types.now element (view value.now) found.entry)) }
+    found: &NamedRows<'_, SlaveRow>,
+) -> Result<(&'a str, SlaveRow), TableError>
+    ensures value { GivesNamed result (slave_element version types.now element (view value.now) found.now) }
+    ensures name { IfOk result (λ r. r.1.name ≡ r.0.now) }
+    ensures fresh { IfOk result (λ r. is_named (λ (s : SlaveRow). s.name) r.0.now found.now ≡ false) }
 {
     let place = Place {
         section: Section::Slave,
         element,
     };
     match value.as_table() {
-        Some(members) => with_slave(alloc, version, types, place, members, found),
+        Some(members) => slave_at(alloc, version, types, place, members, found),
         None => Err(TableError::Refused(Fault::BadValue(place))),
     }
 }
 
-/// The slaves found, and the one that an element states behind them.
-fn with_slave<'a>(
-    alloc: Global,
-    version: Version,
-    types: &NamedRows<'_, TypeRow>,
-    place: Place,
-    members: &'a toml::Table,
-    found: NamedRows<'a, SlaveRow>,
-) -> Result<NamedRows<'a, SlaveRow>, TableError>
-    ensures { Gives result
-        (one_more found.entry (slave_at version types.now place (table_view members.now) found.entry)) }
-{
-    let (name, row) = slave_at(alloc, version, types, place, members, &found)?;
-    Ok(found.with(name, row)?)
-}
-
-/// The slave that an element states, beside its name, which no slave found has.
+/// The same of an element's members.
 #[tactic(auto, unfolding(crate::specs::Reading::slave_at, crate::specs::Reading::slave_named))]
 fn slave_at<'a>(
     alloc: Global,
@@ -112,17 +86,20 @@ fn slave_at<'a>(
     ensures name { IfOk result (λ r. r.1.name ≡ r.0.now) }
     ensures fresh { IfOk result (λ r. is_named (λ (s : SlaveRow). s.name) r.0.now found.now ≡ false) }
 {
-    let Some(values) = slave_values(version, members) else {
+    let Some(values) = values_of(Shape::Slave, version, members) else {
         return Err(TableError::Refused(Fault::BadKey(place)));
     };
-    let name = name_in(place, values.name)?;
-    let type_name = name_in(place, values.type_name)?;
+    let (name, type_name) = (values.at(0), values.at(1));
+    let (outputs, inputs) = (values.at(2), values.at(3));
+    let (serial, unit) = (values.at(4), values.at(5));
+    let name = name_in(place, name)?;
+    let type_name = name_in(place, type_name)?;
     let (first, last) = (FIRST_OUTPUT_INDEX, LAST_OUTPUT_INDEX);
-    let outputs = numbers_in(alloc, place, values.outputs, first, last)?;
+    let outputs = numbers_in(alloc, place, outputs, first, last)?;
     let (first, last) = (FIRST_INPUT_INDEX, LAST_INPUT_INDEX);
-    let inputs = numbers_in(alloc, place, values.inputs, first, last)?;
-    let serial = number_or_0(place, values.serial, u32::MAX)?;
-    let unit = number_or_0(place, values.unit, 63)?;
+    let inputs = numbers_in(alloc, place, inputs, first, last)?;
+    let serial = number_or_0(place, serial, u32::MAX)?;
+    let unit = number_or_0(place, unit, 63)?;
     if is_twice(found.has(name), &outputs, &inputs) {
         return Err(TableError::Refused(Fault::TwiceNamed(place)));
     }
@@ -134,57 +111,6 @@ fn slave_at<'a>(
     };
     let row = slave_of_type(alloc, types, place, name, type_name, written)?;
     Ok((name, row))
-}
-
-/// What stands under the keys of a slave's element, if it has no unknown key and none is missing.
-fn slave_values<'a>(version: Version, members: &'a toml::Table) -> Option<SlaveValues<'a>>
-    ensures keys { is_some result ≡ keys_are shape.Slave version (table_view members.now) }
-    ensures values { IfSome result (λ v. AreSlaveValues v (table_view members.now)) }
-{
-    let mut values = SlaveValues {
-        name: None,
-        type_name: None,
-        outputs: None,
-        inputs: None,
-        serial: None,
-        unit: None,
-    };
-    for (key, value) in members.iter() {
-        values = with_slave_value(values, version, key.as_str(), value)?;
-    }
-    if values.name.is_some() && values.type_name.is_some() {
-        Some(values)
-    } else {
-        None
-    }
-}
-
-/// The values found, and one more under its key, if a slave may have that.
-fn with_slave_value<'a>(
-    mut values: SlaveValues<'a>,
-    version: Version,
-    key: &str,
-    value: &'a Value,
-) -> Option<SlaveValues<'a>>
-    ensures known { is_some result ≡ is_key shape.Slave version key.now }
-    ensures value { IfSome result (λ v. PutsSlaveValue values.entry v key.now (view value.now)) }
-{
-    if is(key, b"name") {
-        values.name = first(values.name, value);
-    } else if is(key, b"type") {
-        values.type_name = first(values.type_name, value);
-    } else if is(key, b"out") {
-        values.outputs = first(values.outputs, value);
-    } else if is(key, b"in") {
-        values.inputs = first(values.inputs, value);
-    } else if is(key, b"serial") {
-        values.serial = first(values.serial, value);
-    } else if version == Version::Two && is(key, b"unit") {
-        values.unit = first(values.unit, value);
-    } else {
-        return None;
-    }
-    Some(values)
 }
 
 /// The slave of this name and type, with what its element writes.
@@ -200,49 +126,60 @@ fn slave_of_type(
     ensures value { Gives result (slave_of_type types.now place name.now type_name.now written) }
     ensures name { IfOk result (λ s. s.name ≡ name.now) }
 {
-    let Some(at) = types.place_of(type_name) else {
+    let Some((at, slave_type)) = types.find(type_name) else {
         return Err(TableError::Refused(Fault::UnknownName(place)));
     };
-    let Some(slave_type) = types.as_slice().get(at) else {
-        return Err(TableError::Refused(Fault::UnknownName(place)));
-    };
-    let process = &slave_type.process;
-    let row = SlaveRow {
+    let row = row_of(alloc, name, at, &slave_type.process, written)?;
+    test_assigned(place, slave_type, &row)?;
+    Ok(row)
+}
+
+/// A slave's row: of objects that aren't written, all of its type.
+fn row_of(
+    alloc: Global,
+    name: &str,
+    type_place: usize,
+    process: &ProcessData,
+    written: Written,
+) -> Result<SlaveRow, AllocError>
+    ensures { IfOk result (λ s. s ≡ record {
+      name = name.now;
+      type_place = type_place;
+      outputs = unwrap_or written.outputs (indices_of process.now.outputs);
+      inputs = unwrap_or written.inputs (indices_of process.now.inputs);
+      serial = written.serial;
+      unit = written.unit;
+    }) }
+{
+    Ok(SlaveRow {
         name: Name::new(alloc, name)?,
-        type_place: at,
+        type_place,
         outputs: written_or_all(alloc, written.outputs, process.outputs.as_slice())?,
         inputs: written_or_all(alloc, written.inputs, process.inputs.as_slice())?,
         serial: written.serial,
         unit: written.unit,
-    };
-    assigned_in(alloc, place, slave_type, row)
+    })
 }
 
-/// A slave whose assigned objects are its type's, and all of them in order where it has no mailbox.
+/// Tests whether the objects that a slave assigns are its type's, and all of them in order where it has no mailbox.
 #[tactic(auto, unfolding(crate::specs::Reading::assigned_in))]
-fn assigned_in(
-    alloc: Global,
-    place: Place,
-    slave_type: &TypeRow,
-    row: SlaveRow,
-) -> Result<SlaveRow, TableError>
-    ensures value { Gives result (assigned_in place slave_type.now row) }
-    ensures same { IfOk result (λ r. r ≡ row) }
+fn test_assigned(place: Place, slave_type: &TypeRow, row: &SlaveRow) -> Result<(), Fault>
+    ensures passes { OnOk result (assigned_in place slave_type.now row.now ≡ Ok row.now) }
+    ensures fails { IfErr result (λ f. assigned_in place slave_type.now row.now ≡ Err f) }
 {
-    let all_outputs = indices_of(alloc, slave_type.process.outputs.as_slice())?;
-    let all_inputs = indices_of(alloc, slave_type.process.inputs.as_slice())?;
-    if !all_in(row.outputs.as_slice(), all_outputs.as_slice())
-        || !all_in(row.inputs.as_slice(), all_inputs.as_slice())
-    {
-        return Err(TableError::Refused(Fault::UnknownName(place)));
+    let (outputs, inputs) = (row.outputs.as_slice(), row.inputs.as_slice());
+    let (all_outputs, all_inputs) = (
+        slave_type.process.outputs.as_slice(),
+        slave_type.process.inputs.as_slice(),
+    );
+    if !are_among(outputs, all_outputs) || !are_among(inputs, all_inputs) {
+        return Err(Fault::UnknownName(place));
     }
-    if slave_type.mailbox.is_none()
-        && !(row.outputs.as_slice() == all_outputs.as_slice()
-            && row.inputs.as_slice() == all_inputs.as_slice())
-    {
-        return Err(TableError::Refused(Fault::BadValue(place)));
+    let are_all = are_indices(outputs, all_outputs) && are_indices(inputs, all_inputs);
+    if slave_type.mailbox.is_none() && !are_all {
+        return Err(Fault::BadValue(place));
     }
-    Ok(row)
+    Ok(())
 }
 
 /// The objects that are written, else all of the type's in order.
@@ -277,8 +214,22 @@ fn twice_in(numbers: &Option<Listed<u16>>) -> bool
     }
 }
 
-fn all_in(numbers: &[u16], known: &[u16]) -> bool
-    ensures { result ≡ all_in numbers.now known.now }
+/// Whether each number is the index of one of the objects.
+fn are_among(numbers: &[u16], pdos: &[Pdo]) -> bool
+    ensures { result ≡ all_in numbers.now (indices_of pdos.now) }
 {
-    numbers.iter().all(|number| is_in(*number, known))
+    numbers.iter().all(|number| is_index(*number, pdos))
+}
+
+/// Whether numbers are the indices of the objects, in order.
+fn are_indices(numbers: &[u16], pdos: &[Pdo]) -> bool
+    ensures { result ≡ same_list numbers.now (indices_of pdos.now) }
+{
+    match (numbers, pdos) {
+        ([], []) => true,
+        ([number, rest @ ..], [pdo, more @ ..]) => {
+            *number == pdo.index && are_indices(rest, more)
+        }
+        _ => false,
+    }
 }

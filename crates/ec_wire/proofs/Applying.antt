@@ -1,5 +1,5 @@
 -- What an application reads and writes as a whole, in the words of its service.
-use Rattle.std.proofs.Common.{ℕ, ◌≡◌, List, length, take, subst}
+use Rattle.std.proofs.Common.{ℕ, ◌≡◌, List, length, take}
 use Rattle.ec_slave.specs.State.{SlaveState}
 use Rattle.ec_slave.specs.Sound.{IsSlave}
 use Rattle.ec_slave.specs.Application.{get_size, put_size, inputs_put, outputs_shown, outputs_taken}

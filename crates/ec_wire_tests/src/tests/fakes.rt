@@ -1,5 +1,4 @@
 //! A wire that carries nothing.
-ghost use Rattle.std.specs.Prelude.{◌≡◌};
 
 use ec_wire::Wire;
 

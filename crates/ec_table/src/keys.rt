@@ -1,0 +1,171 @@
+//! The keys of the tables in a document, and what stands under them.
+ghost use Rattle.std.specs.Prelude.{◌≡◌, ◌<◌, IfSome, None, Some, get_or, is_some, length, map};
+ghost use Rattle.std.specs.List.{list_all, position};
+ghost use Rattle.std.specs.Option.{option_or};
+ghost use Rattle.std.specs.Str.{bytes_eq};
+ghost use Rattle.toml.specs.View.{view, table_view};
+ghost use Rattle.ec_table.specs.Fields.{keys_are, required, seen};
+ghost use Rattle.ec_table.specs.Values.{AreUnder, keys_of};
+ghost use Rattle.ec_table.specs.declared.rows.Version.TheVariants.{Two};
+
+use crate::rows::Version;
+use toml::Value;
+
+/// A kind of table in a document.
+#[derive(Clone, Copy)]
+pub enum Shape {
+    Document,
+    Type,
+    Pdo,
+    Slave,
+    Variable,
+    Link,
+}
+
+/// The values under the keys of a table, in the order of its shape's keys, as far as they are there.
+#[derive(Clone, Copy)]
+pub struct Values<'a> {
+    found: [Option<&'a Value>; MAX_KEYS],
+}
+
+impl<'a> Values<'a> {
+    /// What stands under a key, by its place among the keys of the table's shape.
+    pub fn at(&self, place: usize) -> Option<&'a Value>
+        requires { place < 10 }
+        ensures { result ≡ get_or self.now.found place None }
+    {
+        let found = &self.found[..];
+        found[place]
+    }
+}
+
+/// The values under the keys of a table; none where some key isn't known in this version of the format, or one is missing that
+/// the table must have.
+pub fn values_of<'a>(shape: Shape, version: Version, members: &'a toml::Table) -> Option<Values<'a>>
+    ensures keys { is_some result ≡ keys_are shape version (table_view members.now) }
+    ensures values { IfSome result (λ v. AreUnder v.found 0 (keys_of shape Two) (table_view members.now)) }
+{
+    let mut found = [None; MAX_KEYS];
+    for (key, value) in members.iter() {
+        let place = shape.place_of(version, key.as_str())?;
+        found[place] = first(found[place], value);
+    }
+    if are_all(&found[..shape.required()]) {
+        Some(Values { found })
+    } else {
+        None
+    }
+}
+
+/// A table has at most so many keys.
+const MAX_KEYS: usize = 10;
+
+// Of each shape first the keys that a table must have.
+static DOCUMENT_KEYS: [&str; 5] = ["version", "type", "slave", "variable", "link"];
+
+static TYPE_KEYS: [&str; MAX_KEYS] = [
+    "name",
+    "vendor",
+    "product",
+    "revision",
+    "out_start",
+    "in_start",
+    "mailbox",
+    "rxpdo",
+    "txpdo",
+    "lrw",
+];
+
+static PDO_KEYS: [&str; 2] = ["index", "entries"];
+
+static SLAVE_KEYS: [&str; 6] = ["name", "type", "out", "in", "serial", "unit"];
+
+static VARIABLE_KEYS: [&str; 3] = ["name", "dir", "bits"];
+
+static LINK_KEYS: [&str; 5] = ["var", "slave", "index", "sub", "bits"];
+
+impl Shape {
+    /// The keys that a table may have: those that it must have, and then the others.
+    fn keys(self) -> &'static [&'static str]
+        ensures { map (λ k. k.now) result.now ≡ keys_of self Two }
+    {
+        match self {
+            Shape::Document => &DOCUMENT_KEYS,
+            Shape::Type => &TYPE_KEYS,
+            Shape::Pdo => &PDO_KEYS,
+            Shape::Slave => &SLAVE_KEYS,
+            Shape::Variable => &VARIABLE_KEYS,
+            Shape::Link => &LINK_KEYS,
+        }
+    }
+
+    /// How many keys there are in a version of the format.
+    fn known(self, version: Version) -> usize
+        ensures { result ≡ length (keys_of self version) }
+    {
+        match (self, version) {
+            (Shape::Slave, Version::One) => 5,
+            _ => self.keys().len(),
+        }
+    }
+
+    /// The place of a key among those that are known in a version of the format.
+    fn place_of(self, version: Version, key: &str) -> Option<usize>
+        ensures { result ≡ position (bytes_eq key.now) (keys_of self version) }
+    {
+        place_among(&self.keys()[..self.known(version)], key)
+    }
+
+    /// How many keys a table must have.
+    fn required(self) -> usize
+        ensures { result ≡ length (required self) }
+    {
+        match self {
+            Shape::Document => 0,
+            Shape::Type => 6,
+            Shape::Link => 4,
+            Shape::Variable => 3,
+            Shape::Pdo | Shape::Slave => 2,
+        }
+    }
+}
+
+/// The place of a key among names.
+fn place_among(names: &[&str], key: &str) -> Option<usize>
+    ensures { result ≡ position (λ n. bytes_eq key.now n.now) names.now }
+{
+    names.iter().position(|name| is(key, *name))
+}
+
+/// Whether a key is a name. Their lengths tell most names apart, at the price of a compare.
+fn is(key: &str, name: &str) -> bool
+    ensures { result ≡ bytes_eq key.now name.now }
+{
+    let (key, name) = (key.as_bytes(), name.as_bytes());
+    if key.len() != name.len() {
+        return false;
+    }
+    for i in 0..key.len() {
+        if key[i] != name[i] {
+            return false;
+        }
+    }
+    true
+}
+
+/// The first of the values that were met under a key: the one that was found, else this.
+fn first<'a>(found: Option<&'a Value>, value: &'a Value) -> Option<&'a Value>
+    ensures { seen result ≡ option_or (seen found.entry) (Some (view value.now)) }
+{
+    match found {
+        Some(_) => found,
+        None => Some(value),
+    }
+}
+
+/// Whether each key has a value.
+fn are_all(values: &[Option<&Value>]) -> bool
+    ensures { result ≡ list_all is_some values.now }
+{
+    values.iter().all(|value| value.is_some())
+}
