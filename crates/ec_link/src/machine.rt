@@ -20,10 +20,10 @@ use thiserror::Error;
 #[derive(Clone, Copy, Debug, PartialEq, Eq, Error)]
 pub enum MachineError {
     /// The text states no table, or memory ran out.
-    #[error("{0}")]
+    #[error(transparent)]
     Table(TableError),
     /// The table that it states has no plan, or memory ran out.
-    #[error("{0}")]
+    #[error(transparent)]
     Link(LinkError),
 }
 
@@ -80,8 +80,10 @@ impl Machine {
         ensures accepted { OnOk result (compile_fault table ≡ None) }
         ensures fault { IfErr result (λ e. Fails e (compile_fault table)) }
     {
-        let plan = compile(alloc, &table)?;
-        Ok(Machine { table, plan })
+        match compile(alloc, &table) {
+            Ok(plan) => Ok(Machine { table, plan }),
+            Err(error) => Err(error),
+        }
     }
 
     /// The machine that a text states.
