@@ -80,10 +80,8 @@ impl Machine {
         ensures accepted { OnOk result (compile_fault table ≡ None) }
         ensures fault { IfErr result (λ e. Fails e (compile_fault table)) }
     {
-        match compile(alloc, &table) {
-            Ok(plan) => Ok(Machine { table, plan }),
-            Err(error) => Err(error),
-        }
+        let plan = compile(alloc, &table)?;
+        Ok(Machine { table, plan })
     }
 
     /// The machine that a text states.
