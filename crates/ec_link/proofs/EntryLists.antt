@@ -2,7 +2,7 @@
 use Rattle.std.proofs.Common.{◌≡◌, ◌≢◌, ℕ, ◌+◌, ◌*◌, ◌≤◌, ◌||◌, ◌&&◌, not, eqb, Bool, true, false, cond, List, [], ◌∷◌, ◌++◌, refl, sym, ap, ◌∙◌, arith, inl, inr, Some, None, Option, option_map}
 use Rattle.std.specs.Prelude.{is_some}
 use Rattle.std.specs.List.{list_any}
-use Rattle.std.specs.BTreeMap.{BTreeMap, get, is_at}
+use Rattle.std.specs.BTreeMap.{BTreeMap, get, Updates, IsEmpty, is_at}
 use Rattle.std.specs.Ordering.{nat_cmp}
 use Rattle.std.proofs.lemmas.Bool.{cases_Bool, cases_eq}
 use Rattle.std.proofs.lemmas.Bool.Decides.{nat_tests}
@@ -13,6 +13,7 @@ use Rattle.ec_link.specs.declared.objects.EntryRun.{EntryRun}
 use Rattle.ec_link.specs.Entries.{is_named, behind, entry_run, names_twice}
 use Rattle.ec_link.specs.Objects.{entry_key, HasRuns}
 use Rattle.ec_link.specs.Faults.{◌orelse◌}
+use Rattle.ec_link.proofs.Basics.{or_false}
 
 -- the bits of an entry behind others, if it has the name
 abbrev last_run : List Entry → Entry → ℕ → ℕ → Option EntryRun
@@ -103,6 +104,9 @@ twice_more (x ∷ xs) e =
 apart : (k q : ℕ) → k ≢ q → is_at (nat_cmp k) q ≡ false
 apart k q ne = grind (arith, nat_tests, ne)
 
+pub no_runs : (m : BTreeMap ℕ EntryRun) → IsEmpty m → HasRuns m []
+no_runs m e = record { each = λ index subindex low. rw e refl }
+
 same_key : (index subindex j k : ℕ) → subindex ≤ 255 → k ≤ 255 → entry_key j k ≡ entry_key index subindex → (j ≡ index) × (k ≡ subindex)
 same_key index subindex j k low small e = (omega arith, omega arith)
 
@@ -118,25 +122,54 @@ not_named e index subindex low small ne = elim (cases_eq e.index index) [
 is_named_itself : (e : Entry) → is_named e.index e.subindex e ≡ true
 is_named_itself e = let p : eqb e.index e.index ≡ true = grind (arith, nat_tests) in let q : eqb e.subindex e.subindex ≡ true = grind (arith, nat_tests) in rw (p, q) refl
 
+orelse_some : (o p : Option EntryRun) → is_some o ≡ true → o orelse p ≡ o
+orelse_some (Some r) p h = refl
+orelse_some None p h = cc
+
 orelse_none : (o : Option EntryRun) → o orelse None ≡ o
 orelse_none (Some r) = refl
 orelse_none None = refl
 
--- one entry more, which is kept unless its name is known
-pub runs_added : (m n : BTreeMap ℕ EntryRun) (es : List Entry) (e : Entry) (from : ℕ) → HasRuns m es → e.subindex ≤ 255 → from ≡ bits_of es
-    → get nat_cmp n (entry_key e.index e.subindex) ≡ (get nat_cmp m (entry_key e.index e.subindex) orelse Some (record { from = from; bits = e.bits }))
-    → ((k : ℕ) → entry_key e.index e.subindex ≢ k → get nat_cmp n k ≡ get nat_cmp m k) → HasRuns n (es ++ e ∷ [])
-runs_added m n es e from h small is here others = record {
+-- an entry whose name is known changes nothing
+pub runs_stay : (m : BTreeMap ℕ EntryRun) (es : List Entry) (e : Entry) → HasRuns m es → e.subindex ≤ 255 → is_some (get nat_cmp m (entry_key e.index e.subindex)) ≡ true → HasRuns m (es ++ e ∷ [])
+runs_stay m es e h small some = record {
+  each = λ index subindex low. h.each index subindex low ∙ sym (run_more es e index subindex ∙ elim (cases_eq (entry_key e.index e.subindex) (entry_key index subindex)) [
+    | inr ne ↦ rw (not_named e index subindex low small ne) (orelse_none (entry_run es index subindex))
+    | inl is ↦ orelse_some (entry_run es index subindex) (last_run es e index subindex) (ap is_some (sym (h.each index subindex low) ∙ ap (get nat_cmp m) (sym is)) ∙ some)
+  ]);
+}
+
+-- an entry whose name is known takes the place of the first one, and gives it back
+pub runs_kept : (m a b : BTreeMap ℕ EntryRun) (es : List Entry) (e : Entry) (r f : EntryRun) → HasRuns m es → e.subindex ≤ 255 → get nat_cmp m (entry_key e.index e.subindex) ≡ Some f
+    → Updates nat_cmp m a (entry_key e.index e.subindex) (Some r) → Updates nat_cmp a b (entry_key e.index e.subindex) (Some f) → HasRuns b (es ++ e ∷ [])
+runs_kept m a b es e r f h small is u v = record {
+  each = λ index subindex low.
+      let k : ℕ = entry_key e.index e.subindex in
+      let q : ℕ = entry_key index subindex in
+      let same : get nat_cmp b q ≡ get nat_cmp m q = elim (cases_eq k q) [
+        | inl here ↦ ap (get nat_cmp b) (sym here) ∙ v.1 ∙ sym is ∙ ap (get nat_cmp m) here
+        | inr ne ↦ v.2 q (apart k q ne) ∙ u.2 q (apart k q ne)
+      ] in
+      same ∙ (runs_stay m es e h small (ap is_some is)).each index subindex low;
+}
+
+none_of : (o : Option EntryRun) → is_some o ≡ false → o ≡ None
+none_of None h = refl
+none_of (Some r) h = cc
+
+-- an entry with a new name has its bits behind the others
+pub runs_grow : (m n : BTreeMap ℕ EntryRun) (es : List Entry) (e : Entry) (r : EntryRun) → HasRuns m es → e.subindex ≤ 255 → is_some (get nat_cmp m (entry_key e.index e.subindex)) ≡ false
+    → r ≡ record { from = bits_of es; bits = e.bits } → Updates nat_cmp m n (entry_key e.index e.subindex) (Some r) → HasRuns n (es ++ e ∷ [])
+runs_grow m n es e r h small new is u = record {
   each = λ index subindex low. elim (cases_eq (entry_key e.index e.subindex) (entry_key index subindex)) [
     | inr ne ↦
-        others (entry_key index subindex) ne ∙ h.each index subindex low
+        u.2 (entry_key index subindex) (apart (entry_key e.index e.subindex) (entry_key index subindex) ne) ∙ h.each index subindex low
         ∙ sym (run_more es e index subindex ∙ rw (not_named e index subindex low small ne) (orelse_none (entry_run es index subindex)))
     | inl same ↦
         let names = same_key index subindex e.index e.subindex low small same in
+        let here : entry_run es index subindex ≡ None = sym (h.each index subindex low) ∙ ap (get nat_cmp m) (sym same) ∙ none_of (get nat_cmp m (entry_key e.index e.subindex)) new in
         let named : is_named index subindex e ≡ true = ap (λ (i : ℕ). is_named i subindex e) (sym names.0) ∙ ap (λ (s : ℕ). is_named e.index s e) (sym names.1) ∙ is_named_itself e in
-        ap (get nat_cmp n) (sym same) ∙ here ∙ ap (λ (k : ℕ). get nat_cmp m k orelse Some (record { from = from; bits = e.bits })) same
-        ∙ ap (λ (o : Option EntryRun). o orelse Some (record { from = from; bits = e.bits })) (h.each index subindex low)
-        ∙ ap (λ (k : ℕ). entry_run es index subindex orelse Some (record { from = k; bits = e.bits })) is ∙ sym (run_more es e index subindex ∙ rw named refl)
+        ap (get nat_cmp n) (sym same) ∙ u.1 ∙ ap Some is ∙ sym (run_more es e index subindex ∙ rw (here, named) refl)
   ];
 }
 
@@ -145,8 +178,18 @@ runs_added m n es e from h small is here others = record {
 any_is : (m : BTreeMap ℕ EntryRun) (es : List Entry) (e : Entry) → HasRuns m es → e.subindex ≤ 255 → list_any (is_named e.index e.subindex) es ≡ is_some (get nat_cmp m (entry_key e.index e.subindex))
 any_is m es e h small = sym (run_any es e.index e.subindex) ∙ ap is_some (sym (h.each e.index e.subindex small))
 
--- the test of one entry more
-pub twice_added : (m : BTreeMap ℕ EntryRun) (es : List Entry) (e : Entry) (before again : Bool) → HasRuns m es → e.subindex ≤ 255 → before ≡ names_twice es
-    → again ≡ (not (eqb e.index 0) && is_some (get nat_cmp m (entry_key e.index e.subindex))) → (before || again) ≡ names_twice (es ++ e ∷ [])
-twice_added m es e before again h small is twice =
-    ap (λ (b : Bool). b || again) is ∙ ap (λ (b : Bool). names_twice es || b) (twice ∙ ap (λ (b : Bool). not (eqb e.index 0) && b) (sym (any_is m es e h small))) ∙ sym (twice_more es e)
+and_true : (a : Bool) → (a && true) ≡ a
+and_true true = refl
+and_true false = refl
+
+and_false : (a : Bool) → (a && false) ≡ false
+and_false true = refl
+and_false false = refl
+
+pub twice_known : (m : BTreeMap ℕ EntryRun) (es : List Entry) (e : Entry) (before : Bool) → HasRuns m es → e.subindex ≤ 255 → is_some (get nat_cmp m (entry_key e.index e.subindex)) ≡ true → before ≡ names_twice es
+    → (before || not (eqb e.index 0)) ≡ names_twice (es ++ e ∷ [])
+twice_known m es e before h small some is = ap (λ (b : Bool). b || not (eqb e.index 0)) is ∙ sym (twice_more es e ∙ rw (any_is m es e h small ∙ some, and_true (not (eqb e.index 0))) refl)
+
+pub twice_new : (m : BTreeMap ℕ EntryRun) (es : List Entry) (e : Entry) (before : Bool) → HasRuns m es → e.subindex ≤ 255 → is_some (get nat_cmp m (entry_key e.index e.subindex)) ≡ false → before ≡ names_twice es
+    → before ≡ names_twice (es ++ e ∷ [])
+twice_new m es e before h small none is = is ∙ sym (twice_more es e ∙ rw (any_is m es e h small ∙ none, and_false (not (eqb e.index 0))) (or_false (names_twice es)))

@@ -20,10 +20,10 @@ use thiserror::Error;
 #[derive(Clone, Copy, Debug, PartialEq, Eq, Error)]
 pub enum MachineError {
     /// The text states no table, or memory ran out.
-    #[error("{0}")]
+    #[error(transparent)]
     Table(TableError),
     /// The table that it states has no plan, or memory ran out.
-    #[error("{0}")]
+    #[error(transparent)]
     Link(LinkError),
 }
 

@@ -44,7 +44,12 @@ fn first_of_pairs(link_runs: &[LinkRun]) -> Option<usize>
 fn gives_again(earlier: &[LinkRun], link_run: &LinkRun) -> bool
     ensures { result ≡ list_any (give_one_bit link_run.now) earlier.now }
 {
-    earlier.iter().any(|other| give_one_bit(link_run, other))
+    for other in earlier {
+        if give_one_bit(link_run, other) {
+            return true;
+        }
+    }
+    false
 }
 
 /// Whether both give one output object bit, or one input variable bit.
