@@ -8,29 +8,40 @@ use thiserror::Error;
 
 /// What keeps a table from having a plan, with the place of the link, the slave or the variable in its section,
 /// counted from 0 in file order, or with how many slaves or parts there are.
-#[derive(Clone, Copy, PartialEq, Eq)]
+#[derive(Clone, Copy, PartialEq, Eq, Error)]
 pub enum LinkFault {
     /// The slave has the link's entry in the other direction only.
+    #[error("link {0}: the slave assigns the entry in the other direction")]
     WrongDirection(usize),
     /// The slave has no such entry.
+    #[error("link {0}: the slave assigns no such entry")]
     NoEntry(usize),
     /// The link has bits past the entry or past the variable.
+    #[error("link {0}: bits past the entry or the variable")]
     OutsideEntry(usize),
     /// The link gives a bit that an earlier link gives.
+    #[error("link {0}: a bit is linked twice")]
     LinkedTwice(usize),
     /// The slave assigns an entry twice in one direction.
+    #[error("slave {0}: an entry is assigned twice")]
     EntryTwice(usize),
     /// The slave has over 2048 bits in a direction.
+    #[error("slave {0}: over 2048 bits in a direction")]
     TooManyBits(usize),
     /// Over 64 slaves.
+    #[error("{0} slaves, and 64 are the most")]
     TooManySlaves(usize),
     /// Over 32 parts.
+    #[error("{0} parts, and 32 are the most")]
     TooManyParts(usize),
     /// Two spans of the slave's managers share a byte.
+    #[error("slave {0}: two areas overlap")]
     AreasOverlap(usize),
     /// A span of the slave's managers leaves the RAM.
+    #[error("slave {0}: an area leaves the RAM")]
     OutsideRam(usize),
     /// An input variable has links from two sync units.
+    #[error("variable {0}: links from two sync units")]
     SplitVariable(usize),
 }
 
@@ -90,55 +101,14 @@ impl LinkFault {
             LinkFault::TooManySlaves(count) | LinkFault::TooManyParts(count) => count,
         }
     }
-
-    /// What its value counts, or is the place of.
-    fn subject(self) -> &'static str {
-        match self {
-            LinkFault::WrongDirection(_)
-            | LinkFault::NoEntry(_)
-            | LinkFault::OutsideEntry(_)
-            | LinkFault::LinkedTwice(_) => "link ",
-            LinkFault::EntryTwice(_)
-            | LinkFault::TooManyBits(_)
-            | LinkFault::AreasOverlap(_)
-            | LinkFault::OutsideRam(_) => "slave ",
-            LinkFault::SplitVariable(_) => "variable ",
-            LinkFault::TooManySlaves(_) | LinkFault::TooManyParts(_) => "",
-        }
-    }
-
-    /// What is told of it behind the value.
-    fn text(self) -> &'static str {
-        match self {
-            LinkFault::WrongDirection(_) => ": the slave assigns the entry in the other direction",
-            LinkFault::NoEntry(_) => ": the slave assigns no such entry",
-            LinkFault::OutsideEntry(_) => ": bits past the entry or the variable",
-            LinkFault::LinkedTwice(_) => ": a bit is linked twice",
-            LinkFault::EntryTwice(_) => ": an entry is assigned twice",
-            LinkFault::TooManyBits(_) => ": over 2048 bits in a direction",
-            LinkFault::TooManySlaves(_) => " slaves, and 64 are the most",
-            LinkFault::TooManyParts(_) => " parts, and 32 are the most",
-            LinkFault::AreasOverlap(_) => ": two areas overlap",
-            LinkFault::OutsideRam(_) => ": an area leaves the RAM",
-            LinkFault::SplitVariable(_) => ": links from two sync units",
-        }
-    }
 }
 
-// By way of the name, the value and the words, since the prover's work grows with the calls in each arm.
+// By its name and its value: a derived one has a call in each arm, and the prover's work grows with them.
 impl fmt::Debug for LinkFault {
     fn fmt<W: fmt::Write>(&self, f: &mut fmt::Formatter<W>) -> fmt::Result {
         f.debug_tuple(self.name()).field(&self.value()).finish()
     }
 }
-
-impl fmt::Display for LinkFault {
-    fn fmt<W: fmt::Write>(&self, f: &mut fmt::Formatter<W>) -> fmt::Result {
-        write!(f, "{}{}{}", self.subject(), self.value(), self.text())
-    }
-}
-
-impl std::error::Error for LinkFault {}
 
 /// Why there is no plan.
 #[derive(Clone, Copy, Debug, PartialEq, Eq, Error)]
