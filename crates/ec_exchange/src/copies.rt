@@ -132,13 +132,12 @@ impl Touching for Outputs<'_> {
 
 impl Writing for Outputs<'_> {
     ghost use Rattle.std.specs.Prelude.{◌-◌, ◌*◌};
-    ghost use Rattle.ec_exchange.specs.Bits.{bits_from};
-    ghost use Rattle.ec_sync.specs.Touching.{all_touched};
+    ghost use Rattle.ec_exchange.specs.Bits.{bits_from, reaches_all};
 
     ghost written = { λ w start len. bits_from w.bytes.now w.at w.count (8 * (start - w.start)) len };
 
     ghost zero_untouched = { λ w start len k first last inside untouched.
-        absurd (all_touched w.start w.len start len k first last inside untouched) };
+        absurd (reaches_all w.start w.len start len k first last inside untouched) };
 
     fn fill(&self, start: usize, value: &mut [u8]) {
         self.copy(8 * (start - self.start), value);

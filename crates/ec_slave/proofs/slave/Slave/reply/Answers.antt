@@ -5,7 +5,7 @@ use Rattle.ec_regs.specs.declared.manager.SyncManagerSettings.{SyncManagerSettin
 use Rattle.ec_coe.specs.ReplyBytes.{reply_bytes}
 use Rattle.ec_coe.specs.Objects.{Dictionary}
 use Rattle.ec_coe.specs.Answers.{Answer, answered}
-use Rattle.ec_coe.proofs.Effects.{SameSlots, answered-slots}
+use Rattle.ec_coe.proofs.Effects.{answered-slots}
 use Rattle.ec_slave.specs.State.{SlaveState, manager_at}
 use Rattle.ec_slave.specs.Serving.{is_preop, reply_counter, dictionary_of, answer_to, bytes_to}
 use Rattle.ec_slave.proofs.Applications.{indexed}
@@ -17,7 +17,7 @@ invariant_of-self c =
     let d : Dictionary = c.self.inside.dictionary in
     let e : Dictionary = c.answer-reply.new.self in
     let counter : ℕ = c.self.inside.replies % 7 + 1 in
-    let k : SameSlots d (answered c.is_preop-in_preop.result d c.args.request.now counter).dictionary = answered-slots c.is_preop-in_preop.result d c.args.request.now counter in
+    let k = answered-slots c.is_preop-in_preop.result d c.args.request.now counter in
     let after = c.answer-reply.ensures.after in
     let identity : e.identity ≡ d.identity = ap (λ (x : Dictionary). x.identity) after ∙ k.identity in
     let kind : e.kind ≡ d.kind = ap (λ (x : Dictionary). x.kind) after ∙ k.kind in
