@@ -155,3 +155,18 @@ returns-clause-any c =
     let one : is_some (seen_bit s.memory.now ms s.readable.now q) ≡ true
     = ap is_some (readable_value s.memory.now ms s.readable.now n q ((q + c.args.count - 1) / 8) r g front_2 (omega (arith, some))) in
     sym (run_counts (8 * length c.args.bytes.now) (seen_bit s.memory.now ms s.readable.now) q c.args.to c.args.count c.requires.some c.requires.run.1.0 one)
+
+pub show_by_bits-requires-clause-can : goal.show_by_bits-requires-clause-can
+show_by_bits-requires-clause-can c = (c.requires.room, c.requires.four)
+
+pub returns-then-last-start-clause-any : goal.returns-then-last-start-clause-any
+returns-then-last-start-clause-any c = c.show_by_bits.ensures.any
+
+pub returns-then-last-start-clause-bits : goal.returns-then-last-start-clause-bits
+returns-then-last-start-clause-bits c = c.show_by_bits.ensures.bits
+
+pub show_by_bits-requires-clause-there : goal.show_by_bits-requires-clause-there
+show_by_bits-requires-clause-there c = c.requires.run.1.0
+
+pub copy_by_words-requires-clause-inside : goal.copy_by_words-requires-clause-inside
+copy_by_words-requires-clause-inside c = c.requires.run.1.0

@@ -61,3 +61,9 @@ returns-clause-memory c =
     let e : c.loop-done.done ≡ length c.args.bytes.now = omega (arith, inside, test) in
     c.loop-done.invariant.memory ∙ (ap (λ n. told_along n w.from c.args.memory.now (kept_byte ms w)) e
     ∙ retold-along (length w.bytes) w.from c.args.memory.now (kept_byte ms w) (kept-outside ms w))
+
+pub returns-then-from-bytes-le-RAM_START-clause-memory : goal.returns-then-from-bytes-le-RAM_START-clause-memory
+returns-then-from-bytes-le-RAM_START-clause-memory c = c.write_registers.ensures.memory c.args.managers.now
+
+pub returns-then-from-bytes-le-RAM_START-clause-some : goal.returns-then-from-bytes-le-RAM_START-clause-some
+returns-then-from-bytes-le-RAM_START-clause-some c = c.write_registers.ensures.some c.args.managers.now

@@ -58,3 +58,30 @@ is_plain-requires c =
     let outs = by.small_outs in
     let ins = by.small_ins in
     record { outs = omega (arith, outs); ins = omega (arith, ins) }
+
+pub returns-then-is_held-clause-slave : goal.returns-then-is_held-clause-slave
+returns-then-is_held-clause-slave c = c.exchange_area.ensures.slave
+
+pub returns-then-is_held-clause-bytes : goal.returns-then-is_held-clause-bytes
+returns-then-is_held-clause-bytes c = c.exchange_area.ensures.bytes
+
+pub returns-then-is_held-clause-added : goal.returns-then-is_held-clause-added
+returns-then-is_held-clause-added c = c.exchange_area.ensures.added
+
+pub returns-then-is_plain-clause-slave : goal.returns-then-is_plain-clause-slave
+returns-then-is_plain-clause-slave c = c.exchange_plain.ensures.slave
+
+pub returns-then-is_plain-clause-bytes : goal.returns-then-is_plain-clause-bytes
+returns-then-is_plain-clause-bytes c = c.exchange_plain.ensures.bytes
+
+pub returns-then-is_plain-clause-added : goal.returns-then-is_plain-clause-added
+returns-then-is_plain-clause-added c = c.exchange_plain.ensures.added
+
+pub returns-clause-slave : goal.returns-clause-slave
+returns-clause-slave c = c.access_any_bits.ensures.slave
+
+pub returns-clause-bytes : goal.returns-clause-bytes
+returns-clause-bytes c = c.access_any_bits.ensures.bytes
+
+pub returns-clause-added : goal.returns-clause-added
+returns-clause-added c = c.access_any_bits.ensures.added
