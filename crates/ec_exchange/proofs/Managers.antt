@@ -1,8 +1,9 @@
 -- Managers by their number: one that was indexed, and which is the first that governs a byte.
 use Rattle.std.proofs.Common.{ℕ, zero, suc, ◌+◌, ◌<◌, ◌≡◌, Bool, true, false, Option, Some, None, List, [], ◌∷◌, length, take, get_or, refl, sym, ◌∙◌, ap, arith, inl, inr}
 use Rattle.std.specs.List.{position_from}
-use Rattle.std.proofs.lemmas.Bool.{cases_Bool}
-use Rattle.ec_bits.proofs.AnyLaws.{if_true, if_false}
+use Rattle.std.proofs.lemmas.Bool.{both_ways, cases_Bool, cases_lt}
+use Rattle.ec_bits.specs.Bits.{any_below}
+use Rattle.ec_bits.proofs.AnyLaws.{any_below_from, any_below_none, if_true, if_false}
 use Rattle.ec_sync.specs.SyncManager.{SyncManager, no_manager}
 use Rattle.ec_exchange.specs.Values.{manager_at}
 
@@ -14,7 +15,6 @@ get_or-any (m ∷ ms) (suc n) a b l = get_or-any ms n a b (omega arith)
 -- an element that was indexed is the manager of that number
 pub indexed : (ms ns : List SyncManager) (n : ℕ) (m : SyncManager) → n < length ms → m ≡ get_or ms n m → ms ≡ ns → m ≡ manager_at ns n
 indexed ms ns n m l e h = e ∙ (get_or-any ms n m no_manager l ∙ ap (λ (k : List SyncManager). get_or k n no_manager) h)
-
 
 -- a manager that has a byte in its span governs it where no lower one does
 pub position_from-first : (t : SyncManager → Bool) (k n : ℕ) (ms : List SyncManager) → n < length ms → position_from t k (take n ms) ≡ None → t (manager_at ms n) ≡ true → position_from t k ms ≡ Some (k + n)
@@ -40,3 +40,13 @@ position_from-more t k (suc n) (m ∷ ms) l none h = elim (cases_Bool (t m)) as 
       let rest : position_from t (k + 1) (take n ms) ≡ None = sym (if_false (t m) (Some k) (position_from t (k + 1) (take n ms)) y) ∙ none in
       if_false (t m) (Some k) (position_from t (k + 1) (take (suc n) ms)) y ∙ position_from-more t (k + 1) n ms (omega arith) rest h
 ]
+
+-- where none passes so far, and one more doesn't
+pub none_more : (n : ℕ) (p : ℕ → Bool) → p n ≡ false → any_below n p ≡ false → any_below (n + 1) p ≡ false
+none_more n p a b = any_below_none (n + 1) p (λ i l. elim (cases_lt i n) as (λ _. p i ≡ false) [
+  | inl before ↦ elim (cases_Bool (p i)) as (λ _. p i ≡ false) [
+    | inl t ↦ absurd (both_ways (any_below n p) b (any_below_from n p i before t))
+    | inr f ↦ f
+  ]
+  | inr behind ↦ let e : i ≡ n = omega (arith, l, behind) in ap p e ∙ a
+])

@@ -7,6 +7,8 @@
 
 mod copies;
 mod holding;
+mod reach;
 
 pub use crate::copies::{get_inputs, give_inputs, put_outputs, take_outputs, take_value};
 pub use crate::holding::{is_held, is_plain, spanned_area};
+pub use crate::reach::{governor, owner_of, read_manager, write_manager};

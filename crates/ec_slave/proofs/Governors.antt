@@ -48,17 +48,6 @@ position_from-first t k (suc n) (m ∷ ms) l none h = elim (cases_Bool (t m)) [
       if_false _ _ _ y ∙ (position_from-first t (k + 1) n ms (omega arith) rest h ∙ ap (λ i. Some i) s)
 ]
 
--- and none of one more, where that one doesn't
-pub position_from-more : (t : SyncManager → Bool) (k n : ℕ) (ms : List SyncManager) → n < length ms → position_from t k (take n ms) ≡ None → t (manager_at ms n) ≡ false → position_from t k (take (suc n) ms) ≡ None
-position_from-more t k n [] l none h = absurd (omega arith)
-position_from-more t k zero (m ∷ ms) l none h = if_false (t m) (Some k) None h
-position_from-more t k (suc n) (m ∷ ms) l none h = elim (cases_Bool (t m)) as (λ _. position_from t k (take (suc (suc n)) (m ∷ ms)) ≡ None) [
-  | inl y ↦ absurd (let f : Some k ≡ None = sym (if_true (t m) (Some k) (position_from t (k + 1) (take n ms)) y) ∙ none in cc)
-  | inr y ↦
-      let rest : position_from t (k + 1) (take n ms) ≡ None = sym (if_false (t m) (Some k) (position_from t (k + 1) (take n ms)) y) ∙ none in
-      if_false (t m) (Some k) (position_from t (k + 1) (take (suc n) ms)) y ∙ position_from-more t (k + 1) n ms (omega arith) rest h
-]
-
 -- and its value is its own there
 pub own-governor : (ms : List SyncManager) (n k : ℕ) → n < length ms → is_set (manager_at ms n).settings ≡ true → k < (manager_at ms n).settings.length
     → is_ungoverned (take n ms) ((manager_at ms n).settings.start + k) ≡ true → governor ms ((manager_at ms n).settings.start + k) ≡ Some n

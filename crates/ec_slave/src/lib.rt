@@ -10,7 +10,6 @@ mod logical;
 mod mailbox;
 mod passing;
 mod physical;
-mod reach;
 mod role;
 mod runs;
 mod slave;

@@ -7,7 +7,7 @@ ghost use Rattle.ec_sync.specs.Governing.{governs, governor as governor_of, in_f
 ghost use Rattle.ec_slave.specs.State.{manager_at};
 ghost use Rattle.ec_slave.specs.Managers.{is_ungoverned};
 
-use crate::reach::governor;
+use ec_exchange::governor;
 use ec_sync::SyncManager;
 
 /// The end of the bytes from `start` on, and below `end`, that lie on one side of a border.

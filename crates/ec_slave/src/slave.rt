@@ -11,12 +11,12 @@ ghost use Rattle.ec_slave.specs.Physical.{byte_at, register_byte};
 ghost use Rattle.ec_slave.specs.State.{SlaveState, memory_length, power_on, station_of};
 
 use crate::fmmus::read_fmmus;
-use crate::reach::owner_of;
 use ec_al::Al;
 use ec_bits::within;
 use ec_coe::Dictionary;
 use ec_device::{Identity, SlaveType};
 use ec_dl::DataLink;
+use ec_exchange::owner_of;
 use ec_fmmu::FmmuTable;
 use ec_regs::registers::{
     AL_CONTROL, AL_STATUS, AL_STATUS_CODE, FMMU_COUNT, FMMUS, FMMUS_END, MANAGER_COUNT,

@@ -10,9 +10,8 @@ ghost use Rattle.ec_slave.specs.Logical.{logical_managers, plain_bit, logical_va
 ghost use Rattle.ec_slave.specs.Written.{some_manager_written};
 
 use crate::logical::writing::Ungoverned;
-use crate::reach::{read_manager, write_manager};
 use crate::runs::are_ungoverned;
-use ec_exchange::take_value;
+use ec_exchange::{read_manager, take_value, write_manager};
 use ec_fmmu::{FmmuTable, apply_write, is_touched_by_reading, is_touched_by_writing, whole_source};
 use ec_sync::{SyncManager, Touching, Writing};
 

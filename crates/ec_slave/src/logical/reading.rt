@@ -10,9 +10,9 @@ ghost use Rattle.ec_slave.specs.Logical.{read_bit, some_read};
 ghost use Rattle.ec_slave.specs.State.{manager_at};
 ghost use Rattle.ec_slave.specs.Sights.{HasRoom, run_over, some_of_run, seen_behind as behind_it, seen_bit as bit_seen};
 
-use crate::reach::governor;
 use crate::runs::count_alike;
 use ec_bits::{copy_by_words, get};
+use ec_exchange::governor;
 use ec_fmmu::{
     FmmuTable, ReadableBits, ReadableRuns, apply_read, is_touched_by_reading, show_by_bits,
 };

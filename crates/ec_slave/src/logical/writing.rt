@@ -7,8 +7,8 @@ ghost use Rattle.ec_fmmu.specs.Applied.{Place};
 ghost use Rattle.ec_slave.specs.Logical.{plain_bit};
 ghost use Rattle.ec_slave.specs.Written.{some_plain_written};
 
-use crate::reach::governor;
 use crate::runs::end_of_alike;
+use ec_exchange::governor;
 use ec_fmmu::{FmmuTable, WritableBytes, apply_write};
 use ec_sync::SyncManager;
 

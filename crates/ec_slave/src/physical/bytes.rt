@@ -8,8 +8,8 @@ ghost use Rattle.ec_sync.specs.Governing.{governor as governor_of};
 ghost use Rattle.ec_sync.specs.SyncManager.{SyncManager};
 ghost use Rattle.ec_slave.specs.Physical.{byte_from, is_kept, may_read_byte, may_write_byte, memory_written, retold, some_byte_written};
 
-use crate::reach::owner_of;
 use crate::runs::{cut, end_of_alike};
+use ec_exchange::owner_of;
 use ec_regs::registers::{FMMUS, FMMUS_END, RAM_END, RAM_START, SYNC_MANAGERS, SYNC_MANAGERS_END};
 use ec_regs::{is_stored, takes_writes};
 use ec_sync::SyncManager;

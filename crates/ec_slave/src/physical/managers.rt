@@ -8,9 +8,9 @@ ghost use Rattle.ec_slave.specs.Managers.{is_ungoverned, manager_after};
 ghost use Rattle.ec_slave.specs.Physical.{is_configured as is_configured_at, physical_manager, physical_managers, setting_for, settings_written, touches, physical_value};
 
 use crate::physical::bytes::byte_for;
-use crate::reach::{governor, read_manager, write_manager};
 use crate::runs::are_ungoverned;
 use ec_bits::within;
+use ec_exchange::{governor, read_manager, write_manager};
 use ec_regs::registers::manager_address;
 use ec_regs::{SyncManagerSettings, decode_manager, is_stored};
 use ec_sync::{Reach, SyncManager, Touching, Writing};

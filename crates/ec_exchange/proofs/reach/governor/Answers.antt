@@ -1,10 +1,10 @@
 use Rattle.std.proofs.Common.{ℕ, suc, ◌+◌, ◌≡◌, ◌<◌, ◌∙◌, List, true, false, Some, length, take, refl, ap, sym, arith}
 use Rattle.ec_sync.specs.SyncManager.{SyncManager}
 use Rattle.ec_sync.specs.Governing.{governor, governs}
-use Rattle.ec_slave.specs.State.{manager_at}
-use Rattle.ec_slave.proofs.Applications.{indexed}
-use Rattle.ec_slave.proofs.Governors.{position_from-first, position_from-more}
-use Rattle.ec_slave.proofs.reach.governor.Goals as goal
+use Rattle.ec_exchange.specs.Values.{manager_at}
+use Rattle.ec_exchange.proofs.Managers.{indexed}
+use Rattle.ec_exchange.proofs.Managers.{position_from-first, position_from-more}
+use Rattle.ec_exchange.proofs.reach.governor.Goals as goal
 
 pub returns-then-governs-clause-value : goal.returns-then-governs-clause-value
 returns-then-governs-clause-value c =

@@ -6,13 +6,13 @@ ghost use Rattle.ec_bits.specs.Bits.{any_below};
 ghost use Rattle.ec_regs.specs.Memory.{ram_end, ram_start};
 ghost use Rattle.ec_sync.specs.SyncManager.{LiesInRam, ring_read, ring_written};
 ghost use Rattle.ec_sync.specs.Governing.{governor as governor_of};
-ghost use Rattle.ec_slave.specs.Managers.{gets_at, is_read_by, is_ungoverned, is_written_by};
+ghost use Rattle.ec_exchange.specs.Access.{gets_at, is_read_by, is_ungoverned, is_written_by};
 
 use ec_regs::registers::RAM_START;
 use ec_sync::{SyncManager, Touching, Writing};
 
 /// The number of the sync manager that governs a byte: the lowest one that is set and whose span has it.
-pub(crate) fn governor(managers: &[SyncManager], address: usize) -> Option<usize>
+pub fn governor(managers: &[SyncManager], address: usize) -> Option<usize>
     ensures value { result ≡ governor_of managers.now address }
     ensures within { IfSome result (λ n. n < length managers.now) }
 {
@@ -25,7 +25,7 @@ pub(crate) fn governor(managers: &[SyncManager], address: usize) -> Option<usize
 }
 
 /// The governor of a byte of the RAM, if it has one; none of a register.
-pub(crate) fn owner_of(managers: &[SyncManager], address: usize) -> Option<usize>
+pub fn owner_of(managers: &[SyncManager], address: usize) -> Option<usize>
     ensures within { IfSome result (λ n. n < length managers.now) }
     ensures value { ram_start ≤ address → result ≡ governor_of managers.now address }
 {
@@ -37,7 +37,7 @@ pub(crate) fn owner_of(managers: &[SyncManager], address: usize) -> Option<usize
 }
 
 /// An access that writes: a manager that it gets at takes its value, if it is let. Answers whether.
-pub(crate) fn write_manager<W: Writing>(
+pub fn write_manager<W: Writing>(
     lower: &[SyncManager],
     manager: &mut SyncManager,
     access: &W,
@@ -55,11 +55,7 @@ pub(crate) fn write_manager<W: Writing>(
 }
 
 /// An access that reads: it empties a mailbox that it gets at, if it is let. It does nothing to another manager.
-pub(crate) fn read_manager<T: Touching>(
-    lower: &[SyncManager],
-    manager: &mut SyncManager,
-    access: &T,
-)
+pub fn read_manager<T: Touching>(lower: &[SyncManager], manager: &mut SyncManager, access: &T)
     ensures { let m = manager.old in
         manager.new ≡ (if is_read_by (T.touched access.now) (is_ungoverned lower.now) m then ring_read m else m) }
 {

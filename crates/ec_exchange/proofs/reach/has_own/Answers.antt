@@ -1,8 +1,8 @@
 use Rattle.std.proofs.Common.{rules, ◌+◌, ◌≡◌, ◌&&◌, true, is_none, sym, ◌∙◌, ap, arith}
 use Rattle.std.proofs.lemmas.Bool.{and_from}
 use Rattle.ec_bits.proofs.AnyLaws.{any_below_from}
-use Rattle.ec_slave.specs.Managers.{is_ungoverned}
-use Rattle.ec_slave.proofs.reach.has_own.Goals as goal
+use Rattle.ec_exchange.specs.Access.{is_ungoverned}
+use Rattle.ec_exchange.proofs.reach.has_own.Goals as goal
 
 pub returns-then-is_none : goal.returns-then-is_none
 returns-then-is_none g c =
