@@ -1,4 +1,5 @@
 use Rattle.std.proofs.Common.{◌≡◌, ◌+◌, ◌-◌, ◌<◌, ◌≤◌, length, ℕ, Bool, Option, List, ◌∙◌, sym, ap, subst, arith, slice_index, inl, inr}
+use Rattle.std.specs.Option.{IfSome}
 use Rattle.std.proofs.lemmas.Bool.{cases_lt}
 use Rattle.ec_bits.specs.Bits.{any_below}
 use Rattle.ec_bits.proofs.AnyLaws.{any_below_from}
@@ -91,3 +92,10 @@ returns-clause-some c =
     let e : c.loop-done.done ≡ length c.args.bytes.now = omega (arith, inside, test) in
     let w : Window = record { from = c.args.from; bytes = c.args.bytes.now } in
     c.loop-done.invariant.some ∙ ap (λ n. any_below n (λ k. may_read_byte c.args.self.now.managers (touches w) (c.args.from + k))) e
+
+pub reads_byte-requires-clause-owner : goal.reads_byte-requires-clause-owner
+reads_byte-requires-clause-owner c = λ ram.
+    c.owner_of-owner.ensures.value ram ∙ ap (λ (ms : List SyncManager). governor ms (c.args.from + c.loop-done.done)) (c.deref.ensures.value ∙ sym c.deref-in-loop-done-2.ensures.value)
+
+pub reads_byte-requires-clause-within : goal.reads_byte-requires-clause-within
+reads_byte-requires-clause-within c = subst (λ (ms : List SyncManager). IfSome c.owner_of-owner.result (λ n. n < length ms)) (c.deref.ensures.value ∙ sym c.deref-in-loop-done-2.ensures.value) c.owner_of-owner.ensures.within

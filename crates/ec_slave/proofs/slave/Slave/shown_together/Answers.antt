@@ -37,3 +37,9 @@ returns-in_ok-at-in-Some-clause-bytes c =
     let same : c.in_ok-at-in-Some.at + k ≡ first + k - m.settings.start = omega (arith, low, at, start) in
     h k l ∙ (ap (λ (ys : List ℕ). slice_index ys (c.in_ok-at-in-Some.at + k)) value ∙ (ap (slice_index (shown m)) same
     ∙ sym (governed-byte s (first + k) n (omega (arith, ram)) (sym (c.requires.owner (first + k) (omega (arith, ram)) (omega arith) (omega (arith, l))) ∙ c.in-Some.is)))))
+
+pub returns-in-None-clause-long : goal.returns-in-None-clause-long
+returns-in-None-clause-long c = c.part_of.ensures.long
+
+pub returns-in_ok-at-in-Some-clause-long : goal.returns-in_ok-at-in-Some-clause-long
+returns-in_ok-at-in-Some-clause-long c = c.part_of-in-Some.ensures.long
