@@ -18,9 +18,11 @@ returns-in-Some c =
     let x : SyncManager = c.index-managers-place.result in
     let there : n < length ms = subst (λ (o : Option ℕ). IfSome o (λ k. k < length ms)) c.in-Some.is c.requires.within in
     let own : x ≡ manager_at ms n = indexed ms ms n x there c.index-managers-place.is refl in
-    record { value = ap (λ (b : Bool). b && (c.is_covered.result && c.may_read.result)) c.in_first_buffer.ensures
-        ∙ (ap (λ (b : Bool). in_first_buffer x a && (b && c.may_read.result)) c.is_covered.ensures
-        ∙ (ap (λ (b : Bool). in_first_buffer x a && (covers t x && b)) c.may_read.ensures.value
-        ∙ (ap (λ (m : SyncManager). in_first_buffer m a && (covers t m && may_read m)) own
-        ∙ sym (read-governed ms t a (Some n) c.if-address-lt-RAM_START.false c.if-address-ge-RAM_END.false (sym (c.requires.owner c.if-address-lt-RAM_START.false) ∙ c.in-Some.is)))));
-    inside = OnTrue_from _ _ (λ _. c.if-address-ge-RAM_END.false) }
+    record {
+      value = ap (λ (b : Bool). b && (c.is_covered.result && c.may_read.result)) c.in_first_buffer.ensures
+          ∙ (ap (λ (b : Bool). in_first_buffer x a && (b && c.may_read.result)) c.is_covered.ensures
+          ∙ (ap (λ (b : Bool). in_first_buffer x a && (covers t x && b)) c.may_read.ensures.value
+          ∙ (ap (λ (m : SyncManager). in_first_buffer m a && (covers t m && may_read m)) own
+          ∙ sym (read-governed ms t a (Some n) c.if-address-lt-RAM_START.false c.if-address-ge-RAM_END.false (sym (c.requires.owner c.if-address-lt-RAM_START.false) ∙ c.in-Some.is)))));
+      inside = OnTrue_from _ _ (λ _. c.if-address-ge-RAM_END.false);
+    }

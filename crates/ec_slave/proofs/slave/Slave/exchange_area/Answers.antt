@@ -56,7 +56,7 @@ returns-clause-added c =
     let managers = c.deref_mut.ensures.value ∙ ap (λ (x : SlaveState). x.managers) c.self.view_is in
     c.exchange_values.ensures.added
     ∙ (ap (λ (ms : List SyncManager). from_bool (is_reading role && (nat_lt 0 a.ins && may_read (manager_at ms 3)))
-        + weight role * from_bool (is_writing role && (nat_lt 0 a.outs && may_write (manager_at ms 2)))) managers
+    + weight role * from_bool (is_writing role && (nat_lt 0 a.outs && may_write (manager_at ms 2)))) managers
     ∙ sym (ap (λ (m : MetBytes). m.added) (exchange_placed (is_reading role) (is_writing role) (weight role) s a p bytes c.requires.mapped c.requires.spans)))
 
 pub invariant_of-self : goal.invariant_of-self
