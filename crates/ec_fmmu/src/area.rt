@@ -10,7 +10,7 @@ use ec_regs::registers::{RAM_END, RAM_START};
 
 /// What two FMMUs map of a slave: its outputs, which are written, and its inputs, which are read. Each begins with bit 0 of a
 /// byte of the RAM. Bit `8 * a + j` of the logical space is bit `j` of the byte at the logical address `a`.
-#[derive(Clone, Copy, Debug, PartialEq, Eq)]
+#[derive(Clone, Copy)]
 pub struct MappedArea {
     /// How many bits the outputs have.
     pub outs: u64,

@@ -5,7 +5,7 @@ ghost use Rattle.ec_bits.specs.Bits.{within};
 ghost use Rattle.ec_fmmu.specs.Ways.{IsInRam, run_touches};
 
 /// Logical bits and, one by one, the physical bits that they stand for.
-#[derive(Clone, Copy, Debug)]
+#[derive(Clone, Copy)]
 pub(crate) struct Run {
     pub(crate) logical: u64,
     pub(crate) physical: u64,

@@ -18,7 +18,7 @@ use crate::ways::{Way, end_of_open, read_ways, write_ways};
 use std::marker::Model;
 
 /// Logical bits from one on and below another.
-#[derive(Clone, Copy, Debug)]
+#[derive(Clone, Copy)]
 struct LogicalRange {
     first: u64,
     end: u64,
@@ -27,7 +27,7 @@ struct LogicalRange {
 /// The four FMMUs of a slave. What is asked of each datagram is found once: where their ranges lie
 /// in the logical space, by which pairs datagrams go through each of them, whether any bit that is
 /// read may be written as well, and which area they map where they are set as usual.
-#[derive(Debug, Drop)]
+#[derive(Drop)]
 pub struct FmmuTable {
     fmmus: [Fmmu; 4],
     stretch: LogicalRange,

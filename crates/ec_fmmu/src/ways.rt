@@ -9,7 +9,7 @@ use crate::mapping::Fmmu;
 use crate::run::Run;
 
 /// How the datagrams of a direction go through an FMMU.
-#[derive(Clone, Copy, Debug)]
+#[derive(Clone, Copy)]
 pub(crate) enum Way {
     /// Not at all: it hasn't that direction.
     Closed,
