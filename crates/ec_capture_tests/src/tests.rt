@@ -186,3 +186,9 @@ fn a_refused_flush_is_told(rt: HostRuntime) -> Result<(), Fail> {
     assert_eq!(rt; capture.finish(), Err(WriteFault));
     Ok(())
 }
+
+#[test]
+fn a_refused_write_says_what_is_wrong(rt: HostRuntime) {
+    let said = format!(in rt.alloc(); "{WriteFault}").expect(&rt, "memory");
+    assert_eq!(rt; said.as_str(), "the capture can't be written further");
+}

@@ -361,3 +361,22 @@ fn refusals_have_the_names_of_their_numbers(rt: HostRuntime) -> Result<(), Fail>
     }
     Ok(())
 }
+
+/// What each refusal of a text says.
+const TEXTS: [(DecodeError, &str); 2] = [
+    (DecodeError::Memory, "out of memory"),
+    (DecodeError::BadScript(12), "line 12 is out of form"),
+];
+
+/// A refusal says this.
+fn expect_said(rt: &(impl AllocGlobal + Abort), error: DecodeError, text: &str) {
+    let said = format!(in rt.alloc(); "{error}").expect(rt, "memory");
+    assert_eq!(rt; said.as_str(), text);
+}
+
+#[test]
+fn texts_of_refusals(rt: HostRuntime) {
+    for (error, text) in &TEXTS {
+        expect_said(&rt, *error, text);
+    }
+}

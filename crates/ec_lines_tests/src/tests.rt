@@ -157,3 +157,24 @@ fn takes_long_texts(rt: HostRuntime) -> Result<(), Fail> {
     }
     Ok(())
 }
+
+/// What each error says.
+const TEXTS: [(LinesError, &str); 4] = [
+    (LinesError::Memory, "out of memory"),
+    (LinesError::Unread, "the input can't be read"),
+    (LinesError::TooLong, "the text is too long"),
+    (LinesError::NoText, "the bytes are no text"),
+];
+
+/// An error says this.
+fn expect_said(rt: &(impl AllocGlobal + Abort), error: LinesError, text: &str) {
+    let said = format!(in rt.alloc(); "{error}").expect(rt, "memory");
+    assert_eq!(rt; said.as_str(), text);
+}
+
+#[test]
+fn texts_of_errors(rt: HostRuntime) {
+    for (error, text) in &TEXTS {
+        expect_said(&rt, *error, text);
+    }
+}
