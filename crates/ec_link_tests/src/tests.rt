@@ -2,10 +2,12 @@
 //! way out, on which a table or a plan would go away: what keeps a test from its end, ends it.
 mod described;
 mod machines;
+mod sizes;
 mod tables;
 
 use self::described::{Told, push_told};
 use self::machines::{MACHINES, machine_of};
+use self::sizes::{links_of_bits, many_variables};
 use self::tables::{
     ASSIGNED, CHANGES, FACES, FACES_IN_FULL, PLANS, SAID, SPLIT_PART, THREE_SLAVES,
 };
@@ -133,6 +135,20 @@ fn plans_machines(rt: HostRuntime) {
     for row in &MACHINES {
         expect_machine(&rt, *row);
     }
+}
+
+/// 12,288 links, each of one bit.
+#[test]
+fn plans_a_link_for_each_bit(rt: HostRuntime) {
+    let links = links_of_bits(&rt, 3);
+    expect_machine(&rt, ("3 0 2048 2048 true", links.as_str(), "65536 768 9 0"));
+}
+
+/// An image of 108,800 bits of outputs, none of which is linked.
+#[test]
+fn plans_many_variables(rt: HostRuntime) {
+    let variables = many_variables(&rt, 1700);
+    expect_machine(&rt, ("1 0 16 16 true", variables.as_str(), "65536 2 3 0"));
 }
 
 #[test]
