@@ -8,6 +8,7 @@ use self::steps::Step::{
 use self::steps::expect_steps;
 use ec_cycle::CycleError;
 use ec_link::ExpectedCounters::{Lrw, Split};
+use std::process::Abort;
 use std::test::Fail;
 
 /// Three slaves: 4 outputs; 4 inputs; 12 outputs and 16 inputs.
@@ -145,6 +146,30 @@ fn numbers_of_refusals(rt: HostRuntime) {
     for (error, number, name) in rows {
         assert_eq!(rt; error.number(), number);
         assert_eq!(rt; error.name(), name);
+    }
+}
+
+/// What each refusal says.
+const TEXTS: [(CycleError, &str); 4] = [
+    (CycleError::NotReady, "no start-up has ended ready"),
+    (CycleError::Open, "a cycle is open already"),
+    (CycleError::NotOpen, "no cycle is open"),
+    (
+        CycleError::NumbersSpent,
+        "the numbers of cycles are used up",
+    ),
+];
+
+/// A refusal says this.
+fn expect_said(rt: &(impl AllocGlobal + Abort), error: CycleError, text: &str) {
+    let said = format!(in rt.alloc(); "{error}").expect(rt, "memory");
+    assert_eq!(rt; said.as_str(), text);
+}
+
+#[test]
+fn texts_of_refusals(rt: HostRuntime) {
+    for (error, text) in &TEXTS {
+        expect_said(&rt, *error, text);
     }
 }
 
