@@ -7,4 +7,5 @@ mod memory;
 mod rounds;
 mod sockets;
 mod startups;
+mod texts;
 mod trials;
