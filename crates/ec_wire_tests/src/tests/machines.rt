@@ -1,5 +1,5 @@
-//! Machines to run: their tables, slaves, masters and start-ups. What calls of libraries promise is told by no clause here that
-//! isn't asked for, so those who call these functions carry nothing of it.
+//! Machines to run: their tables, slaves, masters and start-ups. What calls of libraries promise is told by no clause here
+//! that isn't asked for, so those who call these functions carry nothing of it.
 ghost use Rattle.std.specs.Prelude.{◌≡◌};
 ghost use Rattle.ec_link.specs.Plan.{plan_of};
 

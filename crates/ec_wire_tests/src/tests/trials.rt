@@ -1,5 +1,5 @@
-//! What is tried with the machine of a table and a new master of it. Machines and masters go away here alone, since each function in
-//! which one does is dear to prove.
+//! What is tried with the machine of a table and a new master of it. Machines and masters go away here alone, since each
+//! function in which one does is dear to prove.
 ghost use Rattle.std.specs.Prelude.{◌≡◌};
 ghost use Rattle.ec_link.specs.Plan.{plan_of};
 
