@@ -146,7 +146,7 @@ fn taken_of(units: &[u8], taken: &[bool; 256]) -> ArrayVec<bool, 64>
     units_taken
 }
 
-/// The same units.
+/// A copy of the numbers of sync units, in room of its own.
 fn copy_of(units: &[u8]) -> ArrayVec<u8, 64>
     requires { length units.now ≤ 64 }
     ensures { result.items ≡ units.now }

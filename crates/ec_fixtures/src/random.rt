@@ -40,7 +40,7 @@ impl Random {
         self.below(256) as u8
     }
 
-    /// Any word.
+    /// Any number of 32 bits.
     pub fn word(&mut self) -> u32 {
         self.words.next_u32()
     }

@@ -61,7 +61,7 @@ impl Model for FmmuTable {
 }
 
 impl FmmuTable {
-    /// These four, the lowest first.
+    /// The table of the four FMMUs of a slave, the lowest first. What each datagram asks of them is found here.
     pub fn new(fmmus: [Fmmu; 4]) -> FmmuTable
         ensures { result ≡ fmmus }
     {

@@ -8,7 +8,7 @@ mod sizes;
 use self::cycles::cycles_of;
 use self::names::with_names;
 use self::scripts::answers;
-use self::sizes::{filled_up, table_of_size};
+use self::sizes::{filled_up, table_of_bits, table_of_size, table_of_variables};
 use ec_commands::run_command;
 use ec_fixtures::{Random, random_script, random_table};
 use ec_wire::Echo;
@@ -244,6 +244,32 @@ fn each_number_of_links_has_room(rt: HostRuntime) -> Result<(), Fail> {
     for bits in [1, 2, 4, 8] {
         expect_size(&rt, 64, bits)?;
     }
+    Ok(())
+}
+
+// 12,288 links, in close to a megabyte of text.
+#[test]
+fn each_bit_by_itself_has_room(rt: HostRuntime) -> Result<(), Fail> {
+    let table = table_of_bits(rt.alloc(), 3)?;
+    expect_well(
+        &rt,
+        &["ecat", "plan"],
+        table.as_str(),
+        "slave 0 part 0 out 2048 in 2048\n",
+    );
+    Ok(())
+}
+
+// An image of 108,816 bits of outputs.
+#[test]
+fn many_variables_have_room(rt: HostRuntime) -> Result<(), Fail> {
+    let table = table_of_variables(rt.alloc(), 1700)?;
+    expect_well(
+        &rt,
+        &["ecat", "plan"],
+        table.as_str(),
+        "slave 0 part 0 out 16 in 16\n",
+    );
     Ok(())
 }
 

@@ -1,1 +1,2 @@
+-- a spot of a text lies in it
 mod Lying

@@ -6,6 +6,7 @@ use Rattle.ec_slave.specs.State.{SlaveState}
 use Rattle.ec_slave.specs.Meeting.{passes, slave_met, datagram_met}
 use Rattle.ec_slave.specs.Column.{datagram_past, slaves_met}
 use Rattle.ec_ring.specs.Rings.{RingPassed, passes_ring}
+use Rattle.ec_ring.specs.Grid.{RingIsColumns}
 
 no_datagram : (ss : List SlaveState) → passes_ring ss [] ≡ record { slaves = ss; datagrams = [] }
 no_datagram [] = refl
@@ -23,6 +24,9 @@ pub by_columns : (ss : List SlaveState) (ds : List Datagram)
 by_columns ss [] = sym (no_datagram ss)
 by_columns ss (d ∷ ds) =
     ap (λ (r : RingPassed). record { slaves = r.slaves; datagrams = datagram_past ss d ∷ r.datagrams }) (by_columns (slaves_met ss d) ds) ∙ sym (first_column ss d ds)
+
+pub columns_law : RingIsColumns
+columns_law ss ds = sym (by_columns ss ds)
 
 -- no slave is lost
 length_met : (ss : List SlaveState) (d : Datagram) → length (slaves_met ss d) ≡ length ss

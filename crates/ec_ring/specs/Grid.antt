@@ -1,8 +1,10 @@
 -- The ring as a grid, in which slaves and datagrams meet.
 use Rattle.std.specs.Prelude.{ℕ, ◌+◌, ◌<◌, ◌≡◌, List, length, slice_get, Some}
 use Rattle.ec_frame.specs.Datagram.{Datagram}
+use Rattle.ec_frame.specs.Walk.{handled_all, after_all}
 use Rattle.ec_slave.specs.State.{SlaveState}
 use Rattle.ec_slave.specs.Meeting.{slave_met, datagram_met, passes}
+use Rattle.ec_slave.specs.Column.{datagram_past, slaves_met}
 use Rattle.ec_ring.specs.Rings.{passes_ring}
 
 -- Cell (i, j) is the meeting of slave i, as datagram j - 1 left it, and datagram j, as slave i - 1 left it. `slave i j` is
@@ -19,6 +21,16 @@ RingIsGrid =
     (ss : List SlaveState) (ds : List Datagram) (slave : ℕ → ℕ → SlaveState) (datagram : ℕ → ℕ → Datagram) → IsGrid ss ds slave datagram
     → ((i : ℕ) → i < length ss → slice_get (passes_ring ss ds).slaves i ≡ Some (slave i (length ds)))
     × ((j : ℕ) → j < length ds → slice_get (passes_ring ss ds).datagrams j ≡ Some (datagram (length ss) j))
+
+-- A whole frame past one slave after the other leaves what one datagram after the other leaves, each past all slaves before
+-- the next one comes.
+abbrev pub RingIsColumns : Type 0
+RingIsColumns =
+    (ss : List SlaveState) (ds : List Datagram)
+    → passes_ring ss ds ≡ record {
+      slaves = after_all datagram_past slaves_met ss ds;
+      datagrams = handled_all datagram_past slaves_met ss ds;
+    }
 
 -- Any slaves and datagrams have a grid. Outside its borders it may hold any slave and datagram.
 abbrev pub GridExists : Type 0

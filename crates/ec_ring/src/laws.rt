@@ -1,11 +1,17 @@
 //! Laws of the definitions of rings. Each function does nothing: its contract is the law.
 ghost use Rattle.ec_ring.specs.Addressing.{PositionMeansOne, StationMeansOne, StationPassesOthers};
-ghost use Rattle.ec_ring.specs.Grid.{GridExists, RingIsGrid, SlaveIsRow};
+ghost use Rattle.ec_ring.specs.Grid.{GridExists, RingIsColumns, RingIsGrid, SlaveIsRow};
 
 /// Slave after slave, as the ring goes, ends in the last row and the last column of the grid.
 #[tactic(auto, using(crate::proofs::GridLaws::grid_law))]
 pub fn ring_is_grid()
     ensures { RingIsGrid }
+{}
+
+/// A whole frame past one slave after the other leaves what one datagram after the other leaves, each past all slaves.
+#[tactic(auto, using(crate::proofs::Columns::columns_law))]
+pub fn ring_is_columns()
+    ensures { RingIsColumns }
 {}
 
 /// Any slaves and datagrams have a grid.

@@ -156,7 +156,7 @@ fn go_round<S: Watcher>(
     make(world, watcher, Event::Return(slot))
 }
 
-/// The same, if they are to.
+/// So many slaves make a firmware step, each in its turn, if they are to; else nothing happens.
 #[tactic(auto, using(crate::proofs::Seeing::sees_none, crate::proofs::Seeing::sees_made, crate::proofs::Seeing::sees_then))]
 fn serve_if<S: Watcher>(
     world: &mut World<'_>,

@@ -1,11 +1,10 @@
 -- What a datagram brings to a slave that is set up as usual, and takes from it, as copies.
-use Rattle.std.proofs.Common.{ℕ, ◌+◌, ◌-◌, ◌*◌, ◌<◌, ◌≤◌, ◌≡◌, Bool, true, false, Option, Some, None, is_some, unwrap_or, if◌then◌else◌, nat_lt, List, length, slice_index, refl, sym, ◌∙◌, ap, arith, inl, inr}
-use Rattle.std.proofs.lemmas.Bool.{both_ways, cases_lt, cases_Bool, lt-ltb, le-ltb}
-use Rattle.ec_bits.specs.Bits.{bit, copied, run_told, within, zeros, bytes_of_bits}
-use Rattle.ec_bits.proofs.AnyLaws.{if_true, if_false, within_true, within_above, within_parts}
+use Rattle.std.proofs.Common.{ℕ, ◌+◌, ◌-◌, ◌≤◌, ◌≡◌, Bool, true, false, if◌then◌else◌, List, length, refl, sym, ◌∙◌, arith, inl, inr}
+use Rattle.std.proofs.lemmas.Bool.{both_ways, cases_Bool}
+use Rattle.ec_bits.specs.Bits.{within}
+use Rattle.ec_bits.proofs.AnyLaws.{within_true, within_parts}
 use Rattle.ec_fmmu.specs.declared.area.MappedArea.{MappedArea}
-use Rattle.ec_fmmu.specs.Areas.{Area, IsMappedBy, area}
-use Rattle.ec_fmmu.specs.Applied.{Place}
+use Rattle.ec_fmmu.specs.Areas.{IsMappedBy, area}
 use Rattle.ec_sync.specs.SyncManager.{SyncManager}
 use Rattle.ec_slave.specs.State.{SlaveState, fmmus, with_memory}
 use Rattle.ec_slave.specs.Exchange.{IsMapped}

@@ -1,11 +1,10 @@
 -- A value of which each bit is told doesn't depend on what it held, and whether a datagram writes a manager.
-use Rattle.std.proofs.Common.{ℕ, ◌+◌, ◌-◌, ◌*◌, ◌/◌, ◌%◌, ◌<◌, ◌≡◌, ◌&&◌, ◌||◌, [], ◌∷◌, ◌++◌, take, drop, append_assoc, ap₂, Bool, true, false, Option, Some, None, is_some, is_none, unwrap_or, option_map, refl, sym, ◌∙◌, ap, subst, arith, List, length, get_or, slice_index, All, inl, inr}
-use Rattle.std.proofs.lemmas.Bool.{and_parts, and_from, false≢true, cases_lt}
-use Rattle.std.proofs.lemmas.List.{get_or_default, take_more, length-take-le, length-replicate, get_or-replicate, get_or_past}
-use Rattle.ec_bits.specs.Bits.{bit, overlay, any_below, copied, run_told, within, zeros}
-use Rattle.ec_bits.proofs.Algebra.{same_bits, overlay_keeps_bytes}
+use Rattle.std.proofs.Common.{ℕ, ◌+◌, ◌-◌, ◌*◌, ◌/◌, ◌%◌, ◌<◌, ◌≡◌, ◌&&◌, ◌||◌, [], ◌∷◌, ◌++◌, take, drop, append_assoc, ap₂, Bool, true, false, Option, Some, None, is_some, is_none, unwrap_or, option_map, refl, sym, ◌∙◌, ap, arith, List, length, get_or}
+use Rattle.std.proofs.lemmas.Bool.{and_parts, and_from}
+use Rattle.std.proofs.lemmas.List.{take_more, length-take-le, length-replicate}
+use Rattle.ec_bits.specs.Bits.{bit, any_below, copied, run_told, within, zeros}
 use Rattle.ec_bits.proofs.AnyLaws.{any_below_from, any_below_some, if_true, within_true}
-use Rattle.ec_bits.proofs.BitLaws.{bit-overlay, length-overlay, overlay_alike}
+use Rattle.ec_bits.proofs.BitLaws.{overlay_alike}
 use Rattle.ec_regs.specs.declared.fmmu.FmmuSettings.{FmmuSettings}
 use Rattle.ec_sync.specs.SyncManager.{SyncManager, may_write}
 use Rattle.ec_sync.specs.Governing.{covers, governor}

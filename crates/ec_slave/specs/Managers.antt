@@ -4,7 +4,7 @@ use Rattle.ec_bits.specs.Bits.{bit}
 use Rattle.ec_sync.specs.SyncManager.{SyncManager, may_read, may_write, shown, ring_written, ring_read}
 pub use Rattle.ec_exchange.specs.Access.{gets_at, is_read_by, is_ungoverned, is_written_by}
 use Rattle.ec_slave.specs.State.{manager_at}
-use Rattle.ec_sync.specs.Governing.{covers, governor, in_first_buffer}
+use Rattle.ec_sync.specs.Governing.{covers, in_first_buffer}
 
 -- whether a byte under this governor, or under none, is read by an access that touches these bytes
 abbrev pub reads_under : List SyncManager → (ℕ → Bool) → ℕ → Option ℕ → Bool

@@ -15,15 +15,15 @@ use ec_frame::Command;
 pub(crate) enum Role {
     /// It lets the datagram pass.
     Nothing,
-    /// The data become the memory.
+    /// The memory is copied into the data.
     Read,
-    /// The memory becomes the data.
+    /// The data are copied into the memory.
     Write,
     /// Both at once.
     ReadWrite,
     /// The memory is joined to the data by OR.
     OrRead,
-    /// The memory is joined to the data by OR, and becomes the data as they were received.
+    /// The memory is joined to the data by OR, and the data as they were received are copied into the memory.
     OrReadWrite,
 }
 

@@ -20,8 +20,8 @@ use ec_exchange::owner_of;
 use ec_fmmu::FmmuTable;
 use ec_regs::registers::{
     AL_CONTROL, AL_STATUS, AL_STATUS_CODE, FMMU_COUNT, FMMUS, FMMUS_END, MANAGER_COUNT,
-    MANAGER_SIZE, NUMBER_OF_FMMUS, NUMBER_OF_SYNC_MANAGERS, RAM_END, RAM_KIB, RAM_SIZE, RAM_START,
-    SII_CONTROL, SII_DATA, STATION_ADDRESS, SYNC_MANAGERS, SYNC_MANAGERS_END,
+    MANAGER_SIZE, NUMBER_OF_FMMUS, RAM_END, RAM_KIB, RAM_SIZE, RAM_START, SII_CONTROL, SII_DATA,
+    STATION_ADDRESS, SYNC_MANAGERS, SYNC_MANAGERS_END,
 };
 use ec_sii::{Port, SiiImage};
 use ec_sync::SyncManager;
@@ -76,7 +76,7 @@ impl Slave {
     ///
     /// # Errors
     ///
-    /// `AllocError` where there is no memory.
+    /// `AllocError` where there is no memory. The type is lost then: who needs it again copies it before.
     pub fn new(alloc: Global, kind: SlaveType, identity: Identity) -> Result<Slave, AllocError>
         ensures { IfOk result (λ s. s ≡ power_on kind identity) }
     {

@@ -59,7 +59,7 @@ impl SyncManager {
         })
     }
 
-    /// Its settings.
+    /// What its registers hold: its start address, its length, its control byte and its activate byte.
     pub fn settings(&self) -> SyncManagerSettings
         ensures { result ≡ self.now.settings }
     {

@@ -1,5 +1,5 @@
 -- The values under the keys of a table, found in one pass over its members.
-use Rattle.std.proofs.Common.{drop, ◌≡◌, ◌≢◌, ◌<◌, ◌≤◌, ◌+◌, ℕ, slice_set, get_or-set_same, get_or-set_other, Bool, true, false, ◌&&◌, not, List, [], ◌∷◌, ◌++◌, length, take, map, get_or, Option, Some, None, is_some, Ordering, Less, Equal, Greater, nat_cmp, Bor, codes, refl, ap, sym, ◌∙◌, subst, arith}
+use Rattle.std.proofs.Common.{drop, ◌≡◌, ◌≢◌, ◌<◌, ◌≤◌, ◌+◌, ℕ, zero, suc, slice_set, get_or-set_same, get_or-set_other, Bool, true, false, ◌&&◌, not, List, [], ◌∷◌, ◌++◌, length, take, map, get_or, Option, Some, None, is_some, Ordering, Less, Equal, Greater, nat_cmp, Bor, codes, refl, ap, sym, ◌∙◌, subst, arith}
 use mathlib.Core.Bool.{cond}
 use Rattle.std.specs.List.{list_all, position, position_or_len}
 use Rattle.std.specs.Str.{bytes_eq}
@@ -10,7 +10,7 @@ use Rattle.std.proofs.lemmas.Slice.Eq.{bytes_eq-Decides}
 use Rattle.std.proofs.lemmas.Map.Text.{is_eq-slice_cmp}
 use Rattle.std.specs.Prelude.{nat_lt}
 use Rattle.std.proofs.lemmas.Bool.Decides.{nat_tests}
-use Rattle.std.proofs.lemmas.List.{take-map, length-map, drop_more}
+use Rattle.std.proofs.lemmas.List.{take-map, length-map, drop_more, get_or-map}
 use Rattle.std.proofs.lemmas.List.Sums.{passes_at_first}
 use Rattle.std.proofs.lemmas.List.Folds.{list_any-append}
 use Rattle.toml.specs.Data.{Data, Members, no_members, member, get_member}
@@ -48,6 +48,36 @@ pub place_known : (s : Shape) (v : Version) (names : List (Bor (List ℕ))) (n :
 place_known s v names n key all count =
     let some : map (λ k. k.now) (take n names) ≡ keys_of s v = sym (take-map (λ k. k.now) n names) ∙ (ap (take n) all ∙ (ap (λ m. take m (keys_of s versions.Two)) count ∙ known_of s v)) in
     sym (place_mapped (bytes_eq key) (λ k. k.now) (take n names)) ∙ ap (position (bytes_eq key)) some
+
+-- each key of a list has its own place among others, counted from one on
+abbrev Own : List (List ℕ) → ℕ → List (List ℕ) → Type 0
+Own whole place [] = Unit {0}
+Own whole place (key ∷ keys) = (position (bytes_eq key) whole ≡ Some place) × Own whole (place + 1) keys
+
+own_from : (whole : List (List ℕ)) (place : ℕ) (keys : List (List ℕ)) (i : ℕ) → Own whole place keys → i < length keys → position (bytes_eq (get_or keys i [])) whole ≡ Some (place + i)
+own_from whole place [] i own lt = absurd (omega (arith, lt))
+own_from whole place (key ∷ keys) zero own lt = own.0 ∙ ap Some (omega arith)
+own_from whole place (key ∷ keys) (suc i) own lt = own_from whole (place + 1) keys i own.1 (omega (arith, lt)) ∙ ap Some (omega arith)
+
+own_keys : (s : Shape) (v : Version) → Own (keys_of s v) 0 (keys_of s v)
+own_keys shape.Document v = (refl, (refl, (refl, (refl, (refl, tt)))))
+own_keys shape.Type v = (refl, (refl, (refl, (refl, (refl, (refl, (refl, (refl, (refl, (refl, tt))))))))))
+own_keys shape.Pdo v = (refl, (refl, tt))
+own_keys shape.Slave versions.One = (refl, (refl, (refl, (refl, (refl, tt)))))
+own_keys shape.Slave versions.Two = (refl, (refl, (refl, (refl, (refl, (refl, tt))))))
+own_keys shape.Variable v = (refl, (refl, (refl, tt)))
+own_keys shape.Link v = (refl, (refl, (refl, (refl, (refl, tt)))))
+
+-- a key that is the one at a place has this place
+pub place_next : (s : Shape) (v : Version) (names : List (Bor (List ℕ))) (n next : ℕ) (key : List ℕ) (d : Bor (List ℕ)) → map (λ k. k.now) names ≡ keys_of s versions.Two → n ≡ length (keys_of s v)
+    → next < length (take n names) → bytes_eq key (get_or (take n names) next d).now ≡ true → Some next ≡ position (bytes_eq key) (keys_of s v)
+place_next s v names n next key d all count lt same =
+    let some : map (λ k. k.now) (take n names) ≡ keys_of s v = sym (take-map (λ k. k.now) n names) ∙ (ap (take n) all ∙ (ap (λ m. take m (keys_of s versions.Two)) count ∙ known_of s v)) in
+    let long : length (take n names) ≡ length (keys_of s v) = sym (length-map (take n names) (λ k. k.now)) ∙ ap length some in
+    let here : (get_or (take n names) next d).now ≡ get_or (keys_of s v) next [] = sym (get_or-map (λ k. k.now) (take n names) next d [] lt) ∙ ap (λ ks. get_or ks next []) some in
+    let is : key ≡ get_or (keys_of s v) next [] = (bytes_eq-Decides key (get_or (take n names) next d).now).0 same ∙ here in
+    let own = own_from (keys_of s v) 0 (keys_of s v) next (own_keys s v) (omega (arith, lt, long)) ∙ ap Some (omega arith) in
+    sym (ap (λ k. position (bytes_eq k) (keys_of s v)) is ∙ own)
 
 -- a key is known where it has a place
 pub has_key : (s : Shape) (v : Version) (key : List ℕ) → is_some (position (bytes_eq key) (keys_of s v)) ≡ is_key s v key
@@ -124,13 +154,13 @@ not_there test name unknown (member key d ms) each =
     other test name unknown key d (get_member name ms) two.0 (not_there test name unknown ms two.1) (slice_cmp nat_cmp name key) (bytes_eq name key) (is_eq-slice_cmp name key) refl
 
 under_known : (s : Shape) (v : Version) (found : List (Option (Bor Value))) (ms : Members) → Found found (keys_of s v) ms → AreUnder found 0 (keys_of s v) ms
-under_known shape.Document v found ms h = (h (codes "version") 0 refl, (h (codes "type") 1 refl, (h (codes "slave") 2 refl, (h (codes "variable") 3 refl, (h (codes "link") 4 refl, tt)))))
-under_known shape.Type v found ms h = (h (codes "name") 0 refl, (h (codes "vendor") 1 refl, (h (codes "product") 2 refl, (h (codes "revision") 3 refl, (h (codes "out_start") 4 refl, (h (codes "in_start") 5 refl, (h (codes "mailbox") 6 refl, (h (codes "rxpdo") 7 refl, (h (codes "txpdo") 8 refl, (h (codes "lrw") 9 refl, tt))))))))))
-under_known shape.Pdo v found ms h = (h (codes "index") 0 refl, (h (codes "entries") 1 refl, tt))
-under_known shape.Slave versions.One found ms h = (h (codes "name") 0 refl, (h (codes "type") 1 refl, (h (codes "out") 2 refl, (h (codes "in") 3 refl, (h (codes "serial") 4 refl, tt)))))
-under_known shape.Slave versions.Two found ms h = (h (codes "name") 0 refl, (h (codes "type") 1 refl, (h (codes "out") 2 refl, (h (codes "in") 3 refl, (h (codes "serial") 4 refl, (h (codes "unit") 5 refl, tt))))))
-under_known shape.Variable v found ms h = (h (codes "name") 0 refl, (h (codes "dir") 1 refl, (h (codes "bits") 2 refl, tt)))
-under_known shape.Link v found ms h = (h (codes "var") 0 refl, (h (codes "slave") 1 refl, (h (codes "index") 2 refl, (h (codes "sub") 3 refl, (h (codes "bits") 4 refl, tt)))))
+under_known shape.Document v found ms h = (h (codes "link") 0 refl, (h (codes "slave") 1 refl, (h (codes "type") 2 refl, (h (codes "variable") 3 refl, (h (codes "version") 4 refl, tt)))))
+under_known shape.Type v found ms h = (h (codes "in_start") 0 refl, (h (codes "name") 1 refl, (h (codes "out_start") 2 refl, (h (codes "product") 3 refl, (h (codes "revision") 4 refl, (h (codes "vendor") 5 refl, (h (codes "lrw") 6 refl, (h (codes "mailbox") 7 refl, (h (codes "rxpdo") 8 refl, (h (codes "txpdo") 9 refl, tt))))))))))
+under_known shape.Pdo v found ms h = (h (codes "entries") 0 refl, (h (codes "index") 1 refl, tt))
+under_known shape.Slave versions.One found ms h = (h (codes "name") 0 refl, (h (codes "type") 1 refl, (h (codes "in") 2 refl, (h (codes "out") 3 refl, (h (codes "serial") 4 refl, tt)))))
+under_known shape.Slave versions.Two found ms h = (h (codes "name") 0 refl, (h (codes "type") 1 refl, (h (codes "in") 2 refl, (h (codes "out") 3 refl, (h (codes "serial") 4 refl, (h (codes "unit") 5 refl, tt))))))
+under_known shape.Variable v found ms h = (h (codes "bits") 0 refl, (h (codes "dir") 1 refl, (h (codes "name") 2 refl, tt)))
+under_known shape.Link v found ms h = (h (codes "index") 0 refl, (h (codes "slave") 1 refl, (h (codes "sub") 2 refl, (h (codes "var") 3 refl, (h (codes "bits") 4 refl, tt)))))
 
 -- a key that is not known in the version has no value, as nothing was found of it
 pub under_all : (s : Shape) (v : Version) (found : List (Option (Bor Value))) (ms : Members) → Found found (keys_of s v) ms → ((i : ℕ) → length (keys_of s v) ≤ i → get_or found i None ≡ None) → each_key (is_key s v) ms ≡ true → AreUnder found 0 (keys_of s versions.Two) ms

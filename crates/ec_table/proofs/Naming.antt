@@ -1,5 +1,5 @@
 -- A name's place, and one more name.
-use Rattle.std.proofs.Common.{◌≡◌, ℕ, ◌+◌, ◌≤◌, Bool, true, false, ◌||◌, ◌==◌, not, List, [], ◌∷◌, ◌++◌, length, Option, Some, None, is_some, refl, sym, ◌∙◌, subst, arith, length-append}
+use Rattle.std.proofs.Common.{◌≡◌, ℕ, ◌+◌, ◌<◌, ◌≤◌, Bool, true, false, ◌||◌, ◌==◌, not, List, [], ◌∷◌, ◌++◌, length, get_or, Option, Some, None, is_some, ap, refl, sym, ◌∙◌, subst, arith, length-append}
 use Rattle.std.specs.Prelude.{nat_lt}
 use mathlib.Core.Bool.{cond}
 use Rattle.std.specs.List.{list_any, position, position_or_len}
@@ -8,7 +8,10 @@ use Rattle.std.proofs.lemmas.Bool.Decides.{nat_tests}
 use Rattle.std.proofs.lemmas.Slice.Eq.{bytes_eq-Decides}
 use Rattle.std.proofs.lemmas.List.Sums.{prefix_len-le-length}
 use Rattle.std.proofs.lemmas.List.Folds.{position_or_len_push}
+use Rattle.std.proofs.lemmas.List.{get_or_append_left}
+use Rattle.std.proofs.Math.Seq.{get_or-append_seam}
 use Rattle.ec_table.specs.Names.{is_named, place_named}
+use Rattle.ec_table.specs.Unique.{AreApart}
 
 -- ---- the first place at which a test passes
 
@@ -61,3 +64,30 @@ pub place_more : {X : Type 0} (name_of : X → List ℕ) (rows more : List X) (r
 place_more name_of rows more row name q before after n named fresh is count old new =
     let here : is_named name_of (name_of row) rows ≡ false = subst (λ (m : List ℕ). is_named name_of m rows ≡ false) (sym named) fresh in
     new ∙ rw (is, count, old, ← named) (sym (placed_more name_of rows row q here))
+
+-- ---- rows whose names are apart
+
+other_name : {X : Type 0} (name_of : X → List ℕ) (rows : List X) (row one : X) (i : ℕ) (b : Bool) → is_named name_of (name_of row) rows ≡ false → place_named name_of (name_of one) rows ≡ Some i → bytes_eq (name_of row) (name_of one) ≡ b → cond b (Some (length rows)) (place_named name_of (name_of one) rows) ≡ Some i
+other_name name_of rows row one i false fresh own same = own
+other_name name_of rows row one i true fresh own same =
+    let e : name_of row ≡ name_of one = (bytes_eq-Decides (name_of row) (name_of one)).0 same in
+    let there : place_named name_of (name_of row) rows ≡ Some i = subst (λ (n : List ℕ). place_named name_of n rows ≡ Some i) (sym e) own in
+    let is : is_named name_of (name_of row) rows ≡ true = sym (named_at name_of (name_of row) rows) ∙ ap is_some there in
+    absurd (cc)
+
+own_place : {X : Type 0} (name_of : X → List ℕ) (rows : List X) (row none : X) (place : ℕ) (b : Bool) → nat_lt place (length rows) ≡ b → place < length rows + 1 → is_named name_of (name_of row) rows ≡ false → AreApart name_of rows
+    → place_named name_of (name_of (get_or (rows ++ row ∷ []) place none)) (rows ++ row ∷ []) ≡ Some place
+own_place name_of rows row none place true before lt fresh apart =
+    let inside : place < length rows = grind (arith, nat_tests) in
+    rw (get_or_append_left rows (row ∷ []) none place inside, placed_more name_of rows row (name_of (get_or rows place none)) fresh)
+    (other_name name_of rows row (get_or rows place none) place (bytes_eq (name_of row) (name_of (get_or rows place none))) fresh (apart place none inside) refl)
+own_place name_of rows row none place false before lt fresh apart =
+    let last : place ≡ length rows = grind (arith, nat_tests) in
+    rw (last, get_or-append_seam rows row [] none, placed_more name_of rows row (name_of row) fresh, (bytes_eq-Decides (name_of row) (name_of row)).1 refl) refl
+
+-- with one more row, whose name no other has, names are still apart
+pub apart_more : {X : Type 0} (name_of : X → List ℕ) (rows more : List X) (row : X) (name : List ℕ) → name_of row ≡ name → is_named name_of name rows ≡ false → more ≡ rows ++ row ∷ [] → AreApart name_of rows → AreApart name_of more
+apart_more name_of rows more row name named fresh is apart place none lt =
+    let here : is_named name_of (name_of row) rows ≡ false = subst (λ (m : List ℕ). is_named name_of m rows ≡ false) (sym named) fresh in
+    let long : length more ≡ length rows + 1 = ap length is ∙ length-append rows (row ∷ []) in
+    rw is (own_place name_of rows row none place (nat_lt place (length rows)) refl (omega (arith, lt, long)) here apart)

@@ -39,21 +39,21 @@ result_seen (Err e) = Err e
 -- the keys that a table of a shape must have
 abbrev pub required : Shape → List (List ℕ)
 required shape.Document = []
-required shape.Type = codes "name" ∷ codes "vendor" ∷ codes "product" ∷ codes "revision" ∷ codes "out_start" ∷ codes "in_start" ∷ []
-required shape.Pdo = codes "index" ∷ codes "entries" ∷ []
+required shape.Type = codes "in_start" ∷ codes "name" ∷ codes "out_start" ∷ codes "product" ∷ codes "revision" ∷ codes "vendor" ∷ []
+required shape.Pdo = codes "entries" ∷ codes "index" ∷ []
 required shape.Slave = codes "name" ∷ codes "type" ∷ []
-required shape.Variable = codes "name" ∷ codes "dir" ∷ codes "bits" ∷ []
-required shape.Link = codes "var" ∷ codes "slave" ∷ codes "index" ∷ codes "sub" ∷ []
+required shape.Variable = codes "bits" ∷ codes "dir" ∷ codes "name" ∷ []
+required shape.Link = codes "index" ∷ codes "slave" ∷ codes "sub" ∷ codes "var" ∷ []
 
 -- the keys that a slave may have besides
 abbrev pub optional_of_slave : Version → List (List ℕ)
-optional_of_slave versions.One = codes "out" ∷ codes "in" ∷ codes "serial" ∷ []
-optional_of_slave versions.Two = codes "out" ∷ codes "in" ∷ codes "serial" ∷ codes "unit" ∷ []
+optional_of_slave versions.One = codes "in" ∷ codes "out" ∷ codes "serial" ∷ []
+optional_of_slave versions.Two = codes "in" ∷ codes "out" ∷ codes "serial" ∷ codes "unit" ∷ []
 
 -- the keys that a table of a shape may have besides, in a version of the format
 abbrev pub optional : Shape → Version → List (List ℕ)
-optional shape.Document v = codes "version" ∷ codes "type" ∷ codes "slave" ∷ codes "variable" ∷ codes "link" ∷ []
-optional shape.Type v = codes "mailbox" ∷ codes "rxpdo" ∷ codes "txpdo" ∷ codes "lrw" ∷ []
+optional shape.Document v = codes "link" ∷ codes "slave" ∷ codes "type" ∷ codes "variable" ∷ codes "version" ∷ []
+optional shape.Type v = codes "lrw" ∷ codes "mailbox" ∷ codes "rxpdo" ∷ codes "txpdo" ∷ []
 optional shape.Pdo v = []
 optional shape.Slave v = optional_of_slave v
 optional shape.Variable v = []

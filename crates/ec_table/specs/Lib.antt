@@ -12,5 +12,6 @@ pub mod Objects
 pub mod Sound
 pub mod Writing
 pub mod Laws
--- Private: what one pass over the keys of an element finds.
+-- Private: what one pass over the keys of an element finds, and that rows found have names of their own.
 pub mod Values
+pub mod Unique

@@ -1,6 +1,7 @@
 //! Values of keys, with their ranges.
 ghost use Rattle.std.specs.Prelude.{◌≡◌, ◌≤◌, [], IfOk};
 ghost use Rattle.std.specs.List.{list_all};
+ghost use Rattle.std.specs.Str.{bytes_eq};
 ghost use Rattle.toml.specs.Data.{get_member};
 ghost use Rattle.toml.specs.View.{view, table_view, items_view};
 ghost use Rattle.ec_table.specs.Fields.{number_or_0, version_in, is_name_byte, is_name, number_in, name_in, is_table, are_tables, section_in, seen, result_seen, result_items};
@@ -23,6 +24,22 @@ pub fn is_name(text: &str) -> bool
     ensures { result ≡ is_name text.now }
 {
     1 <= text.len() && text.len() <= 32 && are_name_bytes(text.as_bytes())
+}
+
+/// Whether two short texts are the same. Their lengths tell most texts apart, at the price of a compare.
+pub fn are_same(one: &str, other: &str) -> bool
+    ensures { result ≡ bytes_eq one.now other.now }
+{
+    let (one, other) = (one.as_bytes(), other.as_bytes());
+    if one.len() != other.len() {
+        return false;
+    }
+    for i in 0..one.len() {
+        if one[i] != other[i] {
+            return false;
+        }
+    }
+    true
 }
 
 /// The value under a key.

@@ -8,6 +8,7 @@ ghost use Rattle.ec_table.specs.Fields.{keys_are, required, seen};
 ghost use Rattle.ec_table.specs.Values.{AreUnder, keys_of};
 ghost use Rattle.ec_table.specs.declared.rows.Version.TheVariants.{Two};
 
+use crate::fields::are_same;
 use crate::rows::Version;
 use toml::Value;
 
@@ -46,9 +47,11 @@ pub fn values_of<'a>(shape: Shape, version: Version, members: &'a toml::Table) -
     ensures values { IfSome result (λ v. AreUnder v.found 0 (keys_of shape Two) (table_view members.now)) }
 {
     let mut found = [None; MAX_KEYS];
+    let mut next = 0;
     for (key, value) in members.iter() {
-        let place = shape.place_of(version, key.as_str())?;
+        let place = shape.place_of(version, key.as_str(), next)?;
         found[place] = first(found[place], value);
+        next = place + 1;
     }
     if are_all(&found[..shape.required()]) {
         Some(Values { found })
@@ -60,29 +63,30 @@ pub fn values_of<'a>(shape: Shape, version: Version, members: &'a toml::Table) -
 /// A table has at most so many keys.
 const MAX_KEYS: usize = 10;
 
-// Of each shape first the keys that a table must have.
-static DOCUMENT_KEYS: [&str; 5] = ["version", "type", "slave", "variable", "link"];
+// Of each shape first the keys that a table must have, and then the others, both in the order in which a document's map has
+// its keys, so that most keys stand behind the one before them.
+static DOCUMENT_KEYS: [&str; 5] = ["link", "slave", "type", "variable", "version"];
 
 static TYPE_KEYS: [&str; MAX_KEYS] = [
+    "in_start",
     "name",
-    "vendor",
+    "out_start",
     "product",
     "revision",
-    "out_start",
-    "in_start",
+    "vendor",
+    "lrw",
     "mailbox",
     "rxpdo",
     "txpdo",
-    "lrw",
 ];
 
-static PDO_KEYS: [&str; 2] = ["index", "entries"];
+static PDO_KEYS: [&str; 2] = ["entries", "index"];
 
-static SLAVE_KEYS: [&str; 6] = ["name", "type", "out", "in", "serial", "unit"];
+static SLAVE_KEYS: [&str; 6] = ["name", "type", "in", "out", "serial", "unit"];
 
-static VARIABLE_KEYS: [&str; 3] = ["name", "dir", "bits"];
+static VARIABLE_KEYS: [&str; 3] = ["bits", "dir", "name"];
 
-static LINK_KEYS: [&str; 5] = ["var", "slave", "index", "sub", "bits"];
+static LINK_KEYS: [&str; 5] = ["index", "slave", "sub", "var", "bits"];
 
 impl Shape {
     /// The keys that a table may have: those that it must have, and then the others.
@@ -109,11 +113,16 @@ impl Shape {
         }
     }
 
-    /// The place of a key among those that are known in a version of the format.
-    fn place_of(self, version: Version, key: &str) -> Option<usize>
+    /// The place of a key among those that are known in a version of the format. It is tried first at `next`.
+    fn place_of(self, version: Version, key: &str, next: usize) -> Option<usize>
         ensures { result ≡ position (bytes_eq key.now) (keys_of self version) }
     {
-        place_among(&self.keys()[..self.known(version)], key)
+        let names = &self.keys()[..self.known(version)];
+        if next < names.len() && are_same(key, names[next]) {
+            Some(next)
+        } else {
+            place_among(names, key)
+        }
     }
 
     /// How many keys a table must have.
@@ -134,23 +143,7 @@ impl Shape {
 fn place_among(names: &[&str], key: &str) -> Option<usize>
     ensures { result ≡ position (λ n. bytes_eq key.now n.now) names.now }
 {
-    names.iter().position(|name| is(key, *name))
-}
-
-/// Whether a key is a name. Their lengths tell most names apart, at the price of a compare.
-fn is(key: &str, name: &str) -> bool
-    ensures { result ≡ bytes_eq key.now name.now }
-{
-    let (key, name) = (key.as_bytes(), name.as_bytes());
-    if key.len() != name.len() {
-        return false;
-    }
-    for i in 0..key.len() {
-        if key[i] != name[i] {
-            return false;
-        }
-    }
-    true
+    names.iter().position(|name| are_same(key, *name))
 }
 
 /// The first of the values that were met under a key: the one that was found, else this.

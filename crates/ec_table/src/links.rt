@@ -14,7 +14,15 @@ use ec_listed::Listed;
 use std::alloc::Global;
 use toml::Value;
 
-/// The links of the section, in order.
+/// Where a link's variable and slave are looked for first.
+#[derive(Clone, Copy)]
+struct Near {
+    variable: usize,
+    slave: usize,
+}
+
+/// The links of the section, in order. A link's variable is looked for first behind that of the link before it, its slave where
+/// that has its own.
 #[tactic(auto, using(crate::proofs::InOrder::rows_all))]
 pub fn links_of(
     alloc: Global,
@@ -27,8 +35,16 @@ pub fn links_of(
         (rows_after (link_element version slaves.now variables.now) [] 0 (items_view elements.now)) }
 {
     let mut found = Listed::new(alloc);
+    let mut near = Near {
+        variable: 0,
+        slave: 0,
+    };
     for (element, value) in elements.iter().enumerate() {
-        let row = link_element(version, slaves, variables, element, value)?;
+        let row = link_element(version, slaves, variables, element, value, near)?;
+        near = Near {
+            variable: row.variable.saturating_add(1),
+            slave: row.slave,
+        };
         found.push(row)?;
     }
     Ok(found)
@@ -40,6 +56,7 @@ fn link_element(
     variables: &NamedRows<'_, VariableRow>,
     element: usize,
     value: &Value,
+    near: Near,
 ) -> Result<LinkRow, Fault>
     ensures { result ≡ link_element version slaves.now variables.now element (view value.now) [] }
 {
@@ -48,7 +65,7 @@ fn link_element(
         element,
     };
     match value.as_table() {
-        Some(members) => link_at(version, slaves, variables, place, members),
+        Some(members) => link_at(version, slaves, variables, place, members, near),
         None => Err(Fault::BadValue(place)),
     }
 }
@@ -61,23 +78,24 @@ fn link_at(
     variables: &NamedRows<'_, VariableRow>,
     place: Place,
     members: &toml::Table,
+    near: Near,
 ) -> Result<LinkRow, Fault>
     ensures { result ≡ link_at version slaves.now variables.now place (table_view members.now) }
 {
     let Some(values) = values_of(Shape::Link, version, members) else {
         return Err(Fault::BadKey(place));
     };
-    let (variable, slave, index) = (values.at(0), values.at(1), values.at(2));
-    let (subindex, bits) = (values.at(3), values.at(4));
+    let (index, slave, subindex) = (values.at(0), values.at(1), values.at(2));
+    let (variable, bits) = (values.at(3), values.at(4));
     let variable_name = name_in(place, variable)?;
     let slave_name = name_in(place, slave)?;
     let index = number_in(place, index, 1, MAX_U16)?;
     let subindex = number_in(place, subindex, 0, MAX_U8)?;
     let bits = link_bits_in(place, bits)?;
-    let Some((at, variable)) = variables.find(variable_name) else {
+    let Some((at, variable)) = variables.find(variable_name, near.variable) else {
         return Err(Fault::UnknownName(place));
     };
-    let Some(slave) = slaves.place_of(slave_name) else {
+    let Some(slave) = slaves.place_of(slave_name, near.slave) else {
         return Err(Fault::UnknownName(place));
     };
     Ok(LinkRow {

@@ -2,16 +2,21 @@
 ghost use Rattle.std.specs.Prelude.{◌≡◌, [], ◌∷◌, ◌++◌, false, IfOk, IfSome, Some, option_map, slice_get};
 ghost use Rattle.ec_table.specs.Names.{is_named, place_named};
 
+use crate::fields::are_same;
 use ec_listed::Listed;
 use std::alloc::{AllocError, Global};
 use std::collections::HashMap;
 use std::marker::Model;
 
-/// A row with a name. Only contracts ask for it: the reader has the name as text of the document.
+/// A row with a name.
 pub trait Named: Drop {
     ghost use Rattle.std.specs.Prelude.{List, ℕ};
 
     ghost name: { Self → List ℕ };
+
+    /// The name.
+    fn text(&self) -> &str
+        ensures { result.now ≡ name self.now };
 }
 
 /// The rows of a section in order, and the place of each name, so that none is looked for row by row.
@@ -26,12 +31,13 @@ impl<'a, X: Named> Model for NamedRows<'a, X> {
     ghost use Rattle.std.specs.Str.{bytes_eq};
     ghost use Rattle.std.specs.HashMap.{get_by};
     ghost use Rattle.ec_table.specs.Names.{place_named};
+    ghost use Rattle.ec_table.specs.Unique.{AreApart};
 
     ghost Value = { List X };
 
     ghost view = { λ a. a.rows };
 
-    ghost invariant = { λ a. (q : List ℕ) → get_by (λ k. bytes_eq q k.now) a.places ≡ place_named X.name q a.rows };
+    ghost invariant = { λ a. ((q : List ℕ) → get_by (λ k. bytes_eq q k.now) a.places ≡ place_named X.name q a.rows) × AreApart X.name a.rows };
 }
 
 impl<'a, X: Named> NamedRows<'a, X> {
@@ -45,19 +51,24 @@ impl<'a, X: Named> NamedRows<'a, X> {
         }
     }
 
-    /// The place of the row with a name.
-    pub fn place_of(&self, name: &str) -> Option<usize>
+    /// The place of the row with a name. The row at `near` is asked first: whoever knows where it may stand spares the map.
+    pub fn place_of(&self, name: &str, near: usize) -> Option<usize>
         ensures { result ≡ place_named X.name name.now self.now }
     {
-        self.places.get(name).copied()
+        let rows = self.rows.as_slice();
+        if near < rows.len() && are_same(rows[near].text(), name) {
+            Some(near)
+        } else {
+            self.by_map(name)
+        }
     }
 
-    /// The row with a name, and its place.
-    pub fn find(&self, name: &str) -> Option<(usize, &X)>
+    /// The row with a name, and its place. The row at `near` is asked first.
+    pub fn find(&self, name: &str, near: usize) -> Option<(usize, &X)>
         ensures place { option_map (λ r. r.0) result ≡ place_named X.name name.now self.now }
         ensures row { IfSome result (λ r. slice_get self.now r.0 ≡ Some r.1.now) }
     {
-        let place = self.place_of(name)?;
+        let place = self.place_of(name, near)?;
         Some((place, &self.rows.as_slice()[place]))
     }
 
@@ -66,7 +77,7 @@ impl<'a, X: Named> NamedRows<'a, X> {
     pub fn has(&self, name: &str) -> bool
         ensures { result ≡ is_named X.name name.now self.now }
     {
-        self.place_of(name).is_some()
+        self.by_map(name).is_some()
     }
 
     /// The rows with one more behind them, whose name no other has.
@@ -82,6 +93,13 @@ impl<'a, X: Named> NamedRows<'a, X> {
         places.insert(name, rows.len())?;
         rows.push(row)?;
         Ok(NamedRows { rows, places })
+    }
+
+    /// The place of the row with a name, as the map has it.
+    fn by_map(&self, name: &str) -> Option<usize>
+        ensures { result ≡ place_named X.name name.now self.now }
+    {
+        self.places.get(name).copied()
     }
 
     /// The rows alone.

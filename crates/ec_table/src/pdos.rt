@@ -153,7 +153,7 @@ fn pdo_of(
     let Some(values) = values_of(Shape::Pdo, Version::Two, members) else {
         return Err(TableError::Refused(Fault::BadValue(place)));
     };
-    let (index, entries) = (values.at(0), values.at(1));
+    let (entries, index) = (values.at(0), values.at(1));
     let index = number_in(place, index, u32::from(low), u32::from(high))?;
     let entries = entries_in(alloc, place, entries)?;
     Ok(Pdo {

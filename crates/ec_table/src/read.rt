@@ -40,10 +40,10 @@ fn table_of_document(alloc: Global, document: &toml::Table) -> Result<Table, Tab
     let Some(values) = values_of(Shape::Document, version, document) else {
         return Err(TableError::Refused(Fault::BadKey(top)));
     };
-    let types = section_in(top, values.at(1))?;
-    let slaves = section_in(top, values.at(2))?;
+    let types = section_in(top, values.at(2))?;
+    let slaves = section_in(top, values.at(1))?;
     let variables = section_in(top, values.at(3))?;
-    let links = section_in(top, values.at(4))?;
+    let links = section_in(top, values.at(0))?;
     table_of_sections(alloc, version, types, slaves, variables, links)
 }
 

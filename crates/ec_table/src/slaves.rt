@@ -20,6 +20,10 @@ use toml::Value;
 
 impl Named for SlaveRow {
     ghost name = { λ s. s.name };
+
+    fn text(&self) -> &str {
+        self.name.as_str()
+    }
 }
 
 /// What a slave's element writes beside names.
@@ -90,7 +94,7 @@ fn slave_at<'a>(
         return Err(TableError::Refused(Fault::BadKey(place)));
     };
     let (name, type_name) = (values.at(0), values.at(1));
-    let (outputs, inputs) = (values.at(2), values.at(3));
+    let (inputs, outputs) = (values.at(2), values.at(3));
     let (serial, unit) = (values.at(4), values.at(5));
     let name = name_in(place, name)?;
     let type_name = name_in(place, type_name)?;
@@ -126,7 +130,7 @@ fn slave_of_type(
     ensures value { Gives result (slave_of_type types.now place name.now type_name.now written) }
     ensures name { IfOk result (λ s. s.name ≡ name.now) }
 {
-    let Some((at, slave_type)) = types.find(type_name) else {
+    let Some((at, slave_type)) = types.find(type_name, 0) else {
         return Err(TableError::Refused(Fault::UnknownName(place)));
     };
     let row = row_of(alloc, name, at, &slave_type.process, written)?;

@@ -21,6 +21,10 @@ use toml::Value;
 
 impl Named for TypeRow {
     ghost name = { λ t. t.name };
+
+    fn text(&self) -> &str {
+        self.name.as_str()
+    }
 }
 
 /// The types of the section, in order.
@@ -78,10 +82,10 @@ fn type_at<'a>(
     let Some(values) = values_of(Shape::Type, version, members) else {
         return Err(TableError::Refused(Fault::BadKey(place)));
     };
-    let (name, vendor, product) = (values.at(0), values.at(1), values.at(2));
-    let (revision, out_start, in_start) = (values.at(3), values.at(4), values.at(5));
-    let (mailbox, outputs, inputs) = (values.at(6), values.at(7), values.at(8));
-    let lrw = values.at(9);
+    let (in_start, name, out_start) = (values.at(0), values.at(1), values.at(2));
+    let (product, revision, vendor) = (values.at(3), values.at(4), values.at(5));
+    let (lrw, mailbox) = (values.at(6), values.at(7));
+    let (outputs, inputs) = (values.at(8), values.at(9));
     let name = name_in(place, name)?;
     let device = device_in(place, vendor, product, revision)?;
     let mailbox = mailbox_in(place, mailbox)?;

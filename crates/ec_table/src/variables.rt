@@ -17,6 +17,10 @@ use toml::Value;
 
 impl Named for VariableRow {
     ghost name = { λ w. w.name };
+
+    fn text(&self) -> &str {
+        self.name.as_str()
+    }
 }
 
 /// The variables of the section, in order.
@@ -74,9 +78,9 @@ fn variable_at<'a>(
     let Some(values) = values_of(Shape::Variable, version, members) else {
         return Err(TableError::Refused(Fault::BadKey(place)));
     };
-    let name = name_in(place, values.at(0))?;
+    let name = name_in(place, values.at(2))?;
     let direction = direction_in(place, values.at(1))?;
-    let bits = number_in(place, values.at(2), 1, 64)?;
+    let bits = number_in(place, values.at(0), 1, 64)?;
     if found.has(name) {
         return Err(TableError::Refused(Fault::TwiceNamed(place)));
     }

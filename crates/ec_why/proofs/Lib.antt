@@ -1,1 +1,2 @@
+-- words that are on one line
 mod OneLine

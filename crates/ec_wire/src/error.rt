@@ -27,7 +27,7 @@ impl RunError {
         }
     }
 
-    /// Its name.
+    /// The name that the program tells behind the number: of a master's refusal the one that the master gives it.
     pub fn name(self) -> &'static str
         ensures { result.now ≡ run_name self }
     {
@@ -62,7 +62,7 @@ impl SocketFault {
         43
     }
 
-    /// Its name.
+    /// The name that the program tells behind the number.
     pub fn name(self) -> &'static str
         ensures { result.now ≡ codes "Socket" }
     {

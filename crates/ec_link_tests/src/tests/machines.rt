@@ -10,7 +10,7 @@ use std::process::Abort;
 ///
 /// Links come behind the variables `o` of 64 bits of outputs and `i` of inputs, and `|` is the end of a line too. Of 65 slaves, and
 /// of a slave with over 2048 bits, a bit linked twice is told first.
-pub const MACHINES: [(&str, &str, &str); 16] = [
+pub const MACHINES: [(&str, &str, &str); 17] = [
     (
         "5 0 2048 0 true, 1 0 1136 0 true, 1 0 1 0 true",
         "",
@@ -37,6 +37,7 @@ pub const MACHINES: [(&str, &str, &str); 16] = [
          80896 1024 12 0",
     ),
     ("65 0 4 0 true", "", "22 TooManySlaves 65"),
+    ("70 0 1024 0 true", "", "22 TooManySlaves 70"),
     ("33 1 4 0 true", "", "23 TooManyParts 33"),
     (
         "65 0 4 4 true",
