@@ -1,14 +1,10 @@
 //! What is done with a master, and what must be seen of it.
 ghost use Rattle.std.specs.Prelude.{◌≡◌, IfOk};
-ghost use Rattle.ec_link.specs.Usable.{IsUsable};
 
-use ec_bringup::bring_up;
+use ec_bringup::{bring_up, slaves_of_machine};
 use ec_cycle::{CycleError, Master, Report, Taken};
-use ec_link::{ExpectedCounters, Plan, compile};
-use ec_ring::Ring;
-use ec_slave::Slave;
+use ec_link::{ExpectedCounters, Machine, Plan};
 use ec_start::{Phase, Startup};
-use ec_table::read_table;
 use std::alloc::{AllocError, Global};
 use std::process::Abort;
 use std::test::Fail;
@@ -62,28 +58,11 @@ fn bytes_of(alloc: Global, row: &str) -> Result<Vec<u8>, Fail> {
     Ok(bytes)
 }
 
-fn plan_of(alloc: Global, text: &str) -> Result<Plan, Fail>
-    ensures { IfOk result IsUsable }
-{
-    let table = read_table(alloc, text)?;
-    let plan = compile(alloc, &table)?;
-    Ok(plan)
-}
-
-/// The slaves of a plan as they are switched on.
-fn ring_of(alloc: Global, plan: &Plan) -> Result<Ring, AllocError> {
-    let mut slaves = Vec::new(alloc);
-    for settings in plan.slaves() {
-        let identity = settings.kind.device().identity(0);
-        slaves.push(Slave::new(alloc, settings.kind.copied(alloc)?, identity)?)?;
-    }
-    Ok(Ring::new(slaves))
-}
-
-/// A start-up of a plan over its slaves, whose first frame has this number; it has ended.
+/// A start-up of a plan over the slaves of its machine, whose first frame has this number; it has ended.
 #[tactic(auto, unfolding(ec_start::specs::Running::begun))]
 fn ended_startup<'p>(
     rt: &(impl AllocGlobal + Abort),
+    machine: &Machine,
     plan: &'p Plan,
     number: u64,
 ) -> Result<Startup<'p>, Fail>
@@ -91,14 +70,19 @@ fn ended_startup<'p>(
 {
     assert!(rt; Startup::can_start(plan));
     let mut startup = Startup::new(plan, number);
-    let mut ring = ring_of(rt.alloc(), plan)?;
+    let mut ring = slaves_of_machine(rt.alloc(), machine)?;
     bring_up(&mut startup, &mut ring);
     Ok(startup)
 }
 
 /// The number of the first frame of a start-up whose next number is this when it has ended.
-fn first_number(rt: &(impl AllocGlobal + Abort), plan: &Plan, number: u64) -> Result<u64, Fail> {
-    let frames = ended_startup(rt, plan, 0)?.next_number();
+fn first_number(
+    rt: &(impl AllocGlobal + Abort),
+    machine: &Machine,
+    plan: &Plan,
+    number: u64,
+) -> Result<u64, Fail> {
+    let frames = ended_startup(rt, machine, plan, 0)?.next_number();
     Ok(
         number
             .checked_sub(frames)
@@ -109,12 +93,13 @@ fn first_number(rt: &(impl AllocGlobal + Abort), plan: &Plan, number: u64) -> Re
 /// The master becomes ready by a start-up of its plan whose next number is this.
 fn make_ready(
     rt: &(impl AllocGlobal + Abort),
+    machine: &Machine,
     master: &mut Master,
     number: u64,
 ) -> Result<(), Fail> {
     let plan = master.plan();
-    let first = first_number(rt, plan, number)?;
-    let startup = ended_startup(rt, plan, first)?;
+    let first = first_number(rt, machine, plan, number)?;
+    let startup = ended_startup(rt, machine, plan, first)?;
     assert_eq!(rt; startup.phase(), Phase::Ready);
     assert_eq!(rt; startup.next_number(), number);
     master.ready(&startup);
@@ -181,11 +166,12 @@ fn assert_taken(
 /// What is done with start-ups and cycles.
 fn take_cycle(
     rt: &(impl AllocGlobal + Abort),
+    machine: &Machine,
     master: &mut Master,
     step: Step,
 ) -> Result<(), Fail> {
     match step {
-        Step::Ready(number) => make_ready(rt, master, number)?,
+        Step::Ready(number) => make_ready(rt, machine, master, number)?,
         Step::Begins => assert_eq!(rt; master.begin(), Ok(())),
         Step::Refused(error) => assert_eq!(rt; master.begin(), Err(error)),
         Step::Sends(part, row) => assert_frame(rt, master, part, &bytes_of(rt.alloc(), row)?),
@@ -203,30 +189,33 @@ fn take_cycle(
 /// Takes all steps, in their order.
 fn take_all(
     rt: &(impl AllocGlobal + Abort),
+    machine: &Machine,
     master: &mut Master,
     steps: &[Step],
 ) -> Result<(), Fail> {
     for step in steps {
         take_call(rt, master, *step);
-        take_cycle(rt, master, *step)?;
+        take_cycle(rt, machine, master, *step)?;
     }
     Ok(())
 }
 
-/// Takes all steps with a new master of a plan.
-fn expect_steps_of(rt: &(impl AllocGlobal + Abort), plan: &Plan, steps: &[Step]) -> Result<(), Fail>
-    requires { IsUsable plan.now }
-{
-    let mut master = Master::new(rt.alloc(), plan)?;
-    take_all(rt, &mut master, steps)
+/// Takes all steps with a new master of a machine.
+fn expect_steps_of(
+    rt: &(impl AllocGlobal + Abort),
+    machine: &Machine,
+    steps: &[Step],
+) -> Result<(), Fail> {
+    let mut master = Master::new(rt.alloc(), machine.plan())?;
+    take_all(rt, machine, &mut master, steps)
 }
 
-/// Takes all steps with a new master of a table's plan.
+/// Takes all steps with a new master of a table's machine.
 pub fn expect_steps(
     rt: &(impl AllocGlobal + Abort),
     table: &str,
     steps: &[Step],
 ) -> Result<(), Fail> {
-    let plan = plan_of(rt.alloc(), table)?;
-    expect_steps_of(rt, &plan, steps)
+    let machine = Machine::read(rt.alloc(), table)?;
+    expect_steps_of(rt, &machine, steps)
 }

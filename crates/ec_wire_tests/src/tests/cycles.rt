@@ -1,11 +1,12 @@
 //! Cycles over memory, of which each call is a fault in turn.
 ghost use Rattle.std.specs.Prelude.{◌≡◌};
+ghost use Rattle.ec_link.specs.Plan.{plan_of};
 
 use crate::tests::fakes::Fake;
 use crate::tests::machines::{assert_same, brought_up, full_table, set, value_of, wire_to};
 use crate::tests::trials::{expect_of_table, expect_of_three};
 use ec_cycle::{CycleError, Master};
-use ec_link::Plan;
+use ec_link::Machine;
 use ec_ring::Ring;
 use ec_wire::{MemoryWire, RunError, Wire, run_cycle};
 use std::process::Abort;
@@ -103,17 +104,17 @@ fn expect_each_fault(
     }
 }
 
-/// Brings the slaves of a plan up, and runs a cycle with a fault at each of its calls in turn.
+/// Brings the slaves of a machine up, and runs a cycle with a fault at each of its calls in turn.
 pub fn expect_faults(
     rt: &(impl AllocGlobal + Abort),
-    plan: &Plan,
+    machine: &Machine,
     master: &mut Master<'_>,
     mirror: Mirror,
     parts: u16,
 )
-    requires { master.old.plan ≡ plan.now }
+    requires { master.old.plan ≡ plan_of machine.now }
 {
-    let ring = brought_up(rt, plan, master, 0);
+    let ring = brought_up(rt, machine, master, 0);
     expect_each_fault(rt, master, ring, mirror, parts);
 }
 
@@ -148,10 +149,10 @@ pub fn expect_refusal(rt: &impl Abort, master: &mut Master<'_>) {
 }
 
 /// At its last value the count of faults can't rise, and each call is a fault.
-pub fn expect_spent(rt: &(impl AllocGlobal + Abort), plan: &Plan, master: &mut Master<'_>)
-    requires { master.old.plan ≡ plan.now }
+pub fn expect_spent(rt: &(impl AllocGlobal + Abort), machine: &Machine, master: &mut Master<'_>)
+    requires { master.old.plan ≡ plan_of machine.now }
 {
-    brought_up(rt, plan, master, 0);
+    brought_up(rt, machine, master, 0);
     expect_error(rt, master, (RunError::Wire, 37, "Wire"));
 }
 

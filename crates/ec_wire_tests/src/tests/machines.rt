@@ -1,14 +1,13 @@
-//! Machines to run: their tables, plans, slaves and start-ups. What calls of libraries promise is told by no clause here that
-//! isn't asked for, so those who call these functions carry nothing of it.
+//! Machines to run: their tables, slaves, masters and start-ups. What calls of libraries promise is told by no clause here
+//! that isn't asked for, so those who call these functions carry nothing of it.
 ghost use Rattle.std.specs.Prelude.{◌≡◌};
-ghost use Rattle.ec_link.specs.Usable.{IsUsable};
+ghost use Rattle.ec_link.specs.Plan.{plan_of};
 
+use ec_bringup::slaves_of_machine;
 use ec_cycle::Master;
-use ec_link::{Plan, SlavePlan, compile};
+use ec_link::{Machine, Plan};
 use ec_ring::Ring;
-use ec_slave::Slave;
 use ec_start::{Phase, Startup};
-use ec_table::{Table, read_table};
 use ec_wire::{MemoryWire, Wire, bring_up_wire};
 use std::fmt::Debug;
 use std::process::Abort;
@@ -86,46 +85,19 @@ pub fn full_table(rt: &(impl AllocGlobal + Abort)) -> String {
     text
 }
 
-fn table_of(rt: &(impl AllocGlobal + Abort), text: &str) -> Table {
-    read_table(rt.alloc(), text).expect(rt, "a table")
+/// The machine of a table.
+pub fn machine_of(rt: &(impl AllocGlobal + Abort), text: &str) -> Machine {
+    Machine::read(rt.alloc(), text).expect(rt, "a machine")
 }
 
-fn compiled(rt: &(impl AllocGlobal + Abort), table: &Table) -> Plan
-    ensures { IsUsable result }
-{
-    compile(rt.alloc(), table).expect(rt, "a plan")
-}
-
-/// The plan of a table.
-pub fn plan_of(rt: &(impl AllocGlobal + Abort), text: &str) -> Plan
-    ensures { IsUsable result }
-{
-    compiled(rt, &table_of(rt, text))
-}
-
-/// A slave as it is switched on.
-fn slave_of(rt: &(impl AllocGlobal + Abort), settings: &SlavePlan) -> Slave {
-    let identity = settings.kind.device().identity(0);
-    let kind = settings.kind.copied(rt.alloc()).expect(rt, "memory");
-    Slave::new(rt.alloc(), kind, identity).expect(rt, "memory")
-}
-
-fn push_slaves(rt: &(impl AllocGlobal + Abort), slaves: &mut Vec<Slave>, plan: &Plan) {
-    for settings in plan.slaves() {
-        slaves.push(slave_of(rt, settings)).expect(rt, "memory");
-    }
-}
-
-/// The slaves of a plan as they are switched on.
-pub fn ring_of(rt: &(impl AllocGlobal + Abort), plan: &Plan) -> Ring {
-    let mut slaves = Vec::new(rt.alloc());
-    push_slaves(rt, &mut slaves, plan);
-    Ring::new(slaves)
+/// The slaves of a machine as they are switched on.
+pub fn ring_of(rt: &(impl AllocGlobal + Abort), machine: &Machine) -> Ring {
+    slaves_of_machine(rt.alloc(), machine).expect(rt, "memory")
 }
 
 /// Three slaves as they are switched on.
 pub fn three_slaves(rt: &(impl AllocGlobal + Abort)) -> Ring {
-    ring_of(rt, &plan_of(rt, THREE_SLAVES))
+    ring_of(rt, &machine_of(rt, THREE_SLAVES))
 }
 
 /// A wire over memory, with room for so many payloads, whose call of this number is a fault.
@@ -133,23 +105,29 @@ pub fn wire_to(rt: &(impl AllocGlobal + Abort), ring: Ring, room: usize, call: u
     MemoryWire::new(rt.alloc(), ring, room, call).expect(rt, "memory")
 }
 
-/// A master of a plan.
-pub fn master_of<'p>(rt: &(impl AllocGlobal + Abort), plan: &'p Plan) -> Master<'p>
-    requires { IsUsable plan.now }
-    ensures { result.plan ≡ plan.now }
+/// A master of a machine.
+pub fn master_of<'p>(rt: &(impl AllocGlobal + Abort), machine: &'p Machine) -> Master<'p>
+    ensures { result.plan ≡ plan_of machine.now }
 {
-    Master::new(rt.alloc(), plan).expect(rt, "memory")
+    Master::new(rt.alloc(), machine.plan()).expect(rt, "memory")
 }
 
 /// A start-up of a plan whose first frame has this number.
 #[tactic(auto, unfolding(ec_start::specs::Running::begun))]
-pub fn startup_of<'p>(rt: &impl Abort, plan: &'p Plan, number: u64) -> Startup<'p>
+fn startup_of_plan<'p>(rt: &impl Abort, plan: &'p Plan, number: u64) -> Startup<'p>
     ensures { result.plan ≡ plan.now.slaves }
 {
     if !Startup::can_start(plan) {
         panic!(rt; "no start-up");
     }
     Startup::new(plan, number)
+}
+
+/// A start-up of a machine whose first frame has this number.
+pub fn startup_of<'p>(rt: &impl Abort, machine: &'p Machine, number: u64) -> Startup<'p>
+    ensures { result.plan ≡ (plan_of machine.now).slaves }
+{
+    startup_of_plan(rt, machine.plan(), number)
 }
 
 /// Brings the slaves up over a wire, and makes the master ready.
@@ -181,17 +159,17 @@ fn brought_up_over(
     wire.into_ring()
 }
 
-/// Brings the slaves of a plan up over memory by frames from this number on, and makes the master ready.
+/// Brings the slaves of a machine up over memory by frames from this number on, and makes the master ready.
 pub fn brought_up(
     rt: &(impl AllocGlobal + Abort),
-    plan: &Plan,
+    machine: &Machine,
     master: &mut Master<'_>,
     number: u64,
 ) -> Ring
-    requires { master.old.plan ≡ plan.now }
+    requires { master.old.plan ≡ plan_of machine.now }
 {
-    let mut startup = startup_of(rt, plan, number);
-    let wire = wire_to(rt, ring_of(rt, plan), 3000, u64::MAX);
+    let mut startup = startup_of(rt, machine, number);
+    let wire = wire_to(rt, ring_of(rt, machine), 3000, u64::MAX);
     brought_up_over(rt, &mut startup, wire, master)
 }
 

@@ -1,10 +1,11 @@
 //! The frame of a cycle past three slaves in OP, byte for byte.
 ghost use Rattle.std.specs.Prelude.{◌≡◌};
+ghost use Rattle.ec_link.specs.Plan.{plan_of};
 
 use crate::tests::machines::{assert_same, brought_up, set, value_of};
 use crate::tests::trials::expect_of_three;
 use ec_cycle::{Master, Taken};
-use ec_link::Plan;
+use ec_link::Machine;
 use ec_ring::Ring;
 use std::process::Abort;
 
@@ -108,11 +109,11 @@ fn expect_cycle_of(rt: &(impl AllocGlobal + Abort), mut ring: Ring, master: &mut
     expect_cycle(rt, master, &mut ring);
 }
 
-/// Brings the slaves of a plan up by frames from number 25 on, and runs a cycle.
-pub fn expect_frames(rt: &(impl AllocGlobal + Abort), plan: &Plan, master: &mut Master<'_>)
-    requires { master.old.plan ≡ plan.now }
+/// Brings the slaves of a machine up by frames from number 25 on, and runs a cycle.
+pub fn expect_frames(rt: &(impl AllocGlobal + Abort), machine: &Machine, master: &mut Master<'_>)
+    requires { master.old.plan ≡ plan_of machine.now }
 {
-    expect_cycle_of(rt, brought_up(rt, plan, master, 25), master);
+    expect_cycle_of(rt, brought_up(rt, machine, master, 25), master);
 }
 
 // The master takes from the frame what the slaves' applications wrote.

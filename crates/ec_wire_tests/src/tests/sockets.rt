@@ -1,12 +1,13 @@
 //! Segments and loops over the system's sockets.
 ghost use Rattle.std.specs.Prelude.{◌≡◌};
+ghost use Rattle.ec_link.specs.Plan.{plan_of};
 
 use crate::tests::machines::{
     READ, assert_same, bring_up, receive, ring_of, send, set, startup_of, three_slaves, value_of,
 };
 use crate::tests::trials::expect_of_three;
 use ec_cycle::{Master, Report};
-use ec_link::{ExpectedCounters, Plan};
+use ec_link::{ExpectedCounters, Machine};
 use ec_ring::Ring;
 use ec_start::Startup;
 use ec_wire::{
@@ -336,10 +337,10 @@ fn seen_of_two(
     (value_of(master, 2), value_of(master, 3), wire.failures())
 }
 
-/// A wire over two sockets to the slaves of a plan.
-fn loop_to(rt: &(impl Net + AllocGlobal + Abort), plan: &Plan) -> LoopWire<Echo> {
+/// A wire over two sockets to the slaves of a machine.
+fn loop_to(rt: &(impl Net + AllocGlobal + Abort), machine: &Machine) -> LoopWire<Echo> {
     let sockets = Sockets::bind(rt).expect(rt, "sockets");
-    LoopWire::new(sockets, ring_of(rt, plan), Echo)
+    LoopWire::new(sockets, ring_of(rt, machine), Echo)
 }
 
 /// Brings the slaves up over a wire, and runs two cycles of slaves that show their outputs; slave 1 has none to show.
@@ -355,15 +356,19 @@ fn expect_two(
     assert_same(rt, &seen_of_two(rt, master, wire), &(0, 1, 0));
 }
 
-/// The same over a new loop to the slaves of a plan.
-pub fn expect_loop(rt: &(impl Net + AllocGlobal + Abort), plan: &Plan, master: &mut Master<'_>)
-    requires { master.old.plan ≡ plan.now }
+/// The same over a new loop to the slaves of a machine.
+pub fn expect_loop(
+    rt: &(impl Net + AllocGlobal + Abort),
+    machine: &Machine,
+    master: &mut Master<'_>,
+)
+    requires { master.old.plan ≡ plan_of machine.now }
 {
     expect_two(
         rt,
-        &mut startup_of(rt, plan, 0),
+        &mut startup_of(rt, machine, 0),
         master,
-        &mut loop_to(rt, plan),
+        &mut loop_to(rt, machine),
     );
 }
 

@@ -2,7 +2,7 @@
 use crate::tests::fakes::Fake;
 use crate::tests::machines::{assert_same, ring_of, startup_of, wire_to};
 use crate::tests::trials::expect_of_three;
-use ec_link::Plan;
+use ec_link::Machine;
 use ec_start::{StartError, Startup};
 use ec_wire::{MemoryWire, Wire, bring_up_wire};
 use std::process::Abort;
@@ -32,23 +32,23 @@ fn expect_ended(rt: &impl Abort, startup: &mut Startup<'_>, wire: &mut MemoryWir
     assert_same(rt, &(row.0, run(startup, wire)), row);
 }
 
-fn expect_ended_of(rt: &(impl AllocGlobal + Abort), plan: &Plan, row: &Row) {
-    let mut startup = startup_of(rt, plan, 0);
-    let mut wire = wire_to(rt, ring_of(rt, plan), 75, row.0);
+fn expect_ended_of(rt: &(impl AllocGlobal + Abort), machine: &Machine, row: &Row) {
+    let mut startup = startup_of(rt, machine, 0);
+    let mut wire = wire_to(rt, ring_of(rt, machine), 75, row.0);
     expect_ended(rt, &mut startup, &mut wire, row);
 }
 
-fn expect_rows(rt: &(impl AllocGlobal + Abort), plan: &Plan, rows: &[Row]) {
+fn expect_rows(rt: &(impl AllocGlobal + Abort), machine: &Machine, rows: &[Row]) {
     for row in rows {
-        expect_ended_of(rt, plan, row);
+        expect_ended_of(rt, machine, row);
     }
 }
 
-/// Start-ups of a plan over memory, each with a fault or none.
-pub fn expect_all_ended(rt: &(impl AllocGlobal + Abort), plan: &Plan) {
+/// Start-ups of a machine over memory, each with a fault or none.
+pub fn expect_all_ended(rt: &(impl AllocGlobal + Abort), machine: &Machine) {
     expect_rows(
         rt,
-        plan,
+        machine,
         &[
             (u64::MAX, ("ready", 75)),
             (150, ("ready", 75)),
@@ -72,9 +72,9 @@ fn expect_lost_over(rt: &impl Abort, startup: &mut Startup<'_>, wire: &mut Fake)
     assert_same(rt, &(wire.received(), ended), &wanted);
 }
 
-/// The same of a start-up of a plan.
-pub fn expect_lost(rt: &impl Abort, plan: &Plan) {
-    expect_lost_over(rt, &mut startup_of(rt, plan, 0), &mut Fake::strange());
+/// The same of a start-up of a machine.
+pub fn expect_lost(rt: &impl Abort, machine: &Machine) {
+    expect_lost_over(rt, &mut startup_of(rt, machine, 0), &mut Fake::strange());
 }
 
 #[test]
