@@ -4,7 +4,6 @@ ghost use Rattle.std.specs.Prelude.{◌≡◌, ◌+◌, ◌*◌, ◌<◌, ◌≤
 ghost use Rattle.std.specs.Bool.{OnTrue};
 ghost use Rattle.ec_bits.specs.Bits.{within};
 ghost use Rattle.ec_regs.specs.Memory.{ram_end};
-ghost use Rattle.ec_fmmu.specs.Applied.{Place};
 ghost use Rattle.ec_fmmu.specs.Areas.{area, IsMappedBy, Spans};
 ghost use Rattle.ec_sync.specs.Governing.{governor, governs};
 ghost use Rattle.ec_exchange.specs.Values.{IsBufferAt, LiesFree, LiesIn};

@@ -1,14 +1,12 @@
 -- What a slave finds of its process data before it exchanges them as copies: they lie in two managers' values, or in the RAM
 -- itself.
-use Rattle.std.specs.Prelude.{ℕ, ◌+◌, ◌*◌, ◌<◌, ◌≤◌, ◌≡◌, List, length, if◌then◌else◌, nat_lt, true, false, Some, None}
-use Rattle.ec_bits.specs.Bits.{bit, overlay, within, zeros, bytes_of_bits}
+use Rattle.std.specs.Prelude.{ℕ, ◌*◌, ◌≡◌, length, true, false}
+use Rattle.ec_bits.specs.Bits.{within}
 use Rattle.ec_regs.specs.Memory.{ram_end}
 use Rattle.ec_fmmu.specs.Areas.{Area}
 use Rattle.ec_fmmu.specs.Runs.{run_source, run_target}
 use Rattle.ec_fmmu.specs.Sets.{source, target, readers, writers}
-use Rattle.ec_sync.specs.SyncManager.{SyncManager}
-use Rattle.ec_sync.specs.Governing.{governor}
-use Rattle.ec_slave.specs.State.{SlaveState, fmmus, manager_at}
+use Rattle.ec_slave.specs.State.{SlaveState, fmmus}
 pub use Rattle.ec_exchange.specs.Values.{LiesFree, LiesIn}
 
 -- the FMMUs map an area of the RAM itself, and no bit of its inputs is one of its outputs
