@@ -2,7 +2,6 @@ use ec_annotate::{Links, Names, annotate_text};
 use ec_decode::{decode_text, encode_text};
 use ec_link::compile;
 use ec_table::read_table;
-use std::process::Abort;
 use std::test::Fail;
 
 /// Three slaves: 4 outputs; 4 inputs; 12 outputs and 16 inputs. In the process data they stand one behind the other, the
