@@ -1,7 +1,7 @@
 //! Which manager has a byte, and what an access of the ring, physical or logical, does to one manager, where
 //! lower-numbered ones may govern bytes of its value.
 
-ghost use Rattle.std.specs.Prelude.{◌≡◌, ◌+◌, ◌<◌, ◌≤◌, ◌&&◌, if◌then◌else◌, length, IfSome, true};
+ghost use Rattle.std.specs.Prelude.{◌≡◌, ◌+◌, ◌<◌, ◌≤◌, ◌&&◌, if◌then◌else◌, length, IfSome, None, true};
 ghost use Rattle.ec_bits.specs.Bits.{any_below};
 ghost use Rattle.ec_regs.specs.Memory.{ram_end, ram_start};
 ghost use Rattle.ec_sync.specs.SyncManager.{LiesInRam, ring_read, ring_written};
@@ -28,6 +28,7 @@ pub fn governor(managers: &[SyncManager], address: usize) -> Option<usize>
 pub fn owner_of(managers: &[SyncManager], address: usize) -> Option<usize>
     ensures within { IfSome result (λ n. n < length managers.now) }
     ensures value { ram_start ≤ address → result ≡ governor_of managers.now address }
+    ensures register { address < ram_start → result ≡ None }
 {
     if address < RAM_START {
         None
