@@ -1,5 +1,5 @@
 -- One row of a section, and the end.
-use Rattle.std.proofs.Common.{◌≡◌, ℕ, ◌+◌, ◌<◌, ◌≤◌, List, [], ◌∷◌, ◌++◌, length, get_or, drop, Result, Ok, Err, sym, ap, ◌∙◌}
+use Rattle.std.proofs.Common.{◌≡◌, ℕ, ◌+◌, ◌<◌, ◌≤◌, List, [], ◌∷◌, ◌++◌, length, get_or, drop, Result, Ok, Err, refl, sym, ap, ◌∙◌, arith, length-append}
 use Rattle.std.proofs.lemmas.List.{drop_all}
 use Rattle.toml.specs.Data.{Data}
 use Rattle.toml.specs.View.{view, items_view}
@@ -9,7 +9,8 @@ use Rattle.ec_table.specs.declared.fault.Fault.{Fault}
 use Rattle.ec_table.specs.Fields.{◌>>=◌}
 use Rattle.ec_table.specs.declared.fault.TableError.{TableError}
 use Rattle.ec_table.specs.declared.fault.TableError.TheVariants.{Memory, Refused}
-use Rattle.ec_table.specs.InOrder.{rows_after, one_more, Fails}
+use Rattle.std.specs.Result.{IsErr, IsErrAnd}
+use Rattle.ec_table.specs.InOrder.{rows_after, one_more, Fails, Gives}
 
 pub rows_at : {X : Type 0} (row : ℕ → Data → List X → Result X Fault) (found : List X) (vs : List Value) (i : ℕ) (v : Value) → i < length vs → v ≡ get_or vs i v
     → rows_after row found i (items_view (drop i vs)) ≡ (row i (view v) found >>= (λ x. rows_after row (found ++ x ∷ []) (i + 1) (items_view (drop (i + 1) vs))))
@@ -58,3 +59,34 @@ rows_stop row found vs i v whole (Refused fault) h is inv f = sym inv ∙ (rows_
 pub ruleset rows_more_all = (rows_more, rows_stop, rows_end)
 
 pub ruleset rows_all = (rows_ok, rows_fail, rows_end)
+
+-- ---- elements that are let go as they are read: what is left of them
+
+pub rows_next : {X : Type 0} (row : ℕ → Data → List X → Result X Fault) (found more : List X) (vs left : List Value) (v : Value) (x : X) → vs ≡ v ∷ left
+    → row (length found) (view v) found ≡ Ok x → more ≡ found ++ x ∷ []
+    → rows_after row more (length more) (items_view left) ≡ rows_after row found (length found) (items_view vs)
+unfolding rows_after
+rows_next row found more vs left v x is ok e = rw (is, ok, e, length-append found (x ∷ []))
+
+-- a row that fails, or memory that runs out
+pub next_fails : {X : Type 0} (row : ℕ → Data → List X → Result X Fault) (found : List X) (vs left : List Value) (v : Value) (whole : Result (List X) Fault) (e : TableError) → vs ≡ v ∷ left
+    → rows_after row found (length found) (items_view vs) ≡ whole → Fails e (row (length found) (view v) found) → Fails e whole
+unfolding rows_after
+next_fails row found vs left v whole Memory is same f = tt
+next_fails row found vs left v whole (Refused fault) is same f = sym same ∙ rw (is, f)
+
+told : {X : Type 0} (result : Result X TableError) (f : Fault) (whole : Result X Fault) → IsErr result × IsErrAnd result (λ e. e ≡ Refused f) → whole ≡ Err f → Gives result whole
+told (Ok x) f whole h is = absurd h.1
+told (Err e) f whole h is = rw h.1 is
+
+-- the fault of a row ends the reading
+pub row_told : {X : Type 0} (row : ℕ → Data → List X → Result X Fault) (found : List X) (vs left : List Value) (v : Value) (whole : Result (List X) Fault) (n : ℕ) (f : Fault) (result : Result (List X) TableError) → vs ≡ v ∷ left
+    → rows_after row found (length found) (items_view vs) ≡ whole → n ≡ length found → Err f ≡ row n (view v) found → IsErr result × IsErrAnd result (λ e. e ≡ Refused f) → Gives result whole
+row_told row found vs left v whole n f result is same count fails ends = told result f whole ends (next_fails row found vs left v whole (Refused f) is same (rw count at (sym fails)))
+
+pub none_left : {X : Type 0} (row : ℕ → Data → List X → Result X Fault) (found : List X) (n : ℕ) (vs : List Value) → length vs ≡ 0 → rows_after row found n (items_view vs) ≡ Ok found
+unfolding rows_after
+none_left row found n [] h = refl
+none_left row found n (v ∷ vs) h = absurd (omega arith)
+
+pub ruleset rows_left = (rows_next, next_fails, none_left)

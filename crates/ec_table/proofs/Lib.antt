@@ -8,6 +8,8 @@ pub mod OnePass
 pub mod KeyPlaces
 -- a name's place, and one more name
 pub mod Naming
+-- what stands under other keys once an entry is taken out of a table
+pub mod Taken
 -- one row of a section, and the end
 pub mod InOrder
 -- what a value that was read meets, along a chain of tests

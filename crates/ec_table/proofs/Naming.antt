@@ -1,15 +1,17 @@
 -- A name's place, and one more name.
-use Rattle.std.proofs.Common.{◌≡◌, ℕ, ◌+◌, ◌<◌, ◌≤◌, Bool, true, false, ◌||◌, ◌==◌, not, List, [], ◌∷◌, ◌++◌, length, get_or, Option, Some, None, is_some, ap, refl, sym, ◌∙◌, subst, arith, length-append}
-use Rattle.std.specs.Prelude.{nat_lt}
+use Rattle.std.proofs.Common.{◌≡◌, ℕ, ◌+◌, ◌<◌, ◌≤◌, Bool, true, false, ◌&&◌, ◌||◌, ◌==◌, not, List, [], ◌∷◌, ◌++◌, length, get_or, Option, Some, None, is_some, ap, refl, sym, ◌∙◌, subst, arith, length-append}
+use Rattle.std.specs.Prelude.{nat_le, nat_lt}
 use mathlib.Core.Bool.{cond}
-use Rattle.std.specs.List.{list_any, position, position_or_len}
+use Rattle.std.specs.List.{list_all, list_any, position, position_or_len}
 use Rattle.std.specs.Str.{bytes_eq}
+use Rattle.std.proofs.lemmas.Bool.{and_parts}
 use Rattle.std.proofs.lemmas.Bool.Decides.{nat_tests}
 use Rattle.std.proofs.lemmas.Slice.Eq.{bytes_eq-Decides}
 use Rattle.std.proofs.lemmas.List.Sums.{prefix_len-le-length}
 use Rattle.std.proofs.lemmas.List.Folds.{position_or_len_push}
 use Rattle.std.proofs.lemmas.List.{get_or_append_left}
 use Rattle.std.proofs.Math.Seq.{get_or-append_seam}
+use Rattle.ec_table.specs.Fields.{is_name, is_name_byte}
 use Rattle.ec_table.specs.Names.{is_named, place_named}
 use Rattle.ec_table.specs.Unique.{AreApart}
 
@@ -41,6 +43,12 @@ position_push p xs y =
     rw (position_or_len_push p xs y, count) (one_more_place (position_or_len p xs) (length xs) (p y) (prefix_len-le-length (λ x. not (p x)) xs))
 
 -- ---- names
+
+pub name_fits : (s : List ℕ) → is_name s ≡ true → length s ≤ 32
+name_fits s h =
+    let (long, _) = and_parts (nat_le 1 (length s) && nat_le (length s) 32) (list_all is_name_byte s) h in
+    let (_, fits) = and_parts (nat_le 1 (length s)) (nat_le (length s) 32) long in
+    grind (arith, nat_tests)
 
 pub named_at : {X : Type 0} (name_of : X → List ℕ) (name : List ℕ) (rows : List X) → is_some (place_named name_of name rows) ≡ is_named name_of name rows
 named_at name_of name rows = has_place (λ x. bytes_eq (name_of x) name) rows

@@ -1,10 +1,11 @@
 -- What stands under the keys of one table.
-use Rattle.std.specs.Prelude.{ℕ, ℤ, pos, Bool, true, false, ◌&&◌, ◌||◌, ◌==◌, nat_le, if◌then◌else◌, List, [], ◌∷◌, length, codes, not, Option, Some, None, option_map, option_and_then, is_some, Result, Ok, Err}
+use Rattle.std.specs.Prelude.{ℕ, ℤ, pos, Bool, true, false, ◌&&◌, ◌||◌, ◌==◌, nat_le, if◌then◌else◌, List, [], ◌∷◌, length, codes, not, Option, Some, None, option_map, option_and_then, is_some, Result, Ok, Err, Vec}
 use Rattle.std.specs.List.{list_all, list_any}
 use Rattle.std.specs.Option.{ok_or}
 use Rattle.std.specs.Char.{is_ascii_alphanumeric}
 use Rattle.std.specs.Str.{bytes_eq}
 use Rattle.std.specs.Borrow.{Bor}
+use Rattle.std.specs.declared.alloc.Global.{Global}
 use Rattle.toml.specs.Data.{Data, Members, no_members, member, no_items, item, Items, table, at, get_member, as_integer, as_str, as_bool, as_array}
 use Rattle.toml.specs.View.{view, items_view}
 use Rattle.toml.specs.declared.value.Value.{Value}
@@ -31,10 +32,6 @@ is_name s = (nat_le 1 (length s) && nat_le (length s) 32) && list_all is_name_by
 -- what a reference to a value shows
 abbrev pub seen : Option (Bor Value) → Option Data
 seen o = option_map (λ v. view v.now) o
-
-abbrev pub result_seen : {E : Type 0} → Result (Bor (List ℕ)) E → Result (List ℕ) E
-result_seen (Ok s) = Ok s.now
-result_seen (Err e) = Err e
 
 -- the keys that a table of a shape must have
 abbrev pub required : Shape → List (List ℕ)
@@ -172,3 +169,7 @@ section_in p (Some d) = do
 abbrev pub result_items : {E : Type 0} → Result (Bor (List Value)) E → Result Items E
 result_items (Ok s) = Ok (items_view s.now)
 result_items (Err e) = Err e
+
+abbrev pub result_elements : {E : Type 0} → Result (Vec Value Global) E → Result Items E
+result_elements (Ok v) = Ok (items_view v.items)
+result_elements (Err e) = Err e

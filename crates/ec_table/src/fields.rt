@@ -1,15 +1,15 @@
 //! Values of keys, with their ranges.
-ghost use Rattle.std.specs.Prelude.{◌≡◌, ◌≤◌, [], IfOk};
+ghost use Rattle.std.specs.Prelude.{◌≡◌, ◌≤◌, [], IfOk, option_map};
 ghost use Rattle.std.specs.List.{list_all};
 ghost use Rattle.std.specs.Str.{bytes_eq};
 ghost use Rattle.toml.specs.Data.{get_member};
 ghost use Rattle.toml.specs.View.{view, table_view, items_view};
-ghost use Rattle.ec_table.specs.Fields.{number_or_0, version_in, is_name_byte, is_name, number_in, name_in, is_table, are_tables, section_in, seen, result_seen, result_items};
+ghost use Rattle.ec_table.specs.Fields.{number_or_0, version_in, is_name_byte, is_name, number_in, name_in, is_table, are_tables, section_in, seen, result_elements, result_items};
 ghost use Rattle.ec_table.specs.InOrder.{Gives, rows_after};
 ghost use Rattle.ec_table.specs.Pdos.{number_row, number_list, numbers_in};
 
 use crate::fault::{Fault, Place, TableError};
-use crate::rows::Version;
+use crate::rows::{Name, Version};
 use ec_listed::Listed;
 use std::alloc::Global;
 use toml::Value;
@@ -69,9 +69,9 @@ pub fn number_in(place: Place, value: Option<&Value>, low: u32, high: u32) -> Re
 }
 
 /// A name.
-#[tactic(auto, unfolding(crate::specs::Fields::name_in))]
-pub fn name_in<'a>(place: Place, value: Option<&'a Value>) -> Result<&'a str, Fault>
-    ensures { result_seen result ≡ name_in place (seen value.entry) }
+#[tactic(auto, unfolding(crate::specs::Fields::name_in), using(crate::proofs::Naming::name_fits))]
+pub fn name_in(place: Place, value: Option<&Value>) -> Result<Name, Fault>
+    ensures { result ≡ name_in place (seen value.entry) }
 {
     let Some(value) = value else {
         return Err(Fault::BadValue(place));
@@ -80,7 +80,7 @@ pub fn name_in<'a>(place: Place, value: Option<&'a Value>) -> Result<&'a str, Fa
         return Err(Fault::BadValue(place));
     };
     if is_name(text) {
-        Ok(text)
+        Ok(Name::new(text))
     } else {
         Err(Fault::BadValue(place))
     }
@@ -142,6 +142,23 @@ pub fn section_in<'a>(place: Place, value: Option<&'a Value>) -> Result<&'a [Val
     };
     if are_tables(elements.as_slice()) {
         Ok(elements.as_slice())
+    } else {
+        Err(Fault::BadValue(place))
+    }
+}
+
+/// The elements of a section that was taken out of its document, none where it is left out.
+#[tactic(auto, unfolding(crate::specs::Fields::section_in))]
+pub fn elements_in(alloc: Global, place: Place, value: Option<Value>) -> Result<Vec<Value>, Fault>
+    ensures { result_elements result ≡ section_in place (option_map view value) }
+{
+    let elements = match value {
+        None => return Ok(Vec::new(alloc)),
+        Some(Value::Array(elements)) => elements,
+        Some(_) => return Err(Fault::BadValue(place)),
+    };
+    if are_tables(elements.as_slice()) {
+        Ok(elements)
     } else {
         Err(Fault::BadValue(place))
     }

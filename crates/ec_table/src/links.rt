@@ -21,26 +21,26 @@ struct Near {
     slave: usize,
 }
 
-/// The links of the section, in order. A link's variable is looked for first behind that of the link before it, its slave where
-/// that has its own.
-#[tactic(auto, using(crate::proofs::InOrder::rows_all))]
+/// The links of the section, in order. Each element is let go as soon as it is read, while it is near. A link's variable is looked
+/// for first behind that of the link before it, its slave where that has its own.
+#[tactic(auto, using(crate::proofs::InOrder::rows_left))]
 pub fn links_of(
     alloc: Global,
     version: Version,
-    slaves: &NamedRows<'_, SlaveRow>,
-    variables: &NamedRows<'_, VariableRow>,
-    elements: &[Value],
+    slaves: &NamedRows<SlaveRow>,
+    variables: &NamedRows<VariableRow>,
+    elements: Vec<Value>,
 ) -> Result<Listed<LinkRow>, TableError>
     ensures { Gives result
-        (rows_after (link_element version slaves.now variables.now) [] 0 (items_view elements.now)) }
+        (rows_after (link_element version slaves.now variables.now) [] 0 (items_view elements.items)) }
 {
     let mut found = Listed::new(alloc);
     let mut near = Near {
         variable: 0,
         slave: 0,
     };
-    for (element, value) in elements.iter().enumerate() {
-        let row = link_element(version, slaves, variables, element, value, near)?;
+    for value in elements {
+        let row = link_element(version, slaves, variables, found.len(), &value, near)?;
         near = Near {
             variable: row.variable.saturating_add(1),
             slave: row.slave,
@@ -52,8 +52,8 @@ pub fn links_of(
 
 fn link_element(
     version: Version,
-    slaves: &NamedRows<'_, SlaveRow>,
-    variables: &NamedRows<'_, VariableRow>,
+    slaves: &NamedRows<SlaveRow>,
+    variables: &NamedRows<VariableRow>,
     element: usize,
     value: &Value,
     near: Near,
@@ -74,8 +74,8 @@ fn link_element(
 #[tactic(auto, unfolding(crate::specs::Reading::link_at))]
 fn link_at(
     version: Version,
-    slaves: &NamedRows<'_, SlaveRow>,
-    variables: &NamedRows<'_, VariableRow>,
+    slaves: &NamedRows<SlaveRow>,
+    variables: &NamedRows<VariableRow>,
     place: Place,
     members: &toml::Table,
     near: Near,
@@ -92,10 +92,10 @@ fn link_at(
     let index = number_in(place, index, 1, MAX_U16)?;
     let subindex = number_in(place, subindex, 0, MAX_U8)?;
     let bits = link_bits_in(place, bits)?;
-    let Some((at, variable)) = variables.find(variable_name, near.variable) else {
+    let Some((at, variable)) = variables.find(&variable_name, near.variable) else {
         return Err(Fault::UnknownName(place));
     };
-    let Some(slave) = slaves.place_of(slave_name, near.slave) else {
+    let Some(slave) = slaves.place_of(&slave_name, near.slave) else {
         return Err(Fault::UnknownName(place));
     };
     Ok(LinkRow {

@@ -1,10 +1,14 @@
 //! Reading a table from its text.
-ghost use Rattle.toml.specs.View.{items_view, table_view};
+ghost use Rattle.std.specs.Prelude.{◌≡◌, List, ℕ, false, option_map};
+ghost use Rattle.std.specs.Cmp.Lexicographic.{slice_cmp};
+ghost use Rattle.std.specs.Ordering.{is_eq, nat_cmp};
+ghost use Rattle.toml.specs.Data.{get_member};
+ghost use Rattle.toml.specs.View.{items_view, table_view, view};
 ghost use Rattle.ec_table.specs.InOrder.{Gives};
 ghost use Rattle.ec_table.specs.Reading.{table_of_document, table_of_sections, table_of};
 
 use crate::fault::{Fault, Place, Section, TableError};
-use crate::fields::{member, section_in, version_in};
+use crate::fields::{elements_in, member, section_in, version_in};
 use crate::keys::{Shape, values_of};
 use crate::links::links_of;
 use crate::rows::Version;
@@ -21,30 +25,41 @@ pub fn read_table(alloc: Global, text: &str) -> Result<Table, TableError>
     ensures { Gives result (table_of text.now) }
 {
     match toml::table_from_str(alloc, text) {
-        Ok(document) => table_of_document(alloc, &document),
+        Ok(mut document) => table_of_document(alloc, &mut document),
         Err(error) if error.is_memory() => Err(TableError::Memory),
         Err(_) => Err(TableError::Refused(Fault::Toml)),
     }
 }
 
-/// The table that a document states.
+/// The table that a document states. Its variables and links are taken out, so that each is let go once it is read.
 #[tactic(auto, unfolding(crate::specs::Reading::table_of_document))]
-fn table_of_document(alloc: Global, document: &toml::Table) -> Result<Table, TableError>
-    ensures { Gives result (table_of_document (table_view document.now)) }
+fn table_of_document(alloc: Global, document: &mut toml::Table) -> Result<Table, TableError>
+    ensures { Gives result (table_of_document (table_view document.old)) }
 {
     let top = Place {
         section: Section::Top,
         element: 0,
     };
     let version = version_in(top, member(document, "version"))?;
-    let Some(values) = values_of(Shape::Document, version, document) else {
+    if values_of(Shape::Document, version, document).is_none() {
         return Err(TableError::Refused(Fault::BadKey(top)));
-    };
-    let types = section_in(top, values.at(2))?;
-    let slaves = section_in(top, values.at(1))?;
-    let variables = section_in(top, values.at(3))?;
-    let links = section_in(top, values.at(0))?;
+    }
+    let variables = take_member(document, "variable");
+    let links = take_member(document, "link");
+    let types = section_in(top, member(document, "type"))?;
+    let slaves = section_in(top, member(document, "slave"))?;
+    let variables = elements_in(alloc, top, variables)?;
+    let links = elements_in(alloc, top, links)?;
     table_of_sections(alloc, version, types, slaves, variables, links)
+}
+
+/// Takes out what stands under a key; what stands under others stays.
+fn take_member(document: &mut toml::Table, key: &str) -> Option<Value>
+    ensures value { option_map view result ≡ get_member key.now (table_view document.old) }
+    ensures others { (other : List ℕ) → is_eq (slice_cmp nat_cmp other key.now) ≡ false
+        → get_member other (table_view document.new) ≡ get_member other (table_view document.old) }
+{
+    document.remove(key)
 }
 
 /// The table that the elements of the sections state.
@@ -54,11 +69,11 @@ fn table_of_sections(
     version: Version,
     types: &[Value],
     slaves: &[Value],
-    variables: &[Value],
-    links: &[Value],
+    variables: Vec<Value>,
+    links: Vec<Value>,
 ) -> Result<Table, TableError>
     ensures { Gives result (table_of_sections version (items_view types.now)
-        (items_view slaves.now) (items_view variables.now) (items_view links.now)) }
+        (items_view slaves.now) (items_view variables.items) (items_view links.items)) }
 {
     let types = types_of(alloc, version, types)?;
     let slaves = slaves_of(alloc, version, &types, slaves)?;

@@ -1,34 +1,42 @@
 //! The rows of a table.
-ghost use Rattle.std.specs.Prelude.{◌≡◌, IfOk, string_bytes};
+ghost use Rattle.std.specs.Prelude.{◌≡◌, ◌≤◌, length};
 ghost use Rattle.ec_table.specs.Contents.{pdos_toward, assigned_toward};
 
+use arrayvec::ArrayString;
 use ec_device::{Device, Mailbox, Pdo};
 use ec_listed::Listed;
-use std::alloc::{AllocError, Global};
 use std::marker::Model;
 
 /// A name: in a table that was read 1 to 32 ASCII letters, digits and `_`.
 #[derive(Debug, Drop)]
 pub struct Name {
-    text: String,
+    text: ArrayString<32>,
 }
 
 impl Model for Name {
-    ghost use Rattle.std.specs.Prelude.{List, ℕ, string_bytes};
+    ghost use Rattle.std.specs.Prelude.{List, ℕ};
 
     ghost Value = { List ℕ };
 
-    ghost view = { λ a. string_bytes a.text };
+    ghost view = { λ a. a.text.bytes };
 }
 
 impl Name {
     /// A copy of a text as a name; the caller has tested it.
-    pub(crate) fn new(alloc: Global, text: &str) -> Result<Name, AllocError>
-        ensures { IfOk result (λ n. n ≡ text.now) }
+    pub(crate) fn new(text: &str) -> Name
+        requires { length text.now ≤ 32 }
+        ensures { result ≡ text.now }
     {
-        Ok(Name {
-            text: String::from_str(alloc, text)?,
-        })
+        Name {
+            text: ArrayString::from(text).unwrap(),
+        }
+    }
+
+    /// The text as a key of a map.
+    pub(crate) fn key(&self) -> ArrayString<32>
+        ensures { result.bytes ≡ self.now }
+    {
+        ArrayString::from(self.text.as_str()).unwrap()
     }
 
     /// The name as text.

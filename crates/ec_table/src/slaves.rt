@@ -2,7 +2,7 @@
 ghost use Rattle.std.specs.Prelude.{◌≡◌, ◌||◌, [], false, Err, IfErr, IfOk, Ok, OnOk, unwrap_or};
 ghost use Rattle.toml.specs.View.{view, table_view, items_view};
 ghost use Rattle.ec_table.specs.Pdos.{has_twice, indices_of};
-ghost use Rattle.ec_table.specs.InOrder.{Gives, GivesNamed, rows_after};
+ghost use Rattle.ec_table.specs.InOrder.{Gives, rows_after};
 ghost use Rattle.ec_table.specs.Names.{is_named};
 ghost use Rattle.ec_table.specs.declared.rows.SlaveRow.{SlaveRow};
 ghost use Rattle.ec_table.specs.Reading.{all_in, assigned_in, same_list, slave_at, slave_element, slave_of_type};
@@ -21,8 +21,8 @@ use toml::Value;
 impl Named for SlaveRow {
     ghost name = { λ s. s.name };
 
-    fn text(&self) -> &str {
-        self.name.as_str()
+    fn own_name(&self) -> &Name {
+        &self.name
     }
 }
 
@@ -37,34 +37,33 @@ pub struct Written {
 
 /// The slaves of the section, in order.
 #[tactic(auto, using(crate::proofs::InOrder::rows_all))]
-pub fn slaves_of<'a>(
+pub fn slaves_of(
     alloc: Global,
     version: Version,
-    types: &NamedRows<'_, TypeRow>,
-    elements: &'a [Value],
-) -> Result<NamedRows<'a, SlaveRow>, TableError>
+    types: &NamedRows<TypeRow>,
+    elements: &[Value],
+) -> Result<NamedRows<SlaveRow>, TableError>
     ensures { Gives result (rows_after (slave_element version types.now) [] 0 (items_view elements.now)) }
 {
     let mut found = NamedRows::new(alloc);
     for (element, value) in elements.iter().enumerate() {
-        let (name, row) = slave_element(alloc, version, types, element, value, &found)?;
-        found = found.with(name, row)?;
+        let row = slave_element(alloc, version, types, element, value, &found)?;
+        found = found.with(row)?;
     }
     Ok(found)
 }
 
-/// The slave that an element of the section states, beside its name, which no slave found has.
-fn slave_element<'a>(
+/// The slave that an element of the section states, whose name no slave found has.
+fn slave_element(
     alloc: Global,
     version: Version,
-    types: &NamedRows<'_, TypeRow>,
+    types: &NamedRows<TypeRow>,
     element: usize,
-    value: &'a Value,
-    found: &NamedRows<'_, SlaveRow>,
-) -> Result<(&'a str, SlaveRow), TableError>
-    ensures value { GivesNamed result (slave_element version types.now element (view value.now) found.now) }
-    ensures name { IfOk result (λ r. r.1.name ≡ r.0.now) }
-    ensures fresh { IfOk result (λ r. is_named (λ (s : SlaveRow). s.name) r.0.now found.now ≡ false) }
+    value: &Value,
+    found: &NamedRows<SlaveRow>,
+) -> Result<SlaveRow, TableError>
+    ensures value { Gives result (slave_element version types.now element (view value.now) found.now) }
+    ensures fresh { IfOk result (λ s. is_named (λ (s : SlaveRow). s.name) s.name found.now ≡ false) }
 {
     let place = Place {
         section: Section::Slave,
@@ -78,17 +77,16 @@ fn slave_element<'a>(
 
 /// The same of an element's members.
 #[tactic(auto, unfolding(crate::specs::Reading::slave_at, crate::specs::Reading::slave_named))]
-fn slave_at<'a>(
+fn slave_at(
     alloc: Global,
     version: Version,
-    types: &NamedRows<'_, TypeRow>,
+    types: &NamedRows<TypeRow>,
     place: Place,
-    members: &'a toml::Table,
-    found: &NamedRows<'_, SlaveRow>,
-) -> Result<(&'a str, SlaveRow), TableError>
-    ensures value { GivesNamed result (slave_at version types.now place (table_view members.now) found.now) }
-    ensures name { IfOk result (λ r. r.1.name ≡ r.0.now) }
-    ensures fresh { IfOk result (λ r. is_named (λ (s : SlaveRow). s.name) r.0.now found.now ≡ false) }
+    members: &toml::Table,
+    found: &NamedRows<SlaveRow>,
+) -> Result<SlaveRow, TableError>
+    ensures value { Gives result (slave_at version types.now place (table_view members.now) found.now) }
+    ensures fresh { IfOk result (λ s. is_named (λ (s : SlaveRow). s.name) s.name found.now ≡ false) }
 {
     let Some(values) = values_of(Shape::Slave, version, members) else {
         return Err(TableError::Refused(Fault::BadKey(place)));
@@ -104,7 +102,7 @@ fn slave_at<'a>(
     let inputs = numbers_in(alloc, place, inputs, first, last)?;
     let serial = number_or_0(place, serial, u32::MAX)?;
     let unit = number_or_0(place, unit, 63)?;
-    if is_twice(found.has(name), &outputs, &inputs) {
+    if is_twice(found.has(&name), &outputs, &inputs) {
         return Err(TableError::Refused(Fault::TwiceNamed(place)));
     }
     let written = Written {
@@ -113,22 +111,21 @@ fn slave_at<'a>(
         serial,
         unit: unit as u8,
     };
-    let row = slave_of_type(alloc, types, place, name, type_name, written)?;
-    Ok((name, row))
+    slave_of_type(alloc, types, place, name, &type_name, written)
 }
 
 /// The slave of this name and type, with what its element writes.
 #[tactic(auto, unfolding(crate::specs::Reading::slave_of_type))]
 fn slave_of_type(
     alloc: Global,
-    types: &NamedRows<'_, TypeRow>,
+    types: &NamedRows<TypeRow>,
     place: Place,
-    name: &str,
-    type_name: &str,
+    name: Name,
+    type_name: &Name,
     written: Written,
 ) -> Result<SlaveRow, TableError>
-    ensures value { Gives result (slave_of_type types.now place name.now type_name.now written) }
-    ensures name { IfOk result (λ s. s.name ≡ name.now) }
+    ensures value { Gives result (slave_of_type types.now place name type_name.now written) }
+    ensures name { IfOk result (λ s. s.name ≡ name) }
 {
     let Some((at, slave_type)) = types.find(type_name, 0) else {
         return Err(TableError::Refused(Fault::UnknownName(place)));
@@ -141,13 +138,13 @@ fn slave_of_type(
 /// A slave's row: of objects that aren't written, all of its type.
 fn row_of(
     alloc: Global,
-    name: &str,
+    name: Name,
     type_place: usize,
     process: &ProcessData,
     written: Written,
 ) -> Result<SlaveRow, AllocError>
     ensures { IfOk result (λ s. s ≡ record {
-      name = name.now;
+      name = name;
       type_place = type_place;
       outputs = unwrap_or written.outputs (indices_of process.now.outputs);
       inputs = unwrap_or written.inputs (indices_of process.now.inputs);
@@ -156,7 +153,7 @@ fn row_of(
     }) }
 {
     Ok(SlaveRow {
-        name: Name::new(alloc, name)?,
+        name,
         type_place,
         outputs: written_or_all(alloc, written.outputs, process.outputs.as_slice())?,
         inputs: written_or_all(alloc, written.inputs, process.inputs.as_slice())?,

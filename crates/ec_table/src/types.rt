@@ -2,7 +2,7 @@
 ghost use Rattle.std.specs.Prelude.{◌≡◌, ◌||◌, [], false, IfOk};
 ghost use Rattle.toml.specs.View.{view, table_view, items_view};
 ghost use Rattle.ec_table.specs.Fields.{mailbox_of, mailbox_in, seen, truth_in};
-ghost use Rattle.ec_table.specs.InOrder.{Gives, GivesNamed, rows_after};
+ghost use Rattle.ec_table.specs.InOrder.{Gives, rows_after};
 ghost use Rattle.ec_table.specs.Names.{is_named};
 ghost use Rattle.ec_table.specs.declared.rows.TypeRow.{TypeRow};
 ghost use Rattle.ec_table.specs.Reading.{device_in, process_in, process_twice, type_at, type_element};
@@ -22,39 +22,38 @@ use toml::Value;
 impl Named for TypeRow {
     ghost name = { λ t. t.name };
 
-    fn text(&self) -> &str {
-        self.name.as_str()
+    fn own_name(&self) -> &Name {
+        &self.name
     }
 }
 
 /// The types of the section, in order.
 #[tactic(auto, using(crate::proofs::InOrder::rows_all))]
-pub fn types_of<'a>(
+pub fn types_of(
     alloc: Global,
     version: Version,
-    elements: &'a [Value],
-) -> Result<NamedRows<'a, TypeRow>, TableError>
+    elements: &[Value],
+) -> Result<NamedRows<TypeRow>, TableError>
     ensures { Gives result (rows_after (type_element version) [] 0 (items_view elements.now)) }
 {
     let mut found = NamedRows::new(alloc);
     for (element, value) in elements.iter().enumerate() {
-        let (name, row) = type_element(alloc, version, element, value, &found)?;
-        found = found.with(name, row)?;
+        let row = type_element(alloc, version, element, value, &found)?;
+        found = found.with(row)?;
     }
     Ok(found)
 }
 
-/// The type that an element of the section states, beside its name, which no type found has.
-fn type_element<'a>(
+/// The type that an element of the section states, whose name no type found has.
+fn type_element(
     alloc: Global,
     version: Version,
     element: usize,
-    value: &'a Value,
-    found: &NamedRows<'_, TypeRow>,
-) -> Result<(&'a str, TypeRow), TableError>
-    ensures value { GivesNamed result (type_element version element (view value.now) found.now) }
-    ensures name { IfOk result (λ r. r.1.name ≡ r.0.now) }
-    ensures fresh { IfOk result (λ r. is_named (λ (t : TypeRow). t.name) r.0.now found.now ≡ false) }
+    value: &Value,
+    found: &NamedRows<TypeRow>,
+) -> Result<TypeRow, TableError>
+    ensures value { Gives result (type_element version element (view value.now) found.now) }
+    ensures fresh { IfOk result (λ t. is_named (λ (t : TypeRow). t.name) t.name found.now ≡ false) }
 {
     let place = Place {
         section: Section::Type,
@@ -68,16 +67,15 @@ fn type_element<'a>(
 
 /// The same of an element's members.
 #[tactic(auto, unfolding(crate::specs::Reading::type_at, crate::specs::Reading::type_named))]
-fn type_at<'a>(
+fn type_at(
     alloc: Global,
     version: Version,
     place: Place,
-    members: &'a toml::Table,
-    found: &NamedRows<'_, TypeRow>,
-) -> Result<(&'a str, TypeRow), TableError>
-    ensures value { GivesNamed result (type_at version place (table_view members.now) found.now) }
-    ensures name { IfOk result (λ r. r.1.name ≡ r.0.now) }
-    ensures fresh { IfOk result (λ r. is_named (λ (t : TypeRow). t.name) r.0.now found.now ≡ false) }
+    members: &toml::Table,
+    found: &NamedRows<TypeRow>,
+) -> Result<TypeRow, TableError>
+    ensures value { Gives result (type_at version place (table_view members.now) found.now) }
+    ensures fresh { IfOk result (λ t. is_named (λ (t : TypeRow). t.name) t.name found.now ≡ false) }
 {
     let Some(values) = values_of(Shape::Type, version, members) else {
         return Err(TableError::Refused(Fault::BadKey(place)));
@@ -91,17 +89,16 @@ fn type_at<'a>(
     let mailbox = mailbox_in(place, mailbox)?;
     let process = process_in(alloc, place, out_start, in_start, outputs, inputs)?;
     let lrw = truth_in(place, lrw)?;
-    if found.has(name) || is_twice(&process) {
+    if found.has(&name) || is_twice(&process) {
         return Err(TableError::Refused(Fault::TwiceNamed(place)));
     }
-    let row = TypeRow {
-        name: Name::new(alloc, name)?,
+    Ok(TypeRow {
+        name,
         device,
         mailbox,
         process,
         lrw,
-    };
-    Ok((name, row))
+    })
 }
 
 /// Whether some object stands twice in its direction.

@@ -1,9 +1,11 @@
-use Rattle.std.proofs.Common.{◌≡◌, [], drop}
+use Rattle.std.proofs.Common.{◌≡◌, [], length}
+use Rattle.std.specs.Vec.Iter.{into_iter_items, into_iter_len}
 use Rattle.toml.specs.View.{items_view}
 use Rattle.ec_table.specs.Reading.{link_element}
 use Rattle.ec_table.specs.InOrder.{rows_after}
 use Rattle.ec_table.proofs.links.links_of.Given as goal
 
-abbrev pub invariant-loop-element : goal.invariant-loop-element
-invariant-loop-element l =
-    rows_after (link_element l.version l.slaves l.variables) l.found l.element (items_view (drop l.element l.elements)) ≡ rows_after (link_element l.version l.slaves l.variables) [] 0 (items_view l.elements)
+abbrev pub invariant-loop-value : goal.invariant-loop-value
+invariant-loop-value l =
+    (rows_after (link_element l.version l.slaves l.variables) l.found (length l.found) (items_view (into_iter_items l.value-iterator)) ≡ rows_after (link_element l.version l.slaves l.variables) [] 0 (items_view l.fn.elements.items))
+    × (into_iter_len l.value-iterator ≡ length (into_iter_items l.value-iterator))
