@@ -18,8 +18,8 @@ pub fn copy_slice(dst: &mut [u8], at: usize, src: &[u8], start: usize, count: us
 }
 
 /// Copies the `count` bits of `src` from `from` on to the place `to` of `dst`, as [`copy_bits`]
-/// does, by whole slices and by words of eight bytes. The ends of both runs, counted in bits, fit a
-/// `usize`.
+/// does, by whole slices and by words of eight bytes; whole bytes of `dst`, the usual case, have no
+/// ends to be copied apart. The ends of both runs, counted in bits, fit a `usize`.
 ///
 /// [`copy_bits`]: crate::copy_bits
 pub fn copy_by_words(dst: &mut [u8], to: usize, src: &[u8], from: usize, count: usize)
@@ -29,6 +29,10 @@ pub fn copy_by_words(dst: &mut [u8], to: usize, src: &[u8], from: usize, count: 
     requires from_fits { from + count < 2 ^ 64 }
     ensures { dst.new ≡ copied dst.old to src.now from count }
 {
+    if to % 8 == 0 && count % 8 == 0 {
+        move_bytes(dst, to / 8, src, from, count / 8);
+        return;
+    }
     let head = ((8 - to % 8) % 8).min(count);
     let whole = (count - head) / 8;
     let done = head + 8 * whole;

@@ -22,5 +22,5 @@ returns c =
     let all : h + 8 * w + t ≡ n = omega arith in
     c.copy_part-2.ensures.bits
     ∙ (ap (λ (ys : List ℕ). copied ys (to + (h + 8 * w)) src (from + (h + 8 * w)) t)
-    (c.move_bytes.ensures ∙ ap (λ (ys : List ℕ). copied ys (8 * at) src (from + h) (8 * w)) c.copy_part.ensures.bits)
+    (c.move_bytes-2.ensures ∙ ap (λ (ys : List ℕ). copied ys (8 * at) src (from + h) (8 * w)) c.copy_part.ensures.bits)
     ∙ (copied_thrice c.args.dst.now to src from h (8 * at) (8 * w) t place ∙ ap (copied c.args.dst.now to src from) all))
