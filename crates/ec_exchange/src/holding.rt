@@ -46,8 +46,36 @@ pub fn is_plain(managers: &[SyncManager], mapped: &MappedArea) -> bool
     ensures ins { OnTrue result (LiesFree managers.now mapped.now.in_start mapped.now.ins) }
     ensures apart { OnTrue result ((q : ℕ) → within (8 * mapped.now.in_start) mapped.now.ins q ≡ true → within (8 * mapped.now.out_start) mapped.now.outs q ≡ false) }
 {
-    is_apart(mapped)
-        && is_free(managers, mapped.out_start, mapped.outs)
+    is_apart(mapped) && (is_in_gap(managers, mapped) || are_free(managers, mapped))
+}
+
+/// Whether an area that begins in the RAM ends there, and no manager governs a byte from its first to its last: which is asked
+/// first, since the managers are gone over once for it. False says nothing.
+fn is_in_gap(managers: &[SyncManager], mapped: &MappedArea) -> bool
+    requires outs { mapped.now.outs < 2 ^ 42 }
+    requires ins { mapped.now.ins < 2 ^ 42 }
+    requires out_start { mapped.now.out_start ≤ ram_end }
+    requires in_start { mapped.now.in_start ≤ ram_end }
+    ensures outs { OnTrue result (LiesFree managers.now mapped.now.out_start mapped.now.outs) }
+    ensures ins { OnTrue result (LiesFree managers.now mapped.now.in_start mapped.now.ins) }
+{
+    let out_stop = mapped.out_start + (mapped.outs + 7) / 8;
+    let in_stop = mapped.in_start + (mapped.ins + 7) / 8;
+    let first = mapped.out_start.min(mapped.in_start);
+    let last = out_stop.max(in_stop);
+    last <= RAM_END as u64 && are_clear(managers, first as usize, last as usize)
+}
+
+/// Whether the outputs and the inputs of an area that begins in the RAM lie in the RAM itself. False says nothing.
+fn are_free(managers: &[SyncManager], mapped: &MappedArea) -> bool
+    requires outs { mapped.now.outs < 2 ^ 42 }
+    requires ins { mapped.now.ins < 2 ^ 42 }
+    requires out_start { mapped.now.out_start ≤ ram_end }
+    requires in_start { mapped.now.in_start ≤ ram_end }
+    ensures outs { OnTrue result (LiesFree managers.now mapped.now.out_start mapped.now.outs) }
+    ensures ins { OnTrue result (LiesFree managers.now mapped.now.in_start mapped.now.ins) }
+{
+    is_free(managers, mapped.out_start, mapped.outs)
         && is_free(managers, mapped.in_start, mapped.ins)
 }
 

@@ -7,6 +7,7 @@
 ghost use Rattle.std.specs.Prelude.{◌≡◌, ◌+◌, ◌*◌, ◌<◌, ◌^◌, true, false, length};
 ghost use Rattle.std.specs.Bool.{OnTrue};
 ghost use Rattle.ec_bits.specs.Bits.{overlay};
+ghost use Rattle.ec_fmmu.specs.Areas.{area, IsMappedBy, Spans};
 ghost use Rattle.ec_slave.specs.State.{fmmus};
 ghost use Rattle.ec_slave.specs.LogicalLaws.{Misses};
 ghost use Rattle.ec_slave.specs.Logical.{logical_after, read_bit, some_read, some_written};
@@ -24,6 +25,7 @@ use crate::passing::MAX_DATA;
 use crate::role::Role;
 use crate::slave::Slave;
 use ec_exchange::{is_held, is_plain, spanned_area};
+use ec_fmmu::MappedArea;
 
 impl Slave {
     /// Whether no FMMU has one of so many logical bits in its range, so that a datagram over them
@@ -49,9 +51,25 @@ impl Slave {
             if is_held(&self.managers, &mapped) {
                 return self.exchange_area(&mapped, role, from, bytes);
             }
-            if is_plain(&self.managers, &mapped) {
-                return self.exchange_plain(&mapped, role, from, bytes);
-            }
+            return self.access_unheld(&mapped, role, from, bytes);
+        }
+        self.access_any_bits(role, from, bytes)
+    }
+
+    /// The same of a datagram that has a whole area, which managers don't hold as usual: where it lies in the RAM itself, that is
+    /// a copy each way, too. It is a function of its own, since few slaves are set up so.
+    #[inline(never)]
+    fn access_unheld(&mut self, mapped: &MappedArea, role: Role, from: u64, bytes: &mut [u8]) -> u16
+        requires small { from + 8 * length bytes.old < 2 ^ 64 }
+        requires few { length bytes.old < 2048 }
+        requires mapped { IsMappedBy (fmmus self.old) mapped.now }
+        requires spans { Spans (record { from = from; bits = 8 * length bytes.old }) (area mapped.now) }
+        ensures slave { self.new ≡ (mapped_met self.old role (record { from = from; bits = 8 * length bytes.old }) bytes.old).slave }
+        ensures bytes { bytes.new ≡ (mapped_met self.old role (record { from = from; bits = 8 * length bytes.old }) bytes.old).bytes }
+        ensures added { result ≡ (mapped_met self.old role (record { from = from; bits = 8 * length bytes.old }) bytes.old).added }
+    {
+        if is_plain(&self.managers, mapped) {
+            return self.exchange_plain(mapped, role, from, bytes);
         }
         self.access_any_bits(role, from, bytes)
     }

@@ -4,7 +4,7 @@ use Rattle.ec_fmmu.specs.declared.area.MappedArea.{MappedArea}
 use Rattle.ec_fmmu.specs.Areas.{IsMappedBy}
 use Rattle.ec_sync.specs.SyncManager.{SyncManager}
 use Rattle.ec_slave.specs.State.{SlaveState, fmmus, fmmus_of}
-use Rattle.ec_slave.specs.Usual.{LiesFree, LiesIn}
+use Rattle.ec_slave.specs.Usual.{LiesIn}
 use Rattle.ec_slave.proofs.Usual.{is_mapped}
 use Rattle.ec_slave.proofs.slave.Slave.access_bits.Goals as goal
 
@@ -24,26 +24,10 @@ exchange_area-requires c =
       spans = c.in-Some.ensures.spans;
     }
 
-pub exchange_plain-requires : goal.exchange_plain-requires
-exchange_plain-requires c =
-    let s : SlaveState = c.args.self.now in
-    let m : MappedArea = c.in-Some.mapped in
-    let managers = ap (λ (x : SlaveState). x.managers) c.self.view_is in
-    let same : c.deref-in-Some.result.now ≡ s.managers = c.deref-in-Some.ensures.value ∙ managers in
-    let by : IsMappedBy (fmmus s) m = subst (λ (fs : List FmmuSettings). IsMappedBy fs m) (c.self.invariant.decoded ∙ ap (λ (x : SlaveState). fmmus_of x.memory) c.self.view_is) c.in-Some.ensures.mapped in
-    record {
-      small = c.requires.small;
-      plain = record {
-        room = subst (λ (x : SlaveState). length x.memory ≡ 0x3000) c.self.view_is c.self.invariant.room;
-        four = subst (λ (ms : List SyncManager). length ms ≡ 4) managers c.self.invariant.four;
-        reads = by.reads;
-        writes = by.writes;
-        ins_free = subst (λ (ms : List SyncManager). LiesFree ms m.in_start m.ins) same c.if-is_plain.ensures.ins;
-        outs_free = subst (λ (ms : List SyncManager). LiesFree ms m.out_start m.outs) same c.if-is_plain.ensures.outs;
-        apart = c.if-is_plain.ensures.apart;
-      };
-      spans = c.in-Some.ensures.spans;
-    }
+pub access_unheld-requires : goal.access_unheld-requires
+access_unheld-requires c =
+    let decoded : c.self.inside.fmmus ≡ fmmus c.args.self.now = c.self.invariant.decoded ∙ ap (λ (x : SlaveState). fmmus_of x.memory) c.self.view_is in
+    record { small = c.requires.small; few = c.requires.few; mapped = subst (λ (fs : List FmmuSettings). IsMappedBy fs c.in-Some.mapped) decoded c.in-Some.ensures.mapped; spans = c.in-Some.ensures.spans }
 
 pub is_held-requires : goal.is_held-requires
 is_held-requires c =
@@ -51,13 +35,6 @@ is_held-requires c =
     let outs = by.small_outs in
     let ins = by.small_ins in
     record { four = ap length c.deref.ensures.value ∙ c.self.invariant.four; outs = omega (arith, outs); ins = omega (arith, ins) }
-
-pub is_plain-requires : goal.is_plain-requires
-is_plain-requires c =
-    let by = c.in-Some.ensures.mapped in
-    let outs = by.small_outs in
-    let ins = by.small_ins in
-    record { outs = omega (arith, outs); ins = omega (arith, ins) }
 
 pub returns-then-is_held-clause-slave : goal.returns-then-is_held-clause-slave
 returns-then-is_held-clause-slave c = c.exchange_area.ensures.slave
@@ -68,14 +45,14 @@ returns-then-is_held-clause-bytes c = c.exchange_area.ensures.bytes
 pub returns-then-is_held-clause-added : goal.returns-then-is_held-clause-added
 returns-then-is_held-clause-added c = c.exchange_area.ensures.added
 
-pub returns-then-is_plain-clause-slave : goal.returns-then-is_plain-clause-slave
-returns-then-is_plain-clause-slave c = c.exchange_plain.ensures.slave
+pub returns-in-Some-clause-slave : goal.returns-in-Some-clause-slave
+returns-in-Some-clause-slave c = c.access_unheld.ensures.slave
 
-pub returns-then-is_plain-clause-bytes : goal.returns-then-is_plain-clause-bytes
-returns-then-is_plain-clause-bytes c = c.exchange_plain.ensures.bytes
+pub returns-in-Some-clause-bytes : goal.returns-in-Some-clause-bytes
+returns-in-Some-clause-bytes c = c.access_unheld.ensures.bytes
 
-pub returns-then-is_plain-clause-added : goal.returns-then-is_plain-clause-added
-returns-then-is_plain-clause-added c = c.exchange_plain.ensures.added
+pub returns-in-Some-clause-added : goal.returns-in-Some-clause-added
+returns-in-Some-clause-added c = c.access_unheld.ensures.added
 
 pub returns-clause-slave : goal.returns-clause-slave
 returns-clause-slave c = c.access_any_bits.ensures.slave
