@@ -1,8 +1,8 @@
 -- The actions ahead of a cursor: what the steps of the cursor do to them.
-use Rattle.std.proofs.Common.{◌≡◌, ◌≢◌, ℕ, zero, suc, ◌+◌, ◌/◌, ◌%◌, ◌<◌, ◌≤◌, ◌==◌, ◌&&◌, List, [], ◌∷◌, ◌++◌, length, drop, get_or, slice_get, Option, Some, None, Bool, true, false, not, if◌then◌else◌, nat_lt, option_map, refl, sym, ap, ◌∙◌, arith, append_assoc, append-nil}
+use Rattle.std.proofs.Common.{◌≡◌, ◌≢◌, ℕ, zero, suc, ◌+◌, ◌-◌, ◌/◌, ◌%◌, ◌<◌, ◌≤◌, ◌==◌, ◌&&◌, List, [], ◌∷◌, ◌++◌, length, drop, get_or, slice_get, Option, Some, None, Bool, true, false, not, if◌then◌else◌, nat_lt, option_map, refl, sym, ap, ◌∙◌, arith, append_assoc, append-nil}
 use Rattle.std.proofs.Common.{inl, inr}
 use Rattle.std.proofs.lemmas.Bool.{cases_Bool, ltb-false, ltb-true}
-use Rattle.std.proofs.lemmas.List.{drop_all}
+use Rattle.std.proofs.lemmas.List.{drop_all, drop_more}
 use Rattle.ec_device.specs.declared.slave_type.Mailbox.{Mailbox}
 use Rattle.ec_link.specs.declared.settings.SlavePlan.{SlavePlan}
 use Rattle.ec_start.specs.declared.action.SdoRequest.{SdoRequest}
@@ -13,7 +13,7 @@ use Rattle.ec_start.specs.declared.script.Stretch.TheVariants.{Opening, Naming, 
 use Rattle.ec_start.specs.declared.script.Cursor.{Cursor}
 use Rattle.ec_start.specs.Plans.{settings_at, fmmu_at}
 use Rattle.ec_start.specs.Scripts.{each_slave, script, requests, exchanged, talked, mapped, manager_set, fmmu_set}
-use Rattle.ec_start.specs.Ahead.{share, share_of, is_for_all, share_at, following, whole, later, beyond, ahead, behind, rank, shares_left, somes, manager_chosen, fmmu_chosen}
+use Rattle.ec_start.specs.Ahead.{share, share_of, is_for_all, share_at, following, whole, later, beyond, ahead, behind, rank, shares_left, somes, choices, manager_chosen, fmmu_chosen}
 
 not_left : (a b : Bool) → not a && b ≡ true → a ≡ false
 not_left true b e = absurd (let f : false ≡ true = e in cc)
@@ -251,9 +251,25 @@ fmmu_somes i p n xs = elim (cases_Bool (fmmu_at p.fmmus n).active) [
   | inr f ↦ rw f refl
 ]
 
-pub mapped_somes : (i : ℕ) (p : SlavePlan) → somes (manager_chosen i p 2 ∷ manager_chosen i p 3 ∷ fmmu_chosen i p 0 ∷ fmmu_chosen i p 1 ∷ []) ≡ mapped i p
+pub mapped_somes : (i : ℕ) (p : SlavePlan) → somes (choices i p) ≡ mapped i p
 mapped_somes i p =
     manager_somes i p 2 _
     ∙ (ap (λ xs. manager_set i p 2 ++ xs) (manager_somes i p 3 _
     ∙ ap (λ xs. manager_set i p 3 ++ xs) (fmmu_somes i p 0 _
     ∙ ap (λ xs. fmmu_set i p 0 (fmmu_at p.fmmus 0).active ++ xs) (fmmu_somes i p 1 [] ∙ append-nil (fmmu_set i p 1 (fmmu_at p.fmmus 1).active)))))
+
+-- ---- what a mapping sets, one after the other
+
+pub choice_none : (i : ℕ) (p : SlavePlan) (n k : ℕ) → n < 4 → None ≡ get_or (choices i p) n None → slice_get (somes (drop (n + 1) (choices i p))) k ≡ slice_get (somes (drop n (choices i p))) k
+choice_none i p n k low is = sym (rw (drop_more (choices i p) n None low, ← is) refl)
+
+pub choice_past : (i : ℕ) (p : SlavePlan) (n k : ℕ) (a : Action) → n < 4 → Some a ≡ get_or (choices i p) n None → k ≢ 0 → slice_get (somes (drop (n + 1) (choices i p))) (k - 1) ≡ slice_get (somes (drop n (choices i p))) k
+choice_past i p n zero a low is some = absurd (some refl)
+choice_past i p n (suc k) a low is some =
+    let less : suc k - 1 ≡ k = omega arith in
+    rw less (sym (rw (drop_more (choices i p) n None low, ← is) refl))
+
+pub choice_here : (i : ℕ) (p : SlavePlan) (n : ℕ) (a : Action) → n < 4 → Some a ≡ get_or (choices i p) n None → slice_get (somes (drop n (choices i p))) 0 ≡ Some a
+choice_here i p n a low is = rw (drop_more (choices i p) n None low, ← is) refl
+
+pub ruleset choice_steps = (choice_none, choice_past, choice_here, mapped_somes)

@@ -127,6 +127,10 @@ manager_chosen i p n = if (settings_at p.managers n).activate == 0 then None els
 abbrev pub fmmu_chosen : ℕ → SlavePlan → ℕ → Option Action
 fmmu_chosen i p n = if (fmmu_at p.fmmus n).active then Some (SetFmmu i n (fmmu_at p.fmmus n)) else None
 
+-- what a mapping sets, as far as it is there
+abbrev pub choices : ℕ → SlavePlan → List (Option Action)
+choices i p = manager_chosen i p 2 ∷ manager_chosen i p 3 ∷ fmmu_chosen i p 0 ∷ fmmu_chosen i p 1 ∷ []
+
 abbrev pub somes : List (Option Action) → List Action
 somes [] = []
 somes (None ∷ xs) = somes xs

@@ -1,10 +1,10 @@
 //! Where a start-up is in its script: no step of it is stored.
 
-ghost use Rattle.std.specs.Prelude.{◌≡◌, ◌≤◌, ◌<◌, length, All, Option, Some, None, IfSome, slice_get};
+ghost use Rattle.std.specs.Prelude.{◌≡◌, ◌≤◌, ◌<◌, length, All, Option, Some, None, IfSome, get_or, slice_get};
 ghost use Rattle.ec_start.specs.Planned.{HasFewAssigned};
 ghost use Rattle.ec_start.specs.Scripts.{named, identified, mailbox_set, raised, talked, mapped};
 ghost use Rattle.ec_start.specs.Doable.{IsDoable};
-ghost use Rattle.ec_start.specs.Ahead.{share, opening, share_at, is_for_all, following, behind, set_manager_of, manager_chosen, fmmu_chosen, somes, Settles};
+ghost use Rattle.ec_start.specs.Ahead.{share, opening, share_at, is_for_all, following, behind, set_manager_of, manager_chosen, fmmu_chosen, choices, Settles};
 
 use crate::action::Action;
 use crate::requests::request_at;
@@ -156,36 +156,37 @@ impl Cursor {
     }
 }
 
+#[tactic(auto, using(crate::proofs::Aheads::choice_steps))]
 fn mapping(slave: usize, settings: &SlavePlan, place: usize) -> Option<Action>
     requires { slave < 64 }
     ensures value { result ≡ slice_get (mapped slave settings.now) place }
     ensures doable { IfSome result IsDoable }
 {
-    let choices = [
-        manager_chosen(slave, settings, 2),
-        manager_chosen(slave, settings, 3),
-        fmmu_chosen(slave, settings, 0),
-        fmmu_chosen(slave, settings, 1),
-    ];
-    chosen_at(&choices, place)
-}
-
-/// The one with a place among the actions that are there.
-fn chosen_at(choices: &[Option<Action>], place: usize) -> Option<Action>
-    requires { All (λ a. IfSome a IsDoable) choices.now }
-    ensures value { result ≡ slice_get (somes choices.now) place }
-    ensures doable { IfSome result IsDoable }
-{
     let mut left = place;
-    for choice in choices {
-        if choice.is_some() {
+    for number in 0..4 {
+        if let Some(action) = mapping_chosen(slave, settings, number) {
             if left == 0 {
-                return *choice;
+                return Some(action);
             }
             left -= 1;
         }
     }
     None
+}
+
+/// What a mapping sets, if it is there: managers 2 and 3, then FMMUs 0 and 1.
+fn mapping_chosen(slave: usize, settings: &SlavePlan, number: usize) -> Option<Action>
+    requires low { slave < 64 }
+    requires there { number < 4 }
+    ensures value { result ≡ get_or (choices slave settings.now) number None }
+    ensures doable { IfSome result IsDoable }
+{
+    match number {
+        0 => manager_chosen(slave, settings, 2),
+        1 => manager_chosen(slave, settings, 3),
+        2 => fmmu_chosen(slave, settings, 0),
+        _ => fmmu_chosen(slave, settings, 1),
+    }
 }
 
 fn fmmu_chosen(slave: usize, settings: &SlavePlan, number: usize) -> Option<Action>
