@@ -4,6 +4,7 @@ mod machine;
 mod plain;
 mod sockets;
 mod startup;
+mod texts;
 
 use crate::tests::machine::{LAMPS_WORDS, SLAVES, TABLE};
 use crate::tests::sockets::UdpLink;
