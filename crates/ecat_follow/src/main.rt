@@ -17,7 +17,6 @@ use ec_start::{Phase, Startup};
 use ec_table::{Table, TableError, read_table};
 use ec_wire::{SocketFault, UdpWire, bring_up_wire, run_cycle};
 use std::alloc::AllocError;
-use std::env::Env;
 use std::io::Read;
 use std::net::{Net, SocketAddrV4};
 use std::process::ExitCode;

@@ -12,7 +12,6 @@ mod payloads;
 use crate::judge::is_told;
 use crate::payloads::payload_of;
 use ec_fixtures::Random;
-use std::env::Env;
 use std::process::ExitCode;
 use std::{env, io};
 

@@ -1,4 +1,4 @@
-use Rattle.std.proofs.Common.{◌≡◌, ◌+◌, ◌∙◌, ap, drop, slice_get}
+use Rattle.std.proofs.Common.{◌+◌, ◌∙◌, ap, drop, slice_get}
 use Rattle.ec_start.specs.Ahead.{choices, somes}
 use Rattle.ec_start.proofs.Aheads.{choice_none, choice_past}
 use Rattle.ec_start.proofs.script.mapping.Goals as goal
