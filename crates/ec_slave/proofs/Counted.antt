@@ -212,7 +212,7 @@ managers-idle ms busy reads writes w fr fw =
     ∙ if_false _ _ _ (both-false reads _ _ fr (read-counts ms w k))))
 
 -- the SII port, where none of the bytes that it stores is touched
-port-idle : (p : Sii) (from : ℕ) (bytes : List ℕ) → p.address < 2 ^ 32 → p.busy ≡ false
+pub port-idle : (p : Sii) (from : ℕ) (bytes : List ℕ) → p.address < 2 ^ 32 → p.busy ≡ false
     → ((place : ℕ) → 0x0503 ≤ place → place < 0x0508 → within from (length bytes) place ≡ false) → written p from bytes ≡ p
 unfolding written
 port-idle p from bytes l idle none =
@@ -232,7 +232,7 @@ port-idle p from bytes l idle none =
     ∙ (ap (commanded (addressed p (address_written p.address from bytes))) command
     ∙ ap (addressed p) address)
 
-port-busy : (p : Sii) (from : ℕ) (bytes : List ℕ) → p.busy ≡ true → written p from bytes ≡ p
+pub port-busy : (p : Sii) (from : ℕ) (bytes : List ℕ) → p.busy ≡ true → written p from bytes ≡ p
 unfolding written
 port-busy p from bytes t = if_true _ _ _ t
 

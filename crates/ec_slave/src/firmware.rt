@@ -52,7 +52,7 @@ impl Slave {
         true
     }
 
-    /// The same, where one is. It stands apart so that a step in which none is is short.
+    /// Finishes the read of the SII that is under way. It stands apart so that a step without one is short.
     #[tactic(auto, unfolding(crate::specs::Serving::read_finished))]
     #[inline(never)]
     fn read_words(&mut self)
@@ -71,7 +71,7 @@ impl Slave {
         }
     }
 
-    /// The same, where one waits. It stands apart so that a step in which none does is short.
+    /// Decides the AL request that waits. It stands apart so that a step in which none waits is short.
     #[inline(never)]
     fn decide_waiting(&mut self)
         requires { self.old.al.requested ≡ true }

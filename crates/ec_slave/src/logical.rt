@@ -109,7 +109,7 @@ impl Slave {
         self.fmmus.is_apart()
     }
 
-    /// The same, with a copy of the data as they were received.
+    /// A datagram that reads and writes, with a copy of the data as they were received.
     #[inline(never)]
     fn read_write_copied_bits(&mut self, from: u64, bytes: &mut [u8]) -> u16
         requires { FitsFrame from bytes.old }

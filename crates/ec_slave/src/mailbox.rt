@@ -117,7 +117,8 @@ impl Slave {
         self.al.state() != State::Init && self.dictionary.kind().mailbox().is_some()
     }
 
-    /// The same, where one is taken. It stands apart so that a step in which none is is short.
+    /// Takes the message that lies in manager 0, and answers, refuses or drops it. It stands apart so that a step in which none
+    /// is taken is short.
     #[tactic(auto, unfolding(crate::specs::Serving::message_served))]
     #[inline(never)]
     fn exchange_message(&mut self)

@@ -1,11 +1,12 @@
 //! Physical datagrams at a slave.
 
 ghost use Rattle.std.specs.Prelude.{◌≡◌, ◌+◌, ◌*◌, ◌<◌, ◌≤◌, ◌^◌, ◌&&◌, ℕ, true, false, Some, None, IfSome, length, [], slice_index, bit_or, if◌then◌else◌, nat_lt};
-ghost use Rattle.ec_regs.specs.Memory.{al_status, fmmu_place, ram_start, ram_end};
+ghost use Rattle.ec_regs.specs.Memory.{al_control, al_status, fmmu_place, ram_start, ram_end};
 ghost use Rattle.ec_sync.specs.Governing.{governor as governor_of};
 ghost use Rattle.ec_al.specs.Al.{requesting};
 ghost use Rattle.std.specs.Int.{from_bool};
 ghost use Rattle.ec_bits.specs.Bits.{within};
+ghost use Rattle.ec_sii.specs.Port.{written};
 ghost use Rattle.ec_slave.specs.Physical.{byte_at, byte_read, may_read_byte, physical_managers, physical_met, retold, physical_after, some_byte_read, is_written};
 ghost use Rattle.ec_slave.specs.State.{fmmus_of};
 
@@ -23,6 +24,7 @@ use ec_bits::within;
 use ec_exchange::owner_of;
 use ec_fmmu::FmmuTable;
 use ec_regs::registers::{AL_CONTROL, AL_STATUS, FMMUS, FMMUS_END, RAM_START, SYNC_MANAGERS};
+use ec_sii::Port;
 use ec_sync::SyncManager;
 
 /// Marks an AL request, or not.
@@ -32,6 +34,21 @@ fn request_if(al: &mut Al, is_written: bool)
     if is_written {
         al.request();
     }
+}
+
+/// What a write does to the AL and the SII port. Where it begins in the RAM, neither is asked.
+#[tactic(auto, using(crate::proofs::InRam::port_aside))]
+fn write_control(al: &mut Al, port: &mut Port, from: usize, bytes: &[u8])
+    requires { from + length bytes.now < 2 ^ 32 }
+    ensures al { al.new ≡ (if within from (length bytes.now) al_control then requesting al.old else al.old) }
+    ensures port { port.new ≡ written port.old from bytes.now }
+{
+    if RAM_START <= from {
+        port.is_sound();
+        return;
+    }
+    request_if(al, within(from, bytes.len(), AL_CONTROL));
+    port.write(from, bytes);
 }
 
 /// Decodes the FMMUs again after a write of `len` bytes from an address on that may reach their registers.
@@ -126,8 +143,7 @@ impl Slave {
     {
         let is_busy = self.port.is_busy();
         let is_some = write_physical(&mut self.memory, &self.managers, is_busy, from, bytes);
-        request_if(&mut self.al, within(from, bytes.len(), AL_CONTROL));
-        self.port.write(from, bytes);
+        write_control(&mut self.al, &mut self.port, from, bytes);
         let is_kept = self.link.write(from, bytes);
         write_managers(&mut self.managers, reads, from, bytes);
         renew_fmmus(&mut self.fmmus, &self.memory, from, bytes.len());

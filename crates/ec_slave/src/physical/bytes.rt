@@ -229,7 +229,7 @@ fn write_fmmus(memory: &mut [u8], from: usize, bytes: &[u8]) -> bool
     !bytes.is_empty()
 }
 
-/// The same, byte by byte.
+/// Stores, byte by byte, what the memory itself keeps of a datagram that lies within the registers.
 fn keep_each(memory: &mut [u8], from: usize, bytes: &[u8])
     requires room { length memory.old ≡ ram_end }
     requires inside { from + length bytes.now ≤ ram_start }

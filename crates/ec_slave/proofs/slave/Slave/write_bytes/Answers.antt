@@ -36,7 +36,7 @@ invariant_of-self c =
           ∙ (ap (λ (xs : List ℕ). if nat_lt w.from 1600 && nat_lt 1536 (w.from + length w.bytes) then fmmus_of xs else fs) now
           ∙ (decoded-kept ms w old fs room (c.self.invariant.decoded ∙ ap fmmus_of (sym own))
           ∙ ap fmmus_of (sym (front ∙ written))));
-      image = ap (λ (p : Sii). p.image) c.write.ensures ∙ (written-image c.self.inside.port c.args.from c.args.bytes.now ∙ c.self.invariant.image);
+      image = ap (λ (p : Sii). p.image) c.write_control.ensures.port ∙ (written-image c.self.inside.port c.args.from c.args.bytes.now ∙ c.self.invariant.image);
     }
 
 pub returns-clause-slave : goal.returns-clause-slave
@@ -57,14 +57,13 @@ returns-clause-slave c =
     let front_2 : each ≡ met = take_front met _ c.self.inside.managers.len (omega (arith, ap length own_2, ok_2, long_2)) in
     let memory = ap (λ (x : SlaveState). x.memory) c.self.view_is in
     let managers = ap (λ (x : SlaveState). x.managers) c.self.view_is in
-    ap (λ (x : SlaveState). record x { memory = all; managers = each; al = c.request_if.new.al; sii = c.write.new.self; link = c.write-is_kept.new.self }) c.self.view_is
+    ap (λ (x : SlaveState). record x { memory = all; managers = each; al = c.write_control.new.al; sii = c.write_control.new.port; link = c.write-is_kept.new.self }) c.self.view_is
     ∙ physically_written s c.args.reads w all each _ _ _
     (front ∙ (c.write_physical-is_some.ensures.memory ∙ (ap (λ (xs : List ℕ). memory_written c.deref.result.now w xs) (own ∙ memory)
     ∙ ap (λ (ms : List SyncManager). memory_written ms w s.memory) (c.deref.ensures.value ∙ managers))))
     (front_2 ∙ (c.write_managers.ensures ∙ ap (physical_managers [] c.args.reads true w 0) (own_2 ∙ managers)))
-    (c.request_if.ensures ∙ (ap (λ (b : Bool). if b then requesting c.self.inside.al else c.self.inside.al) c.within.ensures
-    ∙ ap (λ (x : SlaveState). if touches w al_control then requesting x.al else x.al) c.self.view_is))
-    (c.write.ensures ∙ ap (λ (x : SlaveState). written x.sii w.from w.bytes) c.self.view_is)
+    (c.write_control.ensures.al ∙ ap (λ (x : SlaveState). if touches w al_control then requesting x.al else x.al) c.self.view_is)
+    (c.write_control.ensures.port ∙ ap (λ (x : SlaveState). written x.sii w.from w.bytes) c.self.view_is)
     (c.write-is_kept.ensures.after ∙ ap (λ (x : SlaveState). dl_written x.link w.from w.bytes) c.self.view_is)
 
 pub returns-clause-some : goal.returns-clause-some
