@@ -80,7 +80,7 @@ Refusals with status 3; PLACE counts from 0 in file order:
   18 OutsideEntry PLACE      of a link: it has bits past the entry or the variable: link fewer
   19 LinkedTwice PLACE       of a link: an earlier link gives one of its bits: leave one out
   20 EntryTwice PLACE        of a slave: it assigns an entry twice in one direction: assign one of
-                             its PDOs less
+                             its PDOs less; without `out` or `in` it assigns all of its type
   21 TooManyBits PLACE       of a slave: it has over 2048 bits in a direction: assign fewer PDOs
   22 TooManySlaves COUNT     over 64 slaves: make two tables
   23 TooManyParts COUNT      over 32 parts: put slaves into fewer sync units
@@ -243,7 +243,7 @@ pub(crate) const LOOP_LINES: &str = "\
 TABLE is a link table; docs/TABLES.md says how one is written.
 
 Before cycle K, from 1 on, each output variable becomes K, as far as it has bits. The slaves'
-applications show their outputs as their inputs.
+applications show their outputs as their inputs. Standard error says between which ports it runs.
 
 Lines, in this order:
   ready              the start-up has ended well
