@@ -1,8 +1,9 @@
 -- No event changes the plan of a world, so no line does.
-use Rattle.std.proofs.Common.{◌≡◌, ◌∙◌, ℕ, zero, suc, ◌&&◌, List, [], ◌∷◌, ◌++◌, Bool, true, false, slice_get, refl, ap}
+use Rattle.std.proofs.Common.{◌≡◌, ◌∙◌, ℕ, zero, suc, ◌&&◌, List, [], ◌∷◌, ◌++◌, Bool, true, false, slice_get, ap}
 use Rattle.ec_world.specs.declared.event.Event.{Event}
-use Rattle.ec_world.specs.declared.event.Event.TheVariants.{StartNext, Set, Begin, Pass, Lose, Return, Close, Serve, AppPut, AppGet, Fault, Reset}
-use Rattle.ec_world.specs.World.{WorldState, IsStep, ByStart, Sends, Begins, Passes, Returns, StartReturns, GivesUp, Closes, Puts, Gets, awaits}
+use Rattle.ec_world.specs.declared.event.Event.TheVariants.{StartNext, Begin, Close}
+use Rattle.ec_world.specs.World.{WorldState}
+use Rattle.ec_world.proofs.Plans.{plan_stays}
 use Rattle.ec_script.specs.declared.line.LineAction.{LineAction}
 use Rattle.ec_script.specs.declared.line.LineAction.TheVariants.{One, Input, Never, Expect, Ready, Cycle, Show}
 use Rattle.ec_script.specs.declared.said.LineOutput.{LineOutput}
@@ -14,34 +15,8 @@ use Rattle.ec_script.specs.Work.{Does, Makes, MakesAll, Onward, RunsTurn, Starts
 abbrev pub Keeps : WorldState → WorldState → Type 0
 Keeps old new = new.plan ≡ old.plan
 
-returned : (b : Bool) (old : WorldState) (j : ℕ) (new : WorldState) → ByStart b (StartReturns old j new) (Returns old j new) → Keeps old new
-returned true old j new h = ap (λ w. w.plan) h.is
-returned false old j new h = ap (λ w. w.plan) h.is
-
-closed : (b : Bool) (old new : WorldState) → ByStart b (GivesUp old new) (Closes old new) → Keeps old new
-closed true old new h = ap (λ w. w.plan) h
-closed false old new h = ap (λ w. w.plan) h.is
-
-made : (e : Event) (old new : WorldState) → IsStep old e new true → Keeps old new
-made StartNext old new h = let p : Sends old new = h.happens refl in ap (λ w. w.plan) p.is
-made (Set v x) old new h = ap (λ w. w.plan) (h.happens refl)
-made Begin old new h = let p : Begins old new = h.happens refl in ap (λ w. w.plan) p.is
-made (Pass j) old new h = let p : Passes old j new = h.happens refl in ap (λ w. w.plan) p.is
-made (Lose j) old new h = ap (λ w. w.plan) (h.happens refl)
-made (Return j) old new h = returned (awaits old.start) old j new (h.happens refl)
-made Close old new h = closed (awaits old.start) old new (h.happens refl)
-made (Serve s) old new h = ap (λ w. w.plan) (h.happens refl)
-made (AppPut s i x) old new h = let p : Puts old s i x new = h.happens refl in ap (λ w. w.plan) p.is
-made (AppGet s i) old new h = let p : Gets old s i new = h.happens refl in ap (λ w. w.plan) p.is
-made (Fault s) old new h = ap (λ w. w.plan) (h.happens refl)
-made (Reset s) old new h = ap (λ w. w.plan) (h.happens refl)
-
-step : (e : Event) (old new : WorldState) (b : Bool) → IsStep old e new b → Keeps old new
-step e old new true h = made e old new h
-step e old new false h = ap (λ w. w.plan) (h.refused refl)
-
 one : (e : Event) (old new : WorldState) (word : LineOutput) → Makes e old new word → Keeps old new
-one e old new word h = step e old new h.made h.step
+one e old new word h = plan_stays old e new h.made h.step
 
 onward : {X : Type 0} (b : Bool) (old mid new : WorldState) (word told : LineOutput) → Keeps old mid → Onward b X ((new ≡ mid) × (word ≡ told)) → (X → Keeps mid new) → Keeps old new
 onward true old mid new word told first h f = f h ∙ first

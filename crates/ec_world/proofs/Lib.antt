@@ -22,6 +22,8 @@ pub mod CloseLaws
 pub mod Filling
 -- steps of a world, from what the calls of its parts say
 pub mod Stepping
+-- no event changes the plan of a world
+pub mod Plans
 -- a cyclic frame as it is sent
 pub mod Fresh
 -- events on frames

@@ -93,6 +93,10 @@ StepsShow =
     (old : WorldState) (event : Event) (new : WorldState) (made : Bool) → IsUsable old.plan
     → IsStep old event new made → StepShows old event new made
 
+-- No event changes the plan, whether it can be made or not.
+abbrev pub PlanLaw : Type 0
+PlanLaw = (old : WorldState) (event : Event) (new : WorldState) (made : Bool) → IsStep old event new made → new.plan ≡ old.plan
+
 -- a run: step after step, and how many were made
 abbrev pub IsRun : WorldState → List Event → WorldState → ℕ → Type 0
 IsRun old [] new made = (new ≡ old) × (made ≡ 0)

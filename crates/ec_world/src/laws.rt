@@ -1,5 +1,5 @@
 //! What is promised of a world, and laws of the definitions. Each function does nothing: its contract is the law.
-ghost use Rattle.ec_world.specs.Laws.{RoundTrip, CycleLaw, StepsShow, RunsShow, RunsJoin};
+ghost use Rattle.ec_world.specs.Laws.{RoundTrip, CycleLaw, StepsShow, PlanLaw, RunsShow, RunsJoin};
 ghost use Rattle.ec_world.specs.Whole.{WholeLaw, CompiledLaw};
 ghost use Rattle.ec_world.specs.NewWorld.{NewLaw, TurnLaw};
 ghost use Rattle.ec_world.specs.AlWords.{WordLaw, OpWordLaw};
@@ -83,6 +83,12 @@ pub fn steps_show()
 #[tactic(auto, using(crate::proofs::StepLaws::runs_show))]
 pub fn runs_show()
     ensures { RunsShow }
+{}
+
+/// No event changes the plan of a world, whether it can be made or not.
+#[tactic(auto, using(crate::proofs::Plans::plan_stays))]
+pub fn plans_stay()
+    ensures { PlanLaw }
 {}
 
 /// Two runs, one after the other, are one: a caller may make the events of a list piece by piece.

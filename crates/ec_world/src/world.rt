@@ -122,9 +122,10 @@ impl<'p> World<'p> {
     /// cause.
     ///
     /// From a world that shows a plain state it is made exactly where the plain machine makes it, and the world then shows the
-    /// plain machine's next state.
+    /// plain machine's next state. The plan stays.
     pub fn step(&mut self, event: Event) -> bool
         ensures step { IsStep self.old event self.new result }
+        ensures plan { self.new.plan ≡ self.old.plan }
         ensures shows { StepShows self.old event self.new result }
         ensures headline { (t : Contents) (identities : List Identity) (first : WorldState) (events : List Event) (made : ℕ) → IsNew t identities first → IsRun first events self.old made → is_up self.old.start ≡ true → result ≡ true → HeadlineShows t first events self.old event self.new }
     {
@@ -137,10 +138,12 @@ impl<'p> World<'p> {
     /// From a world that shows a plain state it ends in one that shows the run of the plain machine, of as many events. From
     /// a new world nothing is shown until its start-up is Ready; at the event that makes it so the world shows a plain state,
     /// in which each slave that isn't in OP had a fault or a reset since that start-up began; and from there on the run of the
-    /// plain machine. A new world that nothing disturbs is Ready after as many frames as the start-up has steps. Each of its
-    /// events, made once the start-up is Ready, shows what `step` says of it.
+    /// plain machine. A new world of devices of its table's types, or one whose last start-up failed and that has no frame on
+    /// its way, is Ready after as many frames as the start-up has steps, where nothing disturbs it. Each of its events, made
+    /// once the start-up is Ready, shows what `step` says of it. The plan stays.
     pub fn run(&mut self, events: &[Event]) -> usize
         ensures steps { IsRun self.old events.now self.new result }
+        ensures plan { self.new.plan ≡ self.old.plan }
         ensures shows { RunShows self.old events.now self.new result }
         ensures whole { (t : Contents) (identities : List Identity) → IsNew t identities self.old → Told self.old events.now self.new result (no_trouble self.old) }
         ensures up { (t : Contents) → IsToStart t self.old → BringUp t events.now → IsBroughtUp t self.old events.now self.new result }

@@ -1,4 +1,5 @@
 use Rattle.ec_world.proofs.Words.{ℕ, ◌≡◌, ◌≤◌, ◌+◌, ◌∷◌, ◌++◌, [], List, sym, subst, arith, take, get_or, if◌then◌else◌, Bool, true, false, take_more, take_all, Event, StartNext, IsRun}
+use Rattle.ec_world.proofs.Plans.{run_keeps}
 use Rattle.ec_world.proofs.StepLaws.{run_more, runs_show}
 use Rattle.ec_world.proofs.ComingUp.{comes_up}
 use Rattle.ec_world.proofs.Newly.{told-new}
@@ -37,6 +38,9 @@ loop-event-preserved c =
 pub returns-clause-steps : goal.returns-clause-steps
 returns-clause-steps c =
     subst (λ (es : List Event). IsRun c.args.self.now es c.loop-event.self c.loop-event.made) (take_all c.loop-event.event-index c.args.events.now (omega arith)) c.loop-event.invariant.runs
+
+pub returns-clause-plan : goal.returns-clause-plan
+returns-clause-plan c = run_keeps c.args.self.now c.args.events.now c.loop-event.self c.loop-event.made (returns-clause-steps c)
 
 pub returns-clause-shows : goal.returns-clause-shows
 returns-clause-shows c = runs_show c.args.self.now c.args.events.now c.loop-event.self c.loop-event.made c.is_sound.ensures (returns-clause-steps c)
