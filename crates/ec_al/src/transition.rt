@@ -46,6 +46,14 @@ pub struct Checks {
 
 impl State {
     /// The state that a request in this state enters, or why none is.
+    ///
+    /// # Errors
+    ///
+    /// The first that fits: `UnknownState` for a number that is no state; for BOOT `BootstrapNotSupported` in INIT, and
+    /// `InvalidStateChange` in any other state; from INIT to PREOP `InvalidMailboxConfiguration` where the mailbox sync
+    /// managers aren't as needed; from PREOP to SAFEOP `InvalidOutputConfiguration` where the output sync manager isn't, and
+    /// then `InvalidInputConfiguration` where the input sync manager isn't; and `InvalidStateChange` for a state above the next
+    /// one.
     pub fn answer(self, requested: Requested, checks: Checks) -> Result<State, StatusCode>
         ensures { result ≡ answer self requested checks }
     {

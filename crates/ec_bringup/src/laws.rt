@@ -18,7 +18,8 @@ pub fn beginning()
     ensures { BeginningLaw }
 {}
 
-/// A start-up that nothing disturbs is Ready after one frame for each action of its script, from slaves in any state.
+/// A start-up that nothing disturbs is Ready after one frame for each action of its script, from devices of the plan's types in
+/// any state.
 pub fn comes_up()
     ensures { ComesUpLaw }
 {}

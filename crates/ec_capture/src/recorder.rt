@@ -102,6 +102,7 @@ fn write_fitting<W: Write>(packet: &Packet<'_>, interfaces: usize, file: &mut W)
     ensures part { result ≡ false
         → AppendsPart (W.contents file.old) (W.contents file.new) (block_bytes (packet_block (seen_as packet.now))) }
 {
+    // its time has 64 bits, which the proof learns where the code reads it
     let _time = packet.time;
     if packet.interface >= interfaces.min(MAX_INTERFACES) || packet.payload.len() > MAX_PAYLOAD {
         return false;

@@ -37,6 +37,10 @@ pub fn pass_hex(alloc: Global, slaves: usize, text: &str) -> Result<String, Refu
 }
 
 /// Prints what `pass_hex` answers, and a newline.
+///
+/// # Errors
+///
+/// What [`pass_hex`] refuses, `Refusal::Memory` where memory ran out, and `Refusal::Output` where a write was refused.
 pub fn print_pass<W: Write>(
     alloc: Global,
     slaves: usize,

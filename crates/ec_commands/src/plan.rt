@@ -36,6 +36,10 @@ impl PlanForm {
 }
 
 /// The plan of the table that the text states, in a form.
+///
+/// # Errors
+///
+/// What [`read_machine`] refuses, and `Refusal::Memory` where memory ran out.
 pub fn show_plan(alloc: Global, form: PlanForm, text: &str) -> Result<String, Refusal>
     ensures answer { IfOk result (λ answer. IsPlanAnswer form text.now (string_bytes answer)) }
     ensures refused { IfErr result (IsTableRefusal text.now) }
@@ -46,6 +50,11 @@ pub fn show_plan(alloc: Global, form: PlanForm, text: &str) -> Result<String, Re
 
 /// Prints what `show_plan` answers to all that the input gives; a refusal of it is explained, where
 /// that is wanted.
+///
+/// # Errors
+///
+/// `Refusal::Input` where the input couldn't be read, isn't text or is too long; those of [`show_plan`]; and `Refusal::Output`
+/// where a write was refused.
 pub fn print_plan<R: Read, W: Write>(
     alloc: Global,
     form: PlanForm,

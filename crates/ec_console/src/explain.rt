@@ -63,7 +63,7 @@ impl Explanation {
         }
     }
 
-    /// The same of a link table and a script.
+    /// Explains the refusal of a link table and a script, if that is wanted and memory is there for it.
     pub fn explain_script(&mut self, alloc: Global, text: &str, refusal: &Refusal)
         ensures { IsLeft self.old self.new }
     {

@@ -48,7 +48,7 @@ pub fn tell_and_end<F: Write>(refusal: &Refusal, faults: &mut F) -> u8
     refusal.status()
 }
 
-/// The same, and it answers the exit status of the refusal.
+/// Tells a refusal and more behind its line, and answers its exit status. A fault in telling it changes nothing.
 pub fn tell_explained<F: Write>(refusal: &Refusal, more: &[u8], faults: &mut F) -> u8
     ensures status { result ≡ status_of refusal.now }
     ensures told { IsTold (line_of refusal.now ++ more.now) (F.contents faults.old) (F.contents faults.new) }

@@ -46,7 +46,7 @@ impl Counters {
         }
     }
 
-    /// The same ones.
+    /// A copy of these counters.
     pub fn copied(&self) -> Counters
         ensures { result ≡ self.now }
     {
@@ -57,7 +57,7 @@ impl Counters {
         }
     }
 
-    /// The same, as a plan predicts them.
+    /// These counters in the form in which a plan predicts them.
     pub fn as_predicted(&self) -> ExpectedCounters
         ensures { result ≡ self.now }
     {

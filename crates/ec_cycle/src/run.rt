@@ -115,7 +115,7 @@ pub fn runs_of_inputs(alloc: Global, plan: &Plan) -> Result<Listed<InputRun>, Al
     merged(alloc, runs.as_slice())
 }
 
-/// The same runs, of which those that adjoin are one.
+/// These runs, of which those that adjoin are one.
 fn merged<R: Adjoining>(alloc: Global, runs: &[R]) -> Result<Listed<R>, AllocError>
     ensures { IfOk result (λ rs. rs ≡ merged R.adjoins R.joined runs.now) }
 {

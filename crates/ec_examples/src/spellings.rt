@@ -96,7 +96,7 @@ variable = [ { name = "a", dir = "out", bits = 4 }, { name = "b", dir = "out", b
 link = [ { var = "a", slave = "s0", index = 0x7000, sub = 1 }, { var = "b", slave = "s2", index = 0x7010, sub = 1 }, { var = "c", slave = "s1", index = 0x6000, sub = 1 }, { var = "d", slave = "s2", index = 0x6010, sub = 1 } ]
 "#;
 
-/// The same of version 2, with the second slave in a sync unit of its own.
+/// `SHORT_THREE_SLAVES` in version 2, with the second slave in a sync unit of its own.
 pub const SHORT_TWO_UNITS: &str = r#"version = 2
 type = [
   { name = "do4", vendor = 0xABCD, product = 1, revision = 1, out_start = 0x1100, in_start = 0, rxpdo = [ { index = 0x1600, entries = [[0x7000, 1, 4]] } ] },

@@ -75,7 +75,8 @@ fn reaches<T: Touching>(access: &T, lower: &[SyncManager], manager: &SyncManager
     access.touches(start) && access.touches(start + len - 1) && has_own(access, lower, start, len)
 }
 
-/// The same of an access that touches the first one, which most often decides.
+/// Whether an access that touches the byte at `start` touches one that no manager in `lower` governs, among the `len` from
+/// `start` on. Most often that first one decides.
 fn has_own<T: Touching>(access: &T, lower: &[SyncManager], start: usize, len: usize) -> bool
     requires some { 0 < len }
     requires inside { start + len ≤ ram_end }

@@ -56,7 +56,7 @@ pub fn print_live<H: AllocGlobal + Files, R: Read, W: Write>(
     ended
 }
 
-/// The same of the machine that a text states.
+/// Runs the lines that an input gives over a new segment of the machine that a text states.
 fn run_live_text<H: AllocGlobal + Files, R: Read, W: Write>(
     rt: &H,
     file: Option<&str>,
@@ -90,7 +90,8 @@ fn run_live_machine<H: AllocGlobal + Files, R: Read, W: Write>(
     end_of(unmet)
 }
 
-/// The same; the frames of the world go into a capture, if a file is named.
+/// Runs the lines that an input gives as `print_live_lines` does; the frames of the world go into a capture, if a file is
+/// named.
 #[tactic(auto, using(crate::proofs::LiveLemmas::none_part, crate::proofs::LiveLemmas::unopened_late))]
 fn print_live_watched<H: AllocGlobal + Files, R: Read, W: Write>(
     rt: &H,
@@ -123,7 +124,8 @@ fn print_live_watched<H: AllocGlobal + Files, R: Read, W: Write>(
     print_live_captured(rt.alloc(), table, reasons, world, recording, input, output)
 }
 
-/// The same; the frames of the world go into a capture that is open, which is then written to the end.
+/// Runs the lines that an input gives as `print_live_lines` does; the frames of the world go into a capture that is open, which
+/// is then written to the end.
 fn print_live_captured<F: Write + Drop, R: Read, W: Write>(
     alloc: Global,
     table: &Table,

@@ -69,6 +69,11 @@ pub fn run_loop<W: Wire, O: Write>(
 /// as n, as far as it has bits. It prints a line when the slaves are up, the report on each cycle before the next begins,
 /// and at the end the input variables. A refusal of the table, of its start-up or of a cycle is explained, where that is
 /// wanted.
+///
+/// # Errors
+///
+/// The refusal of the input or of its table, `Refusal::Memory` where memory ran out, `Refusal::Socket` where there are no such
+/// sockets, and what [`run_loop`] ends by.
 pub fn print_loop<H: AllocGlobal + Net + Files + Clock, R: Read, W: Write, F: Write>(
     rt: &H,
     cycles: u16,
@@ -257,7 +262,8 @@ fn cut_to(number: u64, bits: u8) -> u64
     }
 }
 
-/// The same of the table that the input states. A refusal is explained, where that is wanted.
+/// Runs cycles of the table that the input states, as [`print_loop`] does, and notes what the master sends and receives in a
+/// capture, if there is one. A refusal is explained, where that is wanted.
 fn loop_input<H: AllocGlobal + Net + Files + Clock, R: Read, W: Write, F: Write>(
     rt: &H,
     cycles: u16,
@@ -379,7 +385,8 @@ fn loop_ends<H: AllocGlobal + Net>(rt: &H, machine: &Machine) -> Result<(Ring, S
     Ok((slaves, sockets))
 }
 
-/// The same with a capture that is open, which is then written to the end.
+/// Runs cycles of the table that the input states, as [`print_loop`] does, with a capture that is open, which is then written
+/// to the end.
 fn loop_captured<H: AllocGlobal + Net + Files + Clock, R: Read, W: Write, F: Write>(
     rt: &H,
     cycles: u16,

@@ -103,7 +103,8 @@ pub fn capture_master<H: AllocGlobal + Net + Files + Clock, R: Read, O: Write>(
     run_captured(rt, reasons, way, capture, input, output, behind)
 }
 
-/// The same of the table that an input gives up to a line `%%`. A refusal of it is explained, where that is wanted.
+/// Does the lines of an input behind its table, as [`print_master`] does, and notes what the master sends and receives in a
+/// capture, if there is one. A refusal of the table is explained, where that is wanted.
 fn run_input<H: AllocGlobal + Net + Files + Clock, R: Read, O: Write>(
     rt: &H,
     reasons: Reasons,
@@ -124,7 +125,7 @@ fn run_input<H: AllocGlobal + Net + Files + Clock, R: Read, O: Write>(
     ended
 }
 
-/// The same of the machine that a text states.
+/// Does the lines of an input with a new master of the machine that a text states.
 fn run_text<H: AllocGlobal + Net + Files + Clock, R: Read, O: Write>(
     rt: &H,
     text: &str,
@@ -180,7 +181,8 @@ fn connect<R: Net>(rt: &R, way: Connection<'_>) -> Result<UdpWire, SocketFault>
     }
 }
 
-/// The same over a wire that has carried nothing yet, and notes what it carries in a capture, if there is one.
+/// Does the lines of an input with a new master of a machine over a wire that has carried nothing yet, and notes what it
+/// carries in a capture, if there is one.
 fn run_tapped<H: AllocGlobal + Files + Clock, W: Wire + Drop, R: Read, O: Write>(
     rt: &H,
     machine: &Machine,
@@ -210,7 +212,8 @@ fn run_tapped<H: AllocGlobal + Files + Clock, W: Wire + Drop, R: Read, O: Write>
     }
 }
 
-/// The same with a capture that is open, which is then written to the end.
+/// Does the lines of an input behind its table, as [`print_master`] does, with a capture that is open, which is then written to
+/// the end.
 fn run_captured<H: AllocGlobal + Net + Files + Clock, R: Read, O: Write>(
     rt: &H,
     reasons: Reasons,

@@ -158,7 +158,7 @@ impl<L: Carrier + Drop> Master<L> {
         Ok(seen)
     }
 
-    /// The same with so many bytes of 0.
+    /// A datagram with so many bytes of 0 goes out alone, and comes back.
     fn ask_empty(
         &mut self,
         command: u8,

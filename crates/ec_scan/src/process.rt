@@ -99,7 +99,7 @@ impl Run {
         Ok(())
     }
 
-    /// The same run with a slave behind it.
+    /// This run with a slave behind it.
     fn with(self, seat: &Seat) -> Run {
         let written = u16::from(seat.outputs.count > 0);
         let read = u16::from(seat.inputs.count > 0);

@@ -16,7 +16,7 @@ pub fn split_script(text: &str) -> (&str, &str)
     (text, "")
 }
 
-/// The same at a place of a text, where a line has to begin.
+/// How many bytes the line `%%` with its end has, where that line begins at a place of a text.
 #[tactic(auto, unfolding(crate::specs::Halves::divider_at))]
 fn divider_at(text: &[u8], place: usize) -> Option<usize>
     requires { place < length text.now }

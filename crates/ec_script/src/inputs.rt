@@ -92,7 +92,8 @@ fn is_input_of(plan: &Plan, variable: usize, value: u64) -> bool
     }
 }
 
-/// The same of each slave in its turn.
+/// The application of each slave in its turn writes all its input bytes with the bits of a variable changed, if it has any. An
+/// event that can't be made ends it.
 #[tactic(auto, using(crate::proofs::Seeing::sees_none, crate::proofs::Seeing::sees_then))]
 fn put_slaves<S: Watcher>(
     world: &mut World<'_>,

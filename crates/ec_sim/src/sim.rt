@@ -50,7 +50,9 @@ pub fn print_line<S: Watcher, W: Write>(
     Ok(unmet)
 }
 
-/// The same; a capture notes exactly the frames of the run, event by event in order, each where it was.
+/// Runs the lines of a script over a world of a table, each as often as it is to be done, prints of each what there is to say
+/// before the next one runs, and answers how often what they expect isn't so. A capture notes exactly the frames of the run,
+/// event by event in order, each where it was.
 ///
 /// # Errors
 ///
@@ -80,6 +82,13 @@ pub fn print_noted<F: Write + Drop, W: Write>(
 /// identities that the table says. What a line says is printed before the next line runs, and why it says `no`, where reasons
 /// are told. The frames that pass go into a capture, if a file is named, with an interface `master` and one for each slave. A
 /// refusal of the text is explained, where that is wanted.
+///
+/// # Errors
+///
+/// The refusal of the input or of its table, or `Refusal::Script` with the error of [`read_script`], before a line runs;
+/// `Refusal::Memory` or `Refusal::Output` where memory or a write was refused, after what was printed until then;
+/// `Refusal::Output` too where the file couldn't be opened, before a line runs, or couldn't be written to the end; and
+/// `Refusal::Unmet` where what lines expect isn't so.
 pub fn print_sim<H: AllocGlobal + Files, R: Read, W: Write>(
     rt: &H,
     reasons: Reasons,
@@ -176,7 +185,7 @@ fn print_lines<S: Watcher, W: Write>(
     Ok(unmet)
 }
 
-/// The same; the frames of the world go into a capture, if a file is named.
+/// Runs the lines of a script as `print_lines` does; the frames of the world go into a capture, if a file is named.
 #[tactic(auto, using(crate::proofs::SimLemmas::none_some, crate::proofs::SimLemmas::unopened_late))]
 fn print_watched<H: AllocGlobal + Files, W: Write>(
     rt: &H,
@@ -209,7 +218,8 @@ fn print_watched<H: AllocGlobal + Files, W: Write>(
     print_captured(rt.alloc(), table, reasons, world, recording, lines, output)
 }
 
-/// The same; the frames of the world go into a capture that is open, which is then written to the end.
+/// Runs the lines of a script as `print_lines` does; the frames of the world go into a capture that is open, which is then
+/// written to the end.
 fn print_captured<F: Write + Drop, W: Write>(
     alloc: Global,
     table: &Table,

@@ -259,7 +259,7 @@ impl<'p> Startup<'p> {
     }
 }
 
-/// The same by way of a buffer that is long enough.
+/// Writes the frame of an action with a number, by way of a buffer that is long enough.
 fn write_frame(action: &Action, number: u64, frame: &mut Frame)
     requires { IsDoable action.now }
     ensures { IsFrame frame.new.items (bare_payload (frame_of action.now number)) }

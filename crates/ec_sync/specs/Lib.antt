@@ -1,4 +1,4 @@
--- To be believed, in this order: what a manager holds and who may do what (Buffer, Manager), where its bytes lie (Bounds),
+-- To be believed, in this order: what a manager holds and who may do what (Buffer, SyncManager), where its bytes lie (Bounds),
 -- which manager has which byte and what it shows (Governing), and what holds of every manager and is proved of each (Sound)
 pub mod Buffer
 pub mod SyncManager

@@ -27,7 +27,7 @@ impl SyncManager {
     /// Stores the value that an access writes: what [`ring_write`] does where it is granted, for a
     /// caller that has asked for the rights itself.
     ///
-    /// [`ring_write`]: Manager::ring_write
+    /// [`ring_write`]: SyncManager::ring_write
     #[tactic(auto, using(crate::proofs::Lengths::buffer_length_set))]
     pub fn store<W: Writing>(&mut self, writing: &W)
         requires set { is_set self.old.settings ≡ true }

@@ -210,13 +210,14 @@ fn numbers_of(
     Ok(found)
 }
 
-/// The same, said of the values of the array.
+/// Whether each of these values is a table.
 fn each_is_table(elements: &[Value]) -> bool
     ensures { result ≡ list_all (λ v. is_table (view v)) elements.now }
 {
     elements.iter().all(|value| is_table(value))
 }
 
+/// Whether each element of an array is a table.
 #[tactic(auto, using(crate::proofs::Lookups::are_tables_of))]
 fn are_tables(elements: &[Value]) -> bool
     ensures { result ≡ are_tables (items_view elements.now) }

@@ -20,6 +20,11 @@ use std::alloc::Global;
 use toml::Value;
 
 /// The table that a text states, or the first fault of the text.
+///
+/// # Errors
+///
+/// The first fault of the text as `TableError::Refused`, in the order of `docs/TABLES.md`, "Refusals", or `TableError::Memory`
+/// where memory ran out.
 #[tactic(auto, unfolding(crate::specs::Reading::table_of))]
 pub fn read_table(alloc: Global, text: &str) -> Result<Table, TableError>
     ensures { Gives result (table_of text.now) }

@@ -58,7 +58,7 @@ pub fn print_payloads<H: AllocGlobal + Files, R: Read, W: Write>(
     }
 }
 
-/// The same by the table in a file.
+/// Prints the input's payloads with remarks by the link table in a file.
 fn print_by_file<H: AllocGlobal + Files, R: Read, W: Write>(
     rt: &H,
     path: &str,
@@ -82,7 +82,7 @@ fn read_file<H: AllocGlobal + Files>(rt: &H, path: &str) -> Result<String, Refus
     read_text(rt.alloc(), &mut file)
 }
 
-/// The same by the text of a table.
+/// Prints the input's payloads with remarks by the link table that a text states.
 fn print_by_text<R: Read, W: Write>(
     alloc: Global,
     names: Names,

@@ -15,7 +15,8 @@ const MAX_FOREIGN: usize = 64;
 /// Brings the slaves up that answer on a wire: turn after turn the next frame is sent and its answer taken, until the start-up
 /// has ended. A fault of the wire, or 64 payloads that don't answer a frame, ends it as lost.
 ///
-/// Where the wire carries each frame past all slaves and back, a new start-up ends Ready, and every slave works as planned.
+/// Where the wire carries each frame past all slaves and back, a new start-up of a plan that the link compiler made ends Ready
+/// over devices of its types, and every slave works as planned.
 ///
 /// A start-up whose frame is outstanding ends as lost.
 pub fn bring_up_wire<W: Wire>(startup: &mut Startup<'_>, wire: &mut W)

@@ -48,7 +48,7 @@ impl Model for UdpWire {
 }
 
 impl UdpWire {
-    /// The same wire to the one peer on a port, from which alone it receives.
+    /// This wire, connected with the one peer on a port, from which alone it receives.
     pub(crate) fn connected_to(self, port: u16) -> Result<UdpWire, SocketFault>
         ensures { IfOk result (λ w. w ≡ self) }
     {
@@ -78,7 +78,8 @@ impl UdpWire {
         UdpWire::new(rt, port, waits_of(seconds))
     }
 
-    /// The same on a port that the system picks, but the first receive that got nothing is a fault.
+    /// A wire on a port that the system picks, which sends to whoever sent the last payload that it received. The first receive
+    /// that got nothing is a fault.
     pub(crate) fn bind_impatient<R: Net>(rt: &R) -> Result<UdpWire, SocketFault>
         ensures { IfOk result (λ w. w.failed ≡ 0) }
     {
@@ -131,7 +132,7 @@ impl UdpWire {
         self.port
     }
 
-    /// The same wire to one peer, from which alone it receives.
+    /// This wire, connected with one peer, from which alone it receives.
     fn connected_with(self, peer: SocketAddr) -> Result<UdpWire, SocketFault>
         ensures { IfOk result (λ w. w ≡ self) }
     {

@@ -163,7 +163,7 @@ fn run_plan<H: AllocGlobal>(
     Ok(follow(&mut master, wire, places, cycles))
 }
 
-/// The same of a table.
+/// Runs the machine of a table, whose slaves answer at an address.
 fn run_table<H: AllocGlobal + Net>(
     rt: &H,
     table: &Table,
@@ -176,7 +176,7 @@ fn run_table<H: AllocGlobal + Net>(
     run_plan(rt, &plan, places, &mut wire, cycles)
 }
 
-/// The same of the table that a text states.
+/// Runs the machine of the table that a text states, whose slaves answer at an address.
 fn run_text<H: AllocGlobal + Net>(
     rt: &H,
     text: &str,

@@ -13,7 +13,7 @@ pub fn without_lrw(alloc: Global) -> Result<String, AllocError> {
     )
 }
 
-/// The same, where the second slave is a sync unit of its own.
+/// `THREE_SLAVES`, where the second slave is a sync unit of its own.
 pub fn two_units(alloc: Global) -> Result<String, AllocError> {
     let text = THREE_SLAVES.replace(alloc, "type = \"di4\"", "type = \"di4\", unit = 1")?;
     format!(in alloc; "version = 2\n{text}")

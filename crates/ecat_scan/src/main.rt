@@ -62,7 +62,7 @@ fn scan_link<L: Carrier + Drop>(
     expect_scan(&mut master, slaves, found)
 }
 
-/// The same of the slaves of an example.
+/// Scans the slaves of an example: in memory, behind a UDP port or behind a card. What is found of each is added to `found`.
 fn scan<H: AllocGlobal + Net>(
     rt: &H,
     example: Example,
