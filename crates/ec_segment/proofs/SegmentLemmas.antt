@@ -131,17 +131,23 @@ pub segment_refused : (r : Result Unit Refusal) (x : Refusal) (frames port : ℕ
 segment_refused (Ok done) x frames port form known old quiet is h = absurd is
 segment_refused (Err e) x frames port form known old quiet is h = inr (e, refl, subst (RefusesSegment known) (sym is) h, refl, refl)
 
-pub segment_served : (r : Result Unit Refusal) (frames port listens : ℕ) (form : SlaveForm) (opened closed : SocketState) (known old new quiet told : Option (List ℕ)) (shows : List ℕ → List ℕ → Type 0) (first last : List SlaveState)
-    → GivesSlaves form known first → IsOpened port opened → listens ≡ opened.port → IsTold (listening_line listens) quiet told
+-- it is refused after a call that told nothing
+pub segment_unbound : (r : Result Unit Refusal) (x : Refusal) (frames port : ℕ) (form : SlaveForm) (known old quiet told : Option (List ℕ)) → IsErrAnd r (λ e. e ≡ x) → RefusesSegment known x
+    → told ≡ quiet → RunsSegment frames port form known old old quiet told r
+segment_unbound (Ok done) x frames port form known old quiet told is h same = absurd is
+segment_unbound (Err e) x frames port form known old quiet told is h same = inr (e, refl, subst (RefusesSegment known) (sym is) h, refl, same)
+
+pub segment_served : (r : Result Unit Refusal) (frames port : ℕ) (form : SlaveForm) (opened closed : SocketState) (known old new quiet told : Option (List ℕ)) (shows : List ℕ → List ℕ → Type 0) (first last : List SlaveState)
+    → GivesSlaves form known first → IsOpened port opened → IsTold (listening_line opened.port) quiet told
     → ServesSegment frames shows first last (silent opened.failed) (silent closed.failed) old new r → RunsSegment frames port form known old new quiet told r
-segment_served r frames port listens form opened closed known old new quiet told shows first last slaves socket same line serves = inl (record {
+segment_served r frames port form opened closed known old new quiet told shows first last slaves socket line serves = inl (record {
   opened = opened;
   closed = closed;
   first = first;
   last = last;
   slaves = slaves;
   socket = socket;
-  tells = subst (λ (n : ℕ). IsTold (listening_line n) quiet told) same line;
+  tells = line;
   serves = serves-any r frames shows first last (silent opened.failed) (silent closed.failed) old new serves;
 })
 

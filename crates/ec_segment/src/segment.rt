@@ -1,8 +1,9 @@
 //! `ecat segment`: the slaves of a link table, on a socket or a card.
-ghost use Rattle.std.specs.Prelude.{◌≡◌, [], Result};
+ghost use Rattle.std.specs.Prelude.{◌≡◌, [], IfErr, IfOk, Result};
 ghost use Rattle.ec_console.specs.Explaining.{IsLeft};
 ghost use Rattle.ec_console.specs.Printing.{IsTold, Shows};
 ghost use Rattle.ec_tap.specs.Taps.{Tells};
+ghost use Rattle.ec_wire.specs.Wires.{IsOpened};
 ghost use Rattle.ec_console.specs.Capturing.{EndsCaptured, Finishes};
 ghost use Rattle.ec_console.specs.declared.refusal.Refusal.{Refusal as RefusalValue};
 ghost use Rattle.ec_segment.specs.Serving.{RunsCardSegment, RunsSegment, ServesSegment, listening_line, served_line};
@@ -17,7 +18,7 @@ use ec_console::{
 use ec_ring::Ring;
 use ec_tap::{CapturedWire, Side};
 use ec_text::push_number;
-use ec_wire::{App, Served, UdpWire, Wire, serve_counted};
+use ec_wire::{App, Served, SocketFault, UdpWire, Wire, serve_counted};
 use std::fs::Files;
 use std::io::{Read, Write};
 use std::net::Net;
@@ -182,6 +183,21 @@ fn tell_listening<F: Write>(port: u16, faults: &mut F)
     tell_text(line.as_bytes(), faults);
 }
 
+/// A segment's socket on a port, of which it is told where it listens.
+fn listen<H: Net, F: Write>(
+    rt: &H,
+    port: u16,
+    idle: u32,
+    faults: &mut F,
+) -> Result<UdpWire, SocketFault>
+    ensures opened { IfOk result (λ w. IsOpened port w × IsTold (listening_line w.port) (F.contents faults.old) (F.contents faults.new)) }
+    ensures refused { IfErr result (λ fault. faults.new ≡ faults.old) }
+{
+    let wire = UdpWire::bind_idle(rt, port, idle)?;
+    tell_listening(wire.port(), faults);
+    Ok(wire)
+}
+
 /// The line that says how many payloads were answered, and how many not.
 fn served(counts: Served) -> ArrayString<LINE_SIZE>
     ensures { result.bytes ≡ served_line counts.answered counts.refused }
@@ -226,12 +242,12 @@ fn serve_port<H: AllocGlobal + Net + Files + Clock, R: Read, W: Write, F: Write>
     ensures explains { IsLeft behind.old behind.new }
 {
     let mut slaves = slaves_of_input(rt.alloc(), input, form, behind)?;
-    let wire = UdpWire::bind_idle(rt, port, idle)?;
-    tell_listening(wire.port(), faults);
+    let wire = listen(rt, port, idle, faults)?;
     serve_tapped(rt, &mut slaves, app, wire, frames, capture, output)
 }
 
-/// The same on a wire that has carried nothing yet, whose payloads are noted in a capture, if there is one.
+/// Answers payloads on a wire that has carried nothing yet, as [`print_served_segment`] does, and notes them in a capture, if
+/// there is one.
 #[tactic(auto, using(crate::proofs::SegmentLemmas::tapped_serves))]
 fn serve_tapped<H: AllocGlobal + Files + Clock, W: Wire + Drop, O: Write>(
     rt: &H,
@@ -262,7 +278,7 @@ fn serve_tapped<H: AllocGlobal + Files + Clock, W: Wire + Drop, O: Write>(
     }
 }
 
-/// The same with a capture that is open, which is then written to the end.
+/// Answers payloads on a port, as [`print_segment`] does, with a capture that is open, which is then written to the end.
 fn port_captured<H: AllocGlobal + Net + Files + Clock, R: Read, W: Write, F: Write>(
     rt: &H,
     frames: u32,
@@ -328,7 +344,7 @@ fn patience_of(seconds: u32) -> Patience {
     }
 }
 
-/// The same with a capture that is open, which is then written to the end.
+/// Answers payloads on a card, as [`print_card_segment`] does, with a capture that is open, which is then written to the end.
 fn card_captured<H: AllocGlobal + Files + Clock, R: Read, W: Write>(
     rt: &H,
     frames: u32,
