@@ -106,8 +106,29 @@ fn shift_run(dst: &mut [u8], at: usize, src: &[u8], start: usize, shift: usize, 
     shift_over(&mut dst[at..at + count], &src[start..], shift);
 }
 
-/// Fills `dst` with the bits of `src` from a place inside its first byte on.
+/// Fills `dst` with the bits of `src` from a place inside its first byte on. Each of the seven
+/// shifts has a loop of its own, since a shift that stands in the code costs half of one that is
+/// told.
 fn shift_over(dst: &mut [u8], src: &[u8], shift: usize)
+    requires some { 0 < shift }
+    requires small { shift < 8 }
+    requires there { length dst.old < length src.now }
+    ensures { dst.new ≡ copied dst.old 0 src.now shift (8 * length dst.old) }
+{
+    match shift {
+        1 => shift_all(dst, src, 1),
+        2 => shift_all(dst, src, 2),
+        3 => shift_all(dst, src, 3),
+        4 => shift_all(dst, src, 4),
+        5 => shift_all(dst, src, 5),
+        6 => shift_all(dst, src, 6),
+        _ => shift_all(dst, src, 7),
+    }
+}
+
+/// Fills `dst` with the bits of `src` from a place inside its first byte on.
+#[inline(always)]
+fn shift_all(dst: &mut [u8], src: &[u8], shift: usize)
     requires some { 0 < shift }
     requires small { shift < 8 }
     requires there { length dst.old < length src.now }

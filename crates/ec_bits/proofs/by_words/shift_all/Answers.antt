@@ -1,7 +1,7 @@
 use Rattle.std.proofs.Common.{ℕ, List, ◌≡◌, ◌+◌, ◌-◌, ◌*◌, ◌/◌, ◌∙◌, ap, sym, arith, length}
 use Rattle.ec_bits.specs.Bits.{copied}
 use Rattle.ec_bits.proofs.Copies.{copied_none, copied_more}
-use Rattle.ec_bits.proofs.by_words.shift_over.Goals as goal
+use Rattle.ec_bits.proofs.by_words.shift_all.Goals as goal
 
 pub loop-w-init : goal.loop-w-init
 loop-w-init c = sym (copied_none c.args.dst.now 0 c.args.src.now c.args.shift)
