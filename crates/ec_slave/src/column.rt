@@ -1,7 +1,7 @@
 //! A datagram that passes slaves, one after the other. Its header is decoded once, and what a slave may change of it
 //! beside its data is written once, after the last.
 
-ghost use Rattle.std.specs.Prelude.{◌≡◌, ◌<◌, Bool, true, length};
+ghost use Rattle.std.specs.Prelude.{◌≡◌, ◌<◌, Bool, length};
 ghost use Rattle.ec_frame.specs.Datagram.{Datagram, IsDatagram, IsSpelling, spelling};
 ghost use Rattle.ec_frame.specs.Fields.{with_data};
 ghost use Rattle.ec_slave.specs.Meeting.{datagram_met, slave_met};
@@ -25,22 +25,28 @@ struct Carried {
 }
 
 impl Slave {
-    /// Meets what a datagram through the FMMUs carries, and answers what it carries on. It is asked first whether it
+    /// Meets what a datagram carries, and answers what it carries on. One through the FMMUs is asked first whether it
     /// concerns the slave at all.
-    fn meet(&mut self, command: Command, carried: Carried, bytes: &mut [u8]) -> Carried
+    fn meet(
+        &mut self,
+        command: Command,
+        mapped: bool,
+        carried: Carried,
+        bytes: &mut [u8],
+    ) -> Carried
         requires few { length bytes.old < 2048 }
-        requires kind { is_mapped command ≡ true }
+        requires kind { mapped ≡ is_mapped command }
         ensures slave { self.new ≡ slave_met self.old (carrying command carried bytes.old) }
         ensures datagram { carrying command result bytes.new ≡ datagram_met self.old (carrying command carried bytes.old) }
     {
         let logical = 8 * u64::from(carried.address);
-        if self.misses(logical, 8 * bytes.len() as u64) {
+        if mapped && self.misses(logical, 8 * bytes.len() as u64) {
             return carried;
         }
         self.meet_by_command(command, carried, bytes)
     }
 
-    /// Meets what a datagram carries by the table of commands, and answers what it carries on.
+    /// The same by the table of commands.
     fn meet_by_command(&mut self, command: Command, carried: Carried, bytes: &mut [u8]) -> Carried
         requires { length bytes.old < 2048 }
         ensures slave { self.new ≡ slave_met self.old (carrying command carried bytes.old) }
@@ -110,41 +116,10 @@ fn carry(slaves: &mut [Slave], command: Command, first: Carried, bytes: &mut [u8
     ensures slaves { slaves.new ≡ slaves_met slaves.old (carrying command first bytes.old) }
     ensures datagram { carrying command result bytes.new ≡ datagram_past slaves.old (carrying command first bytes.old) }
 {
-    if is_mapped(command) {
-        carry_mapped(slaves, command, first, bytes)
-    } else {
-        carry_physical(slaves, command, first, bytes)
-    }
-}
-
-/// What a datagram through the FMMUs carries passes slaves. It has a loop of its own, since it concerns few of many slaves.
-fn carry_mapped(slaves: &mut [Slave], command: Command, first: Carried, bytes: &mut [u8]) -> Carried
-    requires few { length bytes.old < 2048 }
-    requires kind { is_mapped command ≡ true }
-    ensures slaves { slaves.new ≡ slaves_met slaves.old (carrying command first bytes.old) }
-    ensures datagram { carrying command result bytes.new ≡ datagram_past slaves.old (carrying command first bytes.old) }
-{
+    let mapped = is_mapped(command);
     let mut carried = first;
     for place in 0..slaves.len() {
-        carried = slaves[place].meet(command, carried, bytes);
-    }
-    carried
-}
-
-/// What any other datagram carries passes slaves.
-fn carry_physical(
-    slaves: &mut [Slave],
-    command: Command,
-    first: Carried,
-    bytes: &mut [u8],
-) -> Carried
-    requires { length bytes.old < 2048 }
-    ensures slaves { slaves.new ≡ slaves_met slaves.old (carrying command first bytes.old) }
-    ensures datagram { carrying command result bytes.new ≡ datagram_past slaves.old (carrying command first bytes.old) }
-{
-    let mut carried = first;
-    for place in 0..slaves.len() {
-        carried = slaves[place].meet_by_command(command, carried, bytes);
+        carried = slaves[place].meet(command, mapped, carried, bytes);
     }
     carried
 }

@@ -1,4 +1,4 @@
-use Rattle.std.proofs.Common.{◌≡◌, ◌*◌, ap, sym, subst, length, ℕ, arith}
+use Rattle.std.proofs.Common.{◌≡◌, ◌∙◌, ◌*◌, ap, sym, subst, length, ℕ, arith}
 use Rattle.ec_slave.specs.State.{Met, SlaveState}
 use Rattle.ec_slave.specs.LogicalLaws.{Misses}
 use Rattle.ec_slave.specs.Meeting.{meets}
@@ -13,5 +13,5 @@ returns-then-misses c =
     let from : c.from-logical.result ≡ c.args.carried.address = c.from-logical.ensures in
     let h : Misses s (record { from = 8 * c.args.carried.address; bits = 8 * length c.args.bytes.now })
     = subst (λ (n : ℕ). Misses s (record { from = 8 * n; bits = 8 * length c.args.bytes.now })) from c.if-misses.ensures in
-    let e : meets s d ≡ record { slave = s; datagram = d } = missed s d c.requires.kind h (omega arith) in
+    let e : meets s d ≡ record { slave = s; datagram = d } = missed s d (sym c.requires.kind ∙ c.if-mapped.true) h (omega arith) in
     record { slave = ap (λ (m : Met). m.slave) (sym e); datagram = ap (λ (m : Met). m.datagram) (sym e) }

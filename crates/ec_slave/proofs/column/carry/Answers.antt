@@ -1,6 +1,6 @@
 use Rattle.std.proofs.Common.{◌≤◌, length}
 use Rattle.ec_slave.proofs.Columns.{along_none, along_one, along_all}
-use Rattle.ec_slave.proofs.column.carry_mapped.Goals as goal
+use Rattle.ec_slave.proofs.column.carry.Goals as goal
 
 pub loop-place-init : goal.loop-place-init
 loop-place-init c = along_none _ _
