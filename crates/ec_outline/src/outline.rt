@@ -1,6 +1,6 @@
 //! Where the tables, keys and values of a TOML text stand, found by their tokens alone.
-use crate::spot::Span;
 use crate::token::{Token, TokenKind, tokens_of};
+use ec_told::Span;
 use std::alloc::{AllocError, Global};
 
 /// A step on the way to a value.

@@ -1,6 +1,6 @@
 //! The tokens of a TOML text. A text that is TOML is cut as its reader cuts it; any other is cut too.
 use crate::outline::PathStep;
-use crate::spot::Span;
+use ec_told::Span;
 use std::alloc::{AllocError, Global};
 
 /// What a token is.

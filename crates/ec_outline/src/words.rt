@@ -1,10 +1,18 @@
-//! Words for people: names that someone may have meant, lists and numbers of things.
+//! Words for people: names that someone may have meant, lists and numbers of things. Each is printed where
+//! it stands in other words, and takes no memory of its own.
+use ec_told::printed;
 use std::alloc::{AllocError, Global};
-use std::convert::AsStr;
+use std::fmt;
 use strsim::osa_distance;
+
+/// Words that were made, or the want of memory for them: what says them takes that apart.
+pub type Words = Result<String, AllocError>;
 
 /// Words with more bytes than this are near no name.
 const MAX_WORD: usize = 64;
+
+/// How many characters of a text are printed at most.
+const SHOWN: usize = 40;
 
 /// The first of the names that are nearest to a word, if it is near: a third of the word's bytes at
 /// most are to be changed, or one.
@@ -33,53 +41,66 @@ pub fn is_among(word: &str, names: &[&str]) -> bool {
     names.iter().any(|name| *name == word)
 }
 
-/// A question for the name that may have been meant, with a blank before it; nothing where no name is near.
-pub fn meant(alloc: Global, word: &str, names: &[&str]) -> Result<String, AllocError> {
-    match nearest(alloc, word, names)? {
-        Some(name) => format!(in alloc; "; did you mean `{name}`?"),
-        None => Ok(String::new(alloc)),
-    }
-}
+/// A name that may have been meant. It is printed as a question for it, with a mark before that; as nothing where no name is near.
+#[derive(Clone, Copy, Drop)]
+pub struct Meant<'n>(pub Option<&'n str>);
 
-/// Texts one behind the other, with commas and at last an `and` between them.
-pub fn listing<S: AsStr>(alloc: Global, texts: &[S]) -> Result<String, AllocError> {
-    let mut listed = String::new(alloc);
-    for (place, text) in texts.iter().enumerate() {
-        if place > 0 {
-            let is_last = texts.len() - place == 1;
-            listed.push_str(if is_last { " and " } else { ", " })?;
+impl fmt::Display for Meant<'_> {
+    fn fmt<W: fmt::Write>(&self, f: &mut fmt::Formatter<W>) -> fmt::Result {
+        match self.0 {
+            Some(name) => write!(f, "; did you mean `{name}`?"),
+            None => Ok(()),
         }
-        listed.push_str(text.as_str())?;
-    }
-    Ok(listed)
-}
-
-/// A number of things, as `1 bit` or `2 bits`.
-pub fn counted(alloc: Global, count: usize, thing: &str) -> Result<String, AllocError> {
-    if count == 1 {
-        format!(in alloc; "1 {thing}")
-    } else {
-        format!(in alloc; "{count} {thing}s")
     }
 }
 
-/// A text of a table as it may be printed: no more than 40 characters, and none that moves the cursor.
-pub fn printable(alloc: Global, text: &str) -> Result<String, AllocError> {
-    let mut shown = String::new(alloc);
-    for character in text.chars().take(40) {
-        shown.push(printed(character))?;
+/// Texts, printed one behind the other, with commas and at last an `and` between them.
+#[derive(Clone, Copy, Drop)]
+pub struct Listing<'l>(pub &'l [&'l str]);
+
+impl fmt::Display for Listing<'_> {
+    fn fmt<W: fmt::Write>(&self, f: &mut fmt::Formatter<W>) -> fmt::Result {
+        for (place, text) in self.0.iter().enumerate() {
+            f.write_str(comma(place, self.0.len()))?;
+            f.write_str(text)?;
+        }
+        Ok(())
     }
-    if text.chars().nth(40).is_some() {
-        shown.push_str("..")?;
-    }
-    Ok(shown)
 }
 
-/// A character as it may be printed: in place of one that controls, the replacement character.
-pub fn printed(character: char) -> char {
-    if character.is_control() {
-        '\u{FFFD}'
-    } else {
-        character
+/// What stands before the text at a place of a list of so many.
+pub fn comma(place: usize, count: usize) -> &'static str {
+    match count.saturating_sub(place) {
+        _ if place == 0 => "",
+        1 => " and ",
+        _ => ", ",
+    }
+}
+
+/// A number of things, printed as `1 bit` or `2 bits`.
+#[derive(Clone, Copy, Drop)]
+pub struct Counted<'t>(pub usize, pub &'t str);
+
+impl fmt::Display for Counted<'_> {
+    fn fmt<W: fmt::Write>(&self, f: &mut fmt::Formatter<W>) -> fmt::Result {
+        let Counted(count, thing) = *self;
+        let ending = if count == 1 { "" } else { "s" };
+        write!(f, "{count} {thing}{ending}")
+    }
+}
+
+/// A text of a table, printed with no more than 40 characters, and none that moves the cursor.
+#[derive(Clone, Copy, Drop)]
+pub struct Printable<'t>(pub &'t str);
+
+impl fmt::Display for Printable<'_> {
+    fn fmt<W: fmt::Write>(&self, f: &mut fmt::Formatter<W>) -> fmt::Result {
+        for character in self.0.chars().take(SHOWN) {
+            f.write_char(printed(character))?;
+        }
+        if self.0.chars().nth(SHOWN).is_some() {
+            f.write_str("..")?;
+        }
+        Ok(())
     }
 }

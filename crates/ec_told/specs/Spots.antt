@@ -1,6 +1,6 @@
 -- Where something stands in a text, as people count.
 use Rattle.std.specs.Prelude.{◌≡◌, ◌≤◌, ◌+◌, ◌-◌, ◌==◌, ◌||◌, ℕ, Bool, not, nat_lt, nat_le, List, [], ◌∷◌, take, reverse, take_while, count_by, if◌then◌else◌, slice_get, Some}
-use Rattle.ec_outline.specs.declared.spot.Spot.{Spot}
+use Rattle.ec_told.specs.declared.spot.Spot.{Spot}
 
 -- a line feed ends a line
 abbrev pub is_line_end : ℕ → Bool

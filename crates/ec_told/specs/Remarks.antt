@@ -1,9 +1,9 @@
 -- Remarks on a text, and the places that they name.
 use Rattle.std.specs.Prelude.{◌++◌, ◌∷◌, [], ℕ, List, codes, Option, Some, None}
 use Rattle.std.specs.Fmt.{decimal}
-use Rattle.ec_outline.specs.declared.spot.Spot.{Spot}
-use Rattle.ec_outline.specs.declared.remark.Remark.{Remark}
-use Rattle.ec_outline.specs.Spots.{LiesIn}
+use Rattle.ec_told.specs.declared.spot.Spot.{Spot}
+use Rattle.ec_told.specs.declared.remark.Remark.{Remark}
+use Rattle.ec_told.specs.Spots.{LiesIn}
 
 -- a text and what is said of it
 pub record Said : Type 0 where

@@ -1,9 +1,9 @@
 //! Remarks on a text, and how they are told.
 ghost use Rattle.std.specs.Prelude.{◌≡◌, ◌++◌, [], All, OnOk, string_bytes};
-ghost use Rattle.ec_outline.specs.Remarks.{StandsIn, heading};
+ghost use Rattle.ec_told.specs.Remarks.{StandsIn, heading};
 
 use crate::spot::{Span, Spot, spot_of};
-use crate::words::printed;
+use crate::text::printed;
 use std::alloc::{AllocError, Global};
 use std::fmt::Write as _;
 use std::marker::Model;
@@ -31,7 +31,7 @@ pub struct Remarks<'a> {
 
 impl<'a> Model for Remarks<'a> {
     ghost use Rattle.std.specs.Prelude.{All};
-    ghost use Rattle.ec_outline.specs.Remarks.{Said, StandsIn};
+    ghost use Rattle.ec_told.specs.Remarks.{Said, StandsIn};
 
     ghost Value = { Said };
 

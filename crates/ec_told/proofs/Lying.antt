@@ -6,8 +6,8 @@ use Rattle.std.proofs.lemmas.List.Sums.{sum_by-cons}
 use Rattle.std.specs.Prelude.{count_by, take_while}
 use Rattle.std.specs.List.{prefix_len}
 use mathlib.Core.List.{reverse-cons}
-use Rattle.ec_outline.specs.declared.spot.Spot.{Spot}
-use Rattle.ec_outline.specs.Spots.{is_line_end, goes_on, opens, spot_at, onto, pieces, LiesIn}
+use Rattle.ec_told.specs.declared.spot.Spot.{Spot}
+use Rattle.ec_told.specs.Spots.{is_line_end, goes_on, opens, spot_at, onto, pieces, LiesIn}
 
 -- how many pass, from the front on
 abbrev count : (ℕ → Bool) → List ℕ → ℕ

@@ -1,6 +1,6 @@
 //! Places of a text as people count them.
 ghost use Rattle.std.specs.Prelude.{◌≡◌, ◌+◌, ◌<◌, take_while, reverse, count_by};
-ghost use Rattle.ec_outline.specs.Spots.{LiesIn, goes_on, is_line_end, opens, spot_at};
+ghost use Rattle.ec_told.specs.Spots.{LiesIn, goes_on, is_line_end, opens, spot_at};
 
 /// A place of a text as people count it: lines from 1 on, and in a line characters from 1 on. The
 /// place behind the last character of a line is one of the line.

@@ -1,2 +1,0 @@
--- To be believed by reading: which text is explained.
-pub mod Texts

@@ -1,2 +1,0 @@
--- a spot of a text lies in it
-mod Lying
