@@ -1,7 +1,7 @@
 //! A refusal explained.
 ghost use Rattle.std.specs.Prelude.{All, IfOk};
-ghost use Rattle.ec_outline.specs.Remarks.{StandsIn};
-ghost use Rattle.ec_explain.specs.Texts.{IsUnmarked};
+ghost use Rattle.ec_told.specs.Remarks.{StandsIn};
+ghost use Rattle.ec_told.specs.Texts.{IsUnmarked};
 
 use ec_cycle::CycleError;
 use ec_explain_plan::tell_link_fault;
@@ -9,9 +9,10 @@ use ec_explain_script::{tell_bad_line, tell_unmet};
 use ec_explain_start::{tell_cycle_error, tell_start_error, tell_wire_fault};
 use ec_explain_table::tell_fault;
 use ec_link::LinkFault;
-use ec_outline::{Remarks, Telling};
+use ec_outline::Telling;
 use ec_start::StartError;
 use ec_table::{Fault, read_table};
+use ec_told::{Remarks, without_mark};
 use std::alloc::{AllocError, Global};
 
 /// Why a command was refused, as far as there is something to explain.
@@ -47,17 +48,8 @@ pub fn remarks_on<'a>(alloc: Global, text: &'a str, cause: Cause) -> Result<Rema
 {
     let rest = without_mark(text);
     let mut telling = Telling::new(alloc, rest)?;
-    match cause {
-        Cause::Table(fault) => tell_fault(&mut telling, rest, fault)?,
-        Cause::Link(_) | Cause::Start(_) => tell_of_table(&mut telling, rest, cause)?,
-        Cause::Cycle(error) => tell_cycle_error(&mut telling, error)?,
-        Cause::Wire => tell_wire_fault(&mut telling)?,
-        Cause::Script { from, line } => {
-            let from = from.saturating_sub(text.len().saturating_sub(rest.len()));
-            tell_bad_line(&mut telling, rest, from, line)?;
-        }
-        Cause::Unmet(count) => tell_unmet(&mut telling, count)?,
-    }
+    let skipped = text.len().saturating_sub(rest.len());
+    tell(&mut telling, rest, skipped, cause);
     telling.into_remarks(rest)
 }
 
@@ -67,26 +59,26 @@ pub fn explanation(alloc: Global, text: &str, cause: Cause) -> Result<String, Al
     remarks.told(alloc)
 }
 
-/// Tells of the table that a text states.
-fn tell_of_table(telling: &mut Telling<'_>, text: &str, cause: Cause) -> Result<(), AllocError> {
-    let table = match read_table(telling.alloc, text) {
-        Ok(table) => table,
-        Err(error) if error.number() == 1 => return Err(AllocError),
-        Err(_) => return Ok(()),
-    };
+/// Tells of a cause, in a text before which so many bytes were skipped.
+fn tell(telling: &mut Telling<'_>, text: &str, skipped: usize, cause: Cause) {
     match cause {
-        Cause::Link(fault) => tell_link_fault(telling, &table, fault),
-        Cause::Start(error) => tell_start_error(telling, &table, error),
-        _ => Ok(()),
+        Cause::Table(fault) => tell_fault(telling, text, fault),
+        Cause::Link(_) | Cause::Start(_) => tell_of_table(telling, text, cause),
+        Cause::Cycle(error) => tell_cycle_error(telling, error),
+        Cause::Wire => tell_wire_fault(telling),
+        Cause::Script { from, line } => {
+            tell_bad_line(telling, text, from.saturating_sub(skipped), line);
+        }
+        Cause::Unmet(count) => tell_unmet(telling, count),
     }
 }
 
-/// A text without the mark that some editors write before it.
-fn without_mark(text: &str) -> &str
-    ensures { IsUnmarked text.now result.now }
-{
-    match text.strip_prefix('\u{FEFF}') {
-        Some(rest) => rest,
-        None => text,
+/// Tells of the table that a text states.
+fn tell_of_table(telling: &mut Telling<'_>, text: &str, cause: Cause) {
+    match (read_table(telling.alloc, text), cause) {
+        (Ok(table), Cause::Link(fault)) => tell_link_fault(telling, &table, fault),
+        (Ok(table), Cause::Start(error)) => tell_start_error(telling, &table, error),
+        (Err(error), _) if error.number() == 1 => telling.fall_short(),
+        _ => (),
     }
 }

@@ -2,6 +2,7 @@
 #![tactic(auto)]
 
 mod misfit;
+mod numbers;
 mod reading;
 mod rule;
 

@@ -1,31 +1,25 @@
 //! In words how a value doesn't fit what its key takes.
-use crate::rule::{DIRECTIONS, Rule, TRUTHS, lacking, last_index};
+use crate::rule::{DIRECTIONS, Lacking, Rule, TRUTHS, last_index, word_of};
 use ec_device::{MAX_ENTRIES, MAX_PDOS};
-use ec_outline::{MarkedPart, PathStep, is_among, meant, printable, printed};
-use std::alloc::{AllocError, Global};
+use ec_outline::{MarkedPart, Meant, PathStep, Printable, Words, is_among, nearest};
+use ec_table::{Place, Section};
+use ec_told::printed;
+use std::alloc::Global;
 use toml::{Table, Value};
 
-/// Why a value isn't found to fit a rule.
-#[derive(Drop)]
-pub enum Misfit {
-    /// Memory ran out.
-    Memory,
-    /// It doesn't fit, in words.
-    Words(String),
-}
+/// How many steps there are to a value in a link table: a bit of an entry of a PDO of a type has the longest way.
+const STEPS: usize = 8;
 
-impl From<AllocError> for Misfit {
-    fn from(_error: AllocError) -> Misfit {
-        Misfit::Memory
-    }
-}
+/// That a value doesn't fit a rule, in words.
+#[derive(Drop)]
+pub struct Misfit(pub Words);
 
 /// Where a fault stands: at the end of a way, by the key there or by its value.
-#[derive(Drop)]
+#[derive(Clone, Copy)]
 pub struct Mark<'s> {
     alloc: Global,
-    /// The way.
-    pub way: Vec<PathStep<'s>>,
+    steps: [PathStep<'s>; STEPS],
+    count: usize,
     /// What is at fault there.
     pub part: MarkedPart,
 }
@@ -39,15 +33,26 @@ static LINK_BITS: [(u32, u32); 3] = [(0, 63), (0, 63), (1, 64)];
 static ENTRY: [(u32, u32); 3] = [(0, 65535), (0, 255), (1, 64)];
 
 impl<'s> Mark<'s> {
-    /// The value under a key of what a way leads to.
-    pub fn under(
-        alloc: Global,
-        mut way: Vec<PathStep<'s>>,
-        key: &'s str,
-    ) -> Result<Mark<'s>, AllocError> {
-        way.push(PathStep::Key(key))?;
-        let part = MarkedPart::Value;
-        Ok(Mark { alloc, way, part })
+    /// The value under a key of an element.
+    pub fn under(alloc: Global, place: Place, key: &'s str) -> Mark<'s> {
+        let mut mark = Mark {
+            alloc,
+            steps: [PathStep::Item(0); STEPS],
+            count: 0,
+            part: MarkedPart::Value,
+        };
+        if place.section != Section::Top {
+            mark.enter(PathStep::Key(word_of(place.section)));
+            mark.enter(PathStep::Item(place.element));
+        }
+        mark.enter(PathStep::Key(key));
+        mark
+    }
+
+    /// The way there.
+    pub fn way(&self) -> &[PathStep<'s>] {
+        let count = self.count.min(STEPS);
+        &self.steps[..count]
     }
 
     /// Holds the value there against a rule. Where it doesn't fit, the mark is led to what is wrong.
@@ -127,9 +132,9 @@ impl<'s> Mark<'s> {
             return refuse(format!(in alloc; "a list of {count}, and {wanted} are wanted"));
         }
         for (place, (item, (low, high))) in items.iter().zip(ranges).enumerate() {
-            self.enter(PathStep::Item(place))?;
+            self.enter(PathStep::Item(place));
             self.hold_number(item, *low, *high)?;
-            self.way.pop();
+            self.leave();
         }
         Ok(())
     }
@@ -137,9 +142,9 @@ impl<'s> Mark<'s> {
     fn hold_indices(&mut self, value: &Value, first: u16) -> Result<(), Misfit> {
         let indices = self.items(value, "a list of PDO indices")?;
         for (place, index) in indices.iter().enumerate() {
-            self.enter(PathStep::Item(place))?;
+            self.enter(PathStep::Item(place));
             self.hold_index(index, first)?;
-            self.way.pop();
+            self.leave();
         }
         Ok(())
     }
@@ -147,9 +152,9 @@ impl<'s> Mark<'s> {
     fn hold_pdos(&mut self, value: &'s Value, first: u16) -> Result<(), Misfit> {
         let pdos = self.items(value, "a list of PDOs")?;
         for (place, pdo) in pdos.iter().enumerate() {
-            self.enter(PathStep::Item(place))?;
+            self.enter(PathStep::Item(place));
             self.hold_pdo(pdo, first)?;
-            self.way.pop();
+            self.leave();
         }
         self.hold_count(pdos.len(), MAX_PDOS, "PDOs")
     }
@@ -159,15 +164,16 @@ impl<'s> Mark<'s> {
         let members = self.wanted(value, value.as_table(), pdo)?;
         self.hold_pdo_keys(members)?;
         let (Some(index), Some(entries)) = (members.get("index"), members.get("entries")) else {
-            let (alloc, lacks) = (self.alloc, lacking(self.alloc, members, &PDO_KEYS)?);
-            return refuse(format!(in alloc; "this PDO lacks {lacks}"));
+            let names = &PDO_KEYS;
+            let lacks = Lacking { members, names };
+            return refuse(format!(in (self.alloc); "this PDO lacks {lacks}"));
         };
-        self.enter(PathStep::Key("index"))?;
+        self.enter(PathStep::Key("index"));
         self.hold_index(index, first)?;
-        self.way.pop();
-        self.enter(PathStep::Key("entries"))?;
+        self.leave();
+        self.enter(PathStep::Key("entries"));
         self.hold_entries(entries)?;
-        self.way.pop();
+        self.leave();
         Ok(())
     }
 
@@ -176,22 +182,24 @@ impl<'s> Mark<'s> {
         let Some(key) = members.keys().find(|it| !is_among(it.as_str(), &PDO_KEYS)) else {
             return Ok(());
         };
-        self.enter(PathStep::Key(key.as_str()))?;
+        self.enter(PathStep::Key(key.as_str()));
         self.part = MarkedPart::Key;
-        let alloc = self.alloc;
-        let (shown, near) = (
-            printable(alloc, key.as_str())?,
-            meant(alloc, key.as_str(), &PDO_KEYS)?,
-        );
-        refuse(format!(in alloc; "`{shown}` is no key of a PDO{near}"))
+        let (alloc, key) = (self.alloc, key.as_str());
+        refuse(match nearest(alloc, key, &PDO_KEYS) {
+            Ok(name) => {
+                let (shown, near) = (Printable(key), Meant(name));
+                format!(in alloc; "`{shown}` is no key of a PDO{near}")
+            }
+            Err(error) => Err(error),
+        })
     }
 
     fn hold_entries(&mut self, value: &Value) -> Result<(), Misfit> {
         let entries = self.items(value, "a list of entries")?;
         for (place, entry) in entries.iter().enumerate() {
-            self.enter(PathStep::Item(place))?;
+            self.enter(PathStep::Item(place));
             self.hold_entry(entry)?;
-            self.way.pop();
+            self.leave();
         }
         self.hold_count(entries.len(), MAX_ENTRIES, "entries")
     }
@@ -207,10 +215,18 @@ impl<'s> Mark<'s> {
         Ok(())
     }
 
-    /// Goes a step on the way.
-    fn enter(&mut self, step: PathStep<'s>) -> Result<(), AllocError> {
-        self.way.push(step)?;
-        Ok(())
+    /// Goes a step on the way; where it has as many as it can have, it ends there.
+    fn enter(&mut self, step: PathStep<'s>) {
+        let count = self.count;
+        if let Some(last) = self.steps.get_mut(count) {
+            *last = step;
+            self.count += 1;
+        }
+    }
+
+    /// Goes the last step back.
+    fn leave(&mut self) {
+        self.count = self.count.saturating_sub(1);
     }
 
     /// Holds how many things there are.
@@ -242,12 +258,12 @@ impl<'s> Mark<'s> {
             _ => "a date or a time",
         };
         let alloc = self.alloc;
-        let words = format!(in alloc; "{kind} stands where {wanted} is wanted")?;
-        Err(Misfit::Words(words))
+        let words = format!(in alloc; "{kind} stands where {wanted} is wanted");
+        Err(Misfit(words))
     }
 }
 
 /// That a value doesn't fit.
-fn refuse(words: Result<String, AllocError>) -> Result<(), Misfit> {
-    Err(Misfit::Words(words?))
+fn refuse(words: Words) -> Result<(), Misfit> {
+    Err(Misfit(words))
 }

@@ -1,8 +1,10 @@
 //! The keys of a link table, and what each takes.
 use ec_device::{FIRST_INPUT_INDEX, FIRST_OUTPUT_INDEX, MAX_PDOS, PDO_INDICES};
-use ec_outline::listing;
+use ec_outline::comma;
 use ec_table::Section;
 use std::alloc::{AllocError, Global};
+use std::fmt;
+use toml::Table;
 
 /// What a key takes.
 #[derive(Clone, Copy)]
@@ -100,6 +102,11 @@ pub fn keys_of(section: Section) -> &'static [Key] {
     }
 }
 
+/// Whether a word is the name of one of some keys.
+pub fn is_key(word: &str, keys: &[Key]) -> bool {
+    keys.iter().any(|(name, _, _)| *name == word)
+}
+
 /// The names of keys.
 pub fn names_of(alloc: Global, keys: &[Key]) -> Result<Vec<&'static str>, AllocError> {
     let mut names = Vec::new(alloc);
@@ -112,48 +119,91 @@ pub fn names_of(alloc: Global, keys: &[Key]) -> Result<Vec<&'static str>, AllocE
 /// The names of those keys that an element must have.
 pub fn needs_of(alloc: Global, keys: &[Key]) -> Result<Vec<&'static str>, AllocError> {
     let mut names = Vec::new(alloc);
-    for (name, _, _) in keys.iter().filter(|(_, _, is_needed)| *is_needed) {
-        names.push(*name)?;
+    for (name, _, is_needed) in keys {
+        if *is_needed {
+            names.push(*name)?;
+        }
     }
     Ok(names)
 }
 
-/// The names that a table lacks, in words; empty where it has all.
-pub fn lacking(alloc: Global, members: &toml::Table, names: &[&str]) -> Result<String, AllocError> {
-    let mut lacks: Vec<&str> = Vec::new(alloc);
-    for name in names {
-        if members.get(*name).is_none() {
-            lacks.push(*name)?;
+/// Keys as their names are printed, one after another.
+#[derive(Clone, Copy, Drop)]
+pub struct Named<'k>(pub &'k [Key]);
+
+impl fmt::Display for Named<'_> {
+    fn fmt<W: fmt::Write>(&self, f: &mut fmt::Formatter<W>) -> fmt::Result {
+        for (place, (name, _, _)) in self.0.iter().enumerate() {
+            let before = comma(place, self.0.len());
+            write!(f, "{before}{name}")?;
         }
+        Ok(())
     }
-    listing(alloc, lacks.as_slice())
+}
+
+/// Those of some names that a table lacks, printed one after another.
+#[derive(Clone, Copy, Drop)]
+pub struct Lacking<'t> {
+    /// The table.
+    pub members: &'t Table,
+    /// The names.
+    pub names: &'t [&'t str],
+}
+
+impl Lacking<'_> {
+    /// Whether the table lacks a name.
+    fn has(&self, name: &str) -> bool {
+        self.members.get(name).is_none()
+    }
+}
+
+impl fmt::Display for Lacking<'_> {
+    fn fmt<W: fmt::Write>(&self, f: &mut fmt::Formatter<W>) -> fmt::Result {
+        let count = self.names.iter().filter(|name| self.has(name)).count();
+        let lacks = self.names.iter().filter(|name| self.has(name));
+        for (place, name) in lacks.enumerate() {
+            let before = comma(place, count);
+            write!(f, "{before}{name}")?;
+        }
+        Ok(())
+    }
 }
 
 /// What a key takes, in words.
-pub fn taken_by(alloc: Global, rule: Rule) -> Result<String, AllocError> {
-    let words = match rule {
-        Rule::Number(low, high) => return format!(in alloc; "a whole number from {low} to {high}"),
-        Rule::Indices(first) => {
-            let last = last_index(first);
-            return format!(in alloc; "a list of PDO indices, each 0x{first:04X} to 0x{last:04X}");
+#[derive(Clone, Copy, Drop)]
+pub struct Taken(pub Rule);
+
+impl fmt::Display for Taken {
+    fn fmt<W: fmt::Write>(&self, f: &mut fmt::Formatter<W>) -> fmt::Result {
+        match self.0 {
+            Rule::Number(low, high) => write!(f, "a whole number from {low} to {high}"),
+            Rule::Indices(first) => {
+                let last = last_index(first);
+                write!(
+                    f,
+                    "a list of PDO indices, each 0x{first:04X} to 0x{last:04X}"
+                )
+            }
+            Rule::Pdos(first) => {
+                let last = last_index(first);
+                write!(
+                    f,
+                    "a list of at most {MAX_PDOS} PDOs, each {{ index = 0x{first:04X} to 0x{last:04X}, entries = [[index, subindex, bits], ..] }}"
+                )
+            }
+            Rule::Mailbox => f.write_str(
+                "[receive start, receive size, send start, send size], each start 0 to 65535 and each size 16 to 1024",
+            ),
+            Rule::Direction => f.write_str(DIRECTIONS),
+            Rule::LinkBits => f.write_str(
+                "[first bit of the variable, first bit of the entry, number of bits]",
+            ),
+            Rule::Truth => f.write_str(TRUTHS),
+            Rule::Name => f.write_str(
+                "a text of 1 to 32 letters, digits and `_` in quotes, with no other characters",
+            ),
         }
-        Rule::Pdos(first) => {
-            let last = last_index(first);
-            return format!(in alloc;
-                "a list of at most {MAX_PDOS} PDOs, each {{ index = 0x{first:04X} to 0x{last:04X}, entries = [[index, subindex, bits], ..] }}"
-            );
-        }
-        Rule::Mailbox => {
-            "[receive start, receive size, send start, send size], each start 0 to 65535 and each size 16 to 1024"
-        }
-        Rule::Direction => DIRECTIONS,
-        Rule::LinkBits => "[first bit of the variable, first bit of the entry, number of bits]",
-        Rule::Truth => TRUTHS,
-        Rule::Name => {
-            "a text of 1 to 32 letters, digits and `_` in quotes, with no other characters"
-        }
-    };
-    String::from_str(alloc, words)
+    }
 }
 
 /// The last index of PDOs whose first is this.

@@ -1,0 +1,78 @@
+//! Numbers in a list of a document.
+use crate::reading::items_of;
+use ec_outline::comma;
+use std::fmt;
+use toml::Value;
+
+/// The numbers of a list, or the indices of its tables; 0 in the place of what is neither. They are printed as a list of numbers in hex.
+#[derive(Clone, Copy, Drop)]
+pub struct Numbers<'v> {
+    items: &'v [Value],
+}
+
+impl<'v> Numbers<'v> {
+    /// Those of a list; none where there is no list.
+    pub fn under(list: Option<&'v Value>) -> Numbers<'v> {
+        Numbers {
+            items: items_of(list),
+        }
+    }
+
+    /// Whether others are the same numbers in the same order.
+    pub fn is_same(self, others: Numbers<'_>) -> bool {
+        self.items.len() == others.items.len()
+            && (0..self.items.len()).all(|place| self.at(place) == others.at(place))
+    }
+
+    /// The first that is not among others, and its place.
+    pub fn first_not_in(self, others: Numbers<'_>) -> Option<(usize, i64)> {
+        for (place, item) in self.items.iter().enumerate() {
+            let number = number_of(item);
+            if others.place_of(number, others.items.len()).is_none() {
+                return Some((place, number));
+            }
+        }
+        None
+    }
+
+    /// The places of the first two that are the same number, and that number.
+    pub fn twice(self) -> Option<(usize, usize, i64)> {
+        for (second, item) in self.items.iter().enumerate() {
+            let number = number_of(item);
+            if let Some(first) = self.place_of(number, second) {
+                return Some((first, second, number));
+            }
+        }
+        None
+    }
+
+    /// The first place of a number before an end.
+    fn place_of(self, number: i64, end: usize) -> Option<usize> {
+        let mut items = self.items.iter().take(end);
+        items.position(|item| number_of(item) == number)
+    }
+
+    /// The number at a place.
+    fn at(self, place: usize) -> Option<i64> {
+        self.items.get(place).map(number_of)
+    }
+}
+
+impl fmt::Display for Numbers<'_> {
+    fn fmt<W: fmt::Write>(&self, f: &mut fmt::Formatter<W>) -> fmt::Result {
+        if self.items.is_empty() {
+            return f.write_str("none");
+        }
+        for (place, item) in self.items.iter().enumerate() {
+            let (before, number) = (comma(place, self.items.len()), number_of(item));
+            write!(f, "{before}0x{number:04X}")?;
+        }
+        Ok(())
+    }
+}
+
+/// An item as a number, or its index.
+fn number_of(item: &Value) -> i64 {
+    let number = item.get("index").unwrap_or(item).as_integer();
+    number.unwrap_or(0).max(0)
+}

@@ -1,5 +1,0 @@
-//! Bits that FMMUs bring to and fro, by the public calls of `ec_fmmu`.
-#![tactic(auto)]
-
-#[cfg(test)]
-mod tests;

@@ -1,0 +1,17 @@
+//! What a slave is made of, each part by the public calls of its crate.
+#![tactic(auto)]
+
+#[cfg(test)]
+mod al;
+#[cfg(test)]
+mod bits;
+#[cfg(test)]
+mod device;
+#[cfg(test)]
+mod fmmu;
+#[cfg(test)]
+mod regs;
+#[cfg(test)]
+mod sii;
+#[cfg(test)]
+mod sync;

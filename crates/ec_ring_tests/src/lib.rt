@@ -1,5 +1,0 @@
-//! Frames past several slaves, by the public calls of `ec_ring`.
-#![tactic(auto)]
-
-#[cfg(test)]
-mod tests;

@@ -1,0 +1,11 @@
+//! What people are told, each by the public calls of its crate.
+#![tactic(auto)]
+
+#[cfg(test)]
+mod explain;
+#[cfg(test)]
+mod outline;
+#[cfg(test)]
+mod translate;
+#[cfg(test)]
+mod watch;
