@@ -1,4 +1,6 @@
 //! Why a text is no link table: refusals 11 to 15.
+ghost use Rattle.std.specs.Prelude.{◌≤◌};
+
 use crate::misfit::{Mark, Misfit};
 use crate::numbers::Numbers;
 use crate::rule::{Lacking, Named, Rule, Taken, is_key, keys_of, names_of, needs_of, word_of};
@@ -45,7 +47,9 @@ impl<'d> Element<'d> {
     }
 
     /// How many steps of the way from its section's key on don't lead to it: both where it is the document.
-    fn skipped(self) -> usize {
+    fn skipped(self) -> usize
+        ensures { result ≤ 2 }
+    {
         if self.place.section == Section::Top {
             2
         } else {
