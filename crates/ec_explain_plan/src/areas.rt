@@ -1,117 +1,203 @@
 //! The memory that the sync managers of a slave take.
-use crate::AllocResult;
 use crate::places::SlaveAt;
-use ec_outline::counted;
+use ec_outline::Counted;
 use ec_regs::registers::{RAM_END, RAM_START};
 use ec_table::Direction;
-use std::alloc::Global;
+use std::fmt;
 
-/// An area of a slave's memory that a sync manager governs.
+/// What an area holds. It is printed in words.
+#[derive(Clone, Copy, PartialEq, Eq)]
+pub enum Content {
+    ReceiveMailbox,
+    SendMailbox,
+    Outputs,
+    Inputs,
+}
+
+/// What the areas of a slave hold, in order.
+static CONTENTS: [Content; 4] = [
+    Content::ReceiveMailbox,
+    Content::SendMailbox,
+    Content::Outputs,
+    Content::Inputs,
+];
+
+/// An area of a slave's memory that a sync manager governs. It is printed with where it begins and ends, and
+/// why it is so long.
 #[derive(Clone, Copy)]
 pub struct Area {
     /// What lies there.
-    pub name: &'static str,
+    pub content: Content,
     /// Its first address.
-    pub start: usize,
+    start: usize,
     /// Its bytes.
-    pub span: usize,
+    span: usize,
     /// The bytes of its value: a third of its bytes where it has three buffers.
-    pub length: usize,
-    /// The key of its type under which its start stands, and in a list there the place of it.
-    pub key: (&'static str, Option<usize>),
+    length: usize,
 }
 
 impl Area {
-    /// A mailbox, whose start has a place in the list `mailbox`.
-    fn mailbox(name: &'static str, start: u16, size: u16, item: usize) -> Area {
+    /// The area of a slave that holds something, if it has one.
+    fn of(at: &SlaveAt<'_>, content: Content) -> Option<Area> {
+        let process = &at.kind.process;
+        match content {
+            Content::Outputs => {
+                Area::process(content, process.out_start, at.bits(Direction::Out))
+            }
+            Content::Inputs => Area::process(content, process.in_start, at.bits(Direction::In)),
+            _ => Area::mailbox(at, content),
+        }
+    }
+
+    /// The area of a mailbox, if the slave has mailboxes.
+    fn mailbox(at: &SlaveAt<'_>, content: Content) -> Option<Area> {
+        let mailbox = at.kind.mailbox?;
+        let (start, size) = match content {
+            Content::ReceiveMailbox => (mailbox.receive_start, mailbox.receive_size),
+            _ => (mailbox.send_start, mailbox.send_size),
+        };
         let length = usize::from(size);
-        Area {
-            name,
+        Some(Area {
+            content,
             start: usize::from(start),
             span: length,
             length,
-            key: ("mailbox", Some(item)),
-        }
+        })
     }
 
-    /// The process data of a direction, so many bits.
-    fn process(name: &'static str, start: u16, bits: usize, key: &'static str) -> Area {
+    /// The area of the process data of a direction, if they have bits.
+    fn process(content: Content, start: u16, bits: usize) -> Option<Area> {
         let length = bits.div_ceil(8);
-        Area {
-            name,
+        if length == 0 {
+            return None;
+        }
+        Some(Area {
+            content,
             start: usize::from(start),
             span: length.saturating_mul(3),
             length,
-            key: (key, None),
-        }
+        })
     }
 
     /// The first address behind it.
-    pub fn end(&self) -> usize {
+    fn end(&self) -> usize {
         self.start.saturating_add(self.span)
     }
 
     /// Whether it shares an address with another.
-    pub fn meets(&self, other: &Area) -> bool {
+    fn meets(&self, other: &Area) -> bool {
         self.start < other.end() && other.start < self.end()
     }
 
     /// Whether it leaves the RAM.
-    pub fn leaves(&self) -> bool {
+    fn leaves(&self) -> bool {
         self.start < RAM_START || RAM_END < self.end()
     }
+}
 
-    /// The area in words: where it begins and ends, and why it is so long.
-    pub fn text(&self, alloc: Global) -> AllocResult<String> {
-        let (name, start, last) = (self.name, self.start, self.end().saturating_sub(1));
-        let length = counted(alloc, self.length, "byte")?;
+impl Content {
+    /// The key of a type under which the start of such an area stands, and in a list there the place of it.
+    pub fn key(self) -> (&'static str, Option<usize>) {
+        match self {
+            Content::ReceiveMailbox => ("mailbox", Some(0)),
+            Content::SendMailbox => ("mailbox", Some(2)),
+            Content::Outputs => ("out_start", None),
+            Content::Inputs => ("in_start", None),
+        }
+    }
+}
+
+impl fmt::Display for Content {
+    fn fmt<W: fmt::Write>(&self, f: &mut fmt::Formatter<W>) -> fmt::Result {
+        f.write_str(match self {
+            Content::ReceiveMailbox => "receive mailbox",
+            Content::SendMailbox => "send mailbox",
+            Content::Outputs => "outputs",
+            Content::Inputs => "inputs",
+        })
+    }
+}
+
+impl fmt::Display for Area {
+    fn fmt<W: fmt::Write>(&self, f: &mut fmt::Formatter<W>) -> fmt::Result {
+        let (content, start, last) = (self.content, self.start, self.end().saturating_sub(1));
+        let length = Counted(self.length, "byte");
         let is_whole = self.span == self.length;
         let buffers = if is_whole { "" } else { "three buffers of " };
-        format!(in alloc; "{name}: 0x{start:04X} to 0x{last:04X}, {buffers}{length}")
+        write!(
+            f,
+            "{content}: 0x{start:04X} to 0x{last:04X}, {buffers}{length}"
+        )
     }
 }
 
-/// The areas of a slave: mailboxes, outputs, inputs.
-pub fn areas_of(alloc: Global, at: &SlaveAt<'_>) -> AllocResult<Vec<Area>> {
-    let mut areas = Vec::new(alloc);
-    if let Some(mailbox) = at.kind.mailbox {
-        let (start, size) = (mailbox.receive_start, mailbox.receive_size);
-        areas.push(Area::mailbox("receive mailbox", start, size, 0))?;
-        let (start, size) = (mailbox.send_start, mailbox.send_size);
-        areas.push(Area::mailbox("send mailbox", start, size, 2))?;
-    }
-    let process = &at.kind.process;
-    let outputs = at.bits(alloc, Direction::Out)?;
-    if outputs > 0 {
-        areas.push(Area::process("outputs", process.out_start, outputs, "out_start"))?;
-    }
-    let inputs = at.bits(alloc, Direction::In)?;
-    if inputs > 0 {
-        areas.push(Area::process("inputs", process.in_start, inputs, "in_start"))?;
-    }
-    Ok(areas)
-}
-
-/// The first two areas that share an address.
-pub fn first_met(areas: &[Area]) -> Option<(Area, Area)> {
-    for (place, one) in areas.iter().enumerate() {
-        let mut behind = areas.iter().skip(place.saturating_add(1));
-        if let Some(other) = behind.find(|other| one.meets(other)) {
-            return Some((*one, *other));
+/// The first area of a slave that leaves the RAM.
+pub fn first_outside(at: &SlaveAt<'_>) -> Option<Area> {
+    for content in &CONTENTS {
+        if let Some(area) = Area::of(at, *content)
+            && area.leaves()
+        {
+            return Some(area);
         }
     }
     None
 }
 
-/// The first address of the RAM where an area would meet none of the others.
-pub fn first_free(areas: &[Area], moved: &Area) -> Option<usize> {
-    let starts = areas.iter().map(|area| area.end()).chain([RAM_START]);
-    starts.filter(|start| is_free(areas, moved, *start)).min()
+/// The first two areas of a slave that share an address.
+pub fn first_met(at: &SlaveAt<'_>) -> Option<(Area, Area)> {
+    for (place, content) in CONTENTS.iter().enumerate() {
+        if let Some(one) = Area::of(at, *content)
+            && let Some(other) = met_behind(at, &one, place)
+        {
+            return Some((one, other));
+        }
+    }
+    None
 }
 
-/// Whether an area could begin at an address without meeting those that are elsewhere.
-fn is_free(areas: &[Area], moved: &Area, start: usize) -> bool {
+/// The first area behind a place that shares an address with one.
+fn met_behind(at: &SlaveAt<'_>, one: &Area, place: usize) -> Option<Area> {
+    for content in CONTENTS.iter().skip(place.saturating_add(1)) {
+        if let Some(other) = Area::of(at, *content)
+            && one.meets(&other)
+        {
+            return Some(other);
+        }
+    }
+    None
+}
+
+/// The first address of the RAM where an area of a slave would meet none of the others.
+pub fn first_free(at: &SlaveAt<'_>, moved: &Area) -> Option<usize> {
+    let mut least = free_from(at, moved, RAM_START);
+    for content in &CONTENTS {
+        if let Some(area) = Area::of(at, *content)
+            && let Some(start) = free_from(at, moved, area.end())
+        {
+            least = Some(least.unwrap_or(start).min(start));
+        }
+    }
+    least
+}
+
+/// An address, if an area of a slave could begin there without meeting those that are elsewhere.
+fn free_from(at: &SlaveAt<'_>, moved: &Area, start: usize) -> Option<usize> {
     let there = Area { start, ..*moved };
-    let mut others = areas.iter().filter(|area| area.name != moved.name);
-    !there.leaves() && !others.any(|area| area.meets(&there))
+    if there.leaves() || meets_other(at, &there) {
+        return None;
+    }
+    Some(start)
+}
+
+/// Whether an area meets one of a slave's that holds something else.
+fn meets_other(at: &SlaveAt<'_>, moved: &Area) -> bool {
+    for content in &CONTENTS {
+        if *content != moved.content
+            && let Some(area) = Area::of(at, *content)
+            && area.meets(moved)
+        {
+            return true;
+        }
+    }
+    false
 }

@@ -23,6 +23,11 @@ impl Run {
     pub fn meets(self, other: Run) -> bool {
         usize::from(self.first) < other.end() && usize::from(other.first) < self.end()
     }
+
+    /// The word that says something of them.
+    pub fn verb(self) -> &'static str {
+        if self.count == 1 { "is" } else { "are" }
+    }
 }
 
 impl fmt::Display for Run {

@@ -3,6 +3,7 @@
 
 mod areas;
 mod bits;
+mod entries;
 mod linking;
 mod links;
 mod places;
@@ -10,7 +11,3 @@ mod slaves;
 mod twice;
 
 pub use crate::linking::tell_link_fault;
-use std::alloc::AllocError;
-
-/// What was made, or the want of memory for it.
-type AllocResult<T> = Result<T, AllocError>;

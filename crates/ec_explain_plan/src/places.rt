@@ -1,16 +1,12 @@
 //! Slaves, links and entries of a table as people name them, and the keys of a table for each direction.
-use crate::AllocResult;
 use crate::bits::Run;
-use ec_device::Entry;
-use ec_listed::Listed;
+use crate::entries::EntryName;
 use ec_table::{Direction, LinkRow, SlaveRow, Table, TypeRow, VariableRow};
-use std::alloc::Global;
 use std::fmt;
 
 /// A slave of a table with its type. It is printed by its name.
 #[derive(Clone, Copy)]
 pub struct SlaveAt<'t> {
-    pub table: &'t Table,
     pub place: usize,
     pub row: &'t SlaveRow,
     pub kind: &'t TypeRow,
@@ -25,39 +21,12 @@ pub struct LinkAt<'t> {
     pub slave: SlaveAt<'t>,
 }
 
-/// An entry by its index and its subindex. It is printed by both.
-#[derive(Clone, Copy, PartialEq, Eq)]
-pub struct EntryName(pub u16, pub u8);
-
 impl<'t> SlaveAt<'t> {
     /// The slave at a place, if there is one.
     pub fn new(table: &'t Table, place: usize) -> Option<SlaveAt<'t>> {
         let row = table.slaves().get(place)?;
         let kind = table.types().get(row.type_place)?;
-        Some(SlaveAt {
-            table,
-            place,
-            row,
-            kind,
-        })
-    }
-
-    /// The entries of a direction that it assigns.
-    pub fn entries(&self, alloc: Global, direction: Direction) -> AllocResult<Listed<Entry>> {
-        if self.place < self.table.slaves().len() {
-            self.table.entries_of(alloc, self.place, direction)
-        } else {
-            Ok(Listed::new(alloc))
-        }
-    }
-
-    /// How many bits it has of a direction, gaps with them.
-    pub fn bits(&self, alloc: Global, direction: Direction) -> AllocResult<usize> {
-        let mut bits: usize = 0;
-        for entry in self.entries(alloc, direction)?.as_slice() {
-            bits = bits.saturating_add(usize::from(entry.bits));
-        }
-        Ok(bits)
+        Some(SlaveAt { place, row, kind })
     }
 }
 
@@ -130,12 +99,6 @@ impl fmt::Display for LinkAt<'_> {
                 )
             }
         }
-    }
-}
-
-impl fmt::Display for EntryName {
-    fn fmt<W: fmt::Write>(&self, f: &mut fmt::Formatter<W>) -> fmt::Result {
-        write!(f, "0x{:04X}:{}", self.0, self.1)
     }
 }
 

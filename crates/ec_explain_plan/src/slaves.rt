@@ -1,6 +1,5 @@
 //! Why a slave has no place in a plan: refusals 20 to 23.
-use crate::AllocResult;
-use crate::areas::{Area, areas_of, first_free, first_met};
+use crate::areas::{Area, first_free, first_met, first_outside};
 use crate::places::{SlaveAt, assignment_key, word_of};
 use crate::twice::tell_entry_twice;
 use ec_link::LinkFault;
@@ -9,14 +8,9 @@ use ec_regs::registers::{RAM_END, RAM_START};
 use ec_table::{Direction, Table};
 
 /// Tells of a fault of the slave at a place.
-pub fn tell_of_slave(
-    telling: &mut Telling<'_>,
-    table: &Table,
-    fault: LinkFault,
-    slave: usize,
-) -> AllocResult<()> {
+pub fn tell_of_slave(telling: &mut Telling<'_>, table: &Table, fault: LinkFault, slave: usize) {
     let Some(at) = SlaveAt::new(table, slave) else {
-        return Ok(());
+        return;
     };
     match fault {
         LinkFault::EntryTwice(_) => tell_entry_twice(telling, &at),
@@ -27,55 +21,51 @@ pub fn tell_of_slave(
 }
 
 /// Tells of an area outside the RAM.
-fn tell_outside_ram(telling: &mut Telling<'_>, at: &SlaveAt<'_>) -> AllocResult<()> {
-    let alloc = telling.alloc;
-    let areas = areas_of(alloc, at)?;
-    let Some(area) = areas.as_slice().iter().find(|area| area.leaves()) else {
-        return Ok(());
+fn tell_outside_ram(telling: &mut Telling<'_>, at: &SlaveAt<'_>) {
+    let Some(area) = first_outside(at) else {
+        return;
     };
+    let alloc = telling.alloc;
     let (kind, last) = (at.kind.name.as_str(), RAM_END - 1);
     let words = format!(in alloc;
         "in {at} an area of its type {kind} is not within 0x{RAM_START:04X} to 0x{last:04X}"
-    )?;
-    telling.at_row("slave", at.place, words)?;
-    tell_area(telling, at.row.type_place, area)?;
-    advise_start(telling, areas.as_slice(), area)
+    );
+    telling.at_row("slave", at.place, words);
+    tell_area(telling, at.row.type_place, area);
+    advise_start(telling, at, area);
 }
 
 /// Tells of areas that overlap.
-fn tell_overlap(telling: &mut Telling<'_>, at: &SlaveAt<'_>) -> AllocResult<()> {
-    let alloc = telling.alloc;
-    let areas = areas_of(alloc, at)?;
-    let Some((one, other)) = first_met(areas.as_slice()) else {
-        return Ok(());
+fn tell_overlap(telling: &mut Telling<'_>, at: &SlaveAt<'_>) {
+    let Some((one, other)) = first_met(at) else {
+        return;
     };
-    let kind = at.kind.name.as_str();
-    let words = format!(in alloc; "in {at} two areas of its type {kind} share addresses")?;
-    telling.at_row("slave", at.place, words)?;
-    tell_area(telling, at.row.type_place, &one)?;
-    tell_area(telling, at.row.type_place, &other)?;
-    advise_start(telling, areas.as_slice(), &other)
+    let (alloc, kind) = (telling.alloc, at.kind.name.as_str());
+    let words = format!(in alloc; "in {at} two areas of its type {kind} share addresses");
+    telling.at_row("slave", at.place, words);
+    tell_area(telling, at.row.type_place, one);
+    tell_area(telling, at.row.type_place, other);
+    advise_start(telling, at, other);
 }
 
 /// Says where an area could begin.
-fn advise_start(telling: &mut Telling<'_>, areas: &[Area], moved: &Area) -> AllocResult<()> {
-    let alloc = telling.alloc;
-    let name = moved.name;
-    let advice = match first_free(areas, moved) {
+fn advise_start(telling: &mut Telling<'_>, at: &SlaveAt<'_>, moved: Area) {
+    let (alloc, content) = (telling.alloc, moved.content);
+    telling.advise_in(match first_free(at, &moved) {
         Some(start) => format!(in alloc;
-            "let the area of the {name} begin elsewhere: 0x{start:04X} is the first address where it meets no other"
-        )?,
+            "let the area of the {content} begin elsewhere: 0x{start:04X} is the first address where it meets no other"
+        ),
         None => format!(in alloc;
-            "make the areas smaller: where the others are, no place in the RAM is long enough for the {name}"
-        )?,
-    };
-    telling.advise(advice.as_str())
+            "make the areas smaller: where the others are, no place in the RAM is long enough for the {content}"
+        ),
+    });
 }
 
 /// Marks where an area begins, and says what it is.
-fn tell_area(telling: &mut Telling<'_>, kind: usize, area: &Area) -> AllocResult<()> {
-    let words = area.text(telling.alloc)?;
-    let (key, item) = area.key;
+fn tell_area(telling: &mut Telling<'_>, kind: usize, area: Area) {
+    let alloc = telling.alloc;
+    let words = format!(in alloc; "{area}");
+    let (key, item) = area.content.key();
     match item {
         None => telling.at_key("type", kind, key, words),
         Some(item) => {
@@ -85,31 +75,33 @@ fn tell_area(telling: &mut Telling<'_>, kind: usize, area: &Area) -> AllocResult
                 PathStep::Key(key),
                 PathStep::Item(item),
             ];
-            telling.at(&way, MarkedPart::Value, words)
+            telling.at(&way, MarkedPart::Value, words);
         }
     }
 }
 
 /// Tells of a slave with too many bits in a direction.
-fn tell_too_many_bits(telling: &mut Telling<'_>, at: &SlaveAt<'_>) -> AllocResult<()> {
-    let alloc = telling.alloc;
-    for direction in [Direction::Out, Direction::In] {
-        let bits = at.bits(alloc, direction)?;
+fn tell_too_many_bits(telling: &mut Telling<'_>, at: &SlaveAt<'_>) {
+    for direction in &[Direction::Out, Direction::In] {
+        let bits = at.bits(*direction);
         if bits > 2048 {
-            let (word, key) = (word_of(direction), assignment_key(direction));
-            let words = format!(in alloc;
-                "{at} has {bits} {word} bits, gaps with them, and 2048 are the most"
-            )?;
-            telling.at_row("slave", at.place, words)?;
-            let kind = at.kind.name.as_str();
-            let advice = match at.kind.mailbox {
-                Some(_) => format!(in alloc; "assign fewer PDOs of its type by `{key}`")?,
-                None => format!(in alloc;
-                    "leave PDOs or entries of type {kind} out: it has no mailbox, so all its PDOs are assigned"
-                )?,
-            };
-            return telling.advise(advice.as_str());
+            return tell_bits(telling, at, *direction, bits);
         }
     }
-    Ok(())
+}
+
+/// Tells of the many bits that a slave has in a direction.
+fn tell_bits(telling: &mut Telling<'_>, at: &SlaveAt<'_>, direction: Direction, bits: usize) {
+    let (alloc, word) = (telling.alloc, word_of(direction));
+    let words = format!(in alloc;
+        "{at} has {bits} {word} bits, gaps with them, and 2048 are the most"
+    );
+    telling.at_row("slave", at.place, words);
+    let (kind, key) = (at.kind.name.as_str(), assignment_key(direction));
+    telling.advise_in(match at.kind.mailbox {
+        Some(_) => format!(in alloc; "assign fewer PDOs of its type by `{key}`"),
+        None => format!(in alloc;
+            "leave PDOs or entries of type {kind} out: it has no mailbox, so all its PDOs are assigned"
+        ),
+    });
 }

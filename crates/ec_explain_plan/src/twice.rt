@@ -1,9 +1,9 @@
 //! Why a slave assigns an entry twice: refusal 20.
-use crate::AllocResult;
-use crate::places::{EntryName, SlaveAt, assignment_key, pdos_key};
-use ec_outline::{MarkedPart, PathStep, Telling};
+use crate::entries::EntryName;
+use crate::places::{SlaveAt, assignment_key, pdos_key};
+use ec_device::Pdo;
+use ec_outline::{MarkedPart, PathStep, Telling, Words};
 use ec_table::Direction;
-use std::alloc::Global;
 
 /// Where an entry stands in a type: the direction, place and index of its PDO, its place there, and its name.
 #[derive(Clone, Copy)]
@@ -15,59 +15,78 @@ struct Seat {
     name: EntryName,
 }
 
+impl Seat {
+    /// Whether another is the same place of a direction.
+    fn is(&self, other: &Seat) -> bool {
+        self.pdo == other.pdo && self.entry == other.entry
+    }
+}
+
 /// Tells of a slave that assigns an entry twice.
-pub fn tell_entry_twice(telling: &mut Telling<'_>, at: &SlaveAt<'_>) -> AllocResult<()> {
-    let alloc = telling.alloc;
-    for direction in [Direction::Out, Direction::In] {
-        let seats = seats_of(alloc, at, direction)?;
-        if let Some((first, second)) = seats_twice(seats.as_slice()) {
-            let words = twice_text(alloc, at, first, second)?;
-            at_assigned(telling, at.place, direction, words)?;
-            at_entry(telling, at.row.type_place, first)?;
-            at_entry(telling, at.row.type_place, second)?;
-            let advice = advice_on(alloc, at, first, second)?;
-            return telling.advise(advice.as_str());
+pub fn tell_entry_twice(telling: &mut Telling<'_>, at: &SlaveAt<'_>) {
+    for direction in &[Direction::Out, Direction::In] {
+        if let Some((first, second)) = seats_twice(at, *direction) {
+            return tell_seats(telling, at, &first, &second);
         }
     }
-    Ok(())
 }
 
-/// What to do about it: with two PDOs a slave may assign one of them alone, if its type has a mailbox.
-fn advice_on(alloc: Global, at: &SlaveAt<'_>, first: Seat, second: Seat) -> AllocResult<String> {
-    let (key, one, two) = (assignment_key(first.direction), first.index, second.index);
+/// Tells of two places where an entry stands that a slave assigns.
+fn tell_seats(telling: &mut Telling<'_>, at: &SlaveAt<'_>, first: &Seat, second: &Seat) {
+    tell_assigned(telling, at, first, second);
+    at_entry(telling, at.row.type_place, first);
+    at_entry(telling, at.row.type_place, second);
+    advise_on(telling, at, first, second);
+}
+
+/// Says what to do about it: with two PDOs a slave may assign one of them alone, if its type has a mailbox.
+fn advise_on(telling: &mut Telling<'_>, at: &SlaveAt<'_>, first: &Seat, second: &Seat) {
+    let (one, two) = (first.index, second.index);
     if one == two {
-        format!(in alloc;
-            "leave one of the two entries out of PDO 0x{one:04X}, or correct its index or subindex"
-        )
-    } else if at.kind.mailbox.is_some() {
-        format!(in alloc;
-            "assign one of the PDOs alone: `{key} = [0x{one:04X}]`, with the others that it needs; without `{key}` all PDOs of the type are assigned"
-        )
+        advise_one(telling, one);
     } else {
-        format!(in alloc;
-            "leave the entry out of PDO 0x{one:04X} or 0x{two:04X}, or correct its index or subindex: a type without a mailbox has all its PDOs assigned"
-        )
+        advise_two(telling, at, assignment_key(first.direction), one, two);
     }
 }
 
-/// What a slave assigns that has an entry twice, in words: one PDO, or two that have it both.
-fn twice_text(alloc: Global, at: &SlaveAt<'_>, first: Seat, second: Seat) -> AllocResult<String> {
-    let (kind, name) = (at.kind.name.as_str(), first.name);
+/// Says what to do about a PDO that has an entry twice.
+fn advise_one(telling: &mut Telling<'_>, one: u16) {
+    let alloc = telling.alloc;
+    telling.advise_in(format!(in alloc;
+        "leave one of the two entries out of PDO 0x{one:04X}, or correct its index or subindex"
+    ));
+}
+
+/// Says what to do about two PDOs that have an entry both.
+fn advise_two(telling: &mut Telling<'_>, at: &SlaveAt<'_>, key: &str, one: u16, two: u16) {
+    let alloc = telling.alloc;
+    telling.advise_in(match at.kind.mailbox {
+        Some(_) => format!(in alloc;
+            "assign one of the PDOs alone: `{key} = [0x{one:04X}]`, with the others that it needs; without `{key}` all PDOs of the type are assigned"
+        ),
+        None => format!(in alloc;
+            "leave the entry out of PDO 0x{one:04X} or 0x{two:04X}, or correct its index or subindex: a type without a mailbox has all its PDOs assigned"
+        ),
+    });
+}
+
+/// Tells what a slave assigns that has an entry twice: one PDO, or two that have it both.
+fn tell_assigned(telling: &mut Telling<'_>, at: &SlaveAt<'_>, first: &Seat, second: &Seat) {
+    let (alloc, kind, name) = (telling.alloc, at.kind.name.as_str(), first.name);
     let (one, two) = (first.index, second.index);
-    if one == two {
+    let words = if one == two {
         format!(in alloc; "{at} assigns PDO 0x{one:04X} of type {kind}, which has {name} twice")
     } else {
         format!(in alloc;
             "{at} assigns PDOs 0x{one:04X} and 0x{two:04X} of type {kind}, and both have {name}"
         )
-    }
+    };
+    at_assigned(telling, at.place, first.direction, words);
 }
 
 /// Marks an entry of a type.
-fn at_entry(telling: &mut Telling<'_>, kind: usize, seat: Seat) -> AllocResult<()> {
-    let alloc = telling.alloc;
-    let (name, index) = (seat.name, seat.index);
-    let words = format!(in alloc; "{name} in PDO 0x{index:04X}")?;
+fn at_entry(telling: &mut Telling<'_>, kind: usize, seat: &Seat) {
+    let (alloc, name, index) = (telling.alloc, seat.name, seat.index);
     let way = [
         PathStep::Key("type"),
         PathStep::Item(kind),
@@ -76,16 +95,15 @@ fn at_entry(telling: &mut Telling<'_>, kind: usize, seat: Seat) -> AllocResult<(
         PathStep::Key("entries"),
         PathStep::Item(seat.entry),
     ];
-    telling.at(&way, MarkedPart::Value, words)
+    telling.at(
+        &way,
+        MarkedPart::Value,
+        format!(in alloc; "{name} in PDO 0x{index:04X}"),
+    );
 }
 
 /// Marks what a slave assigns in a direction, or the slave where that isn't written.
-fn at_assigned(
-    telling: &mut Telling<'_>,
-    slave: usize,
-    direction: Direction,
-    words: String,
-) -> AllocResult<()> {
+fn at_assigned(telling: &mut Telling<'_>, slave: usize, direction: Direction, words: Words) {
     let key = assignment_key(direction);
     let way = [
         PathStep::Key("slave"),
@@ -93,43 +111,73 @@ fn at_assigned(
         PathStep::Key(key),
     ];
     if telling.has(&way) {
-        telling.at_key("slave", slave, key, words)
+        telling.at_key("slave", slave, key, words);
     } else {
-        telling.at_row("slave", slave, words)
+        telling.at_row("slave", slave, words);
     }
 }
 
-/// The first entry that stands behind another of its name, behind that one.
-fn seats_twice(seats: &[Seat]) -> Option<(Seat, Seat)> {
-    for (place, second) in seats.iter().enumerate() {
-        let mut before = seats.iter().take(place);
-        if let Some(first) = before.find(|first| first.name == second.name) {
-            return Some((*first, *second));
+/// The first entry that a slave assigns behind another of its name, behind that one. Gaps have no names.
+fn seats_twice(at: &SlaveAt<'_>, direction: Direction) -> Option<(Seat, Seat)> {
+    for index in at.row.assigned(direction) {
+        if let Some((place, pdo)) = at.pdo(direction, *index)
+            && let Some(found) = twice_in(at, direction, place, pdo)
+        {
+            return Some(found);
         }
     }
     None
 }
 
-/// Where the entries stand that are assigned, in order, but for gaps.
-fn seats_of(alloc: Global, at: &SlaveAt<'_>, direction: Direction) -> AllocResult<Vec<Seat>> {
-    let mut seats = Vec::new(alloc);
-    for index in at.row.assigned(direction) {
-        for (pdo, row) in at.kind.pdos(direction).iter().enumerate() {
-            if row.index != *index {
-                continue;
-            }
-            for (entry, named) in row.entries.as_slice().iter().enumerate() {
-                if named.index != 0 {
-                    seats.push(Seat {
-                        direction,
-                        pdo,
-                        index: *index,
-                        entry,
-                        name: EntryName(named.index, named.subindex),
-                    })?;
-                }
-            }
+/// The first entry of a PDO that stands behind another of its name, behind that one.
+fn twice_in(
+    at: &SlaveAt<'_>,
+    direction: Direction,
+    place: usize,
+    pdo: &Pdo,
+) -> Option<(Seat, Seat)> {
+    for (entry, named) in pdo.entries.as_slice().iter().enumerate() {
+        let second = Seat {
+            direction,
+            pdo: place,
+            index: pdo.index,
+            entry,
+            name: EntryName::of(named),
+        };
+        if named.index != 0
+            && let Some(first) = first_seat(at, direction, second.name)
+            && !first.is(&second)
+        {
+            return Some((first, second));
         }
     }
-    Ok(seats)
+    None
+}
+
+/// Where an entry stands first that a slave assigns.
+fn first_seat(at: &SlaveAt<'_>, direction: Direction, name: EntryName) -> Option<Seat> {
+    for index in at.row.assigned(direction) {
+        if let Some((pdo, row)) = at.pdo(direction, *index)
+            && let Some(entry) = place_in(row, name)
+        {
+            return Some(Seat {
+                direction,
+                pdo,
+                index: row.index,
+                entry,
+                name,
+            });
+        }
+    }
+    None
+}
+
+/// The place of an entry in a PDO.
+fn place_in(pdo: &Pdo, name: EntryName) -> Option<usize> {
+    for (place, entry) in pdo.entries.as_slice().iter().enumerate() {
+        if EntryName::of(entry) == name {
+            return Some(place);
+        }
+    }
+    None
 }

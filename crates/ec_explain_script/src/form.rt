@@ -1,6 +1,5 @@
 //! How the lines of a script are written.
-use crate::word::Word;
-use std::alloc::{AllocError, Global};
+use crate::word::Line;
 
 /// What a word of a line stands for.
 #[derive(Clone, Copy, Debug, PartialEq, Eq)]
@@ -68,27 +67,45 @@ impl WordKind {
     }
 }
 
-/// The form that words begin as; `is_variable` says whether a variable has the word between `expect` and the only word behind
+/// The form that a line begins as; `is_variable` says whether a variable has the word between `expect` and the only word behind
 /// it as its name.
-pub fn form_of(words: &[Word<'_>], is_variable: bool) -> Option<&'static str> {
-    FORMS.iter().copied().find(|form| begins(words, form)
-        && !(is_variable && is_name_before_value(form)))
+pub fn form_of(line: Line<'_>, is_variable: bool) -> Option<&'static str> {
+    for form in &FORMS {
+        if begins(line, form) && !(is_variable && is_name_before_value(form)) {
+            return Some(*form);
+        }
+    }
+    None
 }
 
 /// The first words that lines have.
-pub fn verbs(alloc: Global) -> Result<Vec<&'static str>, AllocError> {
-    FORMS
-        .iter()
-        .map(|form| form.split(' ').next().unwrap_or(form))
-        .collect(alloc)
+pub fn verbs() -> [&'static str; FORMS.len()] {
+    let mut verbs = [""; FORMS.len()];
+    for (place, form) in FORMS.iter().enumerate() {
+        verbs[place] = first_word(form);
+    }
+    verbs
 }
 
-/// Whether words begin as a form does.
-fn begins(words: &[Word<'_>], form: &str) -> bool {
-    form.split(' ')
-        .take_while(|part| WordKind::of(part).is_none())
-        .enumerate()
-        .all(|(place, part)| words.get(place).is_some_and(|word| word.text == part))
+/// Whether a line begins as a form does.
+fn begins(line: Line<'_>, form: &str) -> bool {
+    for (place, part) in form.split(' ').enumerate() {
+        if WordKind::of(part).is_some() {
+            return true;
+        }
+        if !line.has(place, part) {
+            return false;
+        }
+    }
+    true
+}
+
+/// The word that a form begins with.
+fn first_word(form: &'static str) -> &'static str {
+    match form.split_once(' ') {
+        Some((first, _)) => first,
+        None => form,
+    }
 }
 
 /// Whether one word alone never stands behind the first two of a form: in a line with one, the second word is the name of a

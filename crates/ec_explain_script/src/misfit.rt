@@ -1,6 +1,7 @@
 //! Why a word can't stand for what a line needs in its place.
 use crate::form::WordKind;
-use ec_outline::{is_among, meant, printable};
+use crate::word::Word;
+use ec_outline::{Printable, Telling, is_among};
 use ec_table::Table;
 use std::alloc::{AllocError, Global};
 
@@ -17,64 +18,119 @@ static STATES: [&str; 4] = ["INIT", "PREOP", "SAFEOP", "OP"];
 /// What to do about a word that nothing better is known of.
 pub const SEE_HELP: &str = "correct it; `ecat sim --help` lists the lines that a script has";
 
-/// What is wrong with a word, and what to do about it.
-#[derive(Drop)]
-pub struct Wrong {
-    pub words: String,
-    pub advice: &'static str,
-}
-
 /// Whether a variable of a table has a name.
 pub fn names_variable(table: &Table, name: &str) -> bool {
-    table
-        .variables()
-        .iter()
-        .any(|row| row.name.as_str() == name)
+    for row in table.variables() {
+        if row.name.as_str() == name {
+            return true;
+        }
+    }
+    false
 }
 
-/// What is wrong with a word that is to be of a kind, if something is; its names are the table's, where there is one.
-pub fn misfit(
-    alloc: Global,
+/// Tells what is wrong with a word that is to be of a kind, if something is; its names are the table's, where there is one.
+pub fn tell_misfit(
+    telling: &mut Telling<'_>,
     table: Option<&Table>,
     kind: WordKind,
-    word: &str,
-) -> Result<Option<Wrong>, AllocError> {
-    let shown = printable(alloc, word)?;
-    if let Some((fault, advice)) = past_64_bits(kind, word).or(fault_of(kind, word)) {
-        let words = format!(in alloc; "`{shown}` {fault}")?;
-        return Ok(Some(Wrong { words, advice }));
+    word: Word<'_>,
+) -> bool {
+    match fault_of(kind, word.text) {
+        Some((fault, advice)) => {
+            tell_fault(telling, word, fault, advice);
+            true
+        }
+        None => tell_unknown(telling, table, kind, word),
     }
-    let (thing, names, advice) = match (kind, table) {
-        (WordKind::Variable, Some(table)) => (
-            "variable",
-            variables_of(alloc, table)?,
-            "correct the name, or add a variable of that name to the table",
-        ),
-        (WordKind::Slave, Some(table)) if !has_digits(word, Base::Decimal) => (
-            "slave",
-            slaves_of(alloc, table)?,
-            "correct the name, add a slave of that name to the table, or write its number",
-        ),
-        _ => return Ok(None),
+}
+
+/// Tells of a word that isn't of its kind.
+fn tell_fault(telling: &mut Telling<'_>, word: Word<'_>, fault: &str, advice: &str) {
+    let (alloc, shown) = (telling.alloc, Printable(word.text));
+    telling.at_span(word.span(), format!(in alloc; "`{shown}` {fault}"));
+    telling.advise(advice);
+}
+
+/// Tells of a word that is to be a name of a table and isn't, if it is so.
+fn tell_unknown(
+    telling: &mut Telling<'_>,
+    table: Option<&Table>,
+    kind: WordKind,
+    word: Word<'_>,
+) -> bool {
+    let Some(table) = table else {
+        return false;
     };
-    if is_among(word, names.as_slice()) {
-        return Ok(None);
+    let alloc = telling.alloc;
+    match kind {
+        WordKind::Variable => {
+            let advice = "correct the name, or add a variable of that name to the table";
+            tell_unnamed(
+                telling,
+                "variable",
+                variables_of(alloc, table),
+                word,
+                advice,
+            )
+        }
+        WordKind::Slave if !has_digits(word.text, Base::Decimal) => {
+            let advice =
+                "correct the name, add a slave of that name to the table, or write its number";
+            tell_unnamed(telling, "slave", slaves_of(alloc, table), word, advice)
+        }
+        _ => false,
     }
-    let near = meant(alloc, word, names.as_slice())?;
-    let words = format!(in alloc; "no {thing} has the name `{shown}`{near}")?;
-    Ok(Some(Wrong { words, advice }))
+}
+
+/// Tells of a word that is none of the names of things, if it is none. The names were made for it.
+fn tell_unnamed(
+    telling: &mut Telling<'_>,
+    thing: &str,
+    names: Result<Vec<&str>, AllocError>,
+    word: Word<'_>,
+    advice: &str,
+) -> bool {
+    match telling.made(names) {
+        Some(names) => tell_not_among(telling, thing, names.as_slice(), word, advice),
+        None => true,
+    }
+}
+
+/// Tells of a word that isn't among the names of things, if it isn't.
+fn tell_not_among(
+    telling: &mut Telling<'_>,
+    thing: &str,
+    names: &[&str],
+    word: Word<'_>,
+    advice: &str,
+) -> bool {
+    let is_none = !is_among(word.text, names);
+    if is_none {
+        let (alloc, shown) = (telling.alloc, Printable(word.text));
+        let near = telling.meant(word.text, names);
+        let words = format!(in alloc; "no {thing} has the name `{shown}`{near}");
+        telling.at_span(word.span(), words);
+        telling.advise(advice);
+    }
+    is_none
 }
 
 /// The names of a table's variables.
 fn variables_of<'t>(alloc: Global, table: &'t Table) -> Result<Vec<&'t str>, AllocError> {
-    let rows = table.variables().iter();
-    rows.map(|row| row.name.as_str()).collect(alloc)
+    let mut names = Vec::new(alloc);
+    for row in table.variables() {
+        names.push(row.name.as_str())?;
+    }
+    Ok(names)
 }
 
 /// The names of its slaves.
 fn slaves_of<'t>(alloc: Global, table: &'t Table) -> Result<Vec<&'t str>, AllocError> {
-    let rows = table.slaves().iter();
-    rows.map(|row| row.name.as_str()).collect(alloc)
+    let mut names = Vec::new(alloc);
+    for row in table.slaves() {
+        names.push(row.name.as_str())?;
+    }
+    Ok(names)
 }
 
 /// What 64 bits hold, where they don't hold the number that a word writes, and what to do; a byte and a number of times have
@@ -96,6 +152,11 @@ fn past_64_bits(kind: WordKind, word: &str) -> Option<(&'static str, &'static st
 
 /// What is wrong with a word that isn't of a kind, whatever names there are, and what to do.
 fn fault_of(kind: WordKind, word: &str) -> Option<(&'static str, &'static str)> {
+    past_64_bits(kind, word).or(misfit_of(kind, word))
+}
+
+/// What is wrong with a word that isn't of a kind, if 64 bits hold it, and what to do.
+fn misfit_of(kind: WordKind, word: &str) -> Option<(&'static str, &'static str)> {
     let (digits, base, _) = digits_of(kind, word);
     let number = number_of(digits, base);
     let (fits, fault) = match kind {
@@ -165,10 +226,14 @@ fn number_of(digits: &str, base: Base) -> Option<u64> {
 
 /// Whether a word is digits.
 fn has_digits(word: &str, base: Base) -> bool {
-    let mut bytes = word.bytes();
-    !word.is_empty()
-        && match base {
-            Base::Decimal => bytes.all(|byte| byte.is_ascii_digit()),
-            Base::Hex => bytes.all(|byte| byte.is_ascii_hexdigit()),
+    for byte in word.bytes() {
+        let is_digit = match base {
+            Base::Decimal => byte.is_ascii_digit(),
+            Base::Hex => byte.is_ascii_hexdigit(),
+        };
+        if !is_digit {
+            return false;
         }
+    }
+    !word.is_empty()
 }

@@ -1,6 +1,5 @@
 //! The words of a line.
-use ec_outline::Span;
-use std::alloc::{AllocError, Global};
+use ec_told::Span;
 
 /// A word of a line, and where it begins in the text, in bytes.
 #[derive(Clone, Copy, Debug, PartialEq, Eq)]
@@ -9,29 +8,74 @@ pub struct Word<'t> {
     pub text: &'t str,
 }
 
-impl<'t> Word<'t> {
+/// A line, or its end from a word on, and where it begins in the text. Its words stand one blank apart.
+#[derive(Clone, Copy, Debug, PartialEq, Eq)]
+pub struct Line<'t> {
+    pub start: usize,
+    pub text: &'t str,
+}
+
+impl Word<'_> {
     /// Where it stands.
-    pub fn span(&self) -> Span {
-        Span {
-            start: self.start,
-            end: self.start.saturating_add(self.text.len()),
+    pub fn span(self) -> Span {
+        span_of(self.start, self.text)
+    }
+}
+
+impl<'t> Line<'t> {
+    /// Where it stands.
+    pub fn span(self) -> Span {
+        span_of(self.start, self.text)
+    }
+
+    /// The word at a place, counted from 0.
+    pub fn word(self, place: usize) -> Option<Word<'t>> {
+        let mut start = self.start;
+        for (at, text) in self.text.split(' ').enumerate() {
+            if at == place {
+                return Some(Word { start, text });
+            }
+            start = start.saturating_add(text.len()).saturating_add(1);
+        }
+        None
+    }
+
+    /// Whether a word stands at a place.
+    pub fn has(self, place: usize, word: &str) -> bool {
+        match self.word(place) {
+            Some(found) => found.text == word,
+            None => false,
+        }
+    }
+
+    /// Where a word is missing: where the first one stands that is empty.
+    pub fn gap(self) -> Option<Span> {
+        let mut start = self.start;
+        for text in self.text.split(' ') {
+            if text.is_empty() {
+                return Some(span_of(start, text));
+            }
+            start = start.saturating_add(text.len()).saturating_add(1);
+        }
+        None
+    }
+
+    /// What there is of it from one of its words on.
+    pub fn from(self, word: Word<'t>) -> Line<'t> {
+        let before = word.start.saturating_sub(self.start);
+        Line {
+            start: word.start,
+            text: self.text.get(before..).unwrap_or(""),
         }
     }
 }
 
-/// The words of a line that begins at a byte of the text, which stand one blank apart.
-pub fn words_of<'t>(
-    alloc: Global,
-    start: usize,
-    line: &'t str,
-) -> Result<Vec<Word<'t>>, AllocError> {
-    let mut words = Vec::new(alloc);
-    let mut at = start;
-    for text in line.split(' ') {
-        words.push(Word { start: at, text })?;
-        at = at.saturating_add(text.len()).saturating_add(1);
+/// Where a text stands that begins at a byte.
+fn span_of(start: usize, text: &str) -> Span {
+    Span {
+        start,
+        end: start.saturating_add(text.len()),
     }
-    Ok(words)
 }
 
 /// A line without its comment, which begins at a `#`, and the blanks before that.
