@@ -2,7 +2,7 @@
 use crate::word::Line;
 
 /// What a word of a line stands for.
-#[derive(Clone, Copy, Debug, PartialEq, Eq)]
+#[derive(Clone, Copy, PartialEq, Eq)]
 pub enum WordKind {
     /// A variable, by its name.
     Variable,

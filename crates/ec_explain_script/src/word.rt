@@ -2,14 +2,14 @@
 use ec_told::Span;
 
 /// A word of a line, and where it begins in the text, in bytes.
-#[derive(Clone, Copy, Debug, PartialEq, Eq)]
+#[derive(Clone, Copy)]
 pub struct Word<'t> {
     pub start: usize,
     pub text: &'t str,
 }
 
 /// A line, or its end from a word on, and where it begins in the text. Its words stand one blank apart.
-#[derive(Clone, Copy, Debug, PartialEq, Eq)]
+#[derive(Clone, Copy)]
 pub struct Line<'t> {
     pub start: usize,
     pub text: &'t str,

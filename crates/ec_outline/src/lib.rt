@@ -8,4 +8,4 @@ mod words;
 
 pub use crate::outline::{Found, Outline, PathStep};
 pub use crate::telling::{MarkedPart, Telling};
-pub use crate::words::{Counted, Listing, Meant, Printable, Words, comma, is_among, nearest};
+pub use crate::words::{Counted, Meant, Printable, Words, comma, is_among, nearest};

@@ -54,20 +54,6 @@ impl fmt::Display for Meant<'_> {
     }
 }
 
-/// Texts, printed one behind the other, with commas and at last an `and` between them.
-#[derive(Clone, Copy, Drop)]
-pub struct Listing<'l>(pub &'l [&'l str]);
-
-impl fmt::Display for Listing<'_> {
-    fn fmt<W: fmt::Write>(&self, f: &mut fmt::Formatter<W>) -> fmt::Result {
-        for (place, text) in self.0.iter().enumerate() {
-            f.write_str(comma(place, self.0.len()))?;
-            f.write_str(text)?;
-        }
-        Ok(())
-    }
-}
-
 /// What stands before the text at a place of a list of so many.
 pub fn comma(place: usize, count: usize) -> &'static str {
     match count.saturating_sub(place) {
