@@ -5,7 +5,3 @@ mod starting;
 mod steps;
 
 pub use crate::starting::{tell_cycle_error, tell_start_error, tell_wire_fault};
-use std::alloc::AllocError;
-
-/// What was made, or the want of memory for it.
-type AllocResult<T> = Result<T, AllocError>;

@@ -7,12 +7,14 @@ use crate::answer::{Answer, answer_text};
 use crate::control::Control;
 use crate::order::{Order, Task};
 use ec_console::Refusal;
-use ec_outline::{counted, printable};
+use ec_outline::{Counted, Printable, Words};
 use ec_script::is_failed;
 use ec_start::StartError;
 use ec_table::{Direction, Table};
-use ec_why::{Reasons, misfit_words, reason_line};
+use ec_told::reason_line;
+use ec_why::{Reasons, misfit_words};
 use std::alloc::{AllocError, Global};
+use std::fmt;
 
 /// What is printed of a task that was done once: what there is to tell, and behind that why it can't be done or has failed, where
 /// reasons are told.
@@ -37,12 +39,7 @@ pub(crate) fn told_text(
 }
 
 /// Why an order can't be done, or its start-up has failed; of an order that is done there is nothing to say.
-fn order_words(
-    alloc: Global,
-    table: &Table,
-    control: &Control<'_>,
-    order: Order,
-) -> Result<String, AllocError> {
+fn order_words(alloc: Global, table: &Table, control: &Control<'_>, order: Order) -> Words {
     match order {
         Order::Ready => start_words(alloc, table, control),
         Order::Cycle => cycle_words(alloc, table, control),
@@ -53,10 +50,10 @@ fn order_words(
 }
 
 /// Why a variable isn't set.
-fn set_words(alloc: Global, table: &Table, variable: usize) -> Result<String, AllocError> {
+fn set_words(alloc: Global, table: &Table, variable: usize) -> Words {
     match table.variables().get(variable) {
         Some(row) if row.direction == Direction::In => {
-            let name = printable(alloc, row.name.as_str())?;
+            let name = Printable(row.name.as_str());
             format!(in alloc; "`{name}` comes from slaves: the master doesn't set it")
         }
         _ => misfit_words(alloc, table, variable),
@@ -64,35 +61,46 @@ fn set_words(alloc: Global, table: &Table, variable: usize) -> Result<String, Al
 }
 
 /// Why no cycle is run.
-fn cycle_words(alloc: Global, table: &Table, control: &Control<'_>) -> Result<String, AllocError> {
+fn cycle_words(alloc: Global, table: &Table, control: &Control<'_>) -> Words {
     match control.outcome() {
         None => format!(in alloc; "there was no start-up: `ready` brings the slaves up"),
         Some(Ok(())) => format!(in alloc; "there is no number left for its frames"),
         Some(Err(error)) => {
-            let words = failed_words(alloc, table, error)?;
-            format!(in alloc; "the last start-up failed, {words}; `ready` makes one more")
+            let failed = Failed { table, error };
+            format!(in alloc; "the last start-up failed, {failed}; `ready` makes one more")
         }
     }
 }
 
 /// What the last start-up failed by, if it has.
-fn start_words(alloc: Global, table: &Table, control: &Control<'_>) -> Result<String, AllocError> {
+fn start_words(alloc: Global, table: &Table, control: &Control<'_>) -> Words {
     match control.outcome() {
-        Some(Err(error)) => failed_words(alloc, table, error),
+        Some(Err(error)) => {
+            let failed = Failed { table, error };
+            format!(in alloc; "{failed}")
+        }
         _ => Ok(String::new(alloc)),
     }
 }
 
-/// What a start-up failed by: its refusal, as other commands tell it, and what that says.
-fn failed_words(alloc: Global, table: &Table, error: StartError) -> Result<String, AllocError> {
-    let refusal = Refusal::Start(error);
-    match error {
-        StartError::Count { seen } => {
-            let seen = counted(alloc, usize::from(seen), "slave")?;
-            let wanted = table.slaves().len();
-            format!(in alloc; "{refusal}: {seen} answered, and the table has {wanted}")
+/// What a start-up of a table failed by. It is printed as its refusal, as other commands tell it, and what that says.
+#[derive(Clone, Copy)]
+struct Failed<'t> {
+    table: &'t Table,
+    error: StartError,
+}
+
+impl fmt::Display for Failed<'_> {
+    fn fmt<W: fmt::Write>(&self, f: &mut fmt::Formatter<W>) -> fmt::Result {
+        let Failed { table, error } = *self;
+        let refusal = Refusal::Start(error);
+        match error {
+            StartError::Count { seen } => {
+                let (seen, wanted) = (Counted(usize::from(seen), "slave"), table.slaves().len());
+                write!(f, "{refusal}: {seen} answered, and the table has {wanted}")
+            }
+            _ => write!(f, "{refusal}: {error}"),
         }
-        _ => format!(in alloc; "{refusal}: {error}"),
     }
 }
 

@@ -5,9 +5,10 @@ use Rattle.ec_table.specs.Contents.{Contents}
 use Rattle.ec_world.specs.World.{WorldState}
 use Rattle.ec_script.specs.declared.line.Line.{Line}
 use Rattle.ec_script.specs.Texts.{output_text}
+use Rattle.ec_told.specs.Reason.{IsReason}
 use Rattle.ec_why.specs.declared.wanted.Reasons.{Reasons}
 use Rattle.ec_why.specs.declared.wanted.Reasons.TheVariants.{Untold}
-use Rattle.ec_why.specs.Reasons.{IsReason, Part, ReasonIf, with_reasons, without_reasons}
+use Rattle.ec_why.specs.Reasons.{Part, ReasonIf, with_reasons, without_reasons}
 use Rattle.ec_sim.specs.Laws.{ReasonsOnlyAdd}
 use Rattle.ec_sim.specs.Simulating.{SaysLine}
 

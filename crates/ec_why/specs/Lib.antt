@@ -1,2 +1,2 @@
--- To be believed by reading: the form of a line that says why.
+-- To be believed by reading: where a line stands that says why.
 pub mod Reasons

@@ -1,16 +1,10 @@
--- The form of a line that says why an event can't be made, and where one stands (a choice of this project); its words are tested.
-use Rattle.std.specs.Prelude.{◌≡◌, ◌≢◌, ◌⊎◌, ℕ, Bool, true, false, All, List, [], ◌∷◌, ◌++◌, codes}
+-- Where a line stands that says why an event can't be made (a choice of this project); its form is that of `Reason`, and its words are tested.
+use Rattle.std.specs.Prelude.{◌≡◌, ◌⊎◌, ℕ, Bool, true, false, List, [], ◌∷◌, ◌++◌}
 use Rattle.ec_script.specs.declared.said.LineOutput.{LineOutput}
 use Rattle.ec_script.specs.declared.said.LineOutput.TheVariants.{No}
+use Rattle.ec_told.specs.Reason.{IsReason}
 use Rattle.ec_why.specs.declared.wanted.Reasons.{Reasons}
 use Rattle.ec_why.specs.declared.wanted.Reasons.TheVariants.{Told, Untold}
-
--- two blanks, words, and the line's end, of which there is no other
-pub record IsReason (text : List ℕ) : Type 0 where
-  pub words : List ℕ
-  pub some : words ≢ []
-  pub on_one_line : All (λ b. b ≢ 10) words
-  pub is : text ≡ codes "  " ++ (words ++ (10 ∷ []))
 
 -- they are told where an explanation is wanted
 abbrev pub reasons_of : Bool → Reasons

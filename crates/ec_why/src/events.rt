@@ -1,22 +1,32 @@
 //! Why an event can't be made, by the world as it is.
-use crate::AllocResult;
 use crate::reasons::has_cycle;
 use crate::scene::{Firmware, Scene};
-use ec_outline::counted;
+use ec_outline::{Counted, Printable, Words};
 use ec_table::Direction;
 use ec_world::{Event, Progress};
 
 impl Scene<'_, '_> {
     /// Why the frames of the cycle that was begun last don't go round.
-    pub fn frame_words(&self) -> AllocResult<String> {
-        let world = self.world;
-        let newest = (0..world.slots()).filter_map(|slot| world.slot(slot)).max();
-        let slot = (0..world.slots()).find(|slot| newest.is_some() && world.slot(*slot) == newest);
-        self.why_no_pass(slot.unwrap_or(0))
+    pub fn frame_words(&self) -> Words {
+        self.why_no_pass(self.newest_slot())
+    }
+
+    /// The first slot that has a frame of the cycle that was begun last; where no slot has a frame, the first one.
+    fn newest_slot(&self) -> usize {
+        let mut newest = None;
+        let mut found = 0;
+        for slot in 0..self.world.slots() {
+            let number = self.world.slot(slot);
+            if number > newest {
+                newest = number;
+                found = slot;
+            }
+        }
+        found
     }
 
     /// Why an event can't be made that can't be made in a world; of any other the words say nothing.
-    pub fn event_words(&self, event: Event) -> AllocResult<String> {
+    pub fn event_words(&self, event: Event) -> Words {
         match event {
             Event::StartNext => self.why_no_start(),
             Event::Set(variable, _) => self.not_written(variable, Direction::Out),
@@ -36,7 +46,7 @@ impl Scene<'_, '_> {
     }
 
     /// Why a frame doesn't pass its next slave.
-    fn why_no_pass(&self, slot: usize) -> AllocResult<String> {
+    fn why_no_pass(&self, slot: usize) -> Words {
         let alloc = self.alloc;
         let Some(frame) = self.world.progress(slot) else {
             return self.no_frame(slot);
@@ -56,14 +66,16 @@ impl Scene<'_, '_> {
 
     /// The slot of an older frame that has passed no more slaves.
     fn slot_before(&self, frame: &Progress) -> Option<usize> {
-        let world = self.world;
-        (0..world.slots()).find(|slot| {
-            matches!(world.progress(*slot), Some(other) if other.is_older(frame) && other.passed <= frame.passed)
-        })
+        for slot in 0..self.world.slots() {
+            if is_before(self.world.progress(slot), frame) {
+                return Some(slot);
+            }
+        }
+        None
     }
 
     /// Why no cycle is begun.
-    fn why_no_begin(&self) -> AllocResult<String> {
+    fn why_no_begin(&self) -> Words {
         let (alloc, world) = (self.alloc, self.world);
         if !world.is_ready() {
             return format!(in alloc; "the start-up isn't ready: `ready` brings the slaves up");
@@ -74,7 +86,7 @@ impl Scene<'_, '_> {
         if self.free_slots() >= world.parts() {
             return format!(in alloc; "there is no number left for its frames");
         }
-        let frames = counted(alloc, world.parts(), "frame")?;
+        let frames = Counted(world.parts(), "frame");
         let held = "frames of earlier cycles are on their way";
         match self.free_slots() {
             0 => format!(in alloc; "a cycle sends {frames}, and no slot is free: {held}"),
@@ -84,7 +96,7 @@ impl Scene<'_, '_> {
     }
 
     /// Why the start-up sends no frame.
-    fn why_no_start(&self) -> AllocResult<String> {
+    fn why_no_start(&self) -> Words {
         let words = if self.world.is_ready() {
             "the start-up is ready: the slaves are in OP, or were"
         } else if self.free_slots() < self.world.slots() {
@@ -97,29 +109,32 @@ impl Scene<'_, '_> {
 
     /// How many slots have no frame.
     fn free_slots(&self) -> usize {
-        let world = self.world;
-        (0..world.slots())
-            .filter(|slot| world.slot(*slot).is_none())
-            .count()
+        let mut free = 0;
+        for slot in 0..self.world.slots() {
+            if self.world.slot(slot).is_none() {
+                free += 1;
+            }
+        }
+        free
     }
 
     /// Why the application of a slave doesn't fail.
-    fn why_no_fault(&self, slave: usize) -> AllocResult<String> {
+    fn why_no_fault(&self, slave: usize) -> Words {
         if !self.has_slave(slave) {
             return self.no_slave(slave);
         }
-        let name = self.slave_name(slave)?;
+        let name = self.slave_name(slave);
         let state = Firmware::of(self.world, slave).state;
         format!(in self.alloc; "`{name}` is in {state}: an application fails in OP")
     }
 
     /// Why an application doesn't write a byte of its inputs, or read one of its outputs.
-    fn why_no_byte(&self, slave: usize, place: usize, direction: Direction) -> AllocResult<String> {
+    fn why_no_byte(&self, slave: usize, place: usize, direction: Direction) -> Words {
         let alloc = self.alloc;
         if !self.has_slave(slave) {
             return self.no_slave(slave);
         }
-        let name = self.slave_name(slave)?;
+        let name = self.slave_name(slave);
         let Firmware { state, is_running } = Firmware::of(self.world, slave);
         let (what, count) = self.bytes_of(slave, direction);
         if !is_running {
@@ -134,14 +149,7 @@ impl Scene<'_, '_> {
                 format!(in alloc; "`{name}` has no byte {place} of {what}: the last is byte {last}")
             }
             _ if direction == Direction::Out && self.has_locked_outputs(slave) => {
-                let way_out = if self.world.is_ready() {
-                    "and no start-up follows one that is ready"
-                } else {
-                    "with which a start-up begins"
-                };
-                format!(in alloc;
-                    "the outputs of `{name}` are locked since its fault: INIT alone opens them, {way_out}"
-                )
+                self.why_locked(name)
             }
             _ => format!(in alloc;
                 "byte {place} is out of turn: the {what} of `{name}` go from byte 0 on, one after another"
@@ -149,15 +157,24 @@ impl Scene<'_, '_> {
         }
     }
 
+    /// Why an application doesn't read outputs that are locked.
+    fn why_locked(&self, name: Printable<'_>) -> Words {
+        let way_out = if self.world.is_ready() {
+            "and no start-up follows one that is ready"
+        } else {
+            "with which a start-up begins"
+        };
+        format!(in self.alloc;
+            "the outputs of `{name}` are locked since its fault: INIT alone opens them, {way_out}"
+        )
+    }
+
     /// What a slave has in a direction, and how many bytes of that.
     fn bytes_of(&self, slave: usize, direction: Direction) -> (&'static str, usize) {
-        let share = self
-            .world
-            .plan()
-            .slaves()
-            .get(slave)
-            .map(|settings| settings.share);
-        let (outputs, inputs) = share.map_or((0, 0), |share| (share.outs, share.ins));
+        let (outputs, inputs) = match self.world.plan().slaves().get(slave) {
+            Some(settings) => (settings.share.outs, settings.share.ins),
+            None => (0, 0),
+        };
         match direction {
             Direction::Out => ("outputs", outputs.div_ceil(8)),
             Direction::In => ("inputs", inputs.div_ceil(8)),
@@ -165,7 +182,7 @@ impl Scene<'_, '_> {
     }
 
     /// Why a frame doesn't come back.
-    fn why_no_return(&self, slot: usize) -> AllocResult<String> {
+    fn why_no_return(&self, slot: usize) -> Words {
         let alloc = self.alloc;
         let Some(frame) = self.world.progress(slot) else {
             return self.no_frame(slot);
@@ -176,5 +193,13 @@ impl Scene<'_, '_> {
                 format!(in alloc; "the frame in slot {slot} has passed {passed} of {slaves} slaves")
             }
         }
+    }
+}
+
+/// Whether there is a frame that is older than another one, and has passed no more slaves.
+fn is_before(frame: Option<Progress>, other: &Progress) -> bool {
+    match frame {
+        Some(frame) => frame.is_older(other) && frame.passed <= other.passed,
+        None => false,
     }
 }

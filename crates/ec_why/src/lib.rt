@@ -6,10 +6,6 @@ mod reasons;
 mod scene;
 mod wanted;
 
-pub use crate::reasons::{has_cycle, reason_line, reason_text};
+pub use crate::reasons::{has_cycle, reason_text};
 pub use crate::scene::misfit_words;
 pub use crate::wanted::Reasons;
-use std::alloc::AllocError;
-
-/// What was made, or the want of memory for it.
-type AllocResult<T> = Result<T, AllocError>;

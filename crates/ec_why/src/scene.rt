@@ -1,9 +1,8 @@
 //! A world as a person sees it: slaves, variables and slots by their names, and what they don't have.
-use crate::AllocResult;
-use ec_outline::{counted, printable};
+use ec_outline::{Counted, Printable, Words};
 use ec_table::{Direction, Table, VariableRow};
 use ec_world::World;
-use std::alloc::{AllocError, Global};
+use std::alloc::Global;
 
 /// The register of the AL status (ETG.1000.4), whose low four bits are the state.
 const AL_STATUS: u16 = 0x0130;
@@ -54,13 +53,15 @@ impl Scene<'_, '_> {
     }
 
     /// The name of a slave.
-    pub fn slave_name(&self, slave: usize) -> AllocResult<String> {
-        let row = self.table.slaves().get(slave);
-        printable(self.alloc, row.map_or("", |row| row.name.as_str()))
+    pub fn slave_name(&self, slave: usize) -> Printable<'_> {
+        match self.table.slaves().get(slave) {
+            Some(row) => Printable(row.name.as_str()),
+            None => Printable(""),
+        }
     }
 
     /// That there is no such slave.
-    pub fn no_slave(&self, slave: usize) -> AllocResult<String> {
+    pub fn no_slave(&self, slave: usize) -> Words {
         let alloc = self.alloc;
         match self.table.slaves().len() {
             0 => format!(in alloc; "there is no slave {slave}: the table has none"),
@@ -73,7 +74,7 @@ impl Scene<'_, '_> {
     }
 
     /// That there is no frame in a slot.
-    pub fn no_frame(&self, slot: usize) -> AllocResult<String> {
+    pub fn no_frame(&self, slot: usize) -> Words {
         let alloc = self.alloc;
         if slot < self.world.slots() {
             return format!(in alloc; "slot {slot} is empty: no frame is on its way there");
@@ -83,12 +84,12 @@ impl Scene<'_, '_> {
     }
 
     /// Why a variable doesn't become a value by an act that writes variables of one direction.
-    pub fn not_written(&self, variable: usize, wanted: Direction) -> AllocResult<String> {
+    pub fn not_written(&self, variable: usize, wanted: Direction) -> Words {
         let alloc = self.alloc;
         let Some(row) = self.table.variables().get(variable) else {
             return misfit_words(alloc, self.table, variable);
         };
-        let name = printable(alloc, row.name.as_str())?;
+        let name = Printable(row.name.as_str());
         match (row.direction, wanted) {
             (Direction::In, Direction::Out) => {
                 format!(in alloc; "`{name}` comes from slaves: `in {name} VALUE` writes it there")
@@ -102,7 +103,7 @@ impl Scene<'_, '_> {
 }
 
 /// That a variable has too few bits for a value, also for one that is no number of 64 bits.
-pub fn misfit_words(alloc: Global, table: &Table, variable: usize) -> Result<String, AllocError> {
+pub fn misfit_words(alloc: Global, table: &Table, variable: usize) -> Words {
     match table.variables().get(variable) {
         None => format!(in alloc; "the table has no variable {variable}"),
         Some(row) => misfit(alloc, row),
@@ -116,9 +117,9 @@ pub fn greatest(bits: u8) -> u64 {
 }
 
 /// That a variable has too few bits for a value; the least is as far below 0 as a two's complement of so many bits goes.
-fn misfit(alloc: Global, row: &VariableRow) -> AllocResult<String> {
-    let name = printable(alloc, row.name.as_str())?;
-    let bits = counted(alloc, usize::from(row.bits), "bit")?;
+fn misfit(alloc: Global, row: &VariableRow) -> Words {
+    let name = Printable(row.name.as_str());
+    let bits = Counted(usize::from(row.bits), "bit");
     let power = 1_u64.checked_shl(u32::from(row.bits.saturating_sub(1)));
     let (least, most) = (power.unwrap_or(0), greatest(row.bits));
     format!(in alloc; "`{name}` has {bits}, and its values go from -{least} to {most}")
