@@ -8,10 +8,6 @@ mod bits;
 #[cfg(test)]
 mod device;
 #[cfg(test)]
-mod fmmu;
-#[cfg(test)]
 mod regs;
 #[cfg(test)]
 mod sii;
-#[cfg(test)]
-mod sync;

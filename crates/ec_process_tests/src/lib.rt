@@ -1,0 +1,7 @@
+//! What carries process data in a slave, each by the public calls of its crate.
+#![tactic(auto)]
+
+#[cfg(test)]
+mod fmmu;
+#[cfg(test)]
+mod sync;
