@@ -109,10 +109,10 @@ impl Scene<'_, '_> {
 
     /// How many slots have no frame.
     fn free_slots(&self) -> usize {
-        let mut free = 0;
+        let mut free = 0_usize;
         for slot in 0..self.world.slots() {
             if self.world.slot(slot).is_none() {
-                free += 1;
+                free = free.saturating_add(1);
             }
         }
         free
