@@ -1,75 +1,60 @@
-//! What is done with a world, and what must be seen of it.
-ghost use Rattle.std.specs.Prelude.{◌≡◌, length, IfOk, None};
-ghost use Rattle.ec_link.specs.Faults.{compile_fault};
-ghost use Rattle.ec_link.specs.Plan.{plan_of};
+//! What is done with a world, and what must be seen of it, as lines of text: a word, what it is about, and behind ` > ` what is
+//! seen. A line that is out of form ends the test, as one does that doesn't hold: so nothing here has another way out, on which a
+//! world would go away.
+//!
+//! | Line | Says |
+//! |---|---|
+//! | `make EVENT > true` | an event that can be made; `false` if it can't |
+//! | `run EVENT, EVENT, .. > COUNT` | a list of events, of which so many can be made |
+//! | `rise > OUTCOME READY` | the start-up goes on undisturbed until it has ended: how it ended, and whether that is Ready |
+//! | `turn > true` | a frame of the start-up passes all slaves and comes back, and each slave serves once |
+//! | `trouble FRAME AT EVENT > true` | `is_up_after` of `trouble` |
+//! | `outcome > OUTCOME READY` | how the start-up ended, if it has |
+//! | `slot SLOT > PROGRESS NUMBER` | how far the frame in a slot is, and its number |
+//! | `variable PLACE > VALUE`, `outputs SLAVE > BYTES` | what a variable is; what a slave has published |
+//! | `byte > BYTE` | the byte that an application read last |
+//! | `report > UNITS COUNTERS MISSING AL` | of the last closing: which units were taken, the counters of each part, how many parts are missing, and the AL word |
 
+use super::events::{event_of, events_of, halves, number_of};
+use super::trouble::is_up_after;
 use ec_cycle::Report;
-use ec_device::Identity;
-use ec_link::{ExpectedCounters, Plan, compile};
-use ec_start::StartError;
-use ec_table::{Table, read_table};
-use ec_world::{Event, Progress, World};
-use std::alloc::Global;
+use ec_world::{Event, World};
+use std::alloc::{AllocError, Global};
 use std::process::Abort;
-use std::test::Fail;
 
-/// A step.
-#[derive(Clone, Copy, Drop)]
-pub enum Step<'a> {
-    /// An event that can be made.
-    Makes(Event),
-    /// An event that can't.
-    Denied(Event),
-    /// A list of events, of which so many can be made.
-    Runs(&'a [Event], usize),
-    /// The start-up goes on undisturbed until it has ended.
-    Rises,
-    /// How the start-up ended, if it has.
-    Ended(Option<Result<(), StartError>>),
-    /// A frame is in a slot: its number, its part and how many slaves it has passed.
-    Holds(usize, u64, usize, usize),
-    /// No frame is in a slot.
-    Empty(usize),
-    /// A variable has a value.
-    Reads(usize, u64),
-    /// A slave has published these outputs.
-    Publishes(usize, &'a [u8]),
-    /// The byte that an application read last.
-    Byte(Option<u8>),
-    /// What the last closing said: which units were taken, the counters of each part, and the AL word.
-    Reports(&'a [bool], &'a [Option<ExpectedCounters>], u16),
-    /// No cycle was closed yet.
-    NoReport,
-}
-
-/// Makes an event, if it can be made. What it does is told by no clause here, so the drivers below carry nothing of it.
-pub fn made(world: &mut World<'_>, event: Event) -> bool {
+/// Makes an event, if it can be made. What it does is told by no clause here, so what calls this carries nothing of it.
+pub fn is_made(world: &mut World<'_>, event: Event) -> bool {
     world.step(event)
 }
 
+/// Makes those of the events that can be made, and answers how many they were.
+fn run_events(world: &mut World<'_>, events: &[Event]) -> usize {
+    world.run(events)
+}
+
 /// The frame in a slot passes its slaves. At a place, counted by those that it has passed, an event comes between.
-pub fn pass_slaves(world: &mut World<'_>, slot: usize, at: usize, event: Option<Event>) {
+fn pass_slaves(world: &mut World<'_>, slot: usize, at: usize, event: Option<Event>) {
     for place in 0..4 {
         if let (true, Some(event)) = (place == at, event) {
-            made(world, event);
+            is_made(world, event);
         }
-        made(world, Event::Pass(slot));
+        is_made(world, Event::Pass(slot));
     }
 }
 
 /// Each slave serves once.
 fn serve_slaves(world: &mut World<'_>) {
     for slave in 0..3 {
-        made(world, Event::Serve(slave));
+        is_made(world, Event::Serve(slave));
     }
 }
 
 /// One frame of the start-up passes all slaves and comes back, and each slave serves once. At a place an event comes between.
 /// Whether the frame came back.
 pub fn turn(world: &mut World<'_>, at: usize, event: Option<Event>) -> bool {
-    made(world, Event::StartNext);
+    is_made(world, Event::StartNext);
     pass_slaves(world, 0, at, event);
-    let is_back = made(world, Event::Return(0));
+    let is_back = is_made(world, Event::Return(0));
     serve_slaves(world);
     is_back
 }
@@ -84,159 +69,132 @@ pub fn rise(world: &mut World<'_>) {
     }
 }
 
-/// Whether a report says this of the units, the parts and the AL states.
-fn is_report(
-    report: &Report,
-    units: &[bool],
-    counters: &[Option<ExpectedCounters>],
-    al_word: u16,
-) -> bool {
-    report.units_taken() == units
-        && report.counters().as_slice() == counters
-        && report.missing() == counters.iter().filter(|counter| counter.is_none()).count()
-        && report.al_word() == al_word
-}
-
-/// Whether a variable has a value.
-pub fn reads(world: &World<'_>, variable: usize, value: u64) -> bool {
-    variable < world.variables() && world.input(variable) == value
-}
-
-/// Whether a frame is in a slot, and how far it is.
-fn holds(world: &World<'_>, slot: usize, progress: Progress) -> bool {
-    world.progress(slot) == Some(progress) && world.slot(slot) == Some(progress.number)
-}
-
-/// Whether frames and the start-up are seen as a step says.
-fn shows_frames(world: &World<'_>, step: Step) -> bool {
-    match step {
-        Step::Ended(outcome) => {
-            world.outcome() == outcome && world.is_ready() == (outcome == Some(Ok(())))
-        }
-        Step::Holds(slot, number, part, passed) => holds(
-            world,
-            slot,
-            Progress {
-                number,
-                part,
-                passed,
-            },
-        ),
-        Step::Empty(slot) => world.progress(slot) == None && world.slot(slot) == None,
-        _ => true,
+/// What a variable is, if there is one.
+fn variable(world: &World<'_>, place: usize) -> Option<u64> {
+    if place < world.variables() {
+        Some(world.input(place))
+    } else {
+        None
     }
 }
 
-/// Whether values are seen as a step says.
-fn shows_values(world: &World<'_>, step: Step) -> bool {
-    match step {
-        Step::Reads(variable, value) => reads(world, variable, value),
-        Step::Publishes(slave, outputs) => {
-            slave < world.slaves() && world.outputs(slave) == outputs
-        }
-        Step::Byte(byte) => world.byte() == byte,
-        Step::Reports(units, counters, al_word) => match world.report() {
-            Some(report) => is_report(report, units, counters, al_word),
-            None => false,
-        },
-        Step::NoReport => world.report().is_none(),
-        _ => true,
+/// What a slave has published, if there is one.
+fn outputs<'a>(world: &'a World<'_>, slave: usize) -> Option<&'a [u8]> {
+    if slave < world.slaves() {
+        Some(world.outputs(slave))
+    } else {
+        None
     }
 }
 
-/// Takes a step. Whether it goes as it says.
-fn goes(world: &mut World<'_>, step: Step) -> bool {
-    match step {
-        Step::Makes(event) => made(world, event),
-        Step::Denied(event) => !made(world, event),
-        Step::Runs(events, count) => world.run(events) == count,
-        Step::Rises => {
-            rise(world);
-            true
-        }
-        _ => shows_frames(world, step) && shows_values(world, step),
+/// What a report says of the units, the parts and the AL states, in words.
+fn report_words(alloc: Global, report: &Report) -> Result<String, AllocError> {
+    let counters = report.counters();
+    let counters = counters.as_slice();
+    let (taken, missing, word) = (report.units_taken(), report.missing(), report.al_word());
+    format!(in alloc; "{taken:?} {counters:?} {missing} {word:04x}")
+}
+
+/// What the last closing said, in words.
+fn last_report(alloc: Global, world: &World<'_>) -> Result<String, AllocError> {
+    match world.report() {
+        Some(report) => report_words(alloc, report),
+        None => String::from_str(alloc, "none"),
     }
 }
 
-/// Takes all steps, in their order.
-fn take_steps(rt: &impl Abort, world: &mut World<'_>, steps: &[Step]) {
-    for (place, step) in steps.iter().enumerate() {
-        let goes = goes(world, *step);
-        assert!(rt; goes, "step {place}");
-    }
+/// How far the frame in a slot is, in words.
+fn slot_words(alloc: Global, world: &World<'_>, slot: usize) -> Result<String, AllocError> {
+    let (progress, number) = (world.progress(slot), world.slot(slot));
+    format!(in alloc; "{progress:?} {number:?}")
 }
 
-/// The identity of each slave of a table, or the one that is told of a slave.
-fn identities_of(
-    alloc: Global,
-    table: &Table,
-    other: Option<(usize, Identity)>,
-) -> Result<Vec<Identity>, Fail>
-    ensures { IfOk result (λ v. length v.items ≡ length table.now.slaves) }
-{
-    let mut identities = Vec::new(alloc);
-    for slave in 0..table.slaves().len() {
-        identities.push(match other {
-            Some((place, identity)) if place == slave => identity,
-            _ => table.identity_of(slave),
-        })?;
-    }
-    Ok(identities)
+/// How the start-up ended, in words.
+fn outcome_words(alloc: Global, world: &World<'_>) -> Result<String, AllocError> {
+    let (outcome, is_ready) = (world.outcome(), world.is_ready());
+    format!(in alloc; "{outcome:?} {is_ready}")
 }
 
-/// A new world of a table, where one slave has another identity if that is told.
-pub fn world_of<'p>(
-    alloc: Global,
-    table: &Table,
-    plan: &'p Plan,
-    other: Option<(usize, Identity)>,
-) -> Result<World<'p>, Fail>
-    requires accepted { compile_fault table.now ≡ None }
-    requires plan { plan.now ≡ plan_of table.now }
-{
-    let identities = identities_of(alloc, table, other)?;
-    Ok(World::new(alloc, table, plan, &identities)?)
-}
-
-/// A new world of a table.
-pub fn new_world<'p>(alloc: Global, table: &Table, plan: &'p Plan) -> Result<World<'p>, Fail>
-    requires accepted { compile_fault table.now ≡ None }
-    requires plan { plan.now ≡ plan_of table.now }
-{
-    world_of(alloc, table, plan, None)
-}
-
-/// Takes all steps with a new world of a table and its plan, in their order.
-fn expect_steps_of(
+/// What is seen of a place of a world, in words.
+fn place_words(
     rt: &(impl AllocGlobal + Abort),
-    table: &Table,
-    plan: &Plan,
-    steps: &[Step],
-) -> Result<(), Fail>
-    requires accepted { compile_fault table.now ≡ None }
-    requires plan { plan.now ≡ plan_of table.now }
-{
-    let mut world = new_world(rt.alloc(), table, plan)?;
-    take_steps(rt, &mut world, steps);
-    Ok(())
+    world: &World<'_>,
+    word: &str,
+    place: usize,
+) -> Result<String, AllocError> {
+    match word {
+        "slot" => slot_words(rt.alloc(), world, place),
+        "variable" => format!(in rt.alloc(); "{:?}", variable(world, place)),
+        "outputs" => format!(in rt.alloc(); "{:?}", outputs(world, place)),
+        _ => panic!(rt; "{word}"),
+    }
 }
 
-/// Takes all steps with a new world of a table that was read.
-fn expect_table_steps(
+/// What is seen of a world, in words.
+fn seen_words(
     rt: &(impl AllocGlobal + Abort),
-    table: &Table,
-    steps: &[Step],
-) -> Result<(), Fail> {
-    let plan = compile(rt.alloc(), table)?;
-    expect_steps_of(rt, table, &plan, steps)
+    world: &World<'_>,
+    word: &str,
+    about: &str,
+) -> Result<String, AllocError> {
+    match word {
+        "outcome" => outcome_words(rt.alloc(), world),
+        "byte" => format!(in rt.alloc(); "{:?}", world.byte()),
+        "report" => last_report(rt.alloc(), world),
+        _ => place_words(rt, world, word, number_of(rt, about)),
+    }
 }
 
-/// Takes all steps with a new world of a table, in their order.
+/// The start-up goes on until it has ended, and how it ended, in words.
+fn risen_words(alloc: Global, world: &mut World<'_>) -> Result<String, AllocError> {
+    rise(world);
+    outcome_words(alloc, world)
+}
+
+/// Takes a step, and what is seen then, in words.
+fn step_words(
+    rt: &(impl AllocGlobal + Abort),
+    world: &mut World<'_>,
+    word: &str,
+    about: &str,
+) -> Result<String, AllocError> {
+    match word {
+        "make" => format!(in rt.alloc(); "{}", is_made(world, event_of(rt, about))),
+        "run" => format!(in rt.alloc(); "{}", run_events(world, &events_of(rt, about))),
+        "rise" => risen_words(rt.alloc(), world),
+        "turn" => format!(in rt.alloc(); "{}", turn(world, 0, None)),
+        "trouble" => format!(in rt.alloc(); "{}", is_up_after(rt, world, about)),
+        _ => seen_words(rt, world, word, about),
+    }
+}
+
+/// What is seen is what is wanted.
+fn expect_seen(rt: &impl Abort, seen: Result<String, AllocError>, wanted: &str, line: &str) {
+    let seen = seen.expect(rt, "memory");
+    assert_eq!(rt; seen.as_str(), wanted, "{line}");
+}
+
+/// Takes the step of a line.
+fn take_line(rt: &(impl AllocGlobal + Abort), world: &mut World<'_>, line: &str) {
+    let (step, wanted) = line.split_once(" > ").expect(rt, line);
+    let (word, about) = halves(step);
+    expect_seen(rt, step_words(rt, world, word, about), wanted, line);
+}
+
+/// Takes the steps of all lines, in their order.
+fn take_lines(rt: &(impl AllocGlobal + Abort), world: &mut World<'_>, lines: &str) {
+    for line in lines.lines() {
+        take_line(rt, world, line);
+    }
+}
+
+/// Takes the steps of all lines with a new world. All worlds of these tests are handed to this function, so here alone the proof
+/// has to follow how one goes away.
 pub fn expect_steps(
     rt: &(impl AllocGlobal + Abort),
-    text: &str,
-    steps: &[Step],
-) -> Result<(), Fail> {
-    let table = read_table(rt.alloc(), text)?;
-    expect_table_steps(rt, &table, steps)
+    world: Result<World<'_>, AllocError>,
+    lines: &str,
+) {
+    let mut world = world.expect(rt, "memory");
+    take_lines(rt, &mut world, lines);
 }
