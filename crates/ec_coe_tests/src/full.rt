@@ -1,41 +1,67 @@
 //! Full slaves: the objects that they have besides, as they stand on the wire, and the name behind a normal upload response.
 ghost use Rattle.std.specs.Prelude.{◌≤◌};
 
-use crate::tests::{DEVICE, INPUT, OUTPUT, bytes_of, message_of, pdos_of};
-use ec_coe::{Dictionary, read_message};
+use crate::tests::{INPUT, OUTPUT, bytes_of, dictionary_of, kind_with, message_of};
+use ec_coe::{Dictionary, Message, read_message};
 use ec_device::{Face, MAX_NAME, Mailbox, SlaveType};
 use ec_listed::Listed;
+use std::alloc::AllocError;
 use std::process::Abort;
-use std::test::Fail;
 
 /// A slave with one PDO in each direction, and with a mailbox that sends so many bytes, if it has one.
-fn kind_of(rt: &(impl AllocGlobal + Abort), send_size: Option<u16>) -> Result<SlaveType, Fail> {
-    let mailbox = send_size.map(|size| Mailbox {
-        receive_start: 0x1000,
-        receive_size: 128,
-        send_start: 0x1080,
-        send_size: size,
-    });
-    let outputs = pdos_of(rt.alloc(), &[OUTPUT])?;
-    let inputs = pdos_of(rt.alloc(), &[INPUT])?;
-    assert!(rt; SlaveType::is_within_limits(mailbox, outputs.as_slice(), inputs.as_slice()));
-    Ok(SlaveType::new(DEVICE, mailbox, 0x1100, 0x1400, outputs, inputs, true))
+fn plain_kind(rt: &(impl AllocGlobal + Abort), send_size: Option<u16>) -> SlaveType {
+    let mailbox = match send_size {
+        None => None,
+        Some(size) => Some(Mailbox {
+            receive_start: 0x1000,
+            receive_size: 128,
+            send_start: 0x1080,
+            send_size: size,
+        }),
+    };
+    kind_with(rt, mailbox, &[OUTPUT], &[INPUT])
 }
 
-/// The objects of a full slave with this name, whose mailbox sends so many bytes, if it has one.
-fn full(
-    rt: &(impl AllocGlobal + Abort),
-    name: &[u8],
-    send_size: Option<u16>,
-) -> Result<Dictionary, Fail> {
-    let mut kind = kind_of(rt, send_size)?;
-    assert!(rt; !name.is_empty() && name.len() <= MAX_NAME);
-    let name = Listed::copied(rt.alloc(), name)?;
+/// A slave of a type is the last of its ring, and has a name.
+fn show_named(rt: &impl Abort, kind: &mut SlaveType, name: Listed<u8>) {
+    assert!(rt; !name.as_slice().is_empty() && name.as_slice().len() <= MAX_NAME);
     kind.show(Face {
         name,
         is_last: true,
     });
-    Ok(Dictionary::new(rt.alloc(), kind, DEVICE.identity(0))?)
+}
+
+/// The type of a full slave with this name, whose mailbox sends so many bytes, if it has one.
+fn full_kind(rt: &(impl AllocGlobal + Abort), name: &[u8], send_size: Option<u16>) -> SlaveType {
+    let mut kind = plain_kind(rt, send_size);
+    let name = Listed::copied(rt.alloc(), name).expect(rt, "memory");
+    show_named(rt, &mut kind, name);
+    kind
+}
+
+/// The objects of such a slave.
+fn full(
+    rt: &(impl AllocGlobal + Abort),
+    name: &[u8],
+    send_size: Option<u16>,
+) -> Result<Dictionary, AllocError> {
+    dictionary_of(rt.alloc(), full_kind(rt, name, send_size))
+}
+
+/// The reply to a message in PREOP, in a mailbox of so many bytes, is these bytes.
+fn expect_message(
+    rt: &impl Abort,
+    dictionary: &mut Dictionary,
+    room: usize,
+    counter: u8,
+    message: &Message,
+    back: &[u8],
+)
+    requires { counter ≤ 7 }
+{
+    let reply = dictionary.answer(true, message, counter);
+    let bytes = dictionary.reply_bytes(room, &reply);
+    assert!(rt; bytes.as_slice() == back, "{room}: {counter}");
 }
 
 /// Sends a request, in PREOP, and compares the bytes of the reply in a mailbox of so many bytes.
@@ -45,15 +71,18 @@ fn expect_bytes(
     room: usize,
     counter: u8,
     row: &(&str, &str),
-) -> Result<(), Fail>
+)
     requires { counter ≤ 7 }
 {
-    let (sent, back) = *row;
-    let back = bytes_of(rt.alloc(), back)?;
-    let reply = dictionary.answer(true, &message_of(rt.alloc(), sent)?, counter);
-    let bytes = dictionary.reply_bytes(room, &reply);
-    assert!(rt; bytes.as_slice() == &back[..], "{sent}: {room}");
-    Ok(())
+    let message = message_of(rt, row.0);
+    expect_message(
+        rt,
+        dictionary,
+        room,
+        counter,
+        &message,
+        &bytes_of(rt, row.1),
+    );
 }
 
 /// Sends requests one after the other, and compares the bytes of the replies, which are counted from 1 on.
@@ -62,11 +91,10 @@ fn expect_all_bytes(
     dictionary: &mut Dictionary,
     room: usize,
     rows: &[(&str, &str)],
-) -> Result<(), Fail> {
+) {
     for (place, row) in rows.iter().enumerate() {
-        expect_bytes(rt, dictionary, room, (place % 7 + 1) as u8, row)?;
+        expect_bytes(rt, dictionary, room, (place % 7 + 1) as u8, row);
     }
-    Ok(())
 }
 
 /// Each object in each subindex and in the one past it, of a slave that is called ab3.
@@ -284,22 +312,28 @@ const FULL: [Full<'static>; 19] = [
     ),
 ];
 
-/// A full slave answers in a mailbox of the bytes of its type's.
-fn expect_full(
+/// A slave, as it is made, answers requests in a mailbox of so many bytes.
+fn expect_dictionary(
     rt: &(impl AllocGlobal + Abort),
-    (name, send_size, rows): Full<'_>,
-) -> Result<(), Fail> {
-    let mut dictionary = full(rt, name.as_bytes(), send_size)?;
+    dictionary: Result<Dictionary, AllocError>,
+    room: usize,
+    rows: &[(&str, &str)],
+) {
+    let mut dictionary = dictionary.expect(rt, "memory");
+    expect_all_bytes(rt, &mut dictionary, room, rows);
+}
+
+/// A full slave answers in a mailbox of the bytes of its type's.
+fn expect_full(rt: &(impl AllocGlobal + Abort), (name, send_size, rows): Full<'_>) {
     let room = send_size.unwrap_or(16) as usize;
-    expect_all_bytes(rt, &mut dictionary, room, rows)
+    expect_dictionary(rt, full(rt, name.as_bytes(), send_size), room, rows);
 }
 
 #[test]
-fn full_slaves(rt: HostRuntime) -> Result<(), Fail> {
+fn full_slaves(rt: HostRuntime) {
     for row in &FULL {
-        expect_full(&rt, *row)?;
+        expect_full(&rt, *row);
     }
-    Ok(())
 }
 
 /// The head of the response to a request for a name of 5 letters.
@@ -308,18 +342,23 @@ const ALONE: &str = "0a0000000013 0030 41081000 05000000";
 /// Mailboxes of so many bytes, and the reply to the request for the name in them.
 const ROOMS: [(usize, &str); 4] = [(0, ALONE), (16, ALONE), (20, ALONE), (21, FIVE)];
 
-/// Asks for a slave's name in each of the mailboxes.
-fn expect_rooms(rt: &(impl AllocGlobal + Abort), dictionary: &mut Dictionary) -> Result<(), Fail> {
-    for (room, back) in &ROOMS {
-        expect_bytes(rt, dictionary, *room, 1, &(ASKED, *back))?;
-    }
-    Ok(())
-}
-
 // In a mailbox that is smaller than that of the type, the response stands alone.
 #[test]
-fn no_room_for_the_name(rt: HostRuntime) -> Result<(), Fail> {
-    expect_rooms(&rt, &mut full(&rt, b"Motor", Some(128))?)
+fn no_room_for_the_name(rt: HostRuntime) {
+    for (room, back) in &ROOMS {
+        expect_dictionary(
+            &rt,
+            full(&rt, b"Motor", Some(128)),
+            *room,
+            &[(ASKED, *back)],
+        );
+    }
+}
+
+/// The message of bytes, and the reply to it, which says that there is no object.
+fn expect_no_reply(rt: &impl Abort, dictionary: &mut Dictionary, sent: &[u8], back: &[u8]) {
+    let message = read_message(sent).expect(rt, "a message");
+    expect_message(rt, dictionary, 128, 1, &message, back);
 }
 
 /// Sends a request for an object that isn't there, and compares the reply.
@@ -329,20 +368,14 @@ fn expect_no_object(
     [low, high]: [u8; 2],
     command: u8,
     subindex: u8,
-) -> Result<(), Fail> {
+) {
     let request = [
         10, 0, 0, 0, 0, 0x13, 0, 0x20, command, low, high, subindex, 1, 0, 0, 0,
     ];
     let back = [
         10, 0, 0, 0, 0, 0x13, 0, 0x20, 0x80, low, high, subindex, 0, 0, 2, 6,
     ];
-    let message = read_message(&request).ok().ok_or("a message")?;
-    let reply = dictionary.answer(true, &message, 1);
-    assert!(rt;
-        dictionary.reply_bytes(128, &reply).as_slice() == &back[..],
-        "{request:?}"
-    );
-    Ok(())
+    expect_no_reply(rt, dictionary, &request, &back);
 }
 
 /// The objects of a full slave, each by the bytes of its index.
@@ -354,26 +387,24 @@ const INDEXES: [[u8; 2]; 5] = [
     [0x00, 0x1C],
 ];
 
-/// A slave has none of these objects.
-fn expect_no_objects(rt: &impl Abort, dictionary: &mut Dictionary) -> Result<(), Fail> {
-    for index in &INDEXES {
-        for command in &[0x40, 0x2F] {
-            for subindex in &[0, 1, 4] {
-                expect_no_object(rt, dictionary, *index, *command, *subindex)?;
-            }
-        }
+/// A slave has no such object, by either command.
+fn expect_no_index(rt: &impl Abort, dictionary: &mut Dictionary, index: [u8; 2]) {
+    for subindex in &[0, 1, 4] {
+        expect_no_object(rt, dictionary, index, 0x40, *subindex);
+        expect_no_object(rt, dictionary, index, 0x2F, *subindex);
     }
-    Ok(())
 }
 
-/// The objects of a slave that isn't full.
-fn plain(rt: &(impl AllocGlobal + Abort)) -> Result<Dictionary, Fail> {
-    let kind = kind_of(rt, Some(128))?;
-    Ok(Dictionary::new(rt.alloc(), kind, DEVICE.identity(0))?)
+/// A slave, as it is made, has none of these objects.
+fn expect_no_objects(rt: &impl Abort, dictionary: Result<Dictionary, AllocError>) {
+    let mut dictionary = dictionary.expect(rt, "memory");
+    for index in &INDEXES {
+        expect_no_index(rt, &mut dictionary, *index);
+    }
 }
 
 // A slave that isn't full has none of these objects.
 #[test]
-fn without_a_face(rt: HostRuntime) -> Result<(), Fail> {
-    expect_no_objects(&rt, &mut plain(&rt)?)
+fn without_a_face(rt: HostRuntime) {
+    expect_no_objects(&rt, dictionary_of(rt.alloc(), plain_kind(&rt, Some(128))));
 }

@@ -3,7 +3,6 @@
 use crate::tests::bytes_of;
 use ec_coe::{Reply, read_message, read_reply, refuse};
 use std::process::Abort;
-use std::test::Fail;
 
 /// The bytes of a mailbox, the counter of the reply, and its bytes.
 const ROWS: [(&str, u8, &str); 14] = [
@@ -72,48 +71,51 @@ const ROWS: [(&str, u8, &str); 14] = [
     ("000000000003", 3, "040000000030 0100 0400"),
 ];
 
-/// Compares what refuses these bytes, and what a master that waits for a reply finds in it: the abort of its transfer, and
-/// nothing in the other refusals.
-fn assert_refusal(
-    rt: &(impl AllocGlobal + Abort),
-    sent: &str,
-    counter: u8,
-    back: &str,
-) -> Result<(), Fail> {
-    let (raw, back) = (bytes_of(rt.alloc(), sent)?, bytes_of(rt.alloc(), back)?);
-    let refusal = refuse(&raw, counter % 8);
-    let wanted = if sent.starts_with("0e0000000013 0020") {
+/// What a master finds in a refusal that waits for a reply: the abort of its transfer, and nothing in other refusals.
+fn found_in(sent: &str) -> Reply {
+    if sent.starts_with("0e0000000013 0020") {
         Reply::Aborted(0x0504_0001)
     } else {
         Reply::Unexpected
-    };
+    }
+}
+
+/// Compares what refuses bytes, and what a master that waits for a reply finds in it.
+fn assert_refusal(rt: &impl Abort, sent: &str, raw: &[u8], counter: u8, back: &[u8]) {
+    let refusal = refuse(raw, counter % 8);
+    let found = read_reply(refusal.as_slice(), 0x1008, 2);
     assert_eq!(rt;
-        (
-            refusal.as_slice(),
-            read_reply(refusal.as_slice(), 0x1008, 2)
-        ),
-        (back.as_slice(), wanted),
+        (refusal.as_slice(), found),
+        (back, found_in(sent)),
         "{sent}"
     );
-    Ok(())
+}
+
+/// The same of a row.
+fn assert_row(rt: &(impl AllocGlobal + Abort), row: &(&str, u8, &str)) {
+    let (sent, counter, back) = *row;
+    assert_refusal(rt, sent, &bytes_of(rt, sent), counter, &bytes_of(rt, back));
 }
 
 #[test]
-fn refuses(rt: HostRuntime) -> Result<(), Fail> {
-    for (sent, counter, back) in &ROWS {
-        assert_refusal(&rt, sent, *counter, back)?;
+fn refuses(rt: HostRuntime) {
+    for row in &ROWS {
+        assert_row(&rt, row);
     }
-    Ok(())
+}
+
+/// A mailbox of 20 bytes with bytes at its begin.
+fn mailbox_of(bytes: &[u8]) -> [u8; 20] {
+    let mut mailbox = [0; 20];
+    for (place, byte) in bytes.iter().enumerate() {
+        mailbox[place % 20] = *byte;
+    }
+    mailbox
 }
 
 // A mailbox error is no message, not even with zeros behind it.
 #[test]
-fn an_error_is_no_message(rt: HostRuntime) -> Result<(), Fail> {
-    let mut mailbox = [0; 20];
-    let refusal = refuse(&[], 1);
-    for (place, byte) in refusal.as_slice().iter().enumerate() {
-        mailbox[place % 20] = *byte;
-    }
+fn an_error_is_no_message(rt: HostRuntime) {
+    let mailbox = mailbox_of(refuse(&[], 1).as_slice());
     assert!(rt; read_message(&mailbox).is_err());
-    Ok(())
 }

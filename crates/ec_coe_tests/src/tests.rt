@@ -2,14 +2,11 @@
 ghost use Rattle.std.specs.Prelude.{◌≤◌};
 ghost use Rattle.ec_coe.specs.Messages.{IsMessage};
 
-use ec_coe::{
-    BadMailbox, Dictionary, Message, Reply, SdoValue, read_message, read_reply, write_message,
-};
+use ec_coe::{BadMailbox, Dictionary, Message, read_message, read_reply, write_message};
 use ec_device::{Device, Entry, Mailbox, Pdo, SlaveType};
 use ec_listed::Listed;
 use std::alloc::{AllocError, Global};
 use std::process::Abort;
-use std::test::Fail;
 
 /// What the slave's type stands for.
 pub(crate) const DEVICE: Device = Device {
@@ -38,10 +35,19 @@ pub(crate) const INPUT: (u16, Entry) = (
     },
 );
 
+/// The digits of a row of hexadecimal digits.
+fn digits_of(rt: &(impl AllocGlobal + Abort), row: &str) -> String {
+    row.replace(rt.alloc(), " ", "").expect(rt, "memory")
+}
+
 /// The bytes of a row of hexadecimal digits.
-pub(crate) fn bytes_of(alloc: Global, row: &str) -> Result<Vec<u8>, Fail> {
-    let digits = row.replace(alloc, " ", "")?;
-    Ok(hex::decode(alloc, digits.as_str())?)
+pub(crate) fn bytes_of(rt: &(impl AllocGlobal + Abort), row: &str) -> Vec<u8> {
+    hex::decode(rt.alloc(), digits_of(rt, row).as_str()).expect(rt, row)
+}
+
+/// What stands before and behind the first place of a text.
+pub(crate) fn parts<'a>(rt: &impl Abort, text: &'a str, between: &str) -> (&'a str, &'a str) {
+    text.split_once(between).expect(rt, text)
 }
 
 /// A list of one entry.
@@ -64,25 +70,30 @@ pub(crate) fn pdos_of(alloc: Global, rows: &[(u16, Entry)]) -> Result<Listed<Pdo
     Ok(pdos)
 }
 
-/// The objects of a slave of these outputs and inputs.
-pub(crate) fn dictionary_with(
-    rt: &(impl AllocGlobal + Abort),
+/// The type of a slave of these outputs and inputs.
+pub(crate) fn kind_of(
+    rt: &impl Abort,
     mailbox: Option<Mailbox>,
     outputs: Listed<Pdo>,
     inputs: Listed<Pdo>,
-) -> Result<Dictionary, Fail> {
+) -> SlaveType {
     assert!(rt; SlaveType::is_within_limits(mailbox, outputs.as_slice(), inputs.as_slice()));
-    let kind = SlaveType::new(DEVICE, mailbox, 0x1100, 0x1400, outputs, inputs, true);
-    Ok(Dictionary::new(rt.alloc(), kind, DEVICE.identity(0))?)
+    SlaveType::new(DEVICE, mailbox, 0x1100, 0x1400, outputs, inputs, true)
+}
+
+/// The objects of a slave of a type.
+pub(crate) fn dictionary_of(alloc: Global, kind: SlaveType) -> Result<Dictionary, AllocError> {
+    Dictionary::new(alloc, kind, DEVICE.identity(0))
+}
+
+/// The message of bytes.
+fn message_in(rt: &impl Abort, bytes: &[u8]) -> Message {
+    read_message(bytes).expect(rt, "a message")
 }
 
 /// The message of a row of hexadecimal digits.
-pub(crate) fn message_of(alloc: Global, row: &str) -> Result<Message, Fail> {
-    Ok(
-        read_message(&bytes_of(alloc, row)?)
-            .ok()
-            .ok_or("a message")?,
-    )
+pub(crate) fn message_of(rt: &(impl AllocGlobal + Abort), row: &str) -> Message {
+    message_in(rt, &bytes_of(rt, row))
 }
 
 /// Compares the bytes of a mailbox of 20 bytes with those of a message, and the last ones with 0.
@@ -111,20 +122,18 @@ fn assert_reply(rt: &impl Abort, reply: &Message, back: &[u8], name: &str, sent:
 }
 
 /// Sends a request, and compares the bytes of the reply.
-fn expect_answer(
+fn expect_reply(
     rt: &(impl AllocGlobal + Abort),
     dictionary: &mut Dictionary,
     case: &Case<'_>,
     counter: u8,
     row: &str,
-) -> Result<(), Fail>
+)
     requires { counter ≤ 7 }
 {
-    let (sent, back) = row.split_once(">").ok_or("a reply")?;
-    let back = bytes_of(rt.alloc(), back)?;
-    let reply = dictionary.answer(case.1, &message_of(rt.alloc(), sent)?, counter);
-    assert_reply(rt, &reply, &back, case.0, sent);
-    Ok(())
+    let (sent, back) = parts(rt, row, ">");
+    let reply = dictionary.answer(case.1, &message_of(rt, sent), counter);
+    assert_reply(rt, &reply, &bytes_of(rt, back), case.0, sent);
 }
 
 /// A case: its name, whether the slave is in PREOP, and requests, each with the reply to it behind a `>`. Replies are counted
@@ -228,15 +237,10 @@ const TOO_LONG: Case<'static> = (
 );
 
 /// Sends requests one after the other, and compares the bytes of the replies.
-fn expect_answers(
-    rt: &(impl AllocGlobal + Abort),
-    dictionary: &mut Dictionary,
-    case: &Case<'_>,
-) -> Result<(), Fail> {
+fn expect_replies(rt: &(impl AllocGlobal + Abort), dictionary: &mut Dictionary, case: &Case<'_>) {
     for (place, row) in case.2.lines().enumerate() {
-        expect_answer(rt, dictionary, case, (place % 7 + 1) as u8, row)?;
+        expect_reply(rt, dictionary, case, (place % 7 + 1) as u8, row);
     }
-    Ok(())
 }
 
 /// What a slave's outputs and inputs are assigned to, how many bits they have, and what the outputs are assigned to after a
@@ -272,18 +276,28 @@ fn assert_outputs(rt: &impl Abort, name: &str, dictionary: &Dictionary, outputs:
 }
 
 /// Sends a slave that was just switched on its requests, and compares the replies, and what it is then and after a reset.
-fn expect_case(
+fn expect_answers(
     rt: &(impl AllocGlobal + Abort),
     dictionary: &mut Dictionary,
     case: &Case<'_>,
     seen: &Seen<'_>,
-) -> Result<(), Fail> {
-    expect_answers(rt, dictionary, case)?;
+) {
+    expect_replies(rt, dictionary, case);
     assert_assigned(rt, case.0, dictionary, seen);
     assert_device(rt, case.0, dictionary);
     dictionary.reset();
     assert_outputs(rt, case.0, dictionary, seen.4);
-    Ok(())
+}
+
+/// The same of a slave as it is made, which goes away here.
+fn expect_case(
+    rt: &(impl AllocGlobal + Abort),
+    dictionary: Result<Dictionary, AllocError>,
+    case: &Case<'_>,
+    seen: &Seen<'_>,
+) {
+    let mut dictionary = dictionary.expect(rt, "memory");
+    expect_answers(rt, &mut dictionary, case, seen);
 }
 
 /// So many entries of 64 bits.
@@ -318,33 +332,53 @@ const MAILBOX: Mailbox = Mailbox {
     send_size: 128,
 };
 
+/// The type of a slave with these mailboxes, output PDOs and input PDOs.
+pub(crate) fn kind_with(
+    rt: &(impl AllocGlobal + Abort),
+    mailbox: Option<Mailbox>,
+    outputs: &[(u16, Entry)],
+    inputs: &[(u16, Entry)],
+) -> SlaveType {
+    let outputs = pdos_of(rt.alloc(), outputs).expect(rt, "memory");
+    let inputs = pdos_of(rt.alloc(), inputs).expect(rt, "memory");
+    kind_of(rt, mailbox, outputs, inputs)
+}
+
 /// The objects of a slave with mailboxes, these output PDOs and these input PDOs.
-fn dictionary_of(
+fn dictionary_with(
     rt: &(impl AllocGlobal + Abort),
     outputs: &[(u16, Entry)],
     inputs: &[(u16, Entry)],
-) -> Result<Dictionary, Fail> {
-    let outputs = pdos_of(rt.alloc(), outputs)?;
-    dictionary_with(rt, Some(MAILBOX), outputs, pdos_of(rt.alloc(), inputs)?)
+) -> Result<Dictionary, AllocError> {
+    dictionary_of(rt.alloc(), kind_with(rt, Some(MAILBOX), outputs, inputs))
+}
+
+/// The type of a slave whose outputs are so many entries of 64 bits.
+fn long_kind(rt: &(impl AllocGlobal + Abort), count: u8) -> SlaveType {
+    let outputs = long_outputs(rt.alloc(), count).expect(rt, "memory");
+    kind_of(rt, None, outputs, Listed::new(rt.alloc()))
 }
 
 /// The objects of a slave whose outputs are so many entries of 64 bits.
-fn long_dictionary(rt: &(impl AllocGlobal + Abort), count: u8) -> Result<Dictionary, Fail> {
-    let outputs = long_outputs(rt.alloc(), count)?;
-    dictionary_with(rt, None, outputs, Listed::new(rt.alloc()))
+fn long_dictionary(rt: &(impl AllocGlobal + Abort), count: u8) -> Result<Dictionary, AllocError> {
+    dictionary_of(rt.alloc(), long_kind(rt, count))
+}
+
+/// Asks a slave with one PDO in each direction, and compares.
+fn expect_mixed(rt: &(impl AllocGlobal + Abort), case: &Case<'_>) {
+    expect_case(
+        rt,
+        dictionary_with(rt, &[OUTPUT], &[INPUT]),
+        case,
+        &(&[0x1600], &[0x1A00], 12, 16, &[0x1600]),
+    );
 }
 
 #[test]
-fn answers(rt: HostRuntime) -> Result<(), Fail> {
+fn answers(rt: HostRuntime) {
     for case in &MIXED {
-        expect_case(
-            &rt,
-            &mut dictionary_of(&rt, &[OUTPUT], &[INPUT])?,
-            case,
-            &(&[0x1600], &[0x1A00], 12, 16, &[0x1600]),
-        )?;
+        expect_mixed(&rt, case);
     }
-    Ok(())
 }
 
 /// 4 bits of outputs in 0x1600.
@@ -358,13 +392,13 @@ const FOUR_BITS: (u16, Entry) = (
 );
 
 #[test]
-fn without_inputs(rt: HostRuntime) -> Result<(), Fail> {
+fn without_inputs(rt: HostRuntime) {
     expect_case(
         &rt,
-        &mut dictionary_of(&rt, &[FOUR_BITS], &[])?,
+        dictionary_with(&rt, &[FOUR_BITS], &[]),
         &WITHOUT_INPUTS,
         &(&[0x1600], &[], 4, 0, &[0x1600]),
-    )
+    );
 }
 
 /// 64 bits of outputs in 0x1600 and in 0x1601.
@@ -388,38 +422,32 @@ const TWO_OUTPUTS: [(u16, Entry); 2] = [
 ];
 
 #[test]
-fn no_index_twice(rt: HostRuntime) -> Result<(), Fail> {
+fn no_index_twice(rt: HostRuntime) {
     expect_case(
         &rt,
-        &mut dictionary_of(&rt, &TWO_OUTPUTS, &[])?,
+        dictionary_with(&rt, &TWO_OUTPUTS, &[]),
         &NO_INDEX_TWICE,
         &(&[0x1600], &[], 64, 0, &[0x1600, 0x1601]),
-    )
+    );
 }
 
 /// Asks slaves of long outputs, and compares.
-fn expect_long(
-    rt: &(impl AllocGlobal + Abort),
-    count: u8,
-    case: &Case<'_>,
-    bits: usize,
-) -> Result<(), Fail> {
+fn expect_long(rt: &(impl AllocGlobal + Abort), count: u8, case: &Case<'_>, bits: usize) {
     let seen: Seen<'_> = (&[0x1600], &[], bits, 0, &[0x1600]);
-    expect_case(rt, &mut long_dictionary(rt, count)?, case, &seen)
+    expect_case(rt, long_dictionary(rt, count), case, &seen);
 }
 
 // 33 entries of 64 bits are more than a direction may have; 32 are not.
 #[test]
-fn at_most_2048_bits(rt: HostRuntime) -> Result<(), Fail> {
-    expect_long(&rt, 32, &LONG, 2048)?;
-    expect_long(&rt, 33, &TOO_LONG, 2112)
+fn at_most_2048_bits(rt: HostRuntime) {
+    expect_long(&rt, 32, &LONG, 2048);
+    expect_long(&rt, 33, &TOO_LONG, 2112);
 }
 
-/// The bytes of a row are no message.
-fn assert_no_message(rt: &(impl AllocGlobal + Abort), row: &str) -> Result<(), Fail> {
-    let met = read_message(&bytes_of(rt.alloc(), row)?);
+/// Bytes are no message.
+fn assert_no_message(rt: &impl Abort, bytes: &[u8], row: &str) {
+    let met = read_message(bytes);
     assert_eq!(rt; (met, BadMailbox.number()), (Err(BadMailbox), 9), "{row}");
-    Ok(())
 }
 
 /// A message in fewer than 16 bytes, of another length, of another type.
@@ -432,57 +460,52 @@ const NO_MESSAGES: [&str; 5] = [
 ];
 
 #[test]
-fn what_is_no_message(rt: HostRuntime) -> Result<(), Fail> {
+fn what_is_no_message(rt: HostRuntime) {
     for row in &NO_MESSAGES {
-        assert_no_message(&rt, row)?;
+        assert_no_message(&rt, &bytes_of(&rt, row), row);
     }
-    Ok(())
 }
 
-/// The bytes of a row are this reply.
-fn assert_read(rt: &(impl AllocGlobal + Abort), row: &str, reply: Reply) -> Result<(), Fail> {
-    let met = read_reply(&bytes_of(rt.alloc(), row)?, 0x1C12, 0);
-    assert_eq!(rt; met, reply, "{row}");
-    Ok(())
+/// What a reply says, in words.
+fn reply_words(alloc: Global, bytes: &[u8]) -> Result<String, AllocError> {
+    let reply = read_reply(bytes, 0x1C12, 0);
+    format!(in alloc; "{reply:?}")
 }
 
-/// The same of each row.
-fn assert_all_read(rt: &(impl AllocGlobal + Abort), rows: &[(&str, Reply)]) -> Result<(), Fail> {
-    for (row, reply) in rows {
-        assert_read(rt, row, *reply)?;
-    }
-    Ok(())
+/// Compares what is seen of a row.
+fn assert_words(rt: &impl Abort, words: Result<String, AllocError>, wanted: &str, row: &str) {
+    let words = words.expect(rt, "memory");
+    assert_eq!(rt; words.as_str(), wanted, "{row}");
 }
 
-// A done whatever its data, a value of its size, an abort of either service; all else is unexpected.
+/// Compares what the reply of a row says.
+fn assert_read(rt: &(impl AllocGlobal + Abort), row: &str) {
+    let (bytes, wanted) = parts(rt, row, " > ");
+    assert_words(
+        rt,
+        reply_words(rt.alloc(), &bytes_of(rt, bytes)),
+        wanted,
+        row,
+    );
+}
+
+/// A done whatever its data, a value of its size, an abort of either service; all else is unexpected.
+const REPLIES: &str = "\
+0a0000000013 0030 60121c00 01020304 > Downloaded
+0a0000000013 0030 4f121c00 0102ffff > Uploaded(SdoValue { size: One, number: 1 })
+0a0000000013 0030 43121c00 01020304 > Uploaded(SdoValue { size: Four, number: 67305985 })
+0a0000000013 0020 80121c00 22000008 > Aborted(134217762)
+0a0000000013 0030 80121c00 22000008 > Aborted(134217762)
+0a0000000013 0020 60121c00 00000000 > Unexpected
+0a0000000013 0040 80121c00 00000000 > Unexpected
+0a0000000013 0030 60131c00 00000000 > Unexpected
+0a0000000013 0030 60121c01 00000000 > Unexpected
+0a0000000013 0030 40121c00 00000000 > Unexpected
+0a0000000014 0030 60121c00 00000000 > Unexpected";
+
 #[test]
-fn replies(rt: HostRuntime) -> Result<(), Fail> {
-    assert_all_read(
-        &rt,
-        &[
-            ("0a0000000013 0030 60121c00 01020304", Reply::Downloaded),
-            (
-                "0a0000000013 0030 4f121c00 0102ffff",
-                Reply::Uploaded(SdoValue::byte(1)),
-            ),
-            (
-                "0a0000000013 0030 43121c00 01020304",
-                Reply::Uploaded(SdoValue::long(0x0403_0201)),
-            ),
-            (
-                "0a0000000013 0020 80121c00 22000008",
-                Reply::Aborted(0x0800_0022),
-            ),
-            (
-                "0a0000000013 0030 80121c00 22000008",
-                Reply::Aborted(0x0800_0022),
-            ),
-            ("0a0000000013 0020 60121c00 00000000", Reply::Unexpected),
-            ("0a0000000013 0040 80121c00 00000000", Reply::Unexpected),
-            ("0a0000000013 0030 60131c00 00000000", Reply::Unexpected),
-            ("0a0000000013 0030 60121c01 00000000", Reply::Unexpected),
-            ("0a0000000013 0030 40121c00 00000000", Reply::Unexpected),
-            ("0a0000000014 0030 60121c00 00000000", Reply::Unexpected),
-        ],
-    )
+fn replies(rt: HostRuntime) {
+    for row in REPLIES.lines() {
+        assert_read(&rt, row);
+    }
 }
