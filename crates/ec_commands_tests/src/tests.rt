@@ -1,8 +1,7 @@
 //! What needs streams that fail, sockets that are held, arguments of a system, or calls of parts of the program. What a run over
-//! memory prints and tells stands as cases in `crates/ecat_cases/data/`.
+//! memory prints and tells, and what the helps list, stands as cases in `crates/ecat_cases/data/`.
 
 mod explains;
-mod helps;
 mod inputs;
 mod loops;
 mod programs;
@@ -127,31 +126,61 @@ fn run_in_memory<H: AllocGlobal + Net + Files + Clock>(
     }
 }
 
-/// Whether one text stands in another.
-fn holds(text: &[u8], part: &[u8]) -> bool {
-    (0..text.len()).any(|from| text.get(from..).is_some_and(|rest| rest.starts_with(part)))
+/// Compares the exit status of a run, and what it told.
+fn expect_told(rt: &impl Abort, args: &[&str], ended: (u8, &[u8]), wanted: (u8, &str)) {
+    let (status, told) = wanted;
+    assert_eq!(rt; ended, (status, told.as_bytes()), "{args:?}");
+}
+
+/// Compares how a run ended: its exit status, what it printed, and how what it told begins.
+fn expect_ended(rt: &impl Abort, args: &[&str], ended: &Ended, wanted: (u8, &str, &str)) {
+    let (status, printed, told) = wanted;
+    let is_told = ended.told.starts_with(told.as_bytes());
+    assert_eq!(rt;
+        (ended.status, ended.printed.as_slice(), is_told),
+        (status, printed.as_bytes(), true),
+        "{args:?}"
+    );
+}
+
+/// Runs the program over memory, and compares how it ends.
+fn expect_run<H: AllocGlobal + Net + Files + Clock + Abort>(
+    rt: &H,
+    args: &[&str],
+    input: &str,
+    wanted: (u8, &str, &str),
+) {
+    let ended = run_in_memory(rt, args, input.as_bytes());
+    expect_ended(rt, args, &ended, wanted);
 }
 
 /// Runs the program on an output that takes nothing.
 fn expect_full_output<H: AllocGlobal + Net + Files + Clock + Abort>(
     rt: &H,
     args: &[&str],
-    input: &[u8],
+    input: &str,
 ) {
-    let mut input = input;
+    let mut input = input.as_bytes();
     let mut faults: Vec<u8> = Vec::new(rt.alloc());
     let mut output = Narrow { left: 0 };
     let status = run_args(rt, args, &mut input, &mut output, &mut faults);
-    let told = b"ecat: 41 Output\n".as_slice();
-    assert_eq!(rt; (status, faults.as_slice()), (4, told), "{args:?}");
+    expect_told(
+        rt,
+        args,
+        (status, faults.as_slice()),
+        (4, "ecat: 41 Output\n"),
+    );
 }
 
 #[test]
 fn tells_a_full_output(rt: HostRuntime) {
-    let pass = ["ecat", "pass", "--slaves", "3", FRAME];
-    expect_full_output(&rt, &pass, b"");
-    let table = THREE_SLAVES.as_bytes();
-    expect_full_output(&rt, &["ecat", "plan"], table);
+    expect_full_output(&rt, &["ecat", "pass", "--slaves", "3", FRAME], "");
+    expect_full_output(&rt, &["ecat", "plan"], THREE_SLAVES);
+}
+
+/// Compares the exit status of a run with one that is wanted, and how often a stream was to be handed on with once.
+fn expect_stuck(rt: &impl Abort, args: &[&str], status: u8, wanted: u8, flushes: u32) {
+    assert_eq!(rt; (status, flushes), (wanted, 1), "{args:?}");
 }
 
 /// Runs the program on an output that isn't handed on.
@@ -160,11 +189,12 @@ fn expect_stuck_output<H: AllocGlobal + Net + Files + Clock + Abort>(rt: &H, arg
     let mut faults: Vec<u8> = Vec::new(rt.alloc());
     let mut output = Stuck { flushes: 0 };
     let status = run_args(rt, args, &mut input, &mut output, &mut faults);
-    let told = b"ecat: 41 Output\n".as_slice();
-    assert_eq!(rt;
-        (status, output.flushes, faults.as_slice()),
-        (4, 1, told),
-        "{args:?}"
+    expect_stuck(rt, args, status, 4, output.flushes);
+    expect_told(
+        rt,
+        args,
+        (status, faults.as_slice()),
+        (4, "ecat: 41 Output\n"),
     );
 }
 
@@ -172,13 +202,13 @@ fn expect_stuck_output<H: AllocGlobal + Net + Files + Clock + Abort>(rt: &H, arg
 fn expect_stuck_faults<H: AllocGlobal + Net + Files + Clock + Abort>(
     rt: &H,
     args: &[&str],
-    status: u8,
+    wanted: u8,
 ) {
     let mut input: &[u8] = b"";
     let mut output: Vec<u8> = Vec::new(rt.alloc());
     let mut faults = Stuck { flushes: 0 };
-    let answer = run_args(rt, args, &mut input, &mut output, &mut faults);
-    assert_eq!(rt; (answer, faults.flushes), (status, 1), "{args:?}");
+    let status = run_args(rt, args, &mut input, &mut output, &mut faults);
+    expect_stuck(rt, args, status, wanted, faults.flushes);
 }
 
 #[test]
@@ -189,13 +219,28 @@ fn hands_on_what_it_prints(rt: HostRuntime) {
     expect_stuck_faults(&rt, &["ecat"], 2);
 }
 
+/// Runs the program where so many writes of what it tells are taken, and compares the exit status, which is that of a refusal.
+fn expect_untold<H: AllocGlobal + Net + Files + Clock + Abort>(
+    rt: &H,
+    args: &[&str],
+    input: &str,
+    left: u32,
+) {
+    let mut input = input.as_bytes();
+    let mut output: Vec<u8> = Vec::new(rt.alloc());
+    let mut faults = Narrow { left };
+    let status = run_args(rt, args, &mut input, &mut output, &mut faults);
+    expect_told(rt, args, (status, b""), (3, ""));
+}
+
 #[test]
 fn a_full_fault_stream_changes_nothing(rt: HostRuntime) {
-    let mut input: &[u8] = b"";
-    let args = ["ecat", "pass", "--slaves", "3", "0e1"];
-    let (mut output, mut faults) = (Vec::new(rt.alloc()), Narrow { left: 0 });
-    let status = run_args(&rt, &args, &mut input, &mut output, &mut faults);
-    assert_eq!(rt; status, 3);
+    expect_untold(&rt, &["ecat", "pass", "--slaves", "3", "0e1"], "", 0);
+}
+
+/// Compares whether a text was printed, and what a writer took.
+fn expect_taken(rt: &impl Abort, is_printed: bool, taken: &[u8], wanted: &str) {
+    assert_eq!(rt; (is_printed, taken), (true, wanted.as_bytes()));
 }
 
 #[test]
@@ -205,8 +250,5 @@ fn writes_on_past_short_writes_and_interruptions(rt: HostRuntime) {
         interrupted: false,
     };
     let printed = print_text(b"ecat", &mut output);
-    assert_eq!(rt;
-        (printed.is_ok(), output.bytes.as_slice()),
-        (true, b"ecat".as_slice())
-    );
+    expect_taken(&rt, printed.is_ok(), output.bytes.as_slice(), "ecat");
 }

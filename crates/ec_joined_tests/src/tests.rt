@@ -5,17 +5,16 @@ mod scripts;
 mod seeds;
 mod sizes;
 
-use self::cycles::cycles_of;
+use self::cycles::write_cycles_of;
 use self::names::with_names;
-use self::scripts::answers;
+use self::scripts::{plan_text_of, write_answers};
+use self::seeds::{Seeded, seeded};
 use self::sizes::{filled_up, table_of_size};
 use ec_commands::run_command;
-use ec_fixtures::{Random, random_script, random_table};
 use ec_wire::Echo;
 use std::fs::Files;
 use std::net::Net;
 use std::process::Abort;
-use std::test::Fail;
 use std::time::Clock;
 
 /// How a run of the program ended: its exit status, what it printed and what it told.
@@ -26,9 +25,13 @@ struct Ended {
     told: Vec<u8>,
 }
 
+const PLAN: [&str; 2] = ["ecat", "plan"];
+
 const SIM: [&str; 2] = ["ecat", "sim"];
 
 const LIVE: [&str; 3] = ["ecat", "sim", "--live"];
+
+const LOOP: [&str; 4] = ["ecat", "loop", "--cycles", "3"];
 
 /// Runs the program, with applications that show their slaves' outputs as inputs.
 fn run<H: AllocGlobal + Net + Files + Clock>(rt: &H, args: &[&str], input: &str) -> Ended {
@@ -43,6 +46,15 @@ fn run<H: AllocGlobal + Net + Files + Clock>(rt: &H, args: &[&str], input: &str)
     }
 }
 
+/// Compares how a run ended: its exit status, what it told, and what it printed.
+fn expect_ended(rt: &impl Abort, ended: &Ended, status: u8, told: &str, printed: &str) {
+    let is_printed = ended.printed.as_slice() == printed.as_bytes();
+    assert_eq!(rt;
+        (ended.status, ended.told.as_slice(), is_printed),
+        (status, told.as_bytes(), true)
+    );
+}
+
 /// Runs the program, which must end well, print this and tell nothing.
 fn expect_printed<H: AllocGlobal + Net + Files + Clock + Abort>(
     rt: &H,
@@ -51,16 +63,26 @@ fn expect_printed<H: AllocGlobal + Net + Files + Clock + Abort>(
     printed: &str,
 ) {
     let ended = run(rt, args, input);
-    assert_eq!(rt; (ended.status, ended.told.len()), (0, 0));
-    assert!(rt; ended.printed.as_slice() == printed.as_bytes());
+    expect_ended(rt, &ended, 0, "", printed);
 }
 
 /// How often what a script expects wasn't so, by what it printed.
-fn unmet_in(printed: &str) -> usize {
-    printed
-        .lines()
-        .filter(|line| line.starts_with("unmet "))
-        .count()
+fn unmet_in(printed: &str) -> u32 {
+    let mut unmet: u32 = 0;
+    for line in printed.lines() {
+        if line.starts_with("unmet ") {
+            unmet = unmet.saturating_add(1);
+        }
+    }
+    unmet
+}
+
+/// What is told where what a script expects wasn't so, so many times.
+fn told_of(rt: &(impl AllocGlobal + Abort), unmet: u32) -> String {
+    if unmet == 0 {
+        return String::new(rt.alloc());
+    }
+    format!(in rt.alloc(); "ecat: 45 Unmet {unmet}\n").expect(rt, "memory")
 }
 
 /// `ecat sim` with these args prints this, and ends with status 5 where a line of it says that what is expected isn't so.
@@ -69,133 +91,122 @@ fn expect_run<H: AllocGlobal + Net + Files + Clock + Abort>(
     args: &[&str],
     input: &str,
     printed: &str,
-) -> Result<(), Fail> {
-    let ended = run(rt, args, input);
+) {
     let unmet = unmet_in(printed);
-    let told = if unmet == 0 {
-        String::new(rt.alloc())
-    } else {
-        format!(in rt.alloc(); "ecat: 45 Unmet {unmet}\n")?
-    };
-    assert_eq!(rt; ended.status, if unmet == 0 { 0 } else { 5 });
-    assert!(rt; ended.told.as_slice() == told.as_bytes());
-    assert!(rt; ended.printed.as_slice() == printed.as_bytes());
-    Ok(())
+    let status = if unmet == 0 { 0 } else { 5 };
+    let told = told_of(rt, unmet);
+    let ended = run(rt, args, input);
+    expect_ended(rt, &ended, status, told.as_str(), printed);
 }
 
-/// `ecat plan` and `ecat sim` print what the calls answer to a table and a script.
-fn expect_answers<H: AllocGlobal + Net + Files + Clock + Abort>(
-    rt: &H,
-    table: &str,
-    script: &str,
-) -> Result<(), Fail> {
-    let (plan, printed) = answers(rt.alloc(), table, script)?;
-    let input = format!(in rt.alloc(); "{table}%%\n{script}")?;
-    expect_printed(rt, &["ecat", "plan"], table, plan.as_str());
-    expect_run(rt, &SIM, input.as_str(), printed.as_str())
+/// A table, and a script behind it.
+fn input_of(rt: &(impl AllocGlobal + Abort), table: &str, script: &str) -> String {
+    format!(in rt.alloc(); "{table}%%\n{script}").expect(rt, "memory")
 }
 
-/// The same of a table and a script that a seed decides.
+/// `ecat sim` with these args prints what the calls answer to the script that a seed decides, where it is given it so.
 fn expect_script<H: AllocGlobal + Net + Files + Clock + Abort>(
     rt: &H,
-    seed: u64,
-) -> Result<(), Fail> {
-    let mut random = Random::new(seed);
-    let table = random_table(rt.alloc(), &mut random)?;
-    let script = random_script(rt.alloc(), &mut random, table.as_str())?;
-    expect_answers(rt, table.as_str(), script.as_str())
+    args: &[&str],
+    seeded: &Seeded,
+    script: &str,
+) {
+    let input = input_of(rt, seeded.table.as_str(), script);
+    let mut printed = String::new(rt.alloc());
+    answers_of(rt, seeded, &mut printed);
+    expect_run(rt, args, input.as_str(), printed.as_str());
+}
+
+/// What the calls answer to the script that a seed decides.
+fn answers_of<H: AllocGlobal + Abort>(rt: &H, seeded: &Seeded, printed: &mut String) {
+    let (table, script) = (seeded.table.as_str(), seeded.script.as_str());
+    write_answers(rt.alloc(), table, script, printed).expect(rt, "a good table and script");
+}
+
+/// `ecat plan` and `ecat sim` print what the calls answer to the table and the script that a seed decides.
+fn expect_joined<H: AllocGlobal + Net + Files + Clock + Abort>(rt: &H, seed: u64) {
+    let seeded = seeded(rt, seed);
+    let plan = plan_text_of(rt.alloc(), seeded.table.as_str()).expect(rt, "a good table");
+    expect_printed(rt, &PLAN, seeded.table.as_str(), plan.as_str());
+    expect_script(rt, &SIM, &seeded, seeded.script.as_str());
 }
 
 #[test]
-fn joined(rt: HostRuntime) -> Result<(), Fail> {
+fn joined(rt: HostRuntime) {
     for seed in 0..200 {
-        expect_script(&rt, seed)?;
+        expect_joined(&rt, seed);
     }
-    Ok(())
-}
-
-/// A table and a script that a seed decides, and what the script prints by the calls.
-fn seeded<H: AllocGlobal>(rt: &H, seed: u64) -> Result<(String, String, String), Fail> {
-    let mut random = Random::new(seed);
-    let table = random_table(rt.alloc(), &mut random)?;
-    let script = random_script(rt.alloc(), &mut random, table.as_str())?;
-    let (_plan, printed) = answers(rt.alloc(), table.as_str(), script.as_str())?;
-    Ok((table, script, printed))
 }
 
 /// The script that a seed decides prints the same where its lines are run as they come.
-fn expect_live<H: AllocGlobal + Net + Files + Clock + Abort>(
-    rt: &H,
-    seed: u64,
-) -> Result<(), Fail> {
-    let (table, script, printed) = seeded(rt, seed)?;
-    let input = format!(in rt.alloc(); "{table}%%\n{script}")?;
-    expect_run(rt, &LIVE, input.as_str(), printed.as_str())
+fn expect_live<H: AllocGlobal + Net + Files + Clock + Abort>(rt: &H, seed: u64) {
+    let seeded = seeded(rt, seed);
+    expect_script(rt, &LIVE, &seeded, seeded.script.as_str());
 }
 
 #[test]
-fn joined_live(rt: HostRuntime) -> Result<(), Fail> {
+fn joined_live(rt: HostRuntime) {
     for seed in 0..200 {
-        expect_live(&rt, seed)?;
+        expect_live(&rt, seed);
     }
-    Ok(())
 }
 
 /// The script that a seed decides prints the same where it has the slaves' names in place of their numbers; whether it has some.
-fn expect_named<H: AllocGlobal + Net + Files + Clock + Abort>(
-    rt: &H,
-    seed: u64,
-) -> Result<bool, Fail> {
-    let (table, script, printed) = seeded(rt, seed)?;
-    let named = with_names(rt.alloc(), table.as_str(), script.as_str())?;
-    let input = format!(in rt.alloc(); "{table}%%\n{named}")?;
-    expect_run(rt, &SIM, input.as_str(), printed.as_str())?;
-    Ok(named.as_str() != script.as_str())
+fn expect_named<H: AllocGlobal + Net + Files + Clock + Abort>(rt: &H, seed: u64) -> bool {
+    let seeded = seeded(rt, seed);
+    let named = with_names(rt, seeded.table.as_str(), seeded.script.as_str());
+    expect_script(rt, &SIM, &seeded, named.as_str());
+    named.as_str() != seeded.script.as_str()
 }
 
 // More than half of the scripts have lines with a slave that the table has.
 #[test]
-fn joined_by_names(rt: HostRuntime) -> Result<(), Fail> {
+fn joined_by_names(rt: HostRuntime) {
     let mut named: u32 = 0;
     for seed in 0..200 {
-        if expect_named(&rt, seed)? {
+        if expect_named(&rt, seed) {
             named = named.saturating_add(1);
         }
     }
     assert!(rt; named > 100);
-    Ok(())
+}
+
+/// A loop ended well, printed this, and told its ports.
+fn expect_looped(rt: &impl Abort, ended: &Ended, printed: &str) {
+    let is_printed = ended.printed.as_slice() == printed.as_bytes();
+    let is_told = ended.told.starts_with(b"ecat: loop between 127.0.0.1:");
+    assert_eq!(rt; (ended.status, is_printed, is_told), (0, true, true));
 }
 
 /// Three cycles by `ecat loop`, over the system's sockets, of the table that a seed decides, and as events of a world.
-fn expect_cycles<H: AllocGlobal + Net + Files + Clock + Abort>(
-    rt: &H,
-    seed: u64,
-) -> Result<(), Fail> {
-    let mut random = Random::new(seed);
-    let table = random_table(rt.alloc(), &mut random)?;
-    let printed = cycles_of(rt.alloc(), table.as_str())?;
-    let ended = run(rt, &["ecat", "loop", "--cycles", "3"], table.as_str());
-    assert_eq!(rt; ended.status, 0);
-    assert!(rt; ended.printed.as_slice() == printed.as_bytes());
-    assert!(rt;
-        ended
-            .told
-            .as_slice()
-            .starts_with(b"ecat: loop between 127.0.0.1:")
-    );
-    Ok(())
+fn expect_cycles<H: AllocGlobal + Net + Files + Clock + Abort>(rt: &H, seed: u64) {
+    let seeded = seeded(rt, seed);
+    let mut printed = String::new(rt.alloc());
+    write_cycles(rt, seeded.table.as_str(), &mut printed);
+    let ended = run(rt, &LOOP, seeded.table.as_str());
+    expect_looped(rt, &ended, printed.as_str());
+}
+
+/// What a world says of three cycles of the table that a text states.
+fn write_cycles<H: AllocGlobal + Abort>(rt: &H, table: &str, printed: &mut String) {
+    write_cycles_of(rt.alloc(), table, printed).expect(rt, "a good table");
 }
 
 // The tables are those of the scripts.
 #[test]
-fn joined_by_loops(rt: HostRuntime) -> Result<(), Fail> {
+fn joined_by_loops(rt: HostRuntime) {
     for seed in 0..200 {
-        expect_cycles(&rt, seed)?;
+        expect_cycles(&rt, seed);
     }
-    Ok(())
 }
 
-/// Runs the program, which must end well and tell nothing; whether what it printed begins with these bytes.
+/// A run ended well and told nothing; whether what it printed begins with these bytes.
+fn expect_begun(rt: &impl Abort, ended: &Ended, first: &str) {
+    let is_begun = ended.printed.as_slice().starts_with(first.as_bytes());
+    assert_eq!(rt; (ended.status, ended.told.len(), is_begun), (0, 0, true));
+}
+
+/// Runs the program, which must end well and tell nothing, and print what begins with these bytes.
 fn expect_well<H: AllocGlobal + Net + Files + Clock + Abort>(
     rt: &H,
     args: &[&str],
@@ -203,70 +214,51 @@ fn expect_well<H: AllocGlobal + Net + Files + Clock + Abort>(
     first: &str,
 ) {
     let ended = run(rt, args, input);
-    assert_eq!(rt; (ended.status, ended.told.len()), (0, 0));
-    assert!(rt; ended.printed.as_slice().starts_with(first.as_bytes()));
+    expect_begun(rt, &ended, first);
 }
 
-/// The plan of a table, and a start-up and a cycle of it, in a world.
+/// The plan of a table, which begins so, and a start-up and a cycle of it, in a world.
 fn expect_size<H: AllocGlobal + Net + Files + Clock + Abort>(
     rt: &H,
     slaves: u32,
     count: u32,
-) -> Result<(), Fail> {
-    let table = table_of_size(rt.alloc(), slaves, count)?;
-    let input = format!(in rt.alloc(); "{table}%%\nready\ncycle\nshow\n")?;
-    let first = if slaves == 0 {
-        "part 0 "
-    } else {
-        "slave 0 part 0 out 16 in 16\n"
-    };
-    expect_well(rt, &["ecat", "plan"], table.as_str(), first);
-    expect_well(
-        rt,
-        &["ecat", "sim"],
-        input.as_str(),
-        "ready\nreport taken missing 0 ",
-    );
-    Ok(())
+    first: &str,
+) {
+    let table = table_of_size(rt, slaves, count);
+    let input = input_of(rt, table.as_str(), "ready\ncycle\nshow\n");
+    expect_well(rt, &PLAN, table.as_str(), first);
+    expect_well(rt, &SIM, input.as_str(), "ready\nreport taken missing 0 ");
 }
+
+/// How the plan of a table of size begins, if it has slaves.
+const FIRST: &str = "slave 0 part 0 out 16 in 16\n";
 
 // No size is told as want of memory, nor as anything else.
 #[test]
-fn each_number_of_slaves_has_room(rt: HostRuntime) -> Result<(), Fail> {
-    for slaves in 0..=64 {
-        expect_size(&rt, slaves, 16)?;
+fn each_number_of_slaves_has_room(rt: HostRuntime) {
+    expect_size(&rt, 0, 16, "part 0 ");
+    for slaves in 1..=64 {
+        expect_size(&rt, slaves, 16, FIRST);
     }
-    Ok(())
 }
 
 #[test]
-fn each_number_of_links_has_room(rt: HostRuntime) -> Result<(), Fail> {
+fn each_number_of_links_has_room(rt: HostRuntime) {
     for bits in [1, 2, 4, 8] {
-        expect_size(&rt, 64, bits)?;
+        expect_size(&rt, 64, bits, FIRST);
     }
-    Ok(())
 }
 
 /// The plan of a table that is so many bytes long.
-fn expect_length<H: AllocGlobal + Net + Files + Clock + Abort>(
-    rt: &H,
-    len: usize,
-) -> Result<(), Fail> {
-    let table = table_of_size(rt.alloc(), 3, 16)?;
-    let input = filled_up(rt.alloc(), table.as_str(), len)?;
-    expect_well(
-        rt,
-        &["ecat", "plan"],
-        input.as_str(),
-        "slave 0 part 0 out 16 in 16\n",
-    );
-    Ok(())
+fn expect_length<H: AllocGlobal + Net + Files + Clock + Abort>(rt: &H, len: usize) {
+    let table = table_of_size(rt, 3, 16);
+    let input = filled_up(rt, table.as_str(), len);
+    expect_well(rt, &PLAN, input.as_str(), FIRST);
 }
 
 #[test]
-fn each_length_of_an_input_has_room(rt: HostRuntime) -> Result<(), Fail> {
+fn each_length_of_an_input_has_room(rt: HostRuntime) {
     for len in [4096, 4097, 65_536, 400_001, 1_000_000, 1 << 20] {
-        expect_length(&rt, len)?;
+        expect_length(&rt, len);
     }
-    Ok(())
 }

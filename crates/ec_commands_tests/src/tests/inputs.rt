@@ -1,14 +1,13 @@
 //! Inputs that are interrupted, that fail, and that have no end.
 
-use crate::tests::run_args;
+use crate::tests::{Ended, expect_ended, expect_told, run_args};
 use ec_commands::read_text;
-use std::alloc::{AllocError, Global};
+use std::alloc::Global;
 use std::fs::Files;
 use std::io;
 use std::io::{ErrorKind, Read};
 use std::net::Net;
 use std::process::Abort;
-use std::test::Fail;
 use std::time::Clock;
 
 const PLAN: [&str; 2] = ["ecat", "plan"];
@@ -71,50 +70,55 @@ impl Read for Halting<'_> {
     }
 }
 
+/// The text of an input, or none where it can't be read.
+fn text_of(alloc: Global, input: &mut Halting) -> String {
+    match read_text(alloc, input) {
+        Ok(text) => text,
+        Err(_) => String::new(alloc),
+    }
+}
+
 #[test]
 fn reads_on_past_interruptions(rt: HostRuntime) {
     let mut input = Halting {
         left: b"version = 2",
         halted: false,
     };
-    let text = read_text(rt.alloc(), &mut input);
-    assert!(rt; text.is_ok_and(|text| text.as_str() == "version = 2"));
+    let text = text_of(rt.alloc(), &mut input);
+    assert_eq!(rt; text.as_str(), "version = 2");
 }
 
 /// `ecat plan` on an input that can't be read.
-fn expect_input<H: AllocGlobal + Net + Files + Clock + Abort, R: Read>(rt: &H, input: &mut R) {
-    let mut output: Vec<u8> = Vec::new(rt.alloc());
-    let mut faults: Vec<u8> = Vec::new(rt.alloc());
-    let status = run_args(rt, &PLAN, input, &mut output, &mut faults);
-    assert_eq!(rt;
-        (status, output.as_slice(), faults.as_slice()),
-        (4, b"".as_slice(), b"ecat: 42 Input\n".as_slice())
+fn plan_unread<H: AllocGlobal + Net + Files + Clock, R: Read>(rt: &H, input: &mut R) -> Ended {
+    let mut printed: Vec<u8> = Vec::new(rt.alloc());
+    let mut told: Vec<u8> = Vec::new(rt.alloc());
+    let status = run_args(rt, &PLAN, input, &mut printed, &mut told);
+    Ended {
+        status,
+        printed,
+        told,
+    }
+}
+
+/// Such a run is told as a fault of the input.
+fn expect_unread(rt: &impl Abort, ended: &Ended) {
+    expect_ended(rt, &PLAN, ended, (4, "", "ecat: 42 Input\n"));
+    expect_told(
+        rt,
+        &PLAN,
+        (ended.status, ended.told.as_slice()),
+        (4, "ecat: 42 Input\n"),
     );
 }
 
 #[test]
-fn refuses_an_input_that_cannot_be_read(rt: HostRuntime) {
-    expect_input(&rt, &mut Endless { at_a_time: 4096 });
-    expect_input(&rt, &mut Failing { calls: 0 });
-}
-
-/// So many blanks.
-fn blanks(alloc: Global, count: usize) -> Result<String, AllocError> {
-    " ".repeat(alloc, count)
-}
-
-/// How many bytes the text of an input has.
-fn length_read(alloc: Global, input: &[u8]) -> Option<usize> {
-    let mut input = input;
-    match read_text(alloc, &mut input) {
-        Ok(text) => Some(text.len()),
-        Err(_) => None,
-    }
+fn refuses_an_input_that_has_no_end(rt: HostRuntime) {
+    let ended = plan_unread(&rt, &mut Endless { at_a_time: 4096 });
+    expect_unread(&rt, &ended);
 }
 
 #[test]
-fn reads_as_much_as_a_table_may_have(rt: HostRuntime) -> Result<(), Fail> {
-    let most = blanks(rt.alloc(), 1 << 20)?;
-    assert_eq!(rt; length_read(rt.alloc(), most.as_bytes()), Some(1 << 20));
-    Ok(())
+fn refuses_an_input_that_cannot_be_read(rt: HostRuntime) {
+    let ended = plan_unread(&rt, &mut Failing { calls: 0 });
+    expect_unread(&rt, &ended);
 }

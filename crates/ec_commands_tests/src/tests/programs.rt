@@ -1,6 +1,6 @@
 //! The program on arguments that a system gives.
 
-use crate::tests::FRAME;
+use crate::tests::{Ended, FRAME};
 use ec_commands::run_program;
 use std::env;
 use std::env::{Env, FillError};
@@ -36,46 +36,63 @@ impl Env for Called<'_> {
     }
 }
 
-/// Runs the program on these arguments, and compares the exit status and what was printed.
-fn expect_program<H: AllocGlobal + Net + Files + Clock + Abort>(
-    rt: &H,
-    args: &[&[u8]],
-    status: u8,
-    printed: &str,
-    told: &str,
-) {
+/// Runs the program on these arguments. It promises nothing, so what calls it is quickly checked.
+fn run_called<H: AllocGlobal + Net + Files + Clock>(rt: &H, args: &[&[u8]]) -> Ended {
     let system = (Called { args }, rt.alloc());
-    let mut output: Vec<u8> = Vec::new(rt.alloc());
-    let mut faults: Vec<u8> = Vec::new(rt.alloc());
+    let mut printed: Vec<u8> = Vec::new(rt.alloc());
+    let mut told: Vec<u8> = Vec::new(rt.alloc());
     let mut input: &[u8] = b"";
-    let answer = run_program(rt, env::args(&system), &mut input, &mut output, &mut faults);
+    let status = run_program(rt, env::args(&system), &mut input, &mut printed, &mut told);
+    Ended {
+        status,
+        printed,
+        told,
+    }
+}
+
+/// Compares the exit status, what was printed and what was told.
+fn expect_called(rt: &impl Abort, ended: &Ended, wanted: (u8, &str, &str)) {
+    let (status, printed, told) = wanted;
     assert_eq!(rt;
-        (answer, output.as_slice(), faults.as_slice()),
+        (
+            ended.status,
+            ended.printed.as_slice(),
+            ended.told.as_slice()
+        ),
         (status, printed.as_bytes(), told.as_bytes())
     );
 }
 
+/// Runs the program on these arguments, and compares how it ends.
+fn expect_program<H: AllocGlobal + Net + Files + Clock + Abort>(
+    rt: &H,
+    args: &[&[u8]],
+    wanted: (u8, &str, &str),
+) {
+    let ended = run_called(rt, args);
+    expect_called(rt, &ended, wanted);
+}
+
+/// What is told of an argument that isn't text.
+const NOT_TEXT: &str = "error: an argument of the command line isn't text\n";
+
 #[test]
 fn runs_on_the_arguments_of_a_system(rt: HostRuntime) {
-    let pass = [
-        b"ecat".as_slice(),
-        b"pass",
-        b"--slaves",
-        b"3",
-        FRAME.as_bytes(),
-    ];
-    let bad_hex = [b"ecat".as_slice(), b"pass", b"--slaves=3", b"0e1"];
-    let not_text = [b"ecat".as_slice(), b"pass", b"--slaves=3", b"\xff"];
-    for (args, status, printed, told) in [
-        (pass.as_slice(), 0, "0e100701030030010200000001000300\n", ""),
-        (&bad_hex, 3, "", "ecat: 40 BadHex\n"),
-        (
-            &not_text,
-            2,
-            "",
-            "error: an argument of the command line isn't text\n",
-        ),
-    ] {
-        expect_program(&rt, args, status, printed, told);
-    }
+    let back = "0e100701030030010200000001000300\n";
+    let frame = FRAME.as_bytes();
+    expect_program(
+        &rt,
+        &[b"ecat", b"pass", b"--slaves", b"3", frame],
+        (0, back, ""),
+    );
+    expect_program(
+        &rt,
+        &[b"ecat", b"pass", b"--slaves=3", b"0e1"],
+        (3, "", "ecat: 40 BadHex\n"),
+    );
+    expect_program(
+        &rt,
+        &[b"ecat", b"pass", b"--slaves=3", b"\xff"],
+        (2, "", NOT_TEXT),
+    );
 }

@@ -5,10 +5,8 @@ use ec_bringup::slaves_of_machine;
 use ec_commands::{UdpWire, print_served_segment};
 use ec_link::Machine;
 use ec_ring::Ring;
-use std::alloc::Global;
 use std::net::{Ipv4Addr, Net, SocketAddr, UdpSocket};
 use std::process::Abort;
-use std::test::Fail;
 
 /// A table of one slave, whose serial number is 1042.
 const ONE_SLAVE: &str =
@@ -29,81 +27,73 @@ fn here(port: u16) -> SocketAddr {
     SocketAddr::from((Ipv4Addr::LOCALHOST, port))
 }
 
+/// Sends a frame.
+fn send_bytes(rt: &impl Abort, client: &UdpSocket, port: u16, frame: &[u8]) {
+    client.send_to(frame, here(port)).expect(rt, "room");
+}
+
 /// Sends a frame that is written in hex.
-fn send(alloc: Global, client: &UdpSocket, port: u16, frame: &str) -> Result<(), Fail> {
-    let bytes = hex::decode(alloc, frame)?;
-    client.send_to(&bytes, here(port))?;
-    Ok(())
+fn send(rt: &(impl AllocGlobal + Abort), client: &UdpSocket, port: u16, frame: &str) {
+    let bytes = hex::decode(rt.alloc(), frame).expect(rt, frame);
+    send_bytes(rt, client, port, bytes.as_slice());
 }
 
-/// The next frame that comes back, in hex.
-fn back(alloc: Global, client: &UdpSocket) -> Result<String, Fail> {
-    let mut buffer = [0; 1500];
-    let (count, _) = client.recv_from(&mut buffer)?;
-    Ok(hex::encode(alloc, &buffer[..count.min(1500)])?)
-}
-
-/// Serves two frames, and answers what is printed. What it is, is told by no clause here, so that the comparisons behind it
-/// carry nothing of it.
-fn serve(alloc: Global, slaves: &mut Ring, wire: &mut UdpWire) -> Vec<u8> {
-    let mut output = Vec::new(alloc);
-    let _ = print_served_segment(slaves, &mut Idle, wire, 2, &mut output);
-    output
-}
-
-/// The one slave.
-fn one_slave(alloc: Global) -> Result<Ring, Fail> {
-    let machine = Machine::read(alloc, ONE_SLAVE)?;
-    Ok(slaves_of_machine(alloc, &machine)?)
-}
-
-/// Sends the two frames to a port.
-fn ask(alloc: Global, client: &UdpSocket, port: u16) -> Result<(), Fail> {
-    send(alloc, client, port, ASK)?;
-    send(alloc, client, port, READ)
-}
-
-/// The second frame that comes back, in hex.
-fn second_back(alloc: Global, client: &UdpSocket) -> Result<String, Fail> {
-    let _ = back(alloc, client)?;
-    back(alloc, client)
-}
-
-/// Serves the two frames, and compares what is printed.
-fn expect_served(rt: &(impl AllocGlobal + Abort), slaves: &mut Ring, wire: &mut UdpWire) {
-    let printed = serve(rt.alloc(), slaves, wire);
-    assert_eq!(rt; printed.as_slice(), b"served 2 refused 0\n".as_slice());
+/// Takes the next frame that comes back, and answers how many bytes it has.
+fn take_back(rt: &impl Abort, client: &UdpSocket, buffer: &mut [u8; 1500]) -> usize {
+    let (count, _) = client.recv_from(buffer).expect(rt, "a frame");
+    count.min(1500)
 }
 
 /// The second frame that comes back has the serial number.
-fn expect_back(rt: &(impl AllocGlobal + Abort), client: &UdpSocket) -> Result<(), Fail> {
-    let seen = second_back(rt.alloc(), client)?;
+fn expect_back(rt: &(impl AllocGlobal + Abort), client: &UdpSocket) {
+    let mut buffer = [0; 1500];
+    take_back(rt, client, &mut buffer);
+    let count = take_back(rt, client, &mut buffer);
+    let seen = hex::encode(rt.alloc(), &buffer[..count]).expect(rt, "memory");
     assert_eq!(rt; seen.as_str(), BACK);
-    Ok(())
 }
 
-/// Reads the serial number of the slaves over a wire.
+/// Serves two frames, and compares what is printed.
+fn expect_served(rt: &(impl AllocGlobal + Abort), slaves: &mut Ring, wire: &mut UdpWire) {
+    let mut output: Vec<u8> = Vec::new(rt.alloc());
+    serve(slaves, wire, &mut output);
+    assert_eq!(rt; output.as_slice(), b"served 2 refused 0\n".as_slice());
+}
+
+/// Serves two frames. What is printed is told by no clause here, so that the comparison behind it carries nothing of it.
+fn serve(slaves: &mut Ring, wire: &mut UdpWire, output: &mut Vec<u8>) {
+    let _ = print_served_segment(slaves, &mut Idle, wire, 2, output);
+}
+
+/// Reads the serial number of slaves over a wire.
 fn expect_serial(
     rt: &(impl AllocGlobal + Abort),
     slaves: &mut Ring,
     wire: &mut UdpWire,
     client: &UdpSocket,
-) -> Result<(), Fail> {
-    ask(rt.alloc(), client, wire.port())?;
+) {
+    send(rt, client, wire.port(), ASK);
+    send(rt, client, wire.port(), READ);
     expect_served(rt, slaves, wire);
-    expect_back(rt, client)
+    expect_back(rt, client);
 }
 
 /// The same over two sockets of the system's.
-fn expect_serial_of<R: Net + AllocGlobal + Abort>(rt: &R, slaves: &mut Ring) -> Result<(), Fail> {
-    let mut wire = UdpWire::bind(rt, 0)?;
-    let client = UdpSocket::bind(rt, here(0))?;
-    expect_serial(rt, slaves, &mut wire, &client)
+fn expect_serial_of<R: Net + AllocGlobal + Abort>(rt: &R, slaves: &mut Ring) {
+    let mut wire = UdpWire::bind(rt, 0).expect(rt, "a socket");
+    let client = UdpSocket::bind(rt, here(0)).expect(rt, "a socket");
+    expect_serial(rt, slaves, &mut wire, &client);
+}
+
+/// The one slave.
+fn one_slave(rt: &(impl AllocGlobal + Abort)) -> Ring {
+    let machine = Machine::read(rt.alloc(), ONE_SLAVE).expect(rt, "a good table");
+    slaves_of_machine(rt.alloc(), &machine).expect(rt, "memory")
 }
 
 // A served slave shows the serial number that its table gives it.
 #[test]
-fn shows_the_serial_number(rt: HostRuntime) -> Result<(), Fail> {
-    let mut slaves = one_slave(rt.alloc())?;
-    expect_serial_of(&rt, &mut slaves)
+fn shows_the_serial_number(rt: HostRuntime) {
+    let mut slaves = one_slave(&rt);
+    expect_serial_of(&rt, &mut slaves);
 }

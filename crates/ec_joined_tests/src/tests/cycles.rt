@@ -132,6 +132,7 @@ fn write_cycles(
     cycles: u64,
 ) -> Result<(), AllocError> {
     start_up(world);
+    text.push_str("ready\n")?;
     for cycle in 0..cycles {
         set_outputs(world, table, cycle.saturating_add(1));
         run_cycle(world, plan.parts().len());
@@ -141,25 +142,29 @@ fn write_cycles(
 }
 
 /// What a world of a table says of so many cycles.
-fn looped(alloc: Global, table: &Table, plan: &Plan, cycles: u64) -> Result<String, AllocError>
+fn looped(
+    alloc: Global,
+    table: &Table,
+    plan: &Plan,
+    cycles: u64,
+    text: &mut String,
+) -> Result<(), AllocError>
     requires accepted { compile_fault table.now ≡ None }
     requires plan { plan.now ≡ plan_of table.now }
 {
     let identities = identities_of(alloc, table)?;
     let mut world = World::new(alloc, table, plan, identities.as_slice())?;
-    let mut text = String::from_str(alloc, "ready\n")?;
-    write_cycles(alloc, &mut text, &mut world, table, plan, cycles)?;
-    Ok(text)
+    write_cycles(alloc, text, &mut world, table, plan, cycles)
 }
 
 /// What a world of a table says of three cycles.
-fn cycles_of_table(alloc: Global, table: &Table) -> Result<String, Refusal> {
+fn cycles_of_table(alloc: Global, table: &Table, text: &mut String) -> Result<(), Refusal> {
     let plan = compile(alloc, table)?;
-    Ok(looped(alloc, table, &plan, 3)?)
+    Ok(looped(alloc, table, &plan, 3, text)?)
 }
 
-/// The same of the table that a text states.
-pub fn cycles_of(alloc: Global, text: &str) -> Result<String, Refusal> {
-    let table = read_table(alloc, text)?;
-    cycles_of_table(alloc, &table)
+/// Adds what a world of the table that a text states says of three cycles.
+pub fn write_cycles_of(alloc: Global, table: &str, text: &mut String) -> Result<(), Refusal> {
+    let table = read_table(alloc, table)?;
+    cycles_of_table(alloc, &table, text)
 }

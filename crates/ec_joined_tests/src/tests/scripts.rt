@@ -30,59 +30,75 @@ fn said(
     table: &Table,
     world: &mut World,
     lines: &[Line],
-) -> Result<String, AllocError> {
-    let mut printed = String::new(alloc);
+    printed: &mut String,
+) -> Result<(), AllocError> {
     for line in lines {
-        said_of(alloc, table, world, line, &mut printed)?;
+        said_of(alloc, table, world, line, printed)?;
     }
-    Ok(printed)
+    Ok(())
 }
 
 /// What a new world of a table says to the lines of a script.
-fn said_by(alloc: Global, table: &Table, plan: &Plan, lines: &[Line]) -> Result<String, AllocError>
+fn said_by(
+    alloc: Global,
+    table: &Table,
+    plan: &Plan,
+    lines: &[Line],
+    printed: &mut String,
+) -> Result<(), AllocError>
     requires accepted { compile_fault table.now ≡ None }
     requires plan { plan.now ≡ plan_of table.now }
 {
     let identities = identities_of(alloc, table)?;
     let mut world = World::new(alloc, table, plan, identities.as_slice())?;
-    said(alloc, table, &mut world, lines)
+    said(alloc, table, &mut world, lines, printed)
 }
 
 /// What a script prints over a table and its plan, by the calls.
-fn simulated(alloc: Global, table: &Table, plan: &Plan, script: &str) -> Result<String, Refusal>
-    requires accepted { compile_fault table.now ≡ None }
-    requires plan { plan.now ≡ plan_of table.now }
-{
-    let lines = read_script(alloc, table, script)?;
-    Ok(said_by(alloc, table, plan, lines.as_slice())?)
-}
-
-/// The text of a plan, and what a script prints over it, by the calls.
-fn answers_of(
+fn simulated(
     alloc: Global,
     table: &Table,
     plan: &Plan,
     script: &str,
-) -> Result<(String, String), Refusal>
+    printed: &mut String,
+) -> Result<(), Refusal>
     requires accepted { compile_fault table.now ≡ None }
     requires plan { plan.now ≡ plan_of table.now }
 {
-    let printed = simulated(alloc, table, plan, script)?;
-    Ok((plan_text(alloc, table.version(), plan)?, printed))
+    let lines = read_script(alloc, table, script)?;
+    Ok(said_by(alloc, table, plan, lines.as_slice(), printed)?)
 }
 
-/// The same of a table that was read.
-fn answers_of_table(
+/// The same over a table alone.
+fn simulated_on(
     alloc: Global,
     table: &Table,
     script: &str,
-) -> Result<(String, String), Refusal> {
+    printed: &mut String,
+) -> Result<(), Refusal> {
     let plan = compile(alloc, table)?;
-    answers_of(alloc, table, &plan, script)
+    simulated(alloc, table, &plan, script, printed)
 }
 
-/// The same of the table that a text states.
-pub fn answers(alloc: Global, table: &str, script: &str) -> Result<(String, String), Refusal> {
+/// Adds what a script prints over the table that a text states, by the calls.
+pub fn write_answers(
+    alloc: Global,
+    table: &str,
+    script: &str,
+    printed: &mut String,
+) -> Result<(), Refusal> {
     let table = read_table(alloc, table)?;
-    answers_of_table(alloc, &table, script)
+    simulated_on(alloc, &table, script, printed)
+}
+
+/// The text of the plan of a table, by the calls.
+fn plan_of_table(alloc: Global, table: &Table) -> Result<String, Refusal> {
+    let plan = compile(alloc, table)?;
+    Ok(plan_text(alloc, table.version(), &plan)?)
+}
+
+/// The text of the plan of the table that a text states, by the calls.
+pub fn plan_text_of(alloc: Global, table: &str) -> Result<String, Refusal> {
+    let table = read_table(alloc, table)?;
+    plan_of_table(alloc, &table)
 }

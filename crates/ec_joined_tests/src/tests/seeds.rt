@@ -1,7 +1,28 @@
-//! What seeds make is worth a run: tables that are unlike, most with slaves, and scripts with lines of each kind.
+//! What a seed decides: a table and a script. They are worth a run: tables that are unlike, most with slaves, and scripts with lines
+//! of each kind.
 use ec_fixtures::{Random, random_script, random_table};
+use std::alloc::{AllocError, Global};
 use std::process::Abort;
-use std::test::Fail;
+
+/// A table and a script that a seed decides.
+#[derive(Drop)]
+pub struct Seeded {
+    pub table: String,
+    pub script: String,
+}
+
+/// The script that goes on with the numbers behind those of a table.
+fn with_script(alloc: Global, random: &mut Random, table: String) -> Result<Seeded, AllocError> {
+    let script = random_script(alloc, random, table.as_str())?;
+    Ok(Seeded { table, script })
+}
+
+/// What a seed decides.
+pub fn seeded(rt: &(impl AllocGlobal + Abort), seed: u64) -> Seeded {
+    let mut random = Random::new(seed);
+    let table = random_table(rt.alloc(), &mut random).expect(rt, "memory");
+    with_script(rt.alloc(), &mut random, table).expect(rt, "memory")
+}
 
 /// The first words of a script's lines.
 const WORDS: [&str; 18] = [
@@ -9,40 +30,62 @@ const WORDS: [&str; 18] = [
     "reset", "ready", "cycle", "show", "in", "expect", "repeat",
 ];
 
-/// More than half of the tables are unlike, and more than half have a slave.
-fn expect_tables<H: AllocGlobal + Abort>(rt: &H, mut tables: Vec<String>) -> Result<(), Fail> {
-    let with_slaves = tables
-        .iter()
-        .filter(|table| table.as_str().contains("[[slave]]"))
-        .count();
+/// Adds the script of a seed to those before, and its table to theirs.
+fn add_seeded(rt: &(impl AllocGlobal + Abort), seed: u64, scripts: &mut String) -> String {
+    let Seeded { table, script } = seeded(rt, seed);
+    scripts.push_str(script.as_str()).expect(rt, "memory");
+    table
+}
+
+/// More than half of the tables have a slave.
+fn expect_slaves(rt: &impl Abort, tables: &[String]) {
+    let mut with_slaves: u32 = 0;
+    for table in tables {
+        if table.as_str().contains("[[slave]]") {
+            with_slaves = with_slaves.saturating_add(1);
+        }
+    }
     assert!(rt; with_slaves > 100);
-    tables.sort()?;
+}
+
+/// More than half of the tables are unlike.
+fn expect_unlike(rt: &impl Abort, tables: &mut Vec<String>) {
+    tables.sort().expect(rt, "memory");
     tables.dedup();
     assert!(rt; tables.len() > 100);
-    Ok(())
+}
+
+/// Whether a word begins some line.
+fn begins_line(scripts: &str, word: &str) -> bool {
+    for line in scripts.lines() {
+        if line.split(' ').next() == Some(word) {
+            return true;
+        }
+    }
+    false
 }
 
 /// Each word begins some line.
-fn expect_words<H: Abort>(rt: &H, scripts: &str) {
-    for word in WORDS {
-        let is_there = scripts
-            .lines()
-            .any(|line| line.split(' ').next() == Some(word));
-        assert!(rt; is_there, "{word}");
+fn expect_words(rt: &impl Abort, scripts: &str) {
+    for word in &WORDS {
+        assert!(rt; begins_line(scripts, word), "{word}");
+    }
+}
+
+/// What the seeds decide: their tables, and their scripts one behind the other.
+fn push_seeded(rt: &(impl AllocGlobal + Abort), tables: &mut Vec<String>, scripts: &mut String) {
+    for seed in 0..200 {
+        let table = add_seeded(rt, seed, scripts);
+        tables.push(table).expect(rt, "memory");
     }
 }
 
 #[test]
-fn seeds_decide(rt: HostRuntime) -> Result<(), Fail> {
+fn seeds_decide(rt: HostRuntime) {
     let mut tables: Vec<String> = Vec::new(rt.alloc());
     let mut scripts = String::new(rt.alloc());
-    for seed in 0..200 {
-        let mut random = Random::new(seed);
-        let table = random_table(rt.alloc(), &mut random)?;
-        let script = random_script(rt.alloc(), &mut random, table.as_str())?;
-        scripts.push_str(script.as_str())?;
-        tables.push(table)?;
-    }
+    push_seeded(&rt, &mut tables, &mut scripts);
     expect_words(&rt, scripts.as_str());
-    expect_tables(&rt, tables)
+    expect_slaves(&rt, tables.as_slice());
+    expect_unlike(&rt, &mut tables);
 }

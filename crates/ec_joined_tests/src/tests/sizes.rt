@@ -1,6 +1,7 @@
 //! Tables of every size: with each number of slaves, with many links, and as long as an input may be.
-use std::alloc::{AllocError, Global};
+use std::alloc::AllocError;
 use std::fmt::Write as _;
+use std::process::Abort;
 
 /// A type of slave: 16 outputs and 16 inputs behind a mailbox, its vendor the largest number.
 const TYPE: &str = r#"[[type]]
@@ -20,52 +21,47 @@ fn write_slave(text: &mut String, slave: u32) -> Result<(), AllocError> {
     let serial = u32::MAX - slave;
     writeln!(
         text,
-        "[[slave]]\nname = \"s{slave}\"\ntype = \"io\"\nserial = {serial}"
-    )?;
-    writeln!(
-        text,
-        "[[variable]]\nname = \"o{slave}\"\ndir = \"out\"\nbits = 16"
-    )?;
-    writeln!(
-        text,
-        "[[variable]]\nname = \"i{slave}\"\ndir = \"in\"\nbits = 16"
+        "[[slave]]\nname = \"s{slave}\"\ntype = \"io\"\nserial = {serial}\n[[variable]]\nname = \"o{slave}\"\ndir = \"out\"\nbits = 16\n[[variable]]\nname = \"i{slave}\"\ndir = \"in\"\nbits = 16"
     )
 }
 
-/// Links between these variables and the slave, each of so many bits.
-fn write_links(text: &mut String, slave: u32, count: u32) -> Result<(), AllocError> {
+/// A link between the variable of the outputs and the slave from a bit on, of so many bits, and one of the inputs.
+fn write_links(text: &mut String, slave: u32, bit: u32, count: u32) -> Result<(), AllocError> {
+    writeln!(
+        text,
+        "[[link]]\nvar = \"o{slave}\"\nslave = \"s{slave}\"\nindex = 0x7000\nsub = 1\nbits = [{bit}, {bit}, {count}]\n[[link]]\nvar = \"i{slave}\"\nslave = \"s{slave}\"\nindex = 0x6000\nsub = 1\nbits = [{bit}, {bit}, {count}]"
+    )
+}
+
+/// A slave each bit of which is linked, so many bits a link.
+fn write_linked(rt: &impl Abort, text: &mut String, slave: u32, count: u32) {
+    write_slave(text, slave).expect(rt, "memory");
     for place in 0..16 / count.max(1) {
-        let bit = place.saturating_mul(count);
-        writeln!(
-            text,
-            "[[link]]\nvar = \"o{slave}\"\nslave = \"s{slave}\"\nindex = 0x7000\nsub = 1\nbits = [{bit}, {bit}, {count}]"
-        )?;
-        writeln!(
-            text,
-            "[[link]]\nvar = \"i{slave}\"\nslave = \"s{slave}\"\nindex = 0x6000\nsub = 1\nbits = [{bit}, {bit}, {count}]"
-        )?;
+        write_links(text, slave, place.saturating_mul(count), count).expect(rt, "memory");
     }
-    Ok(())
 }
 
 /// A table of so many slaves, each bit of which is linked, so many bits a link.
-pub fn table_of_size(alloc: Global, slaves: u32, count: u32) -> Result<String, AllocError> {
-    let mut text = String::new(alloc);
-    text.push_str(TYPE)?;
+pub fn table_of_size(rt: &(impl AllocGlobal + Abort), slaves: u32, count: u32) -> String {
+    let mut text = String::from_str(rt.alloc(), TYPE).expect(rt, "memory");
     for slave in 0..slaves {
-        write_slave(&mut text, slave)?;
-        write_links(&mut text, slave, count)?;
+        write_linked(rt, &mut text, slave, count);
     }
-    Ok(text)
+    text
 }
 
-/// The text with a comment behind it, so many bytes in all; as it is where it has more.
-pub fn filled_up(alloc: Global, table: &str, len: usize) -> Result<String, AllocError> {
-    let mut text = String::new(alloc);
-    text.push_str(table)?;
+/// Adds a comment to a text, so that it is so many bytes long; none where it has more.
+fn fill_up(text: &mut String, len: usize) -> Result<(), AllocError> {
     text.push_str("#")?;
     for _ in text.len()..len {
         text.push_str("x")?;
     }
-    Ok(text)
+    Ok(())
+}
+
+/// The text with a comment behind it, so many bytes in all; as it is where it has more.
+pub fn filled_up(rt: &(impl AllocGlobal + Abort), table: &str, len: usize) -> String {
+    let mut text = String::from_str(rt.alloc(), table).expect(rt, "memory");
+    fill_up(&mut text, len).expect(rt, "memory");
+    text
 }
