@@ -1,591 +1,292 @@
-//! Start-ups of three real slaves.
+//! Start-ups of three real slaves, undisturbed and with trouble at every place, as lines of steps (`steps` has their form).
+//!
+//! The frames are counted as the steps of the script: 0 counts the slaves, 1 and 2 ask for INIT, 3 to 5 clear, 6 to 8 give
+//! stations, 9 to 26 read the identities, 27 and 28 set slave 2's mailboxes, 29 to 34 lead to PREOP, 35 to 54 are slave 2's
+//! requests and replies, 55 to 62 set what maps process data, 63 to 68 lead to SAFEOP, and 69 to 74 to OP. What a step is about
+//! stands in its frame from byte 34 on. Of a message that is the length, its type at 39, its service at 41, its command at 42,
+//! its index at 43, its subindex at 45 and its value at 46.
 
-use crate::tests::table::{OTHER_PDO, SHORT_ENTRY, THREE_SLAVES};
-use ec_bringup::bring_up;
-use ec_device::{Device, Identity};
-use ec_frame::Frame;
-use ec_link::{Plan, compile};
-use ec_ring::Ring;
-use ec_slave::Slave;
-use ec_start::{NextFrame, Phase, StartError, Startup, Taken};
-use ec_table::read_table;
-use std::alloc::Global;
-use std::process::Abort;
-use std::test::Fail;
+mod slaves;
+mod steps;
+mod troubles;
 
-mod failures;
-mod table;
+use self::slaves::THREE_SLAVES;
+use self::steps::expect_steps;
 
-/// What happens to a start-up.
-#[derive(Clone, Copy, Debug, PartialEq, Eq)]
-enum Trouble {
-    /// Nothing.
-    None,
-    /// The frame is lost.
-    Lost,
-    /// A slave is switched off and on.
-    Reset(usize),
-    /// A slave's application faults, where it is in OP.
-    Fault(usize),
-    /// A byte of the frame, told by its place, becomes another.
-    Changed(usize, u8),
-    /// The frame passes by a slave.
-    Skipped,
-    /// No slave serves, from this frame on.
-    Unserved,
+/// Start-ups that nothing disturbs, over slaves that are the plan's and others.
+const UNDISTURBED: &str = r#"
+# three slaves come up
+slaves right
+starts 0
+rises 75 > ready
+show 3 8
+
+# a slave is missing: the first frame counts two of three
+slaves "di4" }, { name = "s2", type = "mix" } => "di4" }
+starts 0
+rises 1 > 26 2
+rises 1 > 26 2
+slaves right
+rises 75 > ready
+
+# slave 1 shows revision 2 where its type has 1: told by the third of its words, the sixth that is read, and nobody leaves INIT
+slaves product = 2, revision = 1 => product = 2, revision = 2
+starts 0
+rises 21 > 27 1 0xABCD 2 2
+rises 21 > 27 1 0xABCD 2 2
+show 3 1
+slaves right
+rises 75 > ready
+
+# slave 2 has an output entry of 11 bits, told by its second reply
+slaves [0x7010, 1, 12] => [0x7010, 1, 11]
+starts 0
+rises 39 > 38 2 0x1600 1 0x7010010B
+rises 39 > 38 2 0x1600 1 0x7010010B
+slaves right
+rises 75 > ready
+
+# it has no PDO 0x1600, told by its first reply
+slaves 0x1600, entries = [[0x7010 => 0x1601, entries = [[0x7010
+starts 0
+rises 37 > 30 2 0x06020000
+rises 37 > 30 2 0x06020000
+slaves right
+rises 75 > ready
+"#;
+
+/// A slave of another vendor, product and revision, of an output entry of 11 bits, and without the PDO 0x1600: a start-up comes
+/// up once that slave alone was exchanged for the plan's.
+const EXCHANGED: &str = r#"
+slaves 0xABCD, product = 2 => 0xABCE, product = 2
+starts 0
+rises 21 > 27 1 0xABCE 2 1
+exchange 1
+rises 75 > ready
+
+slaves product = 2 => product = 3
+starts 0
+rises 21 > 27 1 0xABCD 3 1
+exchange 1
+rises 75 > ready
+
+slaves product = 2, revision = 1 => product = 2, revision = 2
+starts 0
+rises 21 > 27 1 0xABCD 2 2
+exchange 1
+rises 75 > ready
+
+slaves [0x7010, 1, 12] => [0x7010, 1, 11]
+starts 0
+rises 39 > 38 2 0x1600 1 0x7010010B
+exchange 2
+rises 75 > ready
+
+slaves 0x1600, entries = [[0x7010 => 0x1601, entries = [[0x7010
+starts 0
+rises 37 > 30 2 0x06020000
+exchange 2
+rises 75 > ready
+"#;
+
+#[test]
+fn undisturbed_and_exchanged(rt: HostRuntime) {
+    expect_steps(&rt, THREE_SLAVES, UNDISTURBED);
+    expect_steps(&rt, THREE_SLAVES, EXCHANGED);
 }
 
-fn plan_of(alloc: Global, text: &str) -> Result<Plan, Fail> {
-    let table = read_table(alloc, text)?;
-    Ok(compile(alloc, &table)?)
+/// Start-ups that have numbers for so many frames: before the first frame, in each phase, and before the last frame. Begun anew
+/// they have no number at all. Each time one from number 0 comes up over the same slaves.
+const SPENT: &str = "
+slaves right
+spares 0
+rises 0 > 36
+rises 0 > 36
+starts 0
+rises 75 > ready
+spares 7
+rises 7 > 36
+rises 0 > 36
+starts 0
+rises 75 > ready
+spares 12
+rises 12 > 36
+rises 0 > 36
+starts 0
+rises 75 > ready
+spares 28
+rises 28 > 36
+rises 0 > 36
+starts 0
+rises 75 > ready
+spares 31
+rises 31 > 36
+rises 0 > 36
+starts 0
+rises 75 > ready
+spares 40
+rises 40 > 36
+rises 0 > 36
+starts 0
+rises 75 > ready
+spares 58
+rises 58 > 36
+rises 0 > 36
+starts 0
+rises 75 > ready
+spares 66
+rises 66 > 36
+rises 0 > 36
+starts 0
+rises 75 > ready
+spares 74
+rises 74 > 36
+rises 0 > 36
+starts 0
+rises 75 > ready
+";
+
+/// Each kind of failure of a start-up of new slaves, but for numbers that are spent and other slaves. Begun anew over the same
+/// slaves, undisturbed, it brings them up by 75 frames more.
+const FAILURES: &str = "
+# a mailbox holds no reply that fits: another length, type, service, command, size or index comes back, or an index was changed
+# on its way to the slave, which then answers for that one
+fails 36 3 changed 34 9 > 9 2
+fails 36 3 changed 39 0x12 > 9 2
+fails 38 3 changed 41 0x20 > 9 2
+fails 38 3 changed 42 0x60 > 9 2
+fails 40 3 changed 42 0x4B > 9 2
+fails 42 3 changed 44 0x16 > 9 2
+fails 44 3 changed 42 0x4F > 9 2
+fails 35 0 changed 43 1 > 9 2
+
+# a 0 in the length of slave 2's first reply, in its type, and in the high byte of its index
+fails 36 3 changed 34 0 > 9 2
+next 112
+fails 36 3 changed 39 0 > 9 2
+next 112
+fails 36 3 changed 44 0 > 9 2
+next 112
+
+# the first frame passes by a slave
+fails 0 0 skipped > 26 2
+fails 0 1 skipped > 26 2
+fails 0 2 skipped > 26 2
+
+# a read of the SII past its last word, at the first word of slave 0's identity and at the third of slave 1's; another vendor,
+# product and revision
+fails 9 0 changed 36 63 > 27 0 0 0 0
+fails 19 0 changed 36 63 > 27 1 0xABCD 2 0
+fails 10 3 changed 40 0xCE > 27 0 0xABCE 1 1
+fails 18 3 changed 40 9 > 27 1 0xABCD 9 1
+fails 26 3 changed 40 2 > 27 2 0xABCD 3 2
+
+# frames that pass by a slave, or come to one that was reset and has no station any more
+fails 1 0 skipped > 28 1
+fails 2 1 skipped > 28 2
+fails 3 2 skipped > 28 3
+fails 4 0 skipped > 28 4
+fails 5 1 skipped > 28 5
+fails 8 2 skipped > 28 8
+fails 9 0 skipped > 28 9
+fails 16 1 skipped > 28 16
+fails 28 2 skipped > 28 28
+fails 31 1 skipped > 28 31
+fails 34 2 skipped > 28 34
+fails 43 2 skipped > 28 43
+fails 55 0 skipped > 28 55
+fails 62 2 skipped > 28 62
+fails 64 0 skipped > 28 64
+fails 73 2 skipped > 28 73
+fails 12 0 reset 0 > 28 12
+fails 65 0 reset 1 > 28 65
+
+# requests that become others, for OP, for BOOT and for a number that is no state; managers that get another length, of a
+# mailbox, of outputs and of inputs; and faults in OP
+fails 29 0 changed 34 8 > 29 0 0x11
+fails 31 0 changed 34 3 > 29 1 0x13
+fails 33 0 changed 34 5 > 29 2 0x12
+fails 27 0 changed 36 127 > 29 2 0x16
+fails 28 0 changed 36 127 > 29 2 0x16
+fails 55 0 changed 36 2 > 29 0 0x1D
+fails 57 0 changed 36 2 > 29 1 0x1E
+fails 65 0 changed 34 8 > 29 1 0x11
+fails 71 0 changed 34 5 > 29 1 0x12
+fails 73 0 changed 34 3 > 29 2 0x11
+fails 70 0 fault 0 > 29 0 1
+fails 74 2 fault 2 > 29 2 1
+
+# requests that become others: a command that is none, a download to what can only be read and one of two bytes in place of
+# one; a count of 2 of one PDO; a slot that is written while the count is 1; and a PDO that isn't there
+fails 35 0 changed 42 0x41 > 30 2 0x05040001
+fails 35 0 changed 42 0x2F > 30 2 0x06010002
+fails 43 0 changed 42 0x2B > 30 2 0x06070010
+fails 43 0 changed 46 2 > 30 2 0x06090030
+fails 43 0 changed 46 1 > 30 2 0x08000022
+fails 45 0 changed 47 0x17 > 30 2 0x06090030
+
+# slaves that are led to PREOP where INIT is waited for, or asked for the state that they are in; slaves that don't serve; a
+# slave that is reset, and has no mailbox any more; and a message that is of another type, which is dropped
+fails 1 0 changed 34 0x12 > 31 2
+fails 9 0 unserved > 31 10
+fails 21 0 unserved > 31 22
+fails 29 0 unserved > 31 30
+fails 33 0 unserved > 31 34
+fails 35 0 unserved > 31 36
+fails 36 0 reset 2 > 31 36
+fails 37 0 changed 39 0x24 > 31 38
+fails 63 0 unserved > 31 64
+fails 67 0 changed 34 2 > 31 68
+fails 69 0 unserved > 31 70
+fails 73 0 unserved > 31 74
+
+# slave 0's SII never has its first word: 10 steps, 1000 polls of the next one, no frame more, and then 75 frames
+fails 0 0 unserved > 31 10
+next 1085
+
+# frames that are lost, in each phase
+fails 0 0 lost > 32
+fails 4 1 lost > 32
+fails 7 2 lost > 32
+fails 12 3 lost > 32
+fails 28 3 lost > 32
+fails 31 2 lost > 32
+fails 40 1 lost > 32
+fails 58 2 lost > 32
+fails 66 0 lost > 32
+fails 74 3 lost > 32
+
+# a reply that tells of two entries, one of an entry of 11 bits, and one of an entry of another object
+fails 36 3 changed 46 2 > 38 2 0x1600 0 2
+fails 38 3 changed 46 11 > 38 2 0x1600 1 0x7010010B
+fails 42 3 changed 48 0x11 > 38 2 0x1A00 1 0x60110110
+";
+
+#[test]
+fn each_failure(rt: HostRuntime) {
+    expect_steps(&rt, THREE_SLAVES, SPENT);
+    expect_steps(&rt, THREE_SLAVES, FAILURES);
 }
 
-/// A start-up of the three slaves.
-fn startup_of<'p>(rt: &impl Abort, plan: &'p Plan, from: u64) -> Startup<'p> {
-    assert!(rt; Startup::can_start(plan));
-    Startup::new(plan, from)
-}
-
-/// The slaves of a plan as they are switched on, one for each revision that is told.
-fn ring_of(alloc: Global, plan: &Plan, revisions: &[u32]) -> Result<Ring, Fail> {
-    let mut slaves = Vec::new(alloc);
-    for (settings, (place, revision)) in plan.slaves().iter().zip(revisions.iter().enumerate()) {
-        let identity = Identity {
-            vendor: 0xABCD,
-            product: 1 + place as u32,
-            revision: *revision,
-            serial: 0,
-        };
-        slaves.push(Slave::new(alloc, settings.kind.copied(alloc)?, identity)?)?;
-    }
-    Ok(Ring::new(slaves))
-}
-
-/// Brings a ring up by a start-up that hasn't sent a frame yet.
-fn brought_up(startup: &mut Startup<'_>, ring: &mut Ring) -> Result<(), Fail> {
-    match startup.phase() {
-        Phase::Idle => bring_up(startup, ring),
-        _ => return Err("a start-up that runs".into()),
-    }
-    Ok(())
-}
-
-/// Whether each slave shows this AL status.
-fn all_show(ring: &Ring, status: u8) -> bool {
-    for place in 0..ring.len() {
-        if ring.slave(place).byte(0x0130) != Some(status) {
-            return false;
-        }
-    }
-    true
-}
-
-/// A start-up brings slaves up, and has sent every frame below this number then.
-fn comes_up(
-    rt: &(impl AllocGlobal + Abort),
-    startup: &mut Startup<'_>,
-    ring: &mut Ring,
-    next: u64,
-) -> Result<(), Fail> {
-    brought_up(startup, ring)?;
-    assert_eq!(rt;
-        (startup.outcome(), startup.next_number()),
-        (Some(Ok(())), next)
-    );
-    Ok(())
-}
-
-/// A new start-up brings slaves up, by frames from number 0 on.
-fn comes_up_anew(
-    rt: &(impl AllocGlobal + Abort),
-    plan: &Plan,
-    ring: &mut Ring,
-    next: u64,
-) -> Result<(), Fail> {
-    let mut startup = startup_of(rt, plan, 0);
-    comes_up(rt, &mut startup, ring, next)
-}
-
-/// A new start-up leads three slaves to OP.
-fn all_come_up(rt: &(impl AllocGlobal + Abort), plan: &Plan, ring: &mut Ring) -> Result<(), Fail> {
-    comes_up_anew(rt, plan, ring, 75)?;
-    assert!(rt; ring.len() == 3 && all_show(ring, 8));
-    Ok(())
+// Each frame in turn, before slave 0 and behind each slave's pass: the second start-up takes 75 frames.
+#[test]
+fn a_frame_is_lost(rt: HostRuntime) {
+    expect_steps(&rt, THREE_SLAVES, "lost");
 }
 
 #[test]
-fn three_slaves_come_up(rt: HostRuntime) -> Result<(), Fail> {
-    let plan = plan_of(rt.alloc(), THREE_SLAVES)?;
-    let mut ring = ring_of(rt.alloc(), &plan, &[1; 3])?;
-    all_come_up(&rt, &plan, &mut ring)
-}
-
-/// A start-up that failed begins anew.
-fn begin_anew(startup: &mut Startup<'_>) -> Result<(), Fail> {
-    if !startup.has_failed() {
-        return Err("a failure".into());
-    }
-    startup.restart();
-    Ok(())
-}
-
-/// A start-up fails over slaves, has sent every frame below this number then, and begins anew.
-fn fails(
-    rt: &(impl AllocGlobal + Abort),
-    startup: &mut Startup<'_>,
-    ring: &mut Ring,
-    error: StartError,
-    next: u64,
-) -> Result<(), Fail> {
-    brought_up(startup, ring)?;
-    assert_eq!(rt;
-        (startup.phase(), startup.next_number()),
-        (Phase::Failed(error), next)
-    );
-    begin_anew(startup)
-}
-
-/// A start-up of the plan brings up its own slaves, as they are switched on.
-fn right_come_up(
-    rt: &(impl AllocGlobal + Abort),
-    startup: &mut Startup<'_>,
-    plan: &Plan,
-    next: u64,
-) -> Result<(), Fail> {
-    let mut right = ring_of(rt.alloc(), plan, &[1; 3])?;
-    comes_up(rt, startup, &mut right, next)
-}
-
-/// A start-up fails over slaves after so many frames, twice, and then brings up the plan's own.
-fn fails_twice(
-    rt: &(impl AllocGlobal + Abort),
-    plan: &Plan,
-    wrong: &mut Ring,
-    error: StartError,
-    frames: u8,
-) -> Result<(), Fail> {
-    let mut startup = startup_of(rt, plan, 0);
-    let each = u64::from(frames);
-    fails(rt, &mut startup, wrong, error, each)?;
-    fails(rt, &mut startup, wrong, error, 2 * each)?;
-    right_come_up(rt, &mut startup, plan, 2 * each + 75)
-}
-
-/// Over a ring that isn't the plan's a start-up fails after so many frames, and so does a second one, from the next number. A
-/// third, over the plan's own slaves, ends Ready.
-fn fails_until_right(
-    rt: &(impl AllocGlobal + Abort),
-    wrong: &mut Ring,
-    error: StartError,
-    frames: u8,
-) -> Result<(), Fail> {
-    let plan = plan_of(rt.alloc(), THREE_SLAVES)?;
-    fails_twice(rt, &plan, wrong, error, frames)
-}
-
-// The first frame counts two slaves of three.
-#[test]
-fn a_slave_is_missing(rt: HostRuntime) -> Result<(), Fail> {
-    let plan = plan_of(rt.alloc(), THREE_SLAVES)?;
-    let mut ring = ring_of(rt.alloc(), &plan, &[1; 2])?;
-    fails_until_right(&rt, &mut ring, StartError::Count { seen: 2 }, 1)
-}
-
-/// Over a ring that isn't the plan's start-ups fail, and none of its slaves leaves INIT.
-fn fails_in_init(
-    rt: &(impl AllocGlobal + Abort),
-    wrong: &mut Ring,
-    error: StartError,
-    frames: u8,
-) -> Result<(), Fail> {
-    fails_until_right(rt, wrong, error, frames)?;
-    assert!(rt; all_show(wrong, 1));
-    Ok(())
-}
-
-// Slave 1 shows revision 2 where its type has 1: told by the third of its words, the sixth that is read.
-#[test]
-fn another_revision(rt: HostRuntime) -> Result<(), Fail> {
-    let plan = plan_of(rt.alloc(), THREE_SLAVES)?;
-    let mut ring = ring_of(rt.alloc(), &plan, &[1, 2, 1])?;
-    let seen = Device {
-        vendor: 0xABCD,
-        product: 2,
-        revision: 2,
-    };
-    let error = StartError::Identity { slave: 1, seen };
-    fails_in_init(&rt, &mut ring, error, 21)
-}
-
-/// A start-up that has numbers for some frames fails, and begun anew it has no number at all.
-fn fails_spent(
-    rt: &(impl AllocGlobal + Abort),
-    startup: &mut Startup<'_>,
-    ring: &mut Ring,
-) -> Result<(), Fail> {
-    fails(rt, startup, ring, StartError::NumbersSpent, u64::MAX)?;
-    fails(rt, startup, ring, StartError::NumbersSpent, u64::MAX)
-}
-
-/// A start-up has numbers for so many frames.
-fn spends_numbers(
-    rt: &(impl AllocGlobal + Abort),
-    plan: &Plan,
-    ring: &mut Ring,
-    frames: u64,
-) -> Result<(), Fail> {
-    let mut startup = startup_of(rt, plan, u64::MAX - frames);
-    fails_spent(rt, &mut startup, ring)
-}
-
-/// Start-ups have numbers for so many frames, and each time one from number 0 comes up over the same slaves.
-fn spends_each(
-    rt: &(impl AllocGlobal + Abort),
-    plan: &Plan,
-    ring: &mut Ring,
-    frames: &[u64],
-) -> Result<(), Fail> {
-    for frames in frames {
-        spends_numbers(rt, plan, ring, *frames)?;
-        comes_up_anew(rt, plan, ring, 75)?;
-    }
-    Ok(())
-}
-
-// Before the first frame, in each phase, and before the last frame.
-#[test]
-fn numbers_are_spent(rt: HostRuntime) -> Result<(), Fail> {
-    let plan = plan_of(rt.alloc(), THREE_SLAVES)?;
-    let mut ring = ring_of(rt.alloc(), &plan, &[1; 3])?;
-    spends_each(&rt, &plan, &mut ring, &[0, 7, 12, 28, 31, 40, 58, 66, 74])
-}
-
-/// A slave is reset, or has a fault, or a byte of the frame becomes another.
-fn make_trouble(ring: &mut Ring, payload: &mut [u8], trouble: Trouble) {
-    match trouble {
-        Trouble::Reset(place) if place < ring.len() => ring.slave_mut(place).reset(),
-        Trouble::Fault(place) if place < ring.len() => {
-            ring.slave_mut(place).fault();
-        }
-        Trouble::Changed(place, byte) if place < payload.len() => payload[place] = byte,
-        _ => {}
-    }
-}
-
-/// A frame passes the slaves from one place on, up to another.
-fn pass_slaves(ring: &mut Ring, payload: &mut [u8], from: usize, to: usize) -> Result<(), Fail> {
-    for place in from..to {
-        if place < ring.len() {
-            ring.pass_one(payload, place)?;
-        }
-    }
-    Ok(())
-}
-
-/// The first slave that a frame passes behind trouble at a place.
-fn behind(at: usize, trouble: Trouble) -> usize {
-    match trouble {
-        Trouble::Skipped => at.saturating_add(1),
-        _ => at,
-    }
-}
-
-/// A frame passes all slaves; the trouble comes before the slave at a place, or behind all of them. False where the frame is
-/// lost there: then it has passed the slaves before that place and no other.
-fn pass_in_trouble(
-    ring: &mut Ring,
-    payload: &mut [u8],
-    at: usize,
-    trouble: Trouble,
-) -> Result<bool, Fail> {
-    pass_slaves(ring, payload, 0, at)?;
-    if trouble == Trouble::Lost {
-        return Ok(false);
-    }
-    make_trouble(ring, payload, trouble);
-    pass_slaves(ring, payload, behind(at, trouble), 3)?;
-    Ok(true)
-}
-
-/// Each slave serves once.
-fn serve_all(ring: &mut Ring) {
-    for place in 0..3 {
-        if place < ring.len() {
-            ring.slave_mut(place).serve();
-        }
-    }
-}
-
-/// One turn. False where there is no next frame, or it was lost: then the start-up is given up.
-fn turn(
-    startup: &mut Startup<'_>,
-    ring: &mut Ring,
-    at: usize,
-    trouble: Trouble,
-) -> Result<bool, Fail> {
-    let mut frame = Frame::new();
-    if startup.next(&mut frame) != NextFrame::Send {
-        return Ok(false);
-    }
-    let payload = frame.as_mut_slice();
-    if !pass_in_trouble(ring, payload, at, trouble)? {
-        startup.give_up();
-        return Ok(false);
-    }
-    if trouble != Trouble::Unserved {
-        serve_all(ring);
-    }
-    Ok(startup.take(payload) == Taken::Kept)
-}
-
-/// What the frame of a number meets, where trouble comes with another one.
-fn met_by(next: u64, number: u64, trouble: Trouble) -> Trouble {
-    let is_met = match trouble {
-        Trouble::Unserved => next >= number,
-        _ => next == number,
-    };
-    if is_met { trouble } else { Trouble::None }
-}
-
-/// Brings the ring up, where one frame meets trouble.
-fn rise_in_trouble(
-    startup: &mut Startup<'_>,
-    ring: &mut Ring,
-    number: u64,
-    at: usize,
-    trouble: Trouble,
-) -> Result<(), Fail> {
-    for _ in 0..2000 {
-        let now = met_by(startup.next_number(), number, trouble);
-        if !turn(startup, ring, at, now)? {
-            return Ok(());
-        }
-    }
-    Err("an end".into())
-}
-
-/// Whether a start-up may end so, where one frame met trouble.
-fn may_end(outcome: Option<Result<(), StartError>>, trouble: Trouble) -> bool {
-    match (trouble, outcome) {
-        (Trouble::Lost, Some(Err(StartError::Lost))) => true,
-        (Trouble::Reset(_), Some(Ok(()))) => true,
-        (Trouble::Reset(_), Some(Err(StartError::Counter { .. }))) => true,
-        (Trouble::Reset(_), Some(Err(StartError::TooSlow { .. }))) => true,
-        (Trouble::Fault(_), Some(Ok(()))) => true,
-        (Trouble::Fault(_), Some(Err(StartError::AlError { code: 1, .. }))) => true,
-        (Trouble::Changed(..), Some(Err(StartError::BadMailbox { slave: 2 }))) => true,
-        _ => false,
-    }
-}
-
-/// Brings the ring up anew, where the start-up has failed.
-fn restarted(startup: &mut Startup<'_>, ring: &mut Ring) -> Result<(), Fail> {
-    if !startup.has_failed() {
-        return Ok(());
-    }
-    startup.restart();
-    brought_up(startup, ring)
-}
-
-/// Slaves meet trouble in the frame of a number, and then come up undisturbed. It answers the number behind the last frame.
-fn rises_again(
-    rt: &(impl AllocGlobal + Abort),
-    startup: &mut Startup<'_>,
-    ring: &mut Ring,
-    number: u64,
-    at: usize,
-    trouble: Trouble,
-) -> Result<u64, Fail> {
-    rise_in_trouble(startup, ring, number, at, trouble)?;
-    assert!(rt;
-        may_end(startup.outcome(), trouble),
-        "{number} {at} {trouble:?}"
-    );
-    restarted(startup, ring)?;
-    assert_eq!(rt;
-        startup.outcome(),
-        Some(Ok(())),
-        "{number} {at} {trouble:?}"
-    );
-    Ok(startup.next_number())
-}
-
-/// New slaves meet trouble, and then come up undisturbed.
-fn rise_twice(
-    rt: &(impl AllocGlobal + Abort),
-    plan: &Plan,
-    number: u64,
-    at: usize,
-    trouble: Trouble,
-) -> Result<u64, Fail> {
-    let mut startup = startup_of(rt, plan, 0);
-    let mut ring = ring_of(rt.alloc(), plan, &[1; 3])?;
-    rises_again(rt, &mut startup, &mut ring, number, at, trouble)
-}
-
-/// Trouble of a kind, at a slave.
-fn at_slave(kind: Trouble, slave: usize) -> Trouble {
-    match kind {
-        Trouble::Reset(_) => Trouble::Reset(slave),
-        Trouble::Fault(_) => Trouble::Fault(slave),
-        _ => kind,
-    }
-}
-
-/// One kind of trouble in one frame, at one place: at each slave by itself.
-fn trouble_at_each_slave(
-    rt: &(impl AllocGlobal + Abort),
-    plan: &Plan,
-    number: u64,
-    at: usize,
-    kind: Trouble,
-) -> Result<(), Fail> {
-    for slave in 0..3 {
-        rise_twice(rt, plan, number, at, at_slave(kind, slave))?;
-    }
-    Ok(())
-}
-
-/// One kind of trouble at each place of each frame: before slave 0, and behind each slave's pass.
-fn trouble_in_each_frame(
-    rt: &(impl AllocGlobal + Abort),
-    plan: &Plan,
-    kind: Trouble,
-) -> Result<(), Fail> {
-    for number in 0..75 {
-        for at in 0..4 {
-            trouble_at_each_slave(rt, plan, number, at, kind)?;
-        }
-    }
-    Ok(())
-}
-
-/// One kind of trouble everywhere, for slaves of the same plan.
-fn trouble_everywhere(rt: &(impl AllocGlobal + Abort), kind: Trouble) -> Result<(), Fail> {
-    let plan = plan_of(rt.alloc(), THREE_SLAVES)?;
-    trouble_in_each_frame(rt, &plan, kind)
-}
-
-/// Each frame is lost, before slave 0 and behind each slave's pass: the second start-up takes 75 frames.
-fn each_frame_is_lost(rt: &(impl AllocGlobal + Abort), plan: &Plan) -> Result<(), Fail> {
-    for number in 0..75 {
-        for at in 0..4 {
-            let next = rise_twice(rt, plan, number, at, Trouble::Lost)?;
-            assert_eq!(rt; next, number + 76);
-        }
-    }
-    Ok(())
-}
-
-// Whoever the frame had passed.
-#[test]
-fn a_frame_is_lost(rt: HostRuntime) -> Result<(), Fail> {
-    let plan = plan_of(rt.alloc(), THREE_SLAVES)?;
-    each_frame_is_lost(&rt, &plan)
-}
-
-#[test]
-fn a_slave_is_reset(rt: HostRuntime) -> Result<(), Fail> {
-    trouble_everywhere(&rt, Trouble::Reset(0))
+fn a_slave_is_reset(rt: HostRuntime) {
+    expect_steps(&rt, THREE_SLAVES, "reset");
 }
 
 // A slave that isn't in OP has no fault.
 #[test]
-fn a_slave_has_a_fault(rt: HostRuntime) -> Result<(), Fail> {
-    trouble_everywhere(&rt, Trouble::Fault(0))
+fn a_slave_has_a_fault(rt: HostRuntime) {
+    expect_steps(&rt, THREE_SLAVES, "fault");
 }
 
-/// Frame 36 brings slave 2's first reply, from byte 34 on. With a 0 in one of these bytes it is no reply that fits.
-fn replies_do_not_fit(
-    rt: &(impl AllocGlobal + Abort),
-    plan: &Plan,
-    places: &[usize],
-) -> Result<(), Fail> {
-    for place in places {
-        let next = rise_twice(rt, plan, 36, 3, Trouble::Changed(*place, 0))?;
-        assert_eq!(rt; next, 37 + 75);
-    }
-    Ok(())
-}
-
-// Its length is 10 at byte 34, its type 3 at byte 39, and byte 44 is the high one of its index.
+// Without slaves the first frame is the whole start-up.
 #[test]
-fn a_reply_does_not_fit(rt: HostRuntime) -> Result<(), Fail> {
-    let plan = plan_of(rt.alloc(), THREE_SLAVES)?;
-    replies_do_not_fit(&rt, &plan, &[34, 39, 44])
-}
-
-/// No slave serves in a start-up's turns from number 0 on. It ends as too slow, and begins anew.
-fn fails_unserved(
-    rt: &(impl AllocGlobal + Abort),
-    startup: &mut Startup<'_>,
-    ring: &mut Ring,
-) -> Result<(), Fail> {
-    rise_in_trouble(startup, ring, 0, 0, Trouble::Unserved)?;
-    let error = StartError::TooSlow { step: 10 };
-    assert_eq!(rt; startup.outcome(), Some(Err(error)));
-    assert_eq!(rt; (error.number(), startup.next_number()), (31, 1010));
-    begin_anew(startup)
-}
-
-/// A start-up comes up over slaves that serve once it has begun anew.
-fn comes_up_once_served(
-    rt: &(impl AllocGlobal + Abort),
-    plan: &Plan,
-    ring: &mut Ring,
-) -> Result<(), Fail> {
-    let mut startup = startup_of(rt, plan, 0);
-    fails_unserved(rt, &mut startup, ring)?;
-    comes_up(rt, &mut startup, ring, 1010 + 75)
-}
-
-// Slave 0's SII never has its first word: 10 steps, 1000 polls of the next one, and then no frame more. A second start-up over
-// the same slaves, which serve then, takes 75 frames.
-#[test]
-fn no_slave_serves(rt: HostRuntime) -> Result<(), Fail> {
-    let plan = plan_of(rt.alloc(), THREE_SLAVES)?;
-    let mut ring = ring_of(rt.alloc(), &plan, &[1; 3])?;
-    comes_up_once_served(&rt, &plan, &mut ring)
-}
-
-/// Over the slaves of another table start-ups fail after so many frames.
-fn others_fail(
-    rt: &(impl AllocGlobal + Abort),
-    text: &str,
-    error: StartError,
-    frames: u8,
-) -> Result<(), Fail> {
-    let other = plan_of(rt.alloc(), text)?;
-    let mut ring = ring_of(rt.alloc(), &other, &[1; 3])?;
-    fails_until_right(rt, &mut ring, error, frames)
-}
-
-// Slave 2 has an output entry of 11 bits, or no PDO 0x1600: told by its second reply, or by its first.
-#[test]
-fn another_mapping(rt: HostRuntime) -> Result<(), Fail> {
-    let mapping = StartError::Mapping {
-        slave: 2,
-        index: 0x1600,
-        subindex: 1,
-        seen: 0x7010_010B,
-    };
-    let abort = StartError::Abort {
-        slave: 2,
-        code: 0x0602_0000,
-    };
-    others_fail(&rt, SHORT_ENTRY, mapping, 39)?;
-    others_fail(&rt, OTHER_PDO, abort, 37)
-}
-
-/// Without slaves the first frame is the whole start-up.
-fn nobody_comes_up(rt: &(impl AllocGlobal + Abort), plan: &Plan) -> Result<(), Fail> {
-    let mut startup = startup_of(rt, plan, 5);
-    let mut ring = Ring::new(Vec::new(rt.alloc()));
-    comes_up(rt, &mut startup, &mut ring, 6)
-}
-
-#[test]
-fn no_slaves_come_up(rt: HostRuntime) -> Result<(), Fail> {
-    let plan = plan_of(rt.alloc(), "")?;
-    nobody_comes_up(&rt, &plan)
+fn no_slaves_come_up(rt: HostRuntime) {
+    expect_steps(&rt, "", "starts 5\nrises 1 > ready\nnext 6");
 }

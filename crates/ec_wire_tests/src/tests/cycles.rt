@@ -1,14 +1,17 @@
-//! Cycles over memory, of which each call is a fault in turn.
+//! Cycles over memory, of which each call is a fault in turn; cycles over a wire on which every call is one; and cycles over
+//! sockets.
 ghost use Rattle.std.specs.Prelude.{◌≡◌};
 ghost use Rattle.ec_link.specs.Plan.{plan_of};
 
 use crate::tests::fakes::Fake;
-use crate::tests::machines::{assert_same, brought_up, full_table, set, value_of, wire_to};
-use crate::tests::trials::{expect_of_table, expect_of_three};
-use ec_cycle::{CycleError, Master};
-use ec_link::Machine;
+use crate::tests::machines::{
+    assert_same, bring_up, brought_up, ring_of, set, startup_of, value_of, wire_to,
+};
+use ec_cycle::{Master, Report};
+use ec_link::{ExpectedCounters, Machine};
 use ec_ring::Ring;
-use ec_wire::{MemoryWire, RunError, Wire, run_cycle};
+use ec_wire::{Echo, LoopWire, MemoryWire, RunError, Sockets, Wire, run_cycle};
+use std::net::Net;
 use std::process::Abort;
 
 /// An output variable, and the input variable that shows what its slave got a frame before. The slave is of the last part.
@@ -16,7 +19,7 @@ type Mirror = (usize, usize);
 
 /// What is seen of a cycle: its output, how it ended, the faults of its wire and the payloads that were received so far, and
 /// the input.
-type Seen = (u64, &'static str, u64, usize, u64);
+type Seen = (u64, &'static str, u64, u64, u64);
 
 /// How a cycle ends over a wire.
 fn end_of(master: &mut Master<'_>, wire: &mut MemoryWire) -> &'static str {
@@ -32,76 +35,42 @@ fn end_of(master: &mut Master<'_>, wire: &mut MemoryWire) -> &'static str {
 fn run(master: &mut Master<'_>, wire: &mut MemoryWire, mirror: Mirror, output: u64) -> Seen {
     set(master, mirror.0, output);
     let end = end_of(master, wire);
+    let received = wire.received_count() as u64;
     let input = value_of(master, mirror.1);
-    (output, end, wire.failures(), wire.received_count(), input)
+    (output, end, wire.failures(), received, input)
 }
 
-fn expect_run(
-    rt: &impl Abort,
-    master: &mut Master<'_>,
-    wire: &mut MemoryWire,
-    mirror: Mirror,
-    seen: Seen,
-) {
-    assert_same(rt, &run(master, wire, mirror, seen.0), &seen);
-}
-
-/// What must be seen of a cycle whose call of this number is a fault. Outputs are 1, 2, 3, .., two for each call.
-fn faulty(call: u32, parts: u16, before: u64) -> Seen {
-    let output = 2 * u64::from(call) + 1;
-    let received = call.saturating_sub(u32::from(parts)) as usize;
-    (output, "a fault", 1, received, before)
-}
-
-/// And of the next cycle: what was still on the wire comes first, and is foreign. The slave shows what it got last.
-fn recovered(call: u32, parts: u16) -> Seen {
+/// What must be seen of a cycle whose call of this number is a fault, and of the next one: what was still on the wire comes
+/// first then, and is foreign; the slave shows what it got last. Outputs are 1, 2, 3, .., two for each call.
+fn seen_at(call: u32, parts: u32, before: u64) -> [Seen; 2] {
     let parts = u64::from(parts);
     let call = u64::from(call);
     let shown = if call < parts { call } else { call + 1 };
-    let received = (call.min(parts) + parts) as usize;
-    (2 * call + 2, "taken", 1, received, call + shown)
+    let received = call.saturating_sub(parts);
+    let later = call.min(parts) + parts;
+    [
+        (2 * call + 1, "a fault", 1, received, before),
+        (2 * call + 2, "taken", 1, later, call + shown),
+    ]
 }
 
-/// Runs a cycle whose call of this number is a fault, and the next one.
+/// Runs a cycle whose call of this number is a fault, and the next one, over a wire to slaves, which come back.
 fn expect_fault(
-    rt: &impl Abort,
-    master: &mut Master<'_>,
-    wire: &mut MemoryWire,
-    mirror: Mirror,
-    parts: u16,
-    call: u32,
-) {
-    let before = value_of(master, mirror.1);
-    expect_run(rt, master, wire, mirror, faulty(call, parts, before));
-    expect_run(rt, master, wire, mirror, recovered(call, parts));
-}
-
-/// The same over a wire to slaves, which come back.
-fn expect_fault_of(
     rt: &(impl AllocGlobal + Abort),
     master: &mut Master<'_>,
     ring: Ring,
     mirror: Mirror,
-    parts: u16,
+    parts: u32,
     call: u32,
 ) -> Ring {
     let mut wire = wire_to(rt, ring, 100, u64::from(call));
-    expect_fault(rt, master, &mut wire, mirror, parts, call);
+    let wanted = seen_at(call, parts, value_of(master, mirror.1));
+    let met = [
+        run(master, &mut wire, mirror, wanted[0].0),
+        run(master, &mut wire, mirror, wanted[1].0),
+    ];
+    assert_same(rt, &met, &wanted);
     wire.into_ring()
-}
-
-/// Runs a cycle with a fault at each of its calls in turn.
-fn expect_each_fault(
-    rt: &(impl AllocGlobal + Abort),
-    master: &mut Master<'_>,
-    mut ring: Ring,
-    mirror: Mirror,
-    parts: u16,
-) {
-    assert!(rt; master.parts() == usize::from(parts));
-    for call in 0..2 * u32::from(parts) {
-        ring = expect_fault_of(rt, master, ring, mirror, parts, call);
-    }
 }
 
 /// Brings the slaves of a machine up, and runs a cycle with a fault at each of its calls in turn.
@@ -114,41 +83,37 @@ pub fn expect_faults(
 )
     requires { master.old.plan ≡ plan_of machine.now }
 {
-    let ring = brought_up(rt, machine, master, 0);
-    expect_each_fault(rt, master, ring, mirror, parts);
+    let mut ring = brought_up(rt, machine, master, 0);
+    assert!(rt; master.parts() == usize::from(parts));
+    for call in 0..2 * u32::from(parts) {
+        ring = expect_fault(rt, master, ring, mirror, u32::from(parts), call);
+    }
 }
 
-#[test]
-fn each_call_fails_on_three_slaves(rt: HostRuntime) {
-    expect_of_three(&rt, "faults");
-}
-
-#[test]
-fn each_call_fails_on_many_slaves(rt: HostRuntime) {
-    expect_of_table(&rt, full_table(&rt).as_str(), "faults of many");
-}
-
-/// What a cycle over a spent wire ends by.
+/// What a cycle ends by whose wire is spent: at its last value the count of faults can't rise, and each call is a fault.
 fn error_over_spent(rt: &impl Abort, master: &mut Master<'_>) -> RunError {
-    match run_cycle(master, &mut Fake::spent()) {
+    let mut spent = Fake {
+        failures: u64::MAX,
+        bytes: 0,
+        received: 0,
+    };
+    match run_cycle(master, &mut spent) {
         Ok(_) => panic!(rt; "a cycle over a spent wire"),
         Err(error) => error,
     }
 }
 
 /// A cycle over a spent wire ends by an error with this number and name.
-fn expect_error(rt: &impl Abort, master: &mut Master<'_>, wanted: (RunError, u8, &'static str)) {
+pub fn expect_error(
+    rt: &impl Abort,
+    master: &mut Master<'_>,
+    wanted: (RunError, u8, &'static str),
+) {
     let error = error_over_spent(rt, master);
     assert_same(rt, &(error, error.number(), error.name()), &wanted);
 }
 
-/// The master is asked first: it isn't ready.
-pub fn expect_refusal(rt: &impl Abort, master: &mut Master<'_>) {
-    let not_ready = RunError::Refused(CycleError::NotReady);
-    expect_error(rt, master, (not_ready, 33, "NotReady"));
-}
-
-/// At its last value the count of faults can't rise, and each call is a fault.
+/// Once its slaves have come up a cycle over a spent wire ends by a fault.
 pub fn expect_spent(rt: &(impl AllocGlobal + Abort), machine: &Machine, master: &mut Master<'_>)
     requires { master.old.plan ≡ plan_of machine.now }
 {
@@ -156,8 +121,38 @@ pub fn expect_spent(rt: &(impl AllocGlobal + Abort), machine: &Machine, master: 
     expect_error(rt, master, (RunError::Wire, 37, "Wire"));
 }
 
-#[test]
-fn refusals_come_before_the_wire(rt: HostRuntime) {
-    expect_of_three(&rt, "refusal");
-    expect_of_three(&rt, "spent wire");
+/// Whether a cycle was taken by a counter of 6.
+fn is_good(report: &Report) -> bool {
+    report.is_taken() && report.counters().as_slice() == [Some(ExpectedCounters::Lrw(6))].as_slice()
+}
+
+/// Runs a cycle over sockets that sends this number.
+fn expect_good(rt: &impl Abort, master: &mut Master<'_>, wire: &mut LoopWire<Echo>, number: u64) {
+    set(master, 0, number);
+    set(master, 1, number);
+    let report = run_cycle(master, wire).expect(rt, "a cycle");
+    assert!(rt; is_good(&report));
+}
+
+/// Runs two cycles over sockets, of slaves that show their outputs; slave 1 has none to show.
+fn expect_two(rt: &impl Abort, master: &mut Master<'_>, wire: &mut LoopWire<Echo>) {
+    expect_good(rt, master, wire, 1);
+    expect_good(rt, master, wire, 2);
+    let seen = (value_of(master, 2), value_of(master, 3), wire.failures());
+    assert_same(rt, &seen, &(0, 1, 0));
+}
+
+/// Brings the slaves of a machine up over a loop of two sockets, and runs two cycles.
+pub fn expect_loop(
+    rt: &(impl Net + AllocGlobal + Abort),
+    machine: &Machine,
+    master: &mut Master<'_>,
+)
+    requires { master.old.plan ≡ plan_of machine.now }
+{
+    let sockets = Sockets::bind(rt).expect(rt, "sockets");
+    let mut wire = LoopWire::new(sockets, ring_of(rt, machine), Echo);
+    let mut startup = startup_of(rt, machine, 0);
+    bring_up(rt, &mut startup, &mut wire, master);
+    expect_two(rt, master, &mut wire);
 }

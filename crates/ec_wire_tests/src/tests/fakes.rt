@@ -6,34 +6,10 @@ use ec_wire::Wire;
 /// a fault.
 #[derive(Drop)]
 pub struct Fake {
-    failures: u64,
-    bytes: usize,
-    received: u64,
-}
-
-impl Fake {
-    /// A wire on which every call is a fault.
-    pub fn spent() -> Fake {
-        Fake {
-            failures: u64::MAX,
-            bytes: 0,
-            received: 0,
-        }
-    }
-
-    /// A wire that brings nothing but payloads of one byte.
-    pub fn strange() -> Fake {
-        Fake {
-            failures: 0,
-            bytes: 1,
-            received: 0,
-        }
-    }
-
+    pub failures: u64,
+    pub bytes: usize,
     /// How many payloads were received.
-    pub fn received(&self) -> u64 {
-        self.received
-    }
+    pub received: u64,
 }
 
 impl Wire for Fake {

@@ -3,121 +3,73 @@ ghost use Rattle.std.specs.Prelude.{◌≡◌};
 ghost use Rattle.ec_link.specs.Plan.{plan_of};
 
 use crate::tests::machines::{assert_same, brought_up, set, value_of};
-use crate::tests::trials::expect_of_three;
 use ec_cycle::{Master, Taken};
 use ec_link::Machine;
 use ec_ring::Ring;
 use std::process::Abort;
 
 /// The frame of cycle 100 as it is sent, where the outputs are 10 and 291.
-const SENT: &str = "3310 \
-    0064 0000 0000 0a80 0000 6400000000000000 0000 0000 \
-    0764 0000 3001 0280 0000 0000 0000 \
-    0c64 00000100 0300 0000 0a2301 0000";
+const SENT: [u8; 53] = [
+    0x33, 0x10, // header
+    0x00, 0x64, 0, 0, 0, 0, 0x0A, 0x80, 0, 0, 0x64, 0, 0, 0, 0, 0, 0, 0, 0, 0, 0, 0, // NOP
+    0x07, 0x64, 0, 0, 0x30, 0x01, 0x02, 0x80, 0, 0, 0, 0, 0, 0, // BRD
+    0x0C, 0x64, 0, 0, 0x01, 0, 0x03, 0, 0, 0, 0x0A, 0x23, 0x01, 0, 0, // LRW
+];
 
 /// The same as it comes back, where the slaves' inputs are 5 and 48879.
-const BACK: &str = "3310 \
-    0064 0000 0000 0a80 0000 6400000000000000 0000 0000 \
-    0764 0300 3001 0280 0000 0800 0300 \
-    0c64 00000100 0300 0000 5aefbe 0600";
+const BACK: [u8; 53] = [
+    0x33, 0x10, // header
+    0x00, 0x64, 0, 0, 0, 0, 0x0A, 0x80, 0, 0, 0x64, 0, 0, 0, 0, 0, 0, 0, 0, 0, 0, 0, // NOP
+    0x07, 0x64, 0x03, 0, 0x30, 0x01, 0x02, 0x80, 0, 0, 0x08, 0, 0x03, 0, // BRD
+    0x0C, 0x64, 0, 0, 0x01, 0, 0x03, 0, 0, 0, 0x5A, 0xEF, 0xBE, 0x06, 0, // LRW
+];
 
-/// The digits of a row of hexadecimal digits with blanks between fields.
-fn digits_of(rt: &(impl AllocGlobal + Abort), row: &str) -> String {
-    row.replace(rt.alloc(), " ", "").expect(rt, "memory")
+/// The application of a slave writes a byte of its inputs. Whether it may.
+fn is_put(ring: &mut Ring, slave: usize, place: usize, byte: u8) -> bool {
+    slave < ring.len() && ring.slave_mut(slave).app_put(place, byte)
 }
 
-fn bytes_of_digits(rt: &(impl AllocGlobal + Abort), digits: &str) -> Vec<u8> {
-    hex::decode(rt.alloc(), digits).expect(rt, digits)
+/// Whether the frame of the open cycle is this.
+fn is_frame(master: &Master<'_>, bytes: &[u8]) -> bool {
+    master.is_open() && master.parts() > 0 && master.frame(0) == bytes
 }
 
-/// The bytes of a row.
-fn bytes_of(rt: &(impl AllocGlobal + Abort), row: &str) -> Vec<u8> {
-    bytes_of_digits(rt, digits_of(rt, row).as_str())
-}
-
-/// Compares bytes with a row.
-fn assert_row(rt: &(impl AllocGlobal + Abort), met: &[u8], row: &str) {
-    assert_same(rt, &met, &bytes_of(rt, row).as_slice());
-}
-
-/// The application of a slave writes a byte of its inputs.
-fn put(rt: &impl Abort, ring: &mut Ring, slave: usize, place: usize, byte: u8) {
-    assert!(rt; slave < ring.len() && ring.slave_mut(slave).app_put(place, byte));
-}
-
-/// The applications write inputs.
-fn put_all(rt: &impl Abort, ring: &mut Ring) {
-    put(rt, ring, 1, 0, 5);
-    put(rt, ring, 2, 0, 0xEF);
-    put(rt, ring, 2, 1, 0xBE);
-}
-
-fn pass(rt: &impl Abort, ring: &mut Ring, frame: &mut [u8]) {
-    ring.pass_all(frame).expect(rt, "a frame");
-}
-
-/// The frame as it is sent passes all slaves. What comes back of it.
-fn passed(rt: &(impl AllocGlobal + Abort), ring: &mut Ring) -> Vec<u8> {
-    let mut frame = bytes_of(rt, SENT);
-    pass(rt, ring, &mut frame);
-    frame
-}
-
-/// A cycle that sends 10 and 291 is begun.
-fn begin(rt: &impl Abort, master: &mut Master<'_>) {
+/// A ready master begins a cycle that sends 10 and 291.
+fn expect_sent(rt: &impl Abort, master: &mut Master<'_>) {
     set(master, 0, 10);
     set(master, 1, 291);
+    assert_same(rt, &master.next_number(), &100);
     master.begin().expect(rt, "a cycle");
+    assert_same(rt, &is_frame(master, &SENT), &true);
 }
 
-/// The frame of the open cycle is this.
-fn expect_frame(rt: &(impl AllocGlobal + Abort), master: &Master<'_>, row: &str) {
-    if !master.is_open() || master.parts() == 0 {
-        panic!(rt; "a cycle without a frame");
-    }
-    assert_row(rt, master.frame(0), row);
-}
-
-/// A cycle of a ready master sends the frame.
-fn expect_sent(rt: &(impl AllocGlobal + Abort), master: &mut Master<'_>) {
-    assert!(rt; master.next_number() == 100);
-    begin(rt, master);
-    expect_frame(rt, master, SENT);
+/// The applications write inputs, and the frame passes all slaves.
+fn expect_passed(rt: &impl Abort, ring: &mut Ring, frame: &mut [u8]) {
+    let is_all_put = is_put(ring, 1, 0, 5) && is_put(ring, 2, 0, 0xEF) && is_put(ring, 2, 1, 0xBE);
+    ring.pass_all(frame).expect(rt, "a frame");
+    assert_same(rt, &(is_all_put, &*frame), &(true, &BACK[..]));
 }
 
 /// Ends the open cycle, of which this came back.
-fn is_taken(rt: &impl Abort, master: &mut Master<'_>) -> bool {
-    master.close().expect(rt, "an open cycle").is_taken()
+fn is_taken(rt: &impl Abort, master: &mut Master<'_>, back: &[u8]) -> bool {
+    let is_kept = master.take(back) == Taken::Kept;
+    is_kept && master.close().expect(rt, "an open cycle").is_taken()
 }
 
-/// This comes back of the frame, as it must, and the cycle is taken.
-fn expect_back(rt: &(impl AllocGlobal + Abort), master: &mut Master<'_>, back: &[u8]) {
-    assert_row(rt, back, BACK);
-    assert!(rt; master.take(back) == Taken::Kept);
-    assert!(rt; is_taken(rt, master));
-    assert_same(rt, &(value_of(master, 2), value_of(master, 3)), &(5, 48879));
+/// What came back is taken, with the inputs.
+fn expect_back(rt: &impl Abort, master: &mut Master<'_>, back: &[u8]) {
+    let is_taken = is_taken(rt, master, back);
+    let seen = (is_taken, value_of(master, 2), value_of(master, 3));
+    assert_same(rt, &seen, &(true, 5, 48879));
 }
 
-/// A cycle of a ready master past its slaves.
-fn expect_cycle(rt: &(impl AllocGlobal + Abort), master: &mut Master<'_>, ring: &mut Ring) {
-    expect_sent(rt, master);
-    put_all(rt, ring);
-    expect_back(rt, master, &passed(rt, ring));
-}
-
-fn expect_cycle_of(rt: &(impl AllocGlobal + Abort), mut ring: Ring, master: &mut Master<'_>) {
-    expect_cycle(rt, master, &mut ring);
-}
-
-/// Brings the slaves of a machine up by frames from number 25 on, and runs a cycle.
+/// Brings the slaves of a machine up by frames from number 25 on, and runs a cycle. The master takes from the frame what the
+/// slaves' applications wrote.
 pub fn expect_frames(rt: &(impl AllocGlobal + Abort), machine: &Machine, master: &mut Master<'_>)
     requires { master.old.plan ≡ plan_of machine.now }
 {
-    expect_cycle_of(rt, brought_up(rt, machine, master, 25), master);
-}
-
-// The master takes from the frame what the slaves' applications wrote.
-#[test]
-fn frame_of_a_cycle(rt: HostRuntime) {
-    expect_of_three(&rt, "frames");
+    let mut ring = brought_up(rt, machine, master, 25);
+    expect_sent(rt, master);
+    expect_passed(rt, &mut ring, &mut SENT);
+    expect_back(rt, master, &BACK);
 }

@@ -1,10 +1,9 @@
 //! Start-ups over wires.
 use crate::tests::fakes::Fake;
 use crate::tests::machines::{assert_same, ring_of, startup_of, wire_to};
-use crate::tests::trials::expect_of_three;
 use ec_link::Machine;
 use ec_start::{StartError, Startup};
-use ec_wire::{MemoryWire, Wire, bring_up_wire};
+use ec_wire::{Wire, bring_up_wire};
 use std::process::Abort;
 
 /// How a start-up ended, and its next number.
@@ -28,24 +27,34 @@ fn run<W: Wire>(startup: &mut Startup<'_>, wire: &mut W) -> Ended {
 /// A start-up over memory ends so whose call of this number is a fault.
 type Row = (u64, Ended);
 
-fn expect_ended(rt: &impl Abort, startup: &mut Startup<'_>, wire: &mut MemoryWire, row: &Row) {
-    assert_same(rt, &(row.0, run(startup, wire)), row);
-}
-
-fn expect_ended_of(rt: &(impl AllocGlobal + Abort), machine: &Machine, row: &Row) {
+/// How it ends.
+fn ended(rt: &(impl AllocGlobal + Abort), machine: &Machine, call: u64) -> Ended {
     let mut startup = startup_of(rt, machine, 0);
-    let mut wire = wire_to(rt, ring_of(rt, machine), 75, row.0);
-    expect_ended(rt, &mut startup, &mut wire, row);
+    run(
+        &mut startup,
+        &mut wire_to(rt, ring_of(rt, machine), 75, call),
+    )
 }
 
 fn expect_rows(rt: &(impl AllocGlobal + Abort), machine: &Machine, rows: &[Row]) {
     for row in rows {
-        expect_ended_of(rt, machine, row);
+        assert_same(rt, &(row.0, ended(rt, machine, row.0)), row);
     }
 }
 
-/// Start-ups of a machine over memory, each with a fault or none.
-pub fn expect_all_ended(rt: &(impl AllocGlobal + Abort), machine: &Machine) {
+/// A start-up over nothing but payloads of one byte is lost after 64 of them.
+fn expect_lost(rt: &impl Abort, machine: &Machine) {
+    let mut fake = Fake {
+        failures: 0,
+        bytes: 1,
+        received: 0,
+    };
+    let ended = run(&mut startup_of(rt, machine, 0), &mut fake);
+    assert_same(rt, &(fake.received, ended), &(64, ("lost", 1)));
+}
+
+/// Start-ups of a machine over memory, each with a fault or none, and over strange payloads.
+pub fn expect_ends(rt: &(impl AllocGlobal + Abort), machine: &Machine) {
     expect_rows(
         rt,
         machine,
@@ -58,26 +67,5 @@ pub fn expect_all_ended(rt: &(impl AllocGlobal + Abort), machine: &Machine) {
             (149, ("lost", 75)),
         ],
     );
-}
-
-#[test]
-fn comes_up_or_is_lost(rt: HostRuntime) {
-    expect_of_three(&rt, "start-ups");
-}
-
-/// A start-up over a strange wire is lost after 64 payloads.
-fn expect_lost_over(rt: &impl Abort, startup: &mut Startup<'_>, wire: &mut Fake) {
-    let ended = run(startup, wire);
-    let wanted = (64, ("lost", 1));
-    assert_same(rt, &(wire.received(), ended), &wanted);
-}
-
-/// The same of a start-up of a machine.
-pub fn expect_lost(rt: &impl Abort, machine: &Machine) {
-    expect_lost_over(rt, &mut startup_of(rt, machine, 0), &mut Fake::strange());
-}
-
-#[test]
-fn strange_payloads_end_it(rt: HostRuntime) {
-    expect_of_three(&rt, "strange payloads");
+    expect_lost(rt, machine);
 }

@@ -3,15 +3,18 @@
 ghost use Rattle.std.specs.Prelude.{◌≡◌};
 ghost use Rattle.ec_link.specs.Plan.{plan_of};
 
-use crate::tests::cycles::{expect_faults, expect_refusal, expect_spent};
-use crate::tests::machines::{THREE_SLAVES, machine_of, master_of};
+use crate::tests::cycles::{expect_error, expect_faults, expect_loop, expect_spent};
+use crate::tests::machines::{machine_of, master_of};
 use crate::tests::rounds::expect_frames;
-use crate::tests::sockets::expect_loop;
-use crate::tests::startups::{expect_all_ended, expect_lost};
-use ec_cycle::Master;
+use crate::tests::startups::expect_ends;
+use ec_cycle::{CycleError, Master};
 use ec_link::Machine;
+use ec_wire::RunError;
 use std::net::Net;
 use std::process::Abort;
+
+/// The master is asked before the wire is: it isn't ready.
+const NOT_READY: (RunError, u8, &str) = (RunError::Refused(CycleError::NotReady), 33, "NotReady");
 
 /// A trial by its name. The full table has two variables, and 13 parts.
 fn expect_trial(
@@ -23,28 +26,25 @@ fn expect_trial(
     requires { master.old.plan ≡ plan_of machine.now }
 {
     match trial {
-        "start-ups" => expect_all_ended(rt, machine),
-        "strange payloads" => expect_lost(rt, machine),
+        "start-ups" => expect_ends(rt, machine),
         "frames" => expect_frames(rt, machine, master),
         "faults" => expect_faults(rt, machine, master, (1, 3), 1),
         "faults of many" => expect_faults(rt, machine, master, (0, 1), 13),
-        "refusal" => expect_refusal(rt, master),
+        "refusal" => expect_error(rt, master, NOT_READY),
         "spent wire" => expect_spent(rt, machine, master),
         "loop" => expect_loop(rt, machine, master),
         _ => panic!(rt; "{trial}"),
     }
 }
 
-fn expect_trial_of(rt: &(impl Net + AllocGlobal + Abort), machine: &Machine, trial: &str) {
-    expect_trial(rt, machine, &mut master_of(rt, machine), trial);
+/// Each trial of these with a new master.
+fn expect_trials_of(rt: &(impl Net + AllocGlobal + Abort), machine: &Machine, trials: &str) {
+    for trial in trials.split(", ") {
+        expect_trial(rt, machine, &mut master_of(rt, machine), trial);
+    }
 }
 
-/// A trial of a table.
-pub fn expect_of_table(rt: &(impl Net + AllocGlobal + Abort), text: &str, trial: &str) {
-    expect_trial_of(rt, &machine_of(rt, text), trial);
-}
-
-/// A trial of three slaves.
-pub fn expect_of_three(rt: &(impl Net + AllocGlobal + Abort), trial: &str) {
-    expect_of_table(rt, THREE_SLAVES, trial);
+/// Trials of a table.
+pub fn expect_trials(rt: &(impl Net + AllocGlobal + Abort), text: &str, trials: &str) {
+    expect_trials_of(rt, &machine_of(rt, text), trials);
 }
