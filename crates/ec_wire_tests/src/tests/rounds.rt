@@ -8,21 +8,22 @@ use ec_link::Machine;
 use ec_ring::Ring;
 use std::process::Abort;
 
-/// The frame of cycle 100 as it is sent, where the outputs are 10 and 291.
-const SENT: [u8; 53] = [
-    0x33, 0x10, // header
-    0x00, 0x64, 0, 0, 0, 0, 0x0A, 0x80, 0, 0, 0x64, 0, 0, 0, 0, 0, 0, 0, 0, 0, 0, 0, // NOP
-    0x07, 0x64, 0, 0, 0x30, 0x01, 0x02, 0x80, 0, 0, 0, 0, 0, 0, // BRD
-    0x0C, 0x64, 0, 0, 0x01, 0, 0x03, 0, 0, 0, 0x0A, 0x23, 0x01, 0, 0, // LRW
-];
+/// The frame of cycle 100 as it is sent, where the outputs are 10 and 291: its header, a NOP, a BRD and an LRW.
+const SENT: &str = "3310\
+    0064000000000a800000640000000000000000000000\
+    0764000030010280000000000000\
+    0c6400000100030000000a23010000";
 
 /// The same as it comes back, where the slaves' inputs are 5 and 48879.
-const BACK: [u8; 53] = [
-    0x33, 0x10, // header
-    0x00, 0x64, 0, 0, 0, 0, 0x0A, 0x80, 0, 0, 0x64, 0, 0, 0, 0, 0, 0, 0, 0, 0, 0, 0, // NOP
-    0x07, 0x64, 0x03, 0, 0x30, 0x01, 0x02, 0x80, 0, 0, 0x08, 0, 0x03, 0, // BRD
-    0x0C, 0x64, 0, 0, 0x01, 0, 0x03, 0, 0, 0, 0x5A, 0xEF, 0xBE, 0x06, 0, // LRW
-];
+const BACK: &str = "3310\
+    0064000000000a800000640000000000000000000000\
+    0764030030010280000008000300\
+    0c6400000100030000005aefbe0600";
+
+/// The bytes of a row.
+fn bytes_of(rt: &(impl AllocGlobal + Abort), row: &str) -> Vec<u8> {
+    hex::decode(rt.alloc(), row).expect(rt, row)
+}
 
 /// The application of a slave writes a byte of its inputs. Whether it may.
 fn is_put(ring: &mut Ring, slave: usize, place: usize, byte: u8) -> bool {
@@ -35,19 +36,19 @@ fn is_frame(master: &Master<'_>, bytes: &[u8]) -> bool {
 }
 
 /// A ready master begins a cycle that sends 10 and 291.
-fn expect_sent(rt: &impl Abort, master: &mut Master<'_>) {
+fn expect_sent(rt: &impl Abort, master: &mut Master<'_>, sent: &[u8]) {
     set(master, 0, 10);
     set(master, 1, 291);
     assert_same(rt, &master.next_number(), &100);
     master.begin().expect(rt, "a cycle");
-    assert_same(rt, &is_frame(master, &SENT), &true);
+    assert_same(rt, &is_frame(master, sent), &true);
 }
 
 /// The applications write inputs, and the frame passes all slaves.
-fn expect_passed(rt: &impl Abort, ring: &mut Ring, frame: &mut [u8]) {
+fn expect_passed(rt: &impl Abort, ring: &mut Ring, frame: &mut [u8], back: &[u8]) {
     let is_all_put = is_put(ring, 1, 0, 5) && is_put(ring, 2, 0, 0xEF) && is_put(ring, 2, 1, 0xBE);
     ring.pass_all(frame).expect(rt, "a frame");
-    assert_same(rt, &(is_all_put, &*frame), &(true, &BACK[..]));
+    assert_same(rt, &(is_all_put, &*frame), &(true, back));
 }
 
 /// Ends the open cycle, of which this came back.
@@ -69,7 +70,7 @@ pub fn expect_frames(rt: &(impl AllocGlobal + Abort), machine: &Machine, master:
     requires { master.old.plan ≡ plan_of machine.now }
 {
     let mut ring = brought_up(rt, machine, master, 25);
-    expect_sent(rt, master);
-    expect_passed(rt, &mut ring, &mut SENT);
-    expect_back(rt, master, &BACK);
+    expect_sent(rt, master, &bytes_of(rt, SENT));
+    expect_passed(rt, &mut ring, &mut bytes_of(rt, SENT), &bytes_of(rt, BACK));
+    expect_back(rt, master, &bytes_of(rt, BACK));
 }
