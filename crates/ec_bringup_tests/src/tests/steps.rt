@@ -55,6 +55,11 @@ fn place_at(rt: &impl Abort, words: &str, place: usize) -> usize {
     number_at(rt, words, place) as usize
 }
 
+/// The byte that a word says.
+fn byte_at(rt: &impl Abort, words: &str, place: usize) -> u8 {
+    (number_at(rt, words, place) % 256) as u8
+}
+
 /// What a line says must hold.
 fn expect(rt: &impl Abort, holds: bool, line: &str) {
     if !holds {
@@ -129,7 +134,7 @@ fn trouble_of<'t>(rt: &impl Abort, about: &'t str) -> Trouble<'t> {
         frame: number_at(rt, about, 0),
         at: place_at(rt, about, 1),
         place: place_at(rt, about, 3),
-        byte: (number_at(rt, about, 4) % 256) as u8,
+        byte: byte_at(rt, about, 4),
     }
 }
 
@@ -225,9 +230,9 @@ fn expect_trials<'p>(
 }
 
 /// Whether each slave shows this AL status.
-fn all_show(ring: &Ring, status: u64) -> bool {
+fn all_show(ring: &Ring, status: u8) -> bool {
     for place in 0..ring.len() {
-        if ring.slave(place).byte(0x0130).map(u64::from) != Some(status) {
+        if ring.slave(place).byte(0x0130) != Some(status) {
             return false;
         }
     }
@@ -268,7 +273,7 @@ fn expect_seen(rt: &impl Abort, startup: &mut Startup<'_>, ring: &mut Ring, line
         "rises" => expect_rise(rt, startup, ring, number, line.end, line.text),
         "next" => expect(rt, startup.next_number() == number, line.text),
         "show" => {
-            let is_shown = all_show(ring, number_at(rt, line.about, 1));
+            let is_shown = all_show(ring, byte_at(rt, line.about, 1));
             expect(rt, is_shown && ring.len() as u64 == number, line.text);
         }
         _ => panic!(rt; "{}", line.text),
