@@ -81,10 +81,16 @@ fn pass_in_trouble(rt: &impl Abort, ring: &mut Ring, payload: &mut [u8], trouble
     }
 }
 
+fn serve_slave(ring: &mut Ring, place: usize) {
+    if place < ring.len() {
+        ring.slave_mut(place).serve();
+    }
+}
+
 /// Each slave serves once.
 fn serve_all(ring: &mut Ring) {
     for place in 0..ring.len() {
-        ring.slave_mut(place).serve();
+        serve_slave(ring, place);
     }
 }
 

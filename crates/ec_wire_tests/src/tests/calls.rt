@@ -137,7 +137,7 @@ fn seen_of_wires(
         "master receives" => receive(&mut ends.master),
         "segment sends" => send(&mut ends.segment, sevens),
         "segment receives" => receive(&mut ends.segment),
-        "serve" => serve(rt, ends, sevens.len() as u32),
+        "serve" => serve(rt, ends, sevens.len().min(1500) as u32),
         _ => panic!(rt; "{call}"),
     }
 }
