@@ -8,7 +8,7 @@ mod sizes;
 use self::cycles::write_cycles_of;
 use self::names::with_names;
 use self::scripts::{plan_text_of, write_answers};
-use self::seeds::{Seeded, seeded};
+use self::seeds::{Seeded, of_seed};
 use self::sizes::{filled_up, table_of_size};
 use ec_commands::run_command;
 use ec_wire::Echo;
@@ -125,7 +125,7 @@ fn answers_of<H: AllocGlobal + Abort>(rt: &H, seeded: &Seeded, printed: &mut Str
 
 /// `ecat plan` and `ecat sim` print what the calls answer to the table and the script that a seed decides.
 fn expect_joined<H: AllocGlobal + Net + Files + Clock + Abort>(rt: &H, seed: u64) {
-    let seeded = seeded(rt, seed);
+    let seeded = of_seed(rt, seed);
     let plan = plan_text_of(rt.alloc(), seeded.table.as_str()).expect(rt, "a good table");
     expect_printed(rt, &PLAN, seeded.table.as_str(), plan.as_str());
     expect_script(rt, &SIM, &seeded, seeded.script.as_str());
@@ -140,7 +140,7 @@ fn joined(rt: HostRuntime) {
 
 /// The script that a seed decides prints the same where its lines are run as they come.
 fn expect_live<H: AllocGlobal + Net + Files + Clock + Abort>(rt: &H, seed: u64) {
-    let seeded = seeded(rt, seed);
+    let seeded = of_seed(rt, seed);
     expect_script(rt, &LIVE, &seeded, seeded.script.as_str());
 }
 
@@ -153,7 +153,7 @@ fn joined_live(rt: HostRuntime) {
 
 /// The script that a seed decides prints the same where it has the slaves' names in place of their numbers; whether it has some.
 fn expect_named<H: AllocGlobal + Net + Files + Clock + Abort>(rt: &H, seed: u64) -> bool {
-    let seeded = seeded(rt, seed);
+    let seeded = of_seed(rt, seed);
     let named = with_names(rt, seeded.table.as_str(), seeded.script.as_str());
     expect_script(rt, &SIM, &seeded, named.as_str());
     named.as_str() != seeded.script.as_str()
@@ -180,7 +180,7 @@ fn expect_looped(rt: &impl Abort, ended: &Ended, printed: &str) {
 
 /// Three cycles by `ecat loop`, over the system's sockets, of the table that a seed decides, and as events of a world.
 fn expect_cycles<H: AllocGlobal + Net + Files + Clock + Abort>(rt: &H, seed: u64) {
-    let seeded = seeded(rt, seed);
+    let seeded = of_seed(rt, seed);
     let mut printed = String::new(rt.alloc());
     write_cycles(rt, seeded.table.as_str(), &mut printed);
     let ended = run(rt, &LOOP, seeded.table.as_str());

@@ -18,7 +18,7 @@ fn with_script(alloc: Global, random: &mut Random, table: String) -> Result<Seed
 }
 
 /// What a seed decides.
-pub fn seeded(rt: &(impl AllocGlobal + Abort), seed: u64) -> Seeded {
+pub fn of_seed(rt: &(impl AllocGlobal + Abort), seed: u64) -> Seeded {
     let mut random = Random::new(seed);
     let table = random_table(rt.alloc(), &mut random).expect(rt, "memory");
     with_script(rt.alloc(), &mut random, table).expect(rt, "memory")
@@ -32,7 +32,7 @@ const WORDS: [&str; 18] = [
 
 /// Adds the script of a seed to those before, and its table to theirs.
 fn add_seeded(rt: &(impl AllocGlobal + Abort), seed: u64, scripts: &mut String) -> String {
-    let Seeded { table, script } = seeded(rt, seed);
+    let Seeded { table, script } = of_seed(rt, seed);
     scripts.push_str(script.as_str()).expect(rt, "memory");
     table
 }
