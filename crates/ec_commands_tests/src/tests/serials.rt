@@ -41,7 +41,7 @@ fn send(rt: &(impl AllocGlobal + Abort), client: &UdpSocket, port: u16, frame: &
 /// Takes the next frame that comes back, and answers how many bytes it has.
 fn take_back(rt: &impl Abort, client: &UdpSocket, buffer: &mut [u8; 1500]) -> usize {
     let (count, _) = client.recv_from(buffer).expect(rt, "a frame");
-    count.min(1500)
+    count
 }
 
 /// The second frame that comes back has the serial number.
@@ -49,7 +49,7 @@ fn expect_back(rt: &(impl AllocGlobal + Abort), client: &UdpSocket) {
     let mut buffer = [0; 1500];
     take_back(rt, client, &mut buffer);
     let count = take_back(rt, client, &mut buffer);
-    let seen = hex::encode(rt.alloc(), &buffer[..count]).expect(rt, "memory");
+    let seen = hex::encode(rt.alloc(), &buffer[..count.min(1500)]).expect(rt, "memory");
     assert_eq!(rt; seen.as_str(), BACK);
 }
 
