@@ -1,6 +1,6 @@
 //! Drivers that go wrong: whoever reads or writes fails at some line.
 
-use crate::tests::{expect_ended, run};
+use crate::live::{expect_ended, run};
 use ec_console::Refusal;
 use std::fs::Files;
 use std::io;

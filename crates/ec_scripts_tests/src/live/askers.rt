@@ -1,6 +1,6 @@
 //! Whoever asks gives a line once the lines before it are answered, and whoever stops reading ends the run.
 
-use crate::tests::{expect_ended, run};
+use crate::live::{expect_ended, run};
 use ec_console::Refusal;
 use std::cell::Cell;
 use std::io;
