@@ -1,4 +1,4 @@
-use Rattle.std.proofs.Common.{ℕ, List, ◌≡◌, ◌⊎◌, ◌+◌, ◌-◌, ◌*◌, ◌/◌, ◌%◌, ◌∙◌, ap, inl, inr, arith, min}
+use Rattle.std.proofs.Common.{ℕ, List, ◌≡◌, ◌⊎◌, ◌+◌, ◌-◌, ◌*◌, ◌/◌, ◌%◌, ◌∙◌, ap, inl, inr, arith, min, rules}
 use Rattle.std.proofs.lemmas.Bool.{cases_eq}
 use Rattle.ec_bits.specs.Bits.{copied}
 use Rattle.ec_bits.proofs.Copies.{copied_thrice}
@@ -24,3 +24,6 @@ returns-clause-bits c =
     ∙ (ap (λ (ys : List ℕ). copied ys (to + (h + 8 * w)) src (from + (h + 8 * w)) t)
     (c.copy_whole-middle.ensures.bits ∙ ap (λ (ys : List ℕ). copied ys (8 * at) src (from + h) (8 * w)) c.copy_part-first.ensures.bits)
     ∙ (copied_thrice c.args.dst.now to src from h (8 * at) (8 * w) t place ∙ ap (copied c.args.dst.now to src from) all))
+
+pub returns-clause-turns : goal.returns-clause-turns
+returns-clause-turns c = search rules

@@ -1,4 +1,4 @@
-use Rattle.std.proofs.Common.{◌≡◌, ℕ, ◌+◌, ◌-◌, ◌/◌, take, drop, sym, ap, subst, ◌∙◌, arith}
+use Rattle.std.proofs.Common.{◌≡◌, ℕ, ◌+◌, ◌-◌, ◌/◌, take, drop, sym, ap, subst, ◌∙◌, arith, rules}
 use Rattle.ec_frame.specs.Reading.{GivesCount}
 use Rattle.ec_frame.specs.Frame.{length_field}
 use Rattle.ec_frame.proofs.Verdict.{verdict_of}
@@ -12,3 +12,6 @@ returns c =
     (record { header = record { whole = omega arith; type = ap (λ (x : ℕ). x / 4096) (sym c.read_u16-header.ensures) ∙ sym c.type_in.ensures ∙ c.if-type_in-ne1.false; most = omega arith }; whole = omega arith })
     (omega arith)
     (subst (λ (n : ℕ). GivesCount (take n (drop 2 payload)) c.count_datagrams.result) size c.count_datagrams.ensures)
+
+pub returns-then-length-gt-MAX_AREA : goal.returns-then-length-gt-MAX_AREA
+returns-then-length-gt-MAX_AREA c = search rules

@@ -1,0 +1,6 @@
+use Rattle.std.proofs.Common.{arith}
+use Rattle.std.proofs.lemmas.Grind.{common_steps}
+use Rattle.ec_regs.proofs.fmmu.decode_fmmu.Goals as goal
+
+pub returns : goal.returns
+returns c = grind (arith, common_steps)
