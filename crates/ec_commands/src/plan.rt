@@ -7,7 +7,8 @@ ghost use Rattle.ec_console.specs.Given.{IsTableRefusal};
 
 use ec_console::{Explanation, Refusal, print_text, read_machine, read_text};
 use ec_link::Machine;
-use ec_text::{explain_text, header_text, plan_text};
+use ec_plan_table::explain_text;
+use ec_text::{header_text, plan_text};
 use std::alloc::Global;
 use std::io::{Read, Write};
 

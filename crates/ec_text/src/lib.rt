@@ -1,9 +1,8 @@
-//! The texts that are printed: plans, in a fixed form for programs, as tables of bits for people, and as a header of C; reports on
-//! cycles, how start-ups ended, input variables; and what is told of refusals.
+//! The texts that are printed: plans, in a fixed form for programs and as a header of C; reports on cycles, how start-ups ended,
+//! input variables; and what is told of refusals.
 #![tactic(auto)]
 
 mod digits;
-mod explain;
 mod header;
 mod inputs;
 mod plan;
@@ -11,7 +10,6 @@ mod refusal;
 mod report;
 
 pub use crate::digits::{push_number, push_value, write_counter};
-pub use crate::explain::explain_text;
 pub use crate::header::header_text;
 pub use crate::inputs::{input_lines, value_of, write_inputs};
 pub use crate::plan::plan_text;

@@ -1,4 +1,4 @@
-use Rattle.std.proofs.Common.{sym, ap, subst}
+use Rattle.std.proofs.Common.{sym, ap, subst, rules}
 use Rattle.ec_frame.specs.Building.{bare_payload}
 use Rattle.ec_frame.specs.Frame.{IsFrame}
 use Rattle.ec_start.specs.declared.action.Action.{Action}
@@ -13,3 +13,9 @@ returns-clause-written c =
     let is = action_is i.slaves.now i.place i.step (c.self.invariant.at_step (ap is_ended c.in-Idle.is)) in
     λ e. subst (λ (s : StartState). IsFrame c.write_frame.new.frame.items (bare_payload (frame_of (action_of s) s.next))) c.self.view_is
     (subst (λ (a : Action). IsFrame c.write_frame.new.frame.items (bare_payload (frame_of a i.next))) (sym is) c.write_frame.ensures)
+
+pub invariant_of-self-2 : goal.invariant_of-self-2
+invariant_of-self-2 c = search rules
+
+pub returns-clause-state : goal.returns-clause-state
+returns-clause-state c = search rules
