@@ -1,4 +1,4 @@
-use Rattle.std.proofs.Common.{◌≡◌, ◌<◌, ◌∙◌, true, length, ap, sym, arith}
+use Rattle.std.proofs.Common.{◌≡◌, ◌<◌, ◌∙◌, true, length, ap, sym, arith, rules}
 use Rattle.ec_al.specs.Al.{Al, is_operational}
 use Rattle.ec_al.specs.Al as al
 use Rattle.ec_slave.specs.State.{SlaveState, manager_at}
@@ -18,3 +18,6 @@ returns-clause-after c =
     let running : is_operational s.al.state ≡ true = sym (ap (λ (x : Al). is_operational x.state) own) ∙ ap is_operational (c.fault.ensures.taken.0 c.if-not-fault.false) in
     ap (λ (x : SlaveState). with_manager (record x { al = c.fault.new.self }) 2 c.lock.new.manager) c.self.view_is
     ∙ faulted-by s c.fault.new.self c.lock.new.manager running (c.fault.ensures.state ∙ ap al.faulted own) (c.lock.ensures ∙ ap locked_empty here)
+
+pub returns-then-not-fault-clause-taken : goal.returns-then-not-fault-clause-taken
+returns-then-not-fault-clause-taken c = search rules

@@ -1,4 +1,4 @@
-use Rattle.std.proofs.Common.{◌≡◌, ◌∙◌, ap, length, arith, List, replicate}
+use Rattle.std.proofs.Common.{◌≡◌, ◌∙◌, ap, length, arith, List, replicate, rules}
 use Rattle.ec_device.specs.Types.{SlaveKind}
 use Rattle.ec_dl.specs.DataLink.{new_data_link}
 use Rattle.ec_sii.specs.Port.{idle_port}
@@ -25,3 +25,6 @@ returns c =
     (c.reset-2.ensures ∙ ap idle_port c.self.invariant.image)
     (c.new-self-inside.ensures ∙ ap new_data_link (c.face.ensures.value ∙ ap (λ (k : SlaveKind). k.face) c.kind.ensures))
     ∙ ap (λ (s : SlaveState). power_on s.kind s.identity) c.self.view_is
+
+pub invariant_of-self : goal.invariant_of-self
+invariant_of-self c = search rules
