@@ -1,4 +1,5 @@
 use Rattle.ec_bringup.proofs.Words.{◌∙◌, ap, sym, slice_set, arith, map_over_more, get_or_from_slice_get, SlaveState, served}
+use Rattle.std.proofs.Common.{rules}
 use Rattle.ec_bringup.proofs.turns.serve_all.Goals as goal
 
 pub loop-place-preserved : goal.loop-place-preserved
@@ -9,3 +10,6 @@ loop-place-preserved c =
           (sym (get_or_from_slice_get c.loop-place.ring c.loop-place.place c.slave_mut.result.now c.slave_mut.result.now c.slave_mut.ensures.value)),
       long,
     )
+
+pub loop-place-init : goal.loop-place-init
+loop-place-init c = search rules
