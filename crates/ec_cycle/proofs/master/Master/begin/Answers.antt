@@ -1,4 +1,4 @@
-use Rattle.std.proofs.Common.{ℕ, ◌+◌, ◌≡◌, List, [], Some, Option, ap, arith, get_or, length, subst, sym}
+use Rattle.std.proofs.Common.{ℕ, ◌+◌, ◌≡◌, List, [], Some, Option, ap, arith, get_or, length, subst, sym, rules}
 use Rattle.std.specs.Vec.{with_items}
 use Rattle.std.proofs.lemmas.List.{with_items_is}
 use Rattle.ec_cycle.specs.Closing.{KeptPart}
@@ -31,3 +31,6 @@ returns-clause-begun c =
           (begun_state p c.self.inside.is_ready c.self.inside.next c.self.inside.outputs.items c.self.inside.inputs.items c.self.inside.frames.items fs c.self.inside.kept.items ks c.self.inside.number count kept_count c.forget.ensures
           (λ k l. subst (λ (o : List ℕ). IsFrame (get_or fs k []) (bare_payload (sent_datagrams p c.self.inside.next k o))) c.deref.ensures.value (c.make_frames.ensures.spelled k l))))),
     )
+
+pub returns-clause-answer : goal.returns-clause-answer
+returns-clause-answer c = search rules

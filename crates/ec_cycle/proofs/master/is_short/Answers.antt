@@ -1,0 +1,5 @@
+use Rattle.std.proofs.Common.{rules}
+use Rattle.ec_cycle.proofs.master.is_short.Goals as goal
+
+pub returns-else-bits-eq64 : goal.returns-else-bits-eq64
+returns-else-bits-eq64 c = search rules
