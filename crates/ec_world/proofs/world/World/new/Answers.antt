@@ -1,6 +1,7 @@
 use Rattle.ec_world.proofs.Words.{◌∙◌, ap, length, sym, List, SlavePlan, StartState, MasterState, PlanState, plan_sound}
 use Rattle.ec_world.proofs.StepLaws.{begun_plan}
 use Rattle.ec_world.proofs.Newly.{usable-of, few-of}
+use Rattle.std.proofs.Common.{rules}
 use Rattle.ec_world.proofs.world.World.new.Goals as goal
 
 pub ends_of-requires-clause-few : goal.ends_of-requires-clause-few
@@ -19,3 +20,6 @@ invariant_of-result c = record {
   start = ap (λ (x : StartState). x.plan) c.in_ok-start.ensures.start ∙ begun_plan c.args.plan.now.slaves 0;
   master = ap (λ (x : MasterState). x.plan) c.in_ok-start.ensures.master;
 }
+
+pub returns : goal.returns
+returns c = search rules

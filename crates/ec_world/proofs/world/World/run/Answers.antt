@@ -6,6 +6,7 @@ use Rattle.ec_world.proofs.Newly.{told-new}
 use Rattle.ec_world.proofs.HeadlineInputs.{each_promised}
 use Rattle.ec_world.proofs.world.World.run.Goals as goal
 use Rattle.ec_world.proofs.world.World.run.Goals.{then-make, else-make}
+use Rattle.std.proofs.Common.{rules}
 
 counted_in : (b : Bool) (more made : ℕ) → b ≡ true → more ≡ made + 1 → more ≡ made + (if b then 1 else 0)
 counted_in true more made t e = e
@@ -53,3 +54,6 @@ returns-clause-up c = λ t from turns. comes_up t c.args.self.now from c.args.ev
 
 pub returns-clause-headline : goal.returns-clause-headline
 returns-clause-headline c = λ t is first past count new to_here. each_promised t is first past c.args.self.now count c.args.events.now c.loop-event.self c.loop-event.made new to_here (returns-clause-steps c)
+
+pub loop-event-init : goal.loop-event-init
+loop-event-init c = search rules
