@@ -1,373 +1,130 @@
-//! Frames as text and back, by the public calls of `ec_decode`.
-use ec_decode::{
-    DecodeError, Reader, check_placed, decode_line, encode_text, error_name, write_frame,
-};
+//! Of frames as text and back what no command shows, by the public calls of `ec_decode`. What `ecat decode` and `ecat encode`
+//! show are cases (`ecat_cases/data/frames.cases`).
+use ec_decode::{DecodeError, Reader, check_placed, decode_line, write_frame};
+use std::alloc::AllocError;
 use std::process::Abort;
 use std::test::Fail;
 
 /// A NOP with ten bytes of data, and a broadcast read of the AL status that three slaves answered.
-const CYCLE: &str = "2410 0005 0000 0000 0a80 0000 05000000000000000000 0000 \
-     0705 0300 3001 0200 0000 0800 0300";
+const CYCLE: &[u8] = b"\x24\x10\
+    \x00\x05\0\0\0\0\x0a\x80\0\0\x05\0\0\0\0\0\0\0\0\0\0\0\
+    \x07\x05\x03\0\x30\x01\x02\0\0\0\x08\0\x03\0";
 
-/// Its text.
-const CYCLE_TEXT: &str = "\
-frame 2
+/// A text with that of the cycle behind it.
+const SENT_TEXT: &str = "\
+sent frame 2
 0 NOP index 05 at 0000:0000 counter 0 data 05000000000000000000
 1 BRD index 05 at 0003:0130 counter 3 data 0800
 ";
 
-/// The line of its first datagram.
-const NOP_LINE: &str = "0 NOP index 05 at 0000:0000 counter 0 data 05000000000000000000\n";
-
-/// The digits of a row, without the blanks between fields.
-fn digits_of(rt: &impl AllocGlobal, row: &str) -> Result<String, Fail> {
-    let mut digits = String::new(rt.alloc());
-    for field in row.split_whitespace() {
-        digits.push_str(field)?;
+/// Adds the text of a payload that is a frame, and answers how many datagrams that has.
+fn push_frame(
+    rt: &(impl AllocGlobal + Abort),
+    text: &mut String,
+    payload: &[u8],
+) -> Result<usize, Fail> {
+    match check_placed(payload) {
+        Ok(count) => {
+            write_frame(rt.alloc(), text, payload)?;
+            Ok(count)
+        }
+        Err(refused) => panic!(rt; "{refused:?}"),
     }
-    Ok(digits)
-}
-
-/// Says that the text of a row is this one.
-fn says(rt: &(impl AllocGlobal + Abort), row: &str, text: &str) -> Result<(), Fail> {
-    let digits = digits_of(rt, row)?;
-    let said = decode_line(rt.alloc(), digits.as_str())?;
-    let said = said.unwrap_or(String::from_str(rt.alloc(), "no hex")?);
-    assert_eq!(rt; said.as_str(), text, "{row}");
-    Ok(())
-}
-
-/// Says that a text is read back as this row.
-fn spells(rt: &(impl AllocGlobal + Abort), text: &str, row: &str) -> Result<(), Fail> {
-    let mut digits = digits_of(rt, row)?;
-    digits.push_str("\n")?;
-    match encode_text(rt.alloc(), text) {
-        Ok(answer) => assert_eq!(rt; answer.as_str(), digits.as_str(), "{text}"),
-        Err(error) => panic!(rt; "{text}: {error}"),
-    }
-    Ok(())
-}
-
-/// Says that a row's text is this one, and that this text is read back as the row.
-fn both_ways(rt: &(impl AllocGlobal + Abort), row: &str, text: &str) -> Result<(), Fail> {
-    says(rt, row, text)?;
-    spells(rt, text, row)
-}
-
-/// Says that a text is refused at this line.
-fn refuses(rt: &(impl AllocGlobal + Abort), text: &str, line: usize) -> Result<(), Fail> {
-    match encode_text(rt.alloc(), text) {
-        Ok(answer) => panic!(rt; "{text}: {answer}"),
-        Err(error) => assert_eq!(rt; error, DecodeError::BadScript(line), "{text}"),
-    }
-    Ok(())
-}
-
-#[test]
-fn cycle_goes_both_ways(rt: HostRuntime) -> Result<(), Fail> {
-    both_ways(&rt, CYCLE, CYCLE_TEXT)
-}
-
-#[test]
-fn each_field_goes_both_ways(rt: HostRuntime) -> Result<(), Fail> {
-    // bit 11 of the header, and bytes behind the datagrams
-    both_ways(
-        &rt,
-        "0e18 0701 0000 3001 0200 0000 0000 0000 aabbcc",
-        "frame 1 reserved rest aabbcc\n0 BRD index 01 at 0000:0130 counter 0 data 0000\n",
-    )?;
-    // a logical address of four bytes, and no data
-    both_ways(
-        &rt,
-        "0c10 0cff 7856 3412 0000 0000 0000",
-        "frame 1\n0 LRW index ff logical 12345678 counter 0 data -\n",
-    )?;
-    // the event word, the reserved bits, the round trip bit, and the highest counter
-    both_ways(
-        &rt,
-        "0d10 0e0a eb03 0009 0158 3412 5a ffff",
-        "frame 1\n0 FRMW index 0a at 03eb:0900 irq 1234 reserved 3 circulating counter 65535 data 5a\n",
-    )
-}
-
-#[test]
-fn each_command_has_its_name(rt: HostRuntime) -> Result<(), Fail> {
-    let rows = [
-        ("00", "NOP", "at 0002:0001"),
-        ("01", "APRD", "at 0002:0001"),
-        ("02", "APWR", "at 0002:0001"),
-        ("03", "APRW", "at 0002:0001"),
-        ("04", "FPRD", "at 0002:0001"),
-        ("05", "FPWR", "at 0002:0001"),
-        ("06", "FPRW", "at 0002:0001"),
-        ("07", "BRD", "at 0002:0001"),
-        ("08", "BWR", "at 0002:0001"),
-        ("09", "BRW", "at 0002:0001"),
-        ("0a", "LRD", "logical 00010002"),
-        ("0b", "LWR", "logical 00010002"),
-        ("0c", "LRW", "logical 00010002"),
-        ("0d", "ARMW", "at 0002:0001"),
-        ("0e", "FRMW", "at 0002:0001"),
-    ];
-    for (number, name, address) in rows {
-        let row = format!(in rt.alloc(); "0d10 {number}00 0200 0100 0100 0000 77 0000")?;
-        let text = format!(in rt.alloc();
-            "frame 1\n0 {name} index 00 {address} counter 0 data 77\n"
-        )?;
-        both_ways(&rt, row.as_str(), text.as_str())?;
-    }
-    Ok(())
-}
-
-#[test]
-fn what_is_no_frame_is_told(rt: HostRuntime) -> Result<(), Fail> {
-    for (payload, fault) in [
-        // too few bytes for a header, and for what it says
-        ("", "2 Short datagram 0 byte 0"),
-        ("0e", "2 Short datagram 0 byte 1"),
-        ("0e10 0701 0000 3001", "2 Short datagram 0 byte 8"),
-        // the header
-        (
-            "0e20 0701 0000 3001 0200 0000 0000 0000",
-            "3 BadType datagram 0 byte 0",
-        ),
-        ("0010 0701", "4 BadLength datagram 0 byte 0"),
-        ("bf15", "7 TooLong datagram 0 byte 0"),
-        // the first datagram
-        ("0b10 0701 0000 3001 0200 00", "2 Short datagram 0 byte 11"),
-        (
-            "0b10 0701 0000 3001 0200 0000 00",
-            "4 BadLength datagram 0 byte 2",
-        ),
-        (
-            "0e10 0f01 0000 3001 0200 0000 0000 0000",
-            "6 BadCommand datagram 0 byte 2",
-        ),
-        (
-            "0e10 0701 0000 3001 0280 0000 0000 0000",
-            "5 BadMore datagram 0 byte 2",
-        ),
-        (
-            "1010 0701 0000 3001 0200 0000 0000 0000 0000",
-            "5 BadMore datagram 0 byte 2",
-        ),
-    ] {
-        let told = format!(in rt.alloc(); "refused {fault}\n")?;
-        says(&rt, payload, told.as_str())?;
-    }
-    Ok(())
-}
-
-#[test]
-fn datagrams_before_a_fault_are_told(rt: HostRuntime) -> Result<(), Fail> {
-    let nop = "0005 0000 0000 0a80 0000 05000000000000000000 0000";
-    let rows = [
-        // the payload ends within the second datagram, and behind the first
-        ("2410", "0705 0300", "refused 2 Short datagram 1 byte 28\n"),
-        ("2410", "", "refused 2 Short datagram 1 byte 24\n"),
-        (
-            "1a10",
-            "0705 0300",
-            "refused 4 BadLength datagram 1 byte 24\n",
-        ),
-        (
-            "2410",
-            "0f05 0300 3001 0200 0000 0800 0300",
-            "refused 6 BadCommand datagram 1 byte 24\n",
-        ),
-        (
-            "2410",
-            "0705 0300 3001 0280 0000 0800 0300",
-            "refused 5 BadMore datagram 1 byte 24\n",
-        ),
-    ];
-    for (header, second, refusal) in rows {
-        let row = format!(in rt.alloc(); "{header} {nop} {second}")?;
-        let text = format!(in rt.alloc(); "{NOP_LINE}{refusal}")?;
-        says(&rt, row.as_str(), text.as_str())?;
-    }
-    // one that says that another follows, and none does
-    says(
-        &rt,
-        "1610 0005 0000 0000 0a80 0000 05000000000000000000 0000",
-        "refused 5 BadMore datagram 0 byte 2\n",
-    )
-}
-
-#[test]
-fn what_is_no_hex_has_no_text(rt: HostRuntime) -> Result<(), Fail> {
-    for line in ["0e1", "0g", " 0e10", "0e10 0701"] {
-        let text = decode_line(rt.alloc(), line)?;
-        assert!(&rt; text.is_none(), "{line}");
-    }
-    Ok(())
-}
-
-#[test]
-fn frames_are_read_one_after_another(rt: HostRuntime) -> Result<(), Fail> {
-    let text = "\
-frame 1
-0 BRD index 01 at 0000:0130 counter 0 data 0000
-    a line for people
-
-frame 1 rest 00
-\tanother
-0 NOP index 00 at 0000:0000 counter 0 data -
-";
-    let digits = "0e100701000030010200000000000000\n0c1000000000000000000000000000\n";
-    match encode_text(rt.alloc(), text) {
-        Ok(answer) => assert_eq!(&rt; answer.as_str(), digits),
-        Err(error) => panic!(&rt; "{error}"),
-    }
-    match encode_text(rt.alloc(), "") {
-        Ok(answer) => assert_eq!(&rt; answer.as_str(), ""),
-        Err(error) => panic!(&rt; "{error}"),
-    }
-    Ok(())
-}
-
-/// Lines that stand for no first datagram of a frame.
-const NO_DATAGRAMS: [&str; 19] = [
-    "1 NOP index 00 at 0000:0000 counter 0 data -",
-    "0 NO index 00 at 0000:0000 counter 0 data -",
-    "0 NOP index 0 at 0000:0000 counter 0 data -",
-    "0 NOP index 000 at 0000:0000 counter 0 data -",
-    "0 NOP index 00 at 0000 counter 0 data -",
-    "0 NOP index 00 at 00000:000 counter 0 data -",
-    "0 NOP index 00 logical 00000000 counter 0 data -",
-    "0 LRD index 00 at 0000:0000 counter 0 data -",
-    "0 LRD index 00 logical 000000 counter 0 data -",
-    "0 NOP index 00 at 0000:0000 irq 00 counter 0 data -",
-    "0 NOP index 00 at 0000:0000 reserved 8 counter 0 data -",
-    "0 NOP index 00 at 0000:0000 circulating reserved 1 counter 0 data -",
-    "0 NOP index 00 at 0000:0000 counter 65536 data -",
-    "0 NOP index 00 at 0000:0000 counter 0x1 data -",
-    "0 NOP index 00 at 0000:0000 counter 0 data",
-    "0 NOP index 00 at 0000:0000 counter 0 data ",
-    "0 NOP index 00 at 0000:0000 counter 0 data 0",
-    "0 NOP index 00 at 0000:0000 counter 0 data - -",
-    "0 NOP index 00 at 0000:0000 counter 0",
-];
-
-#[test]
-fn lines_out_of_form_are_told(rt: HostRuntime) -> Result<(), Fail> {
-    refuses(&rt, "refused 2 Short datagram 0 byte 0\n", 1)?;
-    // a datagram without its frame, and a frame without its datagrams
-    refuses(&rt, "0 NOP index 00 at 0000:0000 counter 0 data -\n", 1)?;
-    refuses(&rt, "frame 1\nframe 1\n", 2)?;
-    refuses(
-        &rt,
-        "frame 2\n0 NOP index 00 at 0000:0000 counter 0 data -\n",
-        3,
-    )?;
-    for line in [
-        "frame",
-        "frame 0",
-        "frame x",
-        "frame 1 rest",
-        "frame 1 rest -",
-        "frame 1 rest 0",
-        "frame 1 rest 00 reserved",
-        "frame 1  reserved",
-        "frame 1 ",
-        "Frame 1",
-    ] {
-        refuses(&rt, line, 1)?;
-    }
-    for line in NO_DATAGRAMS {
-        let text = format!(in rt.alloc(); "frame 1\n{line}\n")?;
-        refuses(&rt, text.as_str(), 2)?;
-    }
-    Ok(())
-}
-
-#[test]
-fn what_is_longer_than_a_frame_is_told(rt: HostRuntime) -> Result<(), Fail> {
-    let mut text = String::from_str(
-        rt.alloc(),
-        "frame 1\n0 NOP index 00 at 0000:0000 counter 0 data ",
-    )?;
-    for _ in 0..1458 {
-        text.push_str("00")?;
-    }
-    let longest = encode_text(rt.alloc(), text.as_str());
-    assert!(&rt; longest.is_ok());
-    text.push_str("00")?;
-    refuses(&rt, text.as_str(), 2)
 }
 
 #[test]
 fn a_frame_is_written_behind_a_text(rt: HostRuntime) -> Result<(), Fail> {
-    let digits = digits_of(&rt, CYCLE)?;
-    let payload = hex::decode(rt.alloc(), digits.as_str())?;
     let mut text = String::from_str(rt.alloc(), "sent ")?;
-    match check_placed(payload.as_slice()) {
-        Ok(count) => {
-            assert_eq!(&rt; count, 2);
-            write_frame(rt.alloc(), &mut text, payload.as_slice())?;
-        }
-        Err(refused) => panic!(&rt; "{refused:?}"),
-    }
-    let wanted = format!(in rt.alloc(); "sent {CYCLE_TEXT}")?;
-    assert_eq!(&rt; text.as_str(), wanted.as_str());
+    let count = push_frame(&rt, &mut text, CYCLE)?;
+    assert_eq!(&rt; (count, text.as_str()), (2, SENT_TEXT));
     Ok(())
 }
 
+/// What was said of a line of hex.
+fn said_of(said: &Result<Option<String>, AllocError>) -> Option<&str> {
+    match said {
+        Ok(Some(text)) => Some(text.as_str()),
+        _ => None,
+    }
+}
+
+/// A payload of no bytes, whose line the command skips.
 #[test]
-fn a_reader_goes_on_after_a_bad_line(rt: HostRuntime) -> Result<(), Fail> {
-    let mut reader = Reader::new();
-    for line in ["frame 1 rest 01", "  for people", ""] {
-        let whole = reader.read_line(rt.alloc(), 1, line)?;
-        assert!(&rt; whole.is_none() && !reader.is_between());
-    }
-    match reader.read_line(rt.alloc(), 4, "frame 1") {
-        Ok(_) => panic!(&rt; "a frame within a frame"),
-        Err(error) => {
-            assert_eq!(&rt; error.number(), 39);
-            assert_eq!(&rt; error.name(), "BadScript");
-            assert_eq!(&rt; error.line(), Some(4));
-        }
-    }
-    let last = reader.read_line(
-        rt.alloc(),
-        5,
+fn no_bytes_are_no_frame(rt: HostRuntime) {
+    let said = decode_line(rt.alloc(), "");
+    assert_eq!(&rt; said_of(&said), Some("refused 2 Short datagram 0 byte 0\n"));
+}
+
+/// What a reader gives for a line: the frame that the line makes whole, if it does.
+type Given<'a> = Result<Option<&'a [u8]>, DecodeError>;
+
+/// A NOP without data, with one byte behind it.
+const NOP: &[u8] = b"\x0c\x10\0\0\0\0\0\0\0\0\0\0\0\0\x01";
+
+/// Lines that one reader reads, what it gives, and whether it is between two frames then.
+const LINES: [(&str, Given<'static>, bool); 5] = [
+    ("frame 1 rest 01", Ok(None), false),
+    ("  for people", Ok(None), false),
+    ("", Ok(None), false),
+    ("frame 1", Err(DecodeError::BadScript(4)), false),
+    (
         "0 NOP index 00 at 0000:0000 counter 0 data -",
-    )?;
-    let payload = last.unwrap_or(Vec::new(rt.alloc()));
-    let digits = hex::encode(rt.alloc(), payload.as_slice())?;
-    assert_eq!(&rt; digits.as_str(), "0c1000000000000000000000000001");
-    assert!(&rt; reader.is_between());
-    Ok(())
+        Ok(Some(NOP)),
+        true,
+    ),
+];
+
+/// The bytes of what was read.
+fn given(read: &Result<Option<Vec<u8>>, DecodeError>) -> Given<'_> {
+    match read {
+        Ok(Some(payload)) => Ok(Some(payload.as_slice())),
+        Ok(None) => Ok(None),
+        Err(error) => Err(*error),
+    }
+}
+
+/// Reads a line, and compares what the reader gives and where it is.
+fn expect_read(
+    rt: &(impl AllocGlobal + Abort),
+    reader: &mut Reader,
+    number: usize,
+    line: &str,
+    wanted: (Given<'_>, bool),
+) {
+    let read = reader.read_line(rt.alloc(), number, line);
+    assert_eq!(rt; (given(&read), reader.is_between()), wanted, "{line}");
 }
 
 #[test]
-fn refusals_have_the_names_of_their_numbers(rt: HostRuntime) -> Result<(), Fail> {
-    let rows = [
-        ("0e", 2, "Short"),
-        ("0020", 3, "BadType"),
-        ("0010", 4, "BadLength"),
-        ("0e100701000030010280000000000000", 5, "BadMore"),
-        ("0e100f01000030010200000000000000", 6, "BadCommand"),
-        ("bf15", 7, "TooLong"),
-    ];
-    for (digits, number, name) in rows {
-        let payload = hex::decode(rt.alloc(), digits)?;
-        match check_placed(payload.as_slice()) {
-            Ok(_) => panic!(&rt; "{digits}"),
-            Err(refused) => {
-                assert_eq!(&rt; refused.error.number(), number, "{digits}");
-                assert_eq!(&rt; error_name(refused.error), name, "{digits}");
-            }
-        }
+fn a_reader_goes_on_after_a_bad_line(rt: HostRuntime) {
+    let mut reader = Reader::new();
+    for (place, (line, given, is_between)) in LINES.iter().enumerate() {
+        let number = place.saturating_add(1);
+        expect_read(&rt, &mut reader, number, line, (*given, *is_between));
     }
-    Ok(())
 }
 
-/// What each refusal of a text says.
-const TEXTS: [(DecodeError, &str); 2] = [
-    (DecodeError::Memory, "out of memory"),
-    (DecodeError::BadScript(12), "line 12 is out of form"),
+/// What each refusal of a text says: its number, its name, its line, and words.
+const TEXTS: [(DecodeError, u8, &str, Option<usize>, &str); 2] = [
+    (DecodeError::Memory, 1, "Memory", None, "out of memory"),
+    (
+        DecodeError::BadScript(12),
+        39,
+        "BadScript",
+        Some(12),
+        "line 12 is out of form",
+    ),
 ];
+
+#[test]
+fn refusals_have_numbers_names_and_lines(rt: HostRuntime) {
+    for (error, number, name, line, _) in &TEXTS {
+        assert_eq!(rt;
+            (error.number(), error.name(), error.line()),
+            (*number, *name, *line)
+        );
+    }
+}
 
 /// A refusal says this.
 fn expect_said(rt: &(impl AllocGlobal + Abort), error: DecodeError, text: &str) {
@@ -377,7 +134,7 @@ fn expect_said(rt: &(impl AllocGlobal + Abort), error: DecodeError, text: &str) 
 
 #[test]
 fn texts_of_refusals(rt: HostRuntime) {
-    for (error, text) in &TEXTS {
+    for (error, _, _, _, text) in &TEXTS {
         expect_said(&rt, *error, text);
     }
 }

@@ -1,4 +1,5 @@
-//! Frames read, changed and built, by the public calls of `ec_frame`.
+//! Frames changed and built, by the public calls of `ec_frame`. Which payloads are frames is shown by cases
+//! (`ecat_cases/data/frames.cases`, `pass.cases`).
 ghost use Rattle.std.specs.Prelude.{◌≡◌, ◌<◌, ◌+◌, ◌%◌, length, slice_set};
 ghost use Rattle.std.proofs.Common.{lit<};
 ghost use Rattle.std.proofs.Math.Nat.{mod-lt};
@@ -26,86 +27,6 @@ fn bytes_of(rt: &(impl AllocGlobal + Abort), row: &str) -> Result<Vec<u8>, Fail>
         bytes.extend_from_slice(&hex::decode(rt.alloc(), field)?)?;
     }
     Ok(bytes)
-}
-
-/// 122 NOP datagrams without data.
-fn many_nops() -> [u8; 1466] {
-    let mut frame = [0; 1466];
-    frame[0] = 0xb8;
-    frame[1] = 0x15;
-    for place in 0..121usize {
-        frame[2 + 12 * place + 7] = 0x80;
-    }
-    frame
-}
-
-#[test]
-fn frames_are_counted(rt: HostRuntime) -> Result<(), Fail> {
-    let rows = [
-        (STATUS, 1),
-        // bytes after the datagrams
-        ("0e10 0701 0000 3001 0200 0000 0000 0000 aabbcc", 1),
-        // a NOP without data before it
-        (
-            "1a10 0001 0000 0000 0080 0000 0000 0701 0000 3001 0200 0000 0000 0000",
-            2,
-        ),
-    ];
-    for (row, count) in rows {
-        assert_eq!(rt; check(&bytes_of(&rt, row)?), Ok(count), "{row}");
-    }
-    assert_eq!(rt; check(&many_nops()), Ok(122));
-    Ok(())
-}
-
-#[test]
-fn what_is_cut_off_is_short(rt: HostRuntime) -> Result<(), Fail> {
-    let frame = bytes_of(&rt, STATUS)?;
-    for len in 0..frame.len() {
-        assert_eq!(rt; check(&frame[..len]), Err(FrameError::Short), "at {len}");
-    }
-    Ok(())
-}
-
-#[test]
-fn refusals_are_told(rt: HostRuntime) -> Result<(), Fail> {
-    let rows = [
-        (
-            "0e20 0701 0000 3001 0200 0000 0000 0000",
-            FrameError::BadType,
-            3,
-        ),
-        (
-            "0d10 0701 0000 3001 0200 0000 0000 0000",
-            FrameError::BadLength,
-            4,
-        ),
-        (
-            "0e10 0701 0000 3001 ff07 0000 0000 0000",
-            FrameError::BadLength,
-            4,
-        ),
-        (
-            "0e10 0701 0000 3001 0280 0000 0000 0000",
-            FrameError::BadMore,
-            5,
-        ),
-        (
-            "0e10 0f01 0000 3001 0200 0000 0000 0000",
-            FrameError::BadCommand,
-            6,
-        ),
-        (
-            "bf15 0701 0000 3001 0200 0000 0000 0000",
-            FrameError::TooLong,
-            7,
-        ),
-    ];
-    for (row, error, number) in rows {
-        assert_eq!(rt; check(&bytes_of(&rt, row)?), Err(error), "{row}");
-        assert_eq!(rt; error.number(), number);
-    }
-    Ok(())
 }
 
 #[test]
@@ -266,28 +187,40 @@ fn fields_are_read_and_written(rt: HostRuntime) -> Result<(), Fail> {
     Ok(())
 }
 
+/// What each fault of a frame says.
+const FAULTS: [(FrameError, &str); 6] = [
+    (
+        FrameError::Short,
+        "fewer bytes than the header has, or than it says",
+    ),
+    (FrameError::BadType, "the header's type isn't 1"),
+    (
+        FrameError::BadLength,
+        "no byte of datagrams, or too few for a datagram",
+    ),
+    (
+        FrameError::BadMore,
+        "a datagram is wrong on whether another follows",
+    ),
+    (FrameError::BadCommand, "a command over 14"),
+    (FrameError::TooLong, "more than 1470 bytes of datagrams"),
+];
+
+/// A fault says this.
+fn expect_said(rt: &(impl AllocGlobal + Abort), fault: FrameError, text: &str) {
+    let said = format!(in rt.alloc(); "{fault}").expect(rt, "memory");
+    assert_eq!(rt; said.as_str(), text);
+}
+
 #[test]
-fn faults_say_what_is_wrong(rt: HostRuntime) -> Result<(), Fail> {
-    for (fault, wanted) in [
-        (
-            FrameError::Short,
-            "fewer bytes than the header has, or than it says",
-        ),
-        (FrameError::BadType, "the header's type isn't 1"),
-        (
-            FrameError::BadLength,
-            "no byte of datagrams, or too few for a datagram",
-        ),
-        (
-            FrameError::BadMore,
-            "a datagram is wrong on whether another follows",
-        ),
-        (FrameError::BadCommand, "a command over 14"),
-        (FrameError::TooLong, "more than 1470 bytes of datagrams"),
-    ] {
-        assert_eq!(rt; format!(in rt.alloc(); "{fault}")?.as_str(), wanted);
+fn faults_say_what_is_wrong(rt: HostRuntime) {
+    for (fault, text) in &FAULTS {
+        expect_said(&rt, *fault, text);
     }
-    let full = format!(in rt.alloc(); "{Full}")?;
-    assert_eq!(rt; full.as_str(), "the datagram doesn't fit in the frame");
-    Ok(())
+}
+
+#[test]
+fn what_is_full_says_so(rt: HostRuntime) {
+    let said = format!(in rt.alloc(); "{Full}").expect(&rt, "memory");
+    assert_eq!(rt; said.as_str(), "the datagram doesn't fit in the frame");
 }

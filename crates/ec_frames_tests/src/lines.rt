@@ -1,63 +1,56 @@
-//! What is taken of an input, and what is left of it.
+//! What is taken of an input that is interrupted or fails, what is wrong with a text, and what is left behind it. What lines and
+//! texts are otherwise is shown by cases of `ecat sim --live` (`ecat_cases/data/lives.cases`).
 use ec_lines::{LinesError, MAX_BYTES, NextLine, take_line, take_text};
 use std::io;
 use std::io::{ErrorKind, Read};
 use std::process::Abort;
 use std::test::Fail;
 
-/// What a line is expected to be: text, or none.
-type Expected<'a> = Option<&'a str>;
+/// In the place of a line: the input has ended, and a read was refused.
+const END: &str = "(end)";
 
-/// Takes lines, and compares each, and that the input has ended behind them.
-fn expect_lines<H: AllocGlobal + Abort, R: Read>(rt: &H, input: &mut R, lines: &[Expected<'_>]) {
+const UNREAD: &str = "(unread)";
+
+/// What was taken as a line, in words.
+fn words_of(taken: &Result<NextLine, LinesError>) -> &str {
+    match taken {
+        Ok(NextLine::Text(text)) => text.as_str(),
+        Ok(NextLine::NoText) => "(no text)",
+        Ok(NextLine::End) => END,
+        Err(LinesError::Unread) => UNREAD,
+        Err(_) => "(another error)",
+    }
+}
+
+/// Takes a line, and compares it.
+fn expect_line(rt: &(impl AllocGlobal + Abort), input: &mut Halting<'_>, line: &str) {
+    let taken = take_line(rt.alloc(), input);
+    assert_eq!(rt; words_of(&taken), line);
+}
+
+/// Takes lines, and compares each.
+fn expect_lines(rt: &(impl AllocGlobal + Abort), input: &mut Halting<'_>, lines: &[&str]) {
     for line in lines {
-        match (take_line(rt.alloc(), input), *line) {
-            (Ok(NextLine::Text(text)), Some(expected)) => assert_eq!(rt; text.as_str(), expected),
-            (Ok(NextLine::NoText), None) => {}
-            (taken, _) => assert_eq!(rt; taken, Ok(NextLine::End)),
-        }
-    }
-    assert_eq!(rt; take_line(rt.alloc(), input), Ok(NextLine::End));
-    assert_eq!(rt; take_line(rt.alloc(), input), Ok(NextLine::End));
-}
-
-/// Lines end in a newline, with a carriage return before it or not; the last one needs no end, and one that is empty is a line.
-#[test]
-fn takes_lines(rt: HostRuntime) {
-    let rows: [(&[u8], &[Expected<'_>]); 8] = [
-        (b"", &[]),
-        (b"\n", &[Some("")]),
-        (b"a\nb", &[Some("a"), Some("b")]),
-        (
-            b"a\r\n\r\n\nb\r",
-            &[Some("a"), Some(""), Some(""), Some("b\r")],
-        ),
-        (b"a\rb\n", &[Some("a\rb")]),
-        (b"a\r\r\n", &[Some("a\r")]),
-        (
-            "\u{e4}\n\u{20ac}".as_bytes(),
-            &[Some("\u{e4}"), Some("\u{20ac}")],
-        ),
-        (b"a\n\xff\n\xc3\nb\n", &[Some("a"), None, None, Some("b")]),
-    ];
-    for (input, lines) in rows {
-        let mut input = input;
-        expect_lines(&rt, &mut input, lines);
+        expect_line(rt, input, line);
     }
 }
 
-/// A line may have as many bytes as `MAX_BYTES` says, whatever its end is; a longer one is taken as a whole too.
-#[test]
-fn takes_long_lines(rt: HostRuntime) -> Result<(), Fail> {
-    let most = "a".repeat(rt.alloc(), MAX_BYTES)?;
-    for end in ["\n", "\r\n"] {
-        for (more, expected) in [("", Some(most.as_str())), ("a", None), ("aaaa", None)] {
-            let input = format!(in rt.alloc(); "{most}{more}{end}b{end}")?;
-            let mut input = input.as_bytes();
-            expect_lines(&rt, &mut input, &[expected, Some("b")]);
-        }
+/// What was taken as a text.
+fn text_of(taken: &Result<String, LinesError>) -> Result<&str, LinesError> {
+    match taken {
+        Ok(text) => Ok(text.as_str()),
+        Err(error) => Err(*error),
     }
-    Ok(())
+}
+
+/// Takes a text, and compares it.
+fn expect_text<H: AllocGlobal + Abort, R: Read>(
+    rt: &H,
+    input: &mut R,
+    text: Result<&str, LinesError>,
+) {
+    let taken = take_text(rt.alloc(), input);
+    assert_eq!(rt; text_of(&taken), text);
 }
 
 /// A reader that gives a byte at a time, and behind each an interruption; and a refusal at the end, if it has one.
@@ -86,75 +79,64 @@ impl<'a> Read for Halting<'a> {
     }
 }
 
-/// An interrupted read is made again, and one that is refused ends the line, the text and what comes behind them.
 #[test]
-fn reads_again(rt: HostRuntime) {
+fn an_interrupted_read_is_made_again(rt: HostRuntime) {
     let mut input = Halting {
         bytes: b"a\nb",
         is_interrupted: false,
         fault: None,
     };
-    expect_lines(&rt, &mut input, &[Some("a"), Some("b")]);
+    expect_lines(&rt, &mut input, &["a", "b", END, END]);
+}
+
+/// A read that is refused ends the line, the text and what comes behind them.
+#[test]
+fn a_refused_read_is_told(rt: HostRuntime) {
     let mut input = Halting {
         bytes: b"a\n%%\nb\nc",
         is_interrupted: false,
         fault: Some(ErrorKind::Other),
     };
-    let text = take_text(rt.alloc(), &mut input);
-    assert!(rt; matches!(&text, Ok(text) if text.as_str() == "a\n"));
-    assert!(rt;
-        matches!(take_line(rt.alloc(), &mut input), Ok(NextLine::Text(text)) if text.as_str() == "b")
-    );
-    assert_eq!(rt; take_line(rt.alloc(), &mut input), Err(LinesError::Unread));
-    assert_eq!(rt; take_line(rt.alloc(), &mut input), Err(LinesError::Unread));
-    assert_eq!(rt; take_text(rt.alloc(), &mut input), Err(LinesError::Unread));
+    expect_text(&rt, &mut input, Ok("a\n"));
+    expect_lines(&rt, &mut input, &["b", UNREAD, UNREAD]);
+    expect_text(&rt, &mut input, Err(LinesError::Unread));
 }
 
-/// A text ends at a line `%%` or with the input, and what stands behind it is left.
+/// An input, the text that is taken of it, and what is left.
+type Taken = (
+    &'static [u8],
+    Result<&'static str, LinesError>,
+    &'static [u8],
+);
+
+/// A carriage return alone ends no line; texts that are none, and lines behind them.
+const TAKEN: [Taken; 3] = [
+    (b"a\r%%\n", Ok("a\r%%\n"), b""),
+    (b"\xff\n%%\nb", Err(LinesError::NoText), b"b"),
+    (b"\xc3\n\xa4\n%%\n", Err(LinesError::NoText), b""),
+];
+
+/// Takes a text, and compares it and what is left.
+fn expect_taken(rt: &(impl AllocGlobal + Abort), row: &Taken) {
+    let mut input = row.0;
+    expect_text(rt, &mut input, row.1);
+    assert_eq!(rt; input, row.2);
+}
+
 #[test]
 fn takes_texts(rt: HostRuntime) {
-    let rows: [(&[u8], Result<&str, LinesError>, &[u8]); 12] = [
-        (b"", Ok(""), b""),
-        (b"%%", Ok(""), b""),
-        (b"%%\n%%\n", Ok(""), b"%%\n"),
-        (b"a\n%%\nb\n", Ok("a\n"), b"b\n"),
-        (b"a\r\n%%\r\nb", Ok("a\r\n"), b"b"),
-        (b"a\n%%", Ok("a\n"), b""),
-        (b"a", Ok("a"), b""),
-        (b"%% \n%%\r", Ok("%% \n%%\r"), b""),
-        (b" %%\n%%%\n%%\n", Ok(" %%\n%%%\n"), b""),
-        (b"a\r%%\n", Ok("a\r%%\n"), b""),
-        (b"\xff\n%%\nb", Err(LinesError::NoText), b"b"),
-        (b"\xc3\n\xa4\n%%\n", Err(LinesError::NoText), b""),
-    ];
-    for (input, expected, left) in rows {
-        let mut input = input;
-        match (take_text(rt.alloc(), &mut input), expected) {
-            (Ok(text), Ok(expected)) => assert_eq!(rt; text.as_str(), expected),
-            (taken, expected) => assert_eq!(rt; taken.err(), expected.err()),
-        }
-        assert_eq!(rt; input, left);
+    for row in &TAKEN {
+        expect_taken(&rt, row);
     }
 }
 
-/// A text has at most `MAX_BYTES` bytes, in one line or in many.
+/// A text of a byte more than `MAX_BYTES` is too long, in one line or in many.
 #[test]
-fn takes_long_texts(rt: HostRuntime) -> Result<(), Fail> {
-    let line = "a".repeat(rt.alloc(), MAX_BYTES - 1)?;
-    let lines = "aaaaaaa\n".repeat(rt.alloc(), MAX_BYTES / 8)?;
-    for text in [line.as_str(), lines.trim_end()] {
-        let input = format!(in rt.alloc(); "{text}\n%%\nb")?;
-        let mut input = input.as_bytes();
-        let taken = take_text(rt.alloc(), &mut input);
-        assert!(rt; matches!(&taken, Ok(taken) if taken.len() == MAX_BYTES));
-        assert_eq!(rt; input, b"b".as_slice());
-        let input = format!(in rt.alloc(); "{text}a\n%%\nb")?;
-        let mut input = input.as_bytes();
-        assert_eq!(rt;
-            take_text(rt.alloc(), &mut input).err(),
-            Some(LinesError::TooLong)
-        );
-    }
+fn takes_no_longer_texts(rt: HostRuntime) -> Result<(), Fail> {
+    let line = "a".repeat(rt.alloc(), MAX_BYTES + 1)?;
+    expect_text(&rt, &mut line.as_bytes(), Err(LinesError::TooLong));
+    let lines = "aaaaaaa\n".repeat(rt.alloc(), MAX_BYTES / 8 + 1)?;
+    expect_text(&rt, &mut lines.as_bytes(), Err(LinesError::TooLong));
     Ok(())
 }
 
