@@ -4,7 +4,7 @@
 #[cfg(test)]
 mod explain;
 #[cfg(test)]
-mod outline;
+mod told;
 #[cfg(test)]
 mod translate;
 #[cfg(test)]
