@@ -4,6 +4,8 @@
 #[cfg(test)]
 mod explain;
 #[cfg(test)]
+mod script;
+#[cfg(test)]
 mod told;
 #[cfg(test)]
 mod translate;
