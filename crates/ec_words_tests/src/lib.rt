@@ -9,5 +9,3 @@ mod script;
 mod told;
 #[cfg(test)]
 mod translate;
-#[cfg(test)]
-mod watch;
