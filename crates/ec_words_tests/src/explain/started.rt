@@ -8,10 +8,9 @@ use ec_start::StartError;
 use std::process::Abort;
 use std::test::Fail;
 
-/// Each phrase stands in what is told.
-fn assert_phrases(rt: &impl Abort, told: &str, wanted: &[&str]) {
-    for phrase in wanted {
-        let phrase = *phrase;
+/// Each phrase stands in what is told. There is a `;` between phrases.
+fn assert_phrases(rt: &impl Abort, told: &str, wanted: &str) {
+    for phrase in wanted.split(';') {
         assert!(rt; told.find(phrase).is_some(), "no {phrase} in {told}");
     }
 }
@@ -21,7 +20,7 @@ fn assert_cause(
     rt: &(impl AllocGlobal + Abort),
     text: &str,
     cause: Cause,
-    wanted: &[&str],
+    wanted: &str,
 ) -> Result<(), Fail> {
     let told = explanation(rt.alloc(), text, cause)?;
     assert_phrases(rt, told.as_str(), wanted);
@@ -42,56 +41,42 @@ const STRANGER: Device = Device {
 };
 
 /// Start-ups that failed, and what is told of them.
-static ERRORS: [(StartError, &[&str]); 15] = [
+const ERRORS: [(StartError, &str); 15] = [
     (
         StartError::BadMailbox { slave: 1 },
-        &["line 31, column 1: slave 1 x ", "`mailbox`"],
+        "line 31, column 1: slave 1 x ;`mailbox`",
     ),
     (
         StartError::Count { seen: 1 },
-        &[
-            "line 31, column 1: 1 slave answered",
-            "the table has 3",
-            "slave 1 x ",
-        ],
+        "line 31, column 1: 1 slave answered;the table has 3;slave 1 x ",
     ),
     (
         StartError::Count { seen: 5 },
-        &["5 slaves answered", "the table has 3"],
+        "5 slaves answered;the table has 3",
     ),
     (
         StartError::Identity {
             slave: 0,
             seen: DRIVE,
         },
-        &[
-            "line 28, column 1: slave 0 panel ",
-            "product 0x00000004",
-            "type coupler ",
-            "product 0x00000002",
-            "the type drive ",
-        ],
+        "line 28, column 1: slave 0 panel ;product 0x00000004;type coupler ;product 0x00000002;the type drive ",
     ),
     (
         StartError::AlError {
             slave: 2,
             code: 0x001D,
         },
-        &["line 35, column 1: slave 2 y ", "0x001D", "outputs"],
+        "line 35, column 1: slave 2 y ;0x001D;outputs",
     ),
     (
         StartError::Abort {
             slave: 2,
             code: 0x0602_0000,
         },
-        &[
-            "line 35, column 1: slave 2 y ",
-            "0x06020000",
-            "no such object",
-        ],
+        "line 35, column 1: slave 2 y ;0x06020000;no such object",
     ),
-    (StartError::Lost, &["lost", "given up"]),
-    (StartError::NumbersSpent, &["number"]),
+    (StartError::Lost, "lost;given up"),
+    (StartError::NumbersSpent, "number"),
     (
         StartError::Mapping {
             slave: 1,
@@ -99,46 +84,30 @@ static ERRORS: [(StartError, &[&str]); 15] = [
             subindex: 2,
             seen: 0x60FF_0020,
         },
-        &[
-            "line 31, column 1: slave 1 x ",
-            "0x1600:2",
-            "line 23, column 3: ",
-            "0x607A0020",
-            "[0x607A, 0, 32]",
-            "[0x60FF, 0, 32]",
-        ],
+        "line 31, column 1: slave 1 x ;0x1600:2;line 23, column 3: ;0x607A0020;[0x607A, 0, 32];[0x60FF, 0, 32]",
     ),
     (
         StartError::Count { seen: 0 },
-        &[
-            "line 28, column 1: 0 slaves answered",
-            "the table has 3",
-            "slave 0 panel ",
-        ],
+        "line 28, column 1: 0 slaves answered;the table has 3;slave 0 panel ",
     ),
     (
         StartError::Count { seen: 4 },
-        &["4 slaves answered", "the table has 3"],
+        "4 slaves answered;the table has 3",
     ),
     (
         StartError::Identity {
             slave: 2,
             seen: STRANGER,
         },
-        &[
-            "line 35, column 1: slave 2 y ",
-            "vendor 0x00000009, product 0x00000004, revision 0x00000001",
-            "line 15, column 8: ",
-            "type drive ",
-            "vendor 0x00000001, product 0x00000004, revision 0x00000001",
-        ],
+        "line 35, column 1: slave 2 y ;vendor 0x00000009, product 0x00000004, revision 0x00000001;\
+         line 15, column 8: ;type drive ;vendor 0x00000001, product 0x00000004, revision 0x00000001",
     ),
     (
         StartError::AlError {
             slave: 0,
             code: 0x8001,
         },
-        &["line 28, column 1: slave 0 panel ", "0x8001"],
+        "line 28, column 1: slave 0 panel ;0x8001",
     ),
     (
         StartError::Mapping {
@@ -147,12 +116,7 @@ static ERRORS: [(StartError, &[&str]); 15] = [
             subindex: 0,
             seen: 3,
         },
-        &[
-            "line 35, column 1: slave 2 y ",
-            "0x1601:0",
-            "line 24, column 3: ",
-            "type drive has 2",
-        ],
+        "line 35, column 1: slave 2 y ;0x1601:0;line 24, column 3: ;type drive has 2",
     ),
     (
         StartError::Mapping {
@@ -161,14 +125,7 @@ static ERRORS: [(StartError, &[&str]); 15] = [
             subindex: 1,
             seen: 0x6041_0020,
         },
-        &[
-            "line 31, column 1: slave 1 x ",
-            "0x1A00:1",
-            "line 26, column 11: ",
-            "0x60410010",
-            "[0x6041, 0, 16]",
-            "[0x6041, 0, 32]",
-        ],
+        "line 31, column 1: slave 1 x ;0x1A00:1;line 26, column 11: ;0x60410010;[0x6041, 0, 16];[0x6041, 0, 32]",
     ),
 ];
 
@@ -183,31 +140,28 @@ fn start_ups(rt: HostRuntime) -> Result<(), Fail> {
 // The start-up of the machine has 109 steps: 6 for all, 1 to name each slave, 6 to identify it, 2 for
 // the mailboxes of x and y, 2 for PREOP of each, 24 requests and replies of x and of y, 4 to map each,
 // and 2 for SAFEOP and 2 for OP of each.
-static STEPS: [(usize, &[&str]); 14] = [
-    (0, &["counted"]),
-    (2, &["all slaves", "INIT"]),
-    (5, &["all slaves", "station addresses"]),
+const STEPS: [(usize, &str); 14] = [
+    (0, "counted"),
+    (2, "all slaves;INIT"),
+    (5, "all slaves;station addresses"),
     (
         6,
-        &[
-            "line 28, column 1: ",
-            "slave 0 panel: it is given its station address",
-        ],
+        "line 28, column 1: ;slave 0 panel: it is given its station address",
     ),
-    (17, &["slave 1 x: its product is asked for"]),
-    (26, &["slave 2 y: its revision is awaited"]),
-    (27, &["slave 1 x: sync manager 0"]),
-    (36, &["slave 2 y: it is awaited in PREOP"]),
-    (39, &["slave 1 x: a request ", "0x1600:1"]),
-    (60, &["slave 1 x: a reply ", "0x1C13:0"]),
-    (75, &["slave 2 y: a request ", "PDO 0x1601 into 0x1C12:1"]),
-    (88, &["slave 0 panel: FMMU 1"]),
-    (97, &["slave 0 panel: it is asked for SAFEOP"]),
-    (108, &["slave 2 y: it is awaited in OP"]),
+    (17, "slave 1 x: its product is asked for"),
+    (26, "slave 2 y: its revision is awaited"),
+    (27, "slave 1 x: sync manager 0"),
+    (36, "slave 2 y: it is awaited in PREOP"),
+    (39, "slave 1 x: a request ;0x1600:1"),
+    (60, "slave 1 x: a reply ;0x1C13:0"),
+    (75, "slave 2 y: a request ;PDO 0x1601 into 0x1C12:1"),
+    (88, "slave 0 panel: FMMU 1"),
+    (97, "slave 0 panel: it is asked for SAFEOP"),
+    (108, "slave 2 y: it is awaited in OP"),
 ];
 
 /// Compares what is told of a step whose counter was wrong, and which was too slow.
-fn assert_step(rt: &(impl AllocGlobal + Abort), step: usize, wanted: &[&str]) -> Result<(), Fail> {
+fn assert_step(rt: &(impl AllocGlobal + Abort), step: usize, wanted: &str) -> Result<(), Fail> {
     let counter = Cause::Start(StartError::Counter { step });
     assert_cause(rt, MACHINE, counter, wanted)?;
     let slow = Cause::Start(StartError::TooSlow { step });
@@ -242,12 +196,12 @@ fn a_step_past_the_last(rt: HostRuntime) -> Result<(), Fail> {
 }
 
 /// Cycles that can't be, and what is told of them.
-static CYCLES: [(Cause, &[&str]); 5] = [
-    (Cause::Cycle(CycleError::NotReady), &["ready"]),
-    (Cause::Cycle(CycleError::Open), &["open already"]),
-    (Cause::Cycle(CycleError::NotOpen), &["No cycle is open"]),
-    (Cause::Cycle(CycleError::NumbersSpent), &["2^64"]),
-    (Cause::Wire, &["socket", "nothing of that cycle"]),
+const CYCLES: [(Cause, &str); 5] = [
+    (Cause::Cycle(CycleError::NotReady), "ready"),
+    (Cause::Cycle(CycleError::Open), "open already"),
+    (Cause::Cycle(CycleError::NotOpen), "No cycle is open"),
+    (Cause::Cycle(CycleError::NumbersSpent), "2^64"),
+    (Cause::Wire, "socket;nothing of that cycle"),
 ];
 
 #[test]
@@ -262,7 +216,7 @@ fn cycles(rt: HostRuntime) -> Result<(), Fail> {
 #[test]
 fn a_line_past_the_last(rt: HostRuntime) -> Result<(), Fail> {
     let past = Cause::Script { from: 0, line: 99 };
-    assert_cause(&rt, MACHINE, past, &["line 99 of the script isn't found"])
+    assert_cause(&rt, MACHINE, past, "line 99 of the script isn't found")
 }
 
 /// Texts that are no table of this machine.
