@@ -1,8 +1,6 @@
-//! Scripts as people run them: whole, line by line, and with a master.
+//! Lines as they come, over streams that ask and fail, and with a master over wires of memory.
 #![tactic(auto)]
 
-#[cfg(test)]
-mod examples;
 #[cfg(test)]
 mod live;
 #[cfg(test)]

@@ -4,8 +4,8 @@
 #[cfg(test)]
 mod explain;
 #[cfg(test)]
-mod outline;
+mod script;
+#[cfg(test)]
+mod told;
 #[cfg(test)]
 mod translate;
-#[cfg(test)]
-mod watch;

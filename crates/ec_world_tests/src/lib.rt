@@ -1,5 +1,7 @@
-//! Worlds moved by events, by the public calls of `ec_world`.
+//! Worlds moved by events, and what is seen of their frames, by public calls.
 #![tactic(auto)]
 
 #[cfg(test)]
 mod tests;
+#[cfg(test)]
+mod watch;

@@ -37,7 +37,7 @@ pub enum Line<'a> {
     Args(&'a str),
     /// Slaves show their outputs as their inputs.
     Echo,
-    /// The input goes on with the table of an example, a file, a line, or a text.
+    /// The input goes on with the table of an example or its script, a file, a line, or a text.
     Table(&'a str),
     File(&'a str),
     Input(&'a str),

@@ -3,14 +3,15 @@ use crate::form::{Line, line_of};
 use crate::text::{bytes_of, push_text};
 use crate::wrong::Wrong;
 use ec_examples::{
-    BARE_THREE_SLAVES, DRIVE, LINE, SHORT_THREE_SLAVES, SHORT_TWO_UNITS, SHORT_WITHOUT_LRW,
-    SMALL_MACHINE, TERMINALS, THREE_SLAVES, THREE_SLAVES_INLINE,
+    BARE_THREE_SLAVES, DRIVE, DRIVE_SCRIPT, LINE, LINE_SCRIPT, SHORT_THREE_SLAVES, SHORT_TWO_UNITS,
+    SHORT_WITHOUT_LRW, SMALL_MACHINE, TERMINALS, TERMINALS_SCRIPT, THREE_SLAVES,
+    THREE_SLAVES_INLINE,
 };
 use std::alloc::Global;
 use std::fs;
 use std::fs::Files;
 
-/// The table of an example, by its name in `ec_examples`.
+/// The table of an example, or its script, by its name in `ec_examples`.
 fn example_of(name: &str) -> Option<&'static str> {
     match name {
         "THREE_SLAVES" => Some(THREE_SLAVES),
@@ -23,14 +24,17 @@ fn example_of(name: &str) -> Option<&'static str> {
         "TERMINALS" => Some(TERMINALS),
         "DRIVE" => Some(DRIVE),
         "LINE" => Some(LINE),
+        "TERMINALS_SCRIPT" => Some(TERMINALS_SCRIPT),
+        "DRIVE_SCRIPT" => Some(DRIVE_SCRIPT),
+        "LINE_SCRIPT" => Some(LINE_SCRIPT),
         _ => None,
     }
 }
 
-/// Adds the table of an example.
+/// Adds the table of an example, or its script.
 fn push_example(name: &str, input: &mut Vec<u8>) -> Result<(), Wrong> {
-    let table = example_of(name).ok_or(Wrong("no example has that name"))?;
-    input.extend_from_slice(table.as_bytes())?;
+    let text = example_of(name).ok_or(Wrong("no example has that name"))?;
+    input.extend_from_slice(text.as_bytes())?;
     Ok(())
 }
 

@@ -1,11 +1,23 @@
 //! What is told of a plan: of the whole but for the types a line for each thing, or of some of it.
 ghost use Rattle.std.specs.Prelude.{◌<◌, length};
 
-use super::machines::{push, push_numbers};
 use ec_device::Face;
 use ec_link::{ExpectedCounters, Link, LinkError, PartPlan, Plan};
 use ec_regs::{encode_fmmu, encode_manager};
 use std::process::Abort;
+
+/// Puts a text behind another.
+fn push(rt: &impl Abort, text: &mut String, more: &str) {
+    text.push_str(more).expect(rt, "memory");
+}
+
+/// Puts names, each with a number, and an end behind a text.
+fn push_numbers(rt: &impl Abort, text: &mut String, rows: &[(&str, usize)], end: &str) {
+    for (name, number) in rows {
+        write!(text, "{name}{number}").expect(rt, "memory");
+    }
+    push(rt, text, end);
+}
 
 /// A name, a place and bytes, as a line.
 fn push_bytes(rt: &impl Abort, text: &mut String, name: &str, place: usize, bytes: &[u8]) {
@@ -157,22 +169,6 @@ fn push_parts(rt: &impl Abort, text: &mut String, plan: &Plan) {
     }
 }
 
-/// A refusal in its machine form.
-fn push_refusal(rt: &impl Abort, text: &mut String, error: LinkError) {
-    push_numbers(rt, text, &[("", usize::from(error.number()))], " ");
-    push(rt, text, error.name());
-    if let Some(value) = error.value() {
-        push_numbers(rt, text, &[(" ", value)], "");
-    }
-}
-
-/// Of each link of the outputs: its slave, and its first bit in the slave's object.
-fn push_outputs(rt: &impl Abort, text: &mut String, plan: &Plan) {
-    for link in plan.out_links() {
-        push_numbers(rt, text, &[("", link.slave), (" ", link.object_bit)], ", ");
-    }
-}
-
 /// The name of a face, and whether its slave is the last of the ring; `-` where there is no face.
 fn push_face(rt: &impl Abort, text: &mut String, face: Option<&Face>) {
     match face {
@@ -202,27 +198,22 @@ pub enum Told {
     Whole,
     /// Address, bytes, counter and unit of each part.
     Parts,
-    /// Where the links of the outputs go.
-    Outputs,
     /// The faces of its slaves.
     Faces,
 }
 
-/// What is told of a plan that was made.
+/// What is told of a plan.
 fn push_made(rt: &impl Abort, text: &mut String, told: Told, plan: &Plan) {
     match told {
         Told::Whole => push_plan(rt, text, plan),
         Told::Parts => push_parts(rt, text, plan),
-        Told::Outputs => push_outputs(rt, text, plan),
         Told::Faces => push_faces(rt, text, plan),
     }
 }
 
-/// What is told of a plan, or why there is none. All plans of these tests are handed to this function, so here alone the proof
-/// has to follow how one goes away.
+/// What is told of a plan. All plans of these tests are handed to this function, so here alone the proof has to follow how one goes
+/// away.
 pub fn push_told(rt: &impl Abort, text: &mut String, told: Told, plan: Result<Plan, LinkError>) {
-    match plan {
-        Ok(plan) => push_made(rt, text, told, &plan),
-        Err(error) => push_refusal(rt, text, error),
-    }
+    let plan = plan.expect(rt, "a plan");
+    push_made(rt, text, told, &plan);
 }

@@ -1,5 +1,4 @@
-//! Link tables, changes to them, and what is told of each. A change `OLD => NEW` puts NEW in the place of a text's first OLD, and
-//! ` => ` changes nothing. `|` is the end of a line.
+//! Link tables, and what is told of each.
 use ec_link::{LinkError, LinkFault};
 
 /// The table of `examples/three_slaves.toml`, without its comments.
@@ -71,127 +70,11 @@ unit 0
 image out 0 in 0
 ";
 
-/// Texts, a change to each, and what is told of its whole plan, or why it has none. In the last one a variable of 8 bits has a
-/// half from each of two units.
-pub const PLANS: [(&str, &str, &str); 4] = [
-    ("", " => ", EMPTY_PLAN),
-    (THREE_SLAVES, " => ", THREE_SLAVES_PLAN),
-    (TWO_UNITS, " => ", TWO_UNITS_PLAN),
-    (
-        TWO_UNITS,
-        r#"bits = 16 } ]|link = [  => bits = 16 }, { name = "e", dir = "in", bits = 8 } ]|link = [ { var = "e", slave = "s1", index = 0x6000, sub = 1, bits = [0, 0, 4] }, { var = "e", slave = "s2", index = 0x6010, sub = 1, bits = [4, 0, 4] }, "#,
-        "44 SplitVariable 4",
-    ),
-];
-
-/// The first of two units has a slave that takes no part in LRW, and so its part goes by LWR and LRD.
-pub const SPLIT_PART: (&str, &str, &str) = (
-    TWO_UNITS,
-    "[[0x7000, 1, 4]] } ] } => [[0x7000, 1, 4]] } ], lrw = false }",
-    "65536 3 2/1 0, 65539 1 1 1",
-);
-
-/// Lines `ANSWER: CHANGE` about the table of three slaves. Of the parts, a plan tells address, bytes, counter and unit.
-pub const CHANGES: &str = r#"65536 3 2/2 0: in_start = 0| => in_start = 0|lrw = false|
-16 WrongDirection 0: slave = "s0"|index = 0x7000 => slave = "s1"|index = 0x6000
-16 WrongDirection 3: slave = "s2"|index = 0x6010 => slave = "s2"|index = 0x7010
-17 NoEntry 0: index = 0x7000 => index = 0x7001
-17 NoEntry 1: index = 0x7010|sub = 1 => index = 0x7010|sub = 2
-16 WrongDirection 2: index = 0x7000|sub = 1|[[link]]|var = "b"|slave = "s2"|index = 0x7010|sub = 1|[[link]]|var = "c"|slave = "s1"|index = 0x6000 => index = 0x7001|sub = 1|[[link]]|var = "b"|slave = "s2"|index = 0x7010|sub = 1|[[link]]|var = "c"|slave = "s0"|index = 0x7000
-18 OutsideEntry 0: index = 0x7000|sub = 1 => index = 0x7000|sub = 1|bits = [0, 2, 4]
-18 OutsideEntry 0: index = 0x7000|sub = 1 => index = 0x7000|sub = 1|bits = [2, 0, 4]
-18 OutsideEntry 1: index = 0x7010|sub = 1 => index = 0x7010|sub = 1|bits = [0, 10, 4]
-18 OutsideEntry 1: name = "b"|dir = "out"|bits = 12 => name = "b"|dir = "out"|bits = 13
-65536 3 6 0: index = 0x7010|sub = 1 => index = 0x7010|sub = 1|bits = [0, 8, 4]
-19 LinkedTwice 2: index = 0x7010|sub = 1 => index = 0x7010|sub = 1|bits = [0, 0, 8]|[[link]]|var = "b"|slave = "s2"|index = 0x7010|sub = 1|bits = [0, 4, 8]
-65536 3 6 0: index = 0x7010|sub = 1 => index = 0x7010|sub = 1|bits = [0, 0, 6]|[[link]]|var = "b"|slave = "s2"|index = 0x7010|sub = 1|bits = [0, 6, 6]
-18 OutsideEntry 1: index = 0x7010|sub = 1 => index = 0x7010|sub = 1|bits = [0, 10, 4]|[[link]]|var = "b"|slave = "s2"|index = 0x7010|sub = 1|bits = [0, 0, 8]|[[link]]|var = "b"|slave = "s2"|index = 0x7010|sub = 1|bits = [0, 4, 8]
-19 LinkedTwice 4: index = 0x6010|sub = 1| => index = 0x6010|sub = 1|[[link]]|var = "d"|slave = "s1"|index = 0x6000|sub = 1|bits = [15, 3, 1]|
-65536 3 6 0: index = 0x6010|sub = 1| => index = 0x6010|sub = 1|[[variable]]|name = "e"|dir = "in"|bits = 4|[[link]]|var = "e"|slave = "s1"|index = 0x6000|sub = 1|
-20 EntryTwice 2: [0x7010, 1, 12] => [0x7010, 1, 12], [0x7010, 1, 4]
-65536 4 6 0: [0x7010, 1, 12] => [0, 0, 4], [0x7010, 1, 12], [0, 0, 4]
-24 AreasOverlap 2: in_start = 0x1400 => in_start = 0x1105
-65536 3 6 0: in_start = 0x1400 => in_start = 0x1106
-24 AreasOverlap 2: mailbox = [0x1000, 128, 0x1080, 128] => mailbox = [0x1000, 129, 0x1080, 128]
-25 OutsideRam 0: out_start = 0x1100|in_start = 0| => out_start = 0x2FFE|in_start = 0|
-65536 3 6 0: out_start = 0x1100|in_start = 0| => out_start = 0x2FFD|in_start = 0|
-25 OutsideRam 1: in_start = 0x1100|txpdo => in_start = 0x0FFF|txpdo
-24 AreasOverlap 2: 0x1100|in_start = 0|rxpdo = [ { index = 0x1600, entries = [[0x7000, 1, 4]] } ]|[[type]]|name = "di4"|vendor = 0xABCD|product = 2|revision = 1|out_start = 0|in_start = 0x1100|txpdo = [ { index = 0x1A00, entries = [[0x6000, 1, 4]] } ]|[[type]]|name = "mix"|vendor = 0xABCD|product = 3|revision = 1|mailbox = [0x1000, 128, 0x1080, 128]|out_start = 0x1100 => 0x2FFE|in_start = 0|rxpdo = [ { index = 0x1600, entries = [[0x7000, 1, 4]] } ]|[[type]]|name = "di4"|vendor = 0xABCD|product = 2|revision = 1|out_start = 0|in_start = 0x1100|txpdo = [ { index = 0x1A00, entries = [[0x6000, 1, 4]] } ]|[[type]]|name = "mix"|vendor = 0xABCD|product = 3|revision = 1|mailbox = [0x1000, 128, 0x1080, 128]|out_start = 0x1400
-"#;
-
-/// Slaves of one type, which assign both of its objects, one of them, or both turned round.
-const ASSIGNMENTS: &str = r#"[[type]]
-name = "t"
-vendor = 1
-product = 1
-revision = 1
-mailbox = [0x1000, 128, 0x1080, 128]
-out_start = 0x1100
-in_start = 0x1400
-rxpdo = [ { index = 0x1600, entries = [[0x7001, 1, 8]] }, { index = 0x1601, entries = [[0x7000, 1, 16]] } ]
-[[slave]]
-name = "s0"
-type = "t"
-[[slave]]
-name = "s1"
-type = "t"
-out = [0x1601]
-[[slave]]
-name = "s2"
-type = "t"
-out = [0x1601, 0x1600]
-[[slave]]
-name = "s3"
-type = "t"
-[[slave]]
-name = "s4"
-type = "t"
-out = [0x1601]
-[[variable]]
-name = "o"
-dir = "out"
-bits = 8
-[[link]]
-var = "o"
-slave = "s0"
-index = 0x7000
-sub = 1
-[[link]]
-var = "o"
-slave = "s1"
-index = 0x7000
-sub = 1
-[[link]]
-var = "o"
-slave = "s2"
-index = 0x7000
-sub = 1
-[[link]]
-var = "o"
-slave = "s3"
-index = 0x7000
-sub = 1
-[[link]]
-var = "o"
-slave = "s4"
-index = 0x7000
-sub = 1
-[[link]]
-var = "o"
-slave = "s2"
-index = 0x7001
-sub = 1
-"#;
-
-/// What is told of these assignments: of each link its slave and its first bit in the slave's object; and of an entry that another
-/// slave of the type assigns.
-pub const ASSIGNED: [(&str, &str, &str); 2] = [
-    (ASSIGNMENTS, " => ", "0 8, 1 0, 2 0, 3 8, 4 0, 2 16, "),
-    (
-        ASSIGNMENTS,
-        r#"slave = "s2"|index = 0x7001 => slave = "s1"|index = 0x7001"#,
-        "17 NoEntry 5",
-    ),
+/// Texts, and what is told of the whole plan of each.
+pub const PLANS: [(&str, &str); 3] = [
+    ("", EMPTY_PLAN),
+    (THREE_SLAVES, THREE_SLAVES_PLAN),
+    (TWO_UNITS, TWO_UNITS_PLAN),
 ];
 
 /// The faces of the table of three slaves.

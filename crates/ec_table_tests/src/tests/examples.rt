@@ -7,8 +7,8 @@ pub const PLAIN: &str = ec_examples::BARE_THREE_SLAVES;
 /// `examples/small_machine.toml`.
 pub const SMALL_MACHINE: &str = ec_examples::SMALL_MACHINE;
 
-/// A type of slaves with four digital outputs.
-pub const DO4: &str = r#"[[type]]
+/// Three slaves of a type with four digital outputs, each of which writes its own variable.
+pub const THREE_OF_A_TYPE: &str = r#"[[type]]
 name = "do4"
 vendor = 0xABCD
 product = 1
@@ -16,19 +16,40 @@ revision = 1
 out_start = 0x1100
 in_start = 0
 rxpdo = [ { index = 0x1600, entries = [[0x7000, 1, 4]] } ]
-"#;
-
-/// A slave of that type, which writes its own variable: its number stands in each place of `#`.
-pub const NUMBERED: &str = r#"[[slave]]
-name = "s#"
+[[slave]]
+name = "s0"
 type = "do4"
 [[variable]]
-name = "v#"
+name = "v0"
 dir = "out"
 bits = 4
 [[link]]
-var = "v#"
-slave = "s#"
+var = "v0"
+slave = "s0"
+index = 0x7000
+sub = 1
+[[slave]]
+name = "s1"
+type = "do4"
+[[variable]]
+name = "v1"
+dir = "out"
+bits = 4
+[[link]]
+var = "v1"
+slave = "s1"
+index = 0x7000
+sub = 1
+[[slave]]
+name = "s2"
+type = "do4"
+[[variable]]
+name = "v2"
+dir = "out"
+bits = 4
+[[link]]
+var = "v2"
+slave = "s2"
 index = 0x7000
 sub = 1
 "#;
@@ -70,7 +91,7 @@ LinkRow { variable: 3, slave: 1, index: 28704, subindex: 17, bits: LinkBits { va
 LinkRow { variable: 4, slave: 1, index: 24608, subindex: 17, bits: LinkBits { variable_bit: 0, entry_bit: 0, count: 16 } }
 "#;
 
-/// The same of three slaves of the type `do4`, each of which writes its own variable.
+/// The same of the three slaves of a type.
 pub const THREE_OF_A_TYPE_READ: &str = r#"One
 type do4 Device { vendor: 43981, product: 1, revision: 1 } None 4352 0 true out 5632: 28672.1.4 in
 slave s0 0 out [5632] in [] 0 0: 28672.1.4 /

@@ -3,10 +3,11 @@ ghost use Rattle.std.specs.Prelude.{◌<◌, length};
 
 use crate::tests::described::rows_of;
 use crate::tests::examples::{
-    PLAIN, SMALL_MACHINE, SMALL_MACHINE_READ, THREE_OF_A_TYPE_READ, THREE_SLAVES, THREE_SLAVES_READ,
+    PLAIN, SMALL_MACHINE, SMALL_MACHINE_READ, THREE_OF_A_TYPE, THREE_OF_A_TYPE_READ, THREE_SLAVES,
+    THREE_SLAVES_READ,
 };
+use crate::tests::read;
 use crate::tests::texts::{assert_same, push_all};
-use crate::tests::{many_slaves, read};
 use ec_device::Face;
 use ec_table::Table;
 use std::process::Abort;
@@ -112,7 +113,7 @@ fn reads_and_shows_the_examples(rt: HostRuntime) {
 fn shows_the_last_of_a_type(rt: HostRuntime) {
     assert_read(
         &rt,
-        many_slaves(&rt, 3).as_str(),
+        THREE_OF_A_TYPE,
         "-, -, -, ",
         "do4, do4, do4 is the last, ",
         THREE_OF_A_TYPE_READ,

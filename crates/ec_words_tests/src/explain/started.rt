@@ -1,5 +1,5 @@
-//! Start-ups, cycles and scripts that fail, and what is told of them. What a run of `ecat` tells of tables and of lines of a script
-//! stands as cases in `crates/ecat_cases/data/`.
+//! Start-ups and cycles that fail, and what is told of them. What a run of `ecat` tells of tables, of lines of a script and of what
+//! they expect stands as cases in `crates/ecat_cases/data/`.
 use crate::explain::machine::MACHINE;
 use ec_cycle::CycleError;
 use ec_device::Device;
@@ -8,10 +8,9 @@ use ec_start::StartError;
 use std::process::Abort;
 use std::test::Fail;
 
-/// Each phrase stands in what is told.
-fn assert_phrases(rt: &impl Abort, told: &str, wanted: &[&str]) {
-    for phrase in wanted {
-        let phrase = *phrase;
+/// Each phrase stands in what is told. There is a `;` between phrases.
+fn assert_phrases(rt: &impl Abort, told: &str, wanted: &str) {
+    for phrase in wanted.split(';') {
         assert!(rt; told.find(phrase).is_some(), "no {phrase} in {told}");
     }
 }
@@ -21,7 +20,7 @@ fn assert_cause(
     rt: &(impl AllocGlobal + Abort),
     text: &str,
     cause: Cause,
-    wanted: &[&str],
+    wanted: &str,
 ) -> Result<(), Fail> {
     let told = explanation(rt.alloc(), text, cause)?;
     assert_phrases(rt, told.as_str(), wanted);
@@ -34,57 +33,50 @@ const DRIVE: Device = Device {
     revision: 1,
 };
 
+/// A device that no type of the table is.
+const STRANGER: Device = Device {
+    vendor: 9,
+    product: 4,
+    revision: 1,
+};
+
 /// Start-ups that failed, and what is told of them.
-static ERRORS: [(StartError, &[&str]); 9] = [
+const ERRORS: [(StartError, &str); 15] = [
     (
         StartError::BadMailbox { slave: 1 },
-        &["line 31, column 1: slave 1 x ", "`mailbox`"],
+        "line 31, column 1: slave 1 x ;`mailbox`",
     ),
     (
         StartError::Count { seen: 1 },
-        &[
-            "line 31, column 1: 1 slave answered",
-            "the table has 3",
-            "slave 1 x ",
-        ],
+        "line 31, column 1: 1 slave answered;the table has 3;slave 1 x ",
     ),
     (
         StartError::Count { seen: 5 },
-        &["5 slaves answered", "the table has 3"],
+        "5 slaves answered;the table has 3",
     ),
     (
         StartError::Identity {
             slave: 0,
             seen: DRIVE,
         },
-        &[
-            "line 28, column 1: slave 0 panel ",
-            "product 0x00000004",
-            "type coupler ",
-            "product 0x00000002",
-            "the type drive ",
-        ],
+        "line 28, column 1: slave 0 panel ;product 0x00000004;type coupler ;product 0x00000002;the type drive ",
     ),
     (
         StartError::AlError {
             slave: 2,
             code: 0x001D,
         },
-        &["line 35, column 1: slave 2 y ", "0x001D", "outputs"],
+        "line 35, column 1: slave 2 y ;0x001D;outputs",
     ),
     (
         StartError::Abort {
             slave: 2,
             code: 0x0602_0000,
         },
-        &[
-            "line 35, column 1: slave 2 y ",
-            "0x06020000",
-            "no such object",
-        ],
+        "line 35, column 1: slave 2 y ;0x06020000;no such object",
     ),
-    (StartError::Lost, &["lost", "given up"]),
-    (StartError::NumbersSpent, &["number"]),
+    (StartError::Lost, "lost;given up"),
+    (StartError::NumbersSpent, "number"),
     (
         StartError::Mapping {
             slave: 1,
@@ -92,21 +84,55 @@ static ERRORS: [(StartError, &[&str]); 9] = [
             subindex: 2,
             seen: 0x60FF_0020,
         },
-        &[
-            "line 31, column 1: slave 1 x ",
-            "0x1600:2",
-            "line 23, column 3: ",
-            "0x607A0020",
-            "[0x607A, 0, 32]",
-            "[0x60FF, 0, 32]",
-        ],
+        "line 31, column 1: slave 1 x ;0x1600:2;line 23, column 3: ;0x607A0020;[0x607A, 0, 32];[0x60FF, 0, 32]",
+    ),
+    (
+        StartError::Count { seen: 0 },
+        "line 28, column 1: 0 slaves answered;the table has 3;slave 0 panel ",
+    ),
+    (
+        StartError::Count { seen: 4 },
+        "4 slaves answered;the table has 3",
+    ),
+    (
+        StartError::Identity {
+            slave: 2,
+            seen: STRANGER,
+        },
+        "line 35, column 1: slave 2 y ;vendor 0x00000009, product 0x00000004, revision 0x00000001;\
+         line 15, column 8: ;type drive ;vendor 0x00000001, product 0x00000004, revision 0x00000001",
+    ),
+    (
+        StartError::AlError {
+            slave: 0,
+            code: 0x8001,
+        },
+        "line 28, column 1: slave 0 panel ;0x8001",
+    ),
+    (
+        StartError::Mapping {
+            slave: 2,
+            index: 0x1601,
+            subindex: 0,
+            seen: 3,
+        },
+        "line 35, column 1: slave 2 y ;0x1601:0;line 24, column 3: ;type drive has 2",
+    ),
+    (
+        StartError::Mapping {
+            slave: 1,
+            index: 0x1A00,
+            subindex: 1,
+            seen: 0x6041_0020,
+        },
+        "line 31, column 1: slave 1 x ;0x1A00:1;line 26, column 11: ;0x60410010;[0x6041, 0, 16];[0x6041, 0, 32]",
     ),
 ];
 
 #[test]
 fn start_ups(rt: HostRuntime) -> Result<(), Fail> {
-    for (error, wanted) in ERRORS {
-        assert_cause(&rt, MACHINE, Cause::Start(error), wanted)?;
+    for (error, wanted) in &ERRORS {
+        assert_cause(&rt, MACHINE, Cause::Start(*error), wanted)?;
     }
     Ok(())
 }
@@ -114,31 +140,28 @@ fn start_ups(rt: HostRuntime) -> Result<(), Fail> {
 // The start-up of the machine has 109 steps: 6 for all, 1 to name each slave, 6 to identify it, 2 for
 // the mailboxes of x and y, 2 for PREOP of each, 24 requests and replies of x and of y, 4 to map each,
 // and 2 for SAFEOP and 2 for OP of each.
-static STEPS: [(usize, &[&str]); 14] = [
-    (0, &["counted"]),
-    (2, &["all slaves", "INIT"]),
-    (5, &["all slaves", "station addresses"]),
+const STEPS: [(usize, &str); 14] = [
+    (0, "counted"),
+    (2, "all slaves;INIT"),
+    (5, "all slaves;station addresses"),
     (
         6,
-        &[
-            "line 28, column 1: ",
-            "slave 0 panel: it is given its station address",
-        ],
+        "line 28, column 1: ;slave 0 panel: it is given its station address",
     ),
-    (17, &["slave 1 x: its product is asked for"]),
-    (26, &["slave 2 y: its revision is awaited"]),
-    (27, &["slave 1 x: sync manager 0"]),
-    (36, &["slave 2 y: it is awaited in PREOP"]),
-    (39, &["slave 1 x: a request ", "0x1600:1"]),
-    (60, &["slave 1 x: a reply ", "0x1C13:0"]),
-    (75, &["slave 2 y: a request ", "PDO 0x1601 into 0x1C12:1"]),
-    (88, &["slave 0 panel: FMMU 1"]),
-    (97, &["slave 0 panel: it is asked for SAFEOP"]),
-    (108, &["slave 2 y: it is awaited in OP"]),
+    (17, "slave 1 x: its product is asked for"),
+    (26, "slave 2 y: its revision is awaited"),
+    (27, "slave 1 x: sync manager 0"),
+    (36, "slave 2 y: it is awaited in PREOP"),
+    (39, "slave 1 x: a request ;0x1600:1"),
+    (60, "slave 1 x: a reply ;0x1C13:0"),
+    (75, "slave 2 y: a request ;PDO 0x1601 into 0x1C12:1"),
+    (88, "slave 0 panel: FMMU 1"),
+    (97, "slave 0 panel: it is asked for SAFEOP"),
+    (108, "slave 2 y: it is awaited in OP"),
 ];
 
 /// Compares what is told of a step whose counter was wrong, and which was too slow.
-fn assert_step(rt: &(impl AllocGlobal + Abort), step: usize, wanted: &[&str]) -> Result<(), Fail> {
+fn assert_step(rt: &(impl AllocGlobal + Abort), step: usize, wanted: &str) -> Result<(), Fail> {
     let counter = Cause::Start(StartError::Counter { step });
     assert_cause(rt, MACHINE, counter, wanted)?;
     let slow = Cause::Start(StartError::TooSlow { step });
@@ -147,8 +170,8 @@ fn assert_step(rt: &(impl AllocGlobal + Abort), step: usize, wanted: &[&str]) ->
 
 #[test]
 fn steps(rt: HostRuntime) -> Result<(), Fail> {
-    for (step, wanted) in STEPS {
-        assert_step(&rt, step, wanted)?;
+    for (step, wanted) in &STEPS {
+        assert_step(&rt, *step, wanted)?;
     }
     Ok(())
 }
@@ -173,72 +196,27 @@ fn a_step_past_the_last(rt: HostRuntime) -> Result<(), Fail> {
 }
 
 /// Cycles that can't be, and what is told of them.
-static CYCLES: [(Cause, &[&str]); 5] = [
-    (Cause::Cycle(CycleError::NotReady), &["ready"]),
-    (Cause::Cycle(CycleError::Open), &["open already"]),
-    (Cause::Cycle(CycleError::NotOpen), &["No cycle is open"]),
-    (Cause::Cycle(CycleError::NumbersSpent), &["2^64"]),
-    (Cause::Wire, &["socket", "nothing of that cycle"]),
+const CYCLES: [(Cause, &str); 5] = [
+    (Cause::Cycle(CycleError::NotReady), "ready"),
+    (Cause::Cycle(CycleError::Open), "open already"),
+    (Cause::Cycle(CycleError::NotOpen), "No cycle is open"),
+    (Cause::Cycle(CycleError::NumbersSpent), "2^64"),
+    (Cause::Wire, "socket;nothing of that cycle"),
 ];
 
 #[test]
 fn cycles(rt: HostRuntime) -> Result<(), Fail> {
-    for (cause, wanted) in CYCLES {
-        assert_cause(&rt, MACHINE, cause, wanted)?;
+    for (cause, wanted) in &CYCLES {
+        assert_cause(&rt, MACHINE, *cause, wanted)?;
     }
     Ok(())
 }
 
-const SCRIPT: &str = "ready\r\n\r\nset lamp 1\r\ncycel\r\npass\r\nset lamps 1 2\r\n\u{1b}\r\nget 1";
-
-/// Its lines that stand for nothing, and what is told of them. The table has 69 lines, so line 1 of the script is line 71.
-static LINES: [(usize, &[&str]); 7] = [
-    (
-        3,
-        &[
-            "line 73, column 5: ",
-            "`lamp`",
-            "`lamps`?",
-            "    73 | set lamp 1\n",
-        ],
-    ),
-    (
-        4,
-        &[
-            "line 74, column 1: ",
-            "`cycel`",
-            "`cycle`?",
-            "       | ^^^^^\n",
-        ],
-    ),
-    (5, &["line 75, column 1: ", "`pass K`"]),
-    (6, &["line 76, column 1: ", "`set NAME VALUE`"]),
-    (7, &["line 77, column 1: ", "    77 | \u{FFFD}\n"]),
-    (8, &["line 78, column 1: ", "`get S I`"]),
-    (9, &["line 9 of the script isn't found"]),
-];
-
-/// Compares what is told of the lines of a script that begins at a byte of a text.
-fn assert_lines(rt: &(impl AllocGlobal + Abort), text: &str, from: usize) -> Result<(), Fail> {
-    for (line, wanted) in LINES {
-        assert_cause(rt, text, Cause::Script { from, line }, wanted)?;
-    }
-    Ok(())
-}
-
+/// A line that the script doesn't have.
 #[test]
-fn lines_of_a_script(rt: HostRuntime) -> Result<(), Fail> {
-    let text = format!(in rt.alloc(); "{MACHINE}%%\r\n{SCRIPT}")?;
-    let from = text.len().saturating_sub(SCRIPT.len());
-    assert_lines(&rt, text.as_str(), from)
-}
-
-#[test]
-fn unmet_lines(rt: HostRuntime) -> Result<(), Fail> {
-    let once = ["what a line expects wasn't so", "To do: "];
-    assert_cause(&rt, MACHINE, Cause::Unmet(1), &once)?;
-    let thrice = ["3 times what a line expects wasn't so"];
-    assert_cause(&rt, MACHINE, Cause::Unmet(3), &thrice)
+fn a_line_past_the_last(rt: HostRuntime) -> Result<(), Fail> {
+    let past = Cause::Script { from: 0, line: 99 };
+    assert_cause(&rt, MACHINE, past, "line 99 of the script isn't found")
 }
 
 /// Texts that are no table of this machine.
@@ -255,89 +233,8 @@ const OTHER_TEXTS: [&str; 7] = [
 #[test]
 fn other_texts(rt: HostRuntime) -> Result<(), Fail> {
     let cause = Cause::Start(StartError::Counter { step: 17 });
-    for text in OTHER_TEXTS {
+    for text in &OTHER_TEXTS {
         assert_untold(&rt, text, cause, "step 17")?;
-    }
-    Ok(())
-}
-
-/// A device that no type of the table is.
-const STRANGER: Device = Device {
-    vendor: 9,
-    product: 4,
-    revision: 1,
-};
-
-/// More start-ups that failed, and what is told of them.
-static FAILED: [(StartError, &[&str]); 6] = [
-    (
-        StartError::Count { seen: 0 },
-        &[
-            "line 28, column 1: 0 slaves answered",
-            "the table has 3",
-            "slave 0 panel ",
-        ],
-    ),
-    (
-        StartError::Count { seen: 4 },
-        &["4 slaves answered", "the table has 3"],
-    ),
-    (
-        StartError::Identity {
-            slave: 2,
-            seen: STRANGER,
-        },
-        &[
-            "line 35, column 1: slave 2 y ",
-            "vendor 0x00000009, product 0x00000004, revision 0x00000001",
-            "line 15, column 8: ",
-            "type drive ",
-            "vendor 0x00000001, product 0x00000004, revision 0x00000001",
-        ],
-    ),
-    (
-        StartError::AlError {
-            slave: 0,
-            code: 0x8001,
-        },
-        &["line 28, column 1: slave 0 panel ", "0x8001"],
-    ),
-    (
-        StartError::Mapping {
-            slave: 2,
-            index: 0x1601,
-            subindex: 0,
-            seen: 3,
-        },
-        &[
-            "line 35, column 1: slave 2 y ",
-            "0x1601:0",
-            "line 24, column 3: ",
-            "type drive has 2",
-        ],
-    ),
-    (
-        StartError::Mapping {
-            slave: 1,
-            index: 0x1A00,
-            subindex: 1,
-            seen: 0x6041_0020,
-        },
-        &[
-            "line 31, column 1: slave 1 x ",
-            "0x1A00:1",
-            "line 26, column 11: ",
-            "0x60410010",
-            "[0x6041, 0, 16]",
-            "[0x6041, 0, 32]",
-        ],
-    ),
-];
-
-#[test]
-fn more_start_ups(rt: HostRuntime) -> Result<(), Fail> {
-    for (error, wanted) in FAILED {
-        assert_cause(&rt, MACHINE, Cause::Start(error), wanted)?;
     }
     Ok(())
 }

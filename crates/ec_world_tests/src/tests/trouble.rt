@@ -1,8 +1,6 @@
 //! A start-up in which a frame is lost before or behind a slave's pass, or a slave is reset, or has a fault there.
 
-use super::events::{event_of, halves, number_of};
-use super::steps::{is_made, rise, turn};
-use super::{expect_world, machine_of};
+use super::{Trial, expect_trial, is_made, machine_of, rise, turn};
 use ec_link::Machine;
 use ec_start::StartError;
 use ec_world::Event::{Close, Fault, Lose, Reset};
@@ -51,15 +49,8 @@ fn is_ready_next(world: &mut World<'_>) -> bool {
 
 /// A start-up in which an event comes to a frame where that has passed so many slaves. Whether it ends as it may, and Ready, or
 /// the next one does.
-pub fn is_up_after(rt: &impl Abort, world: &mut World<'_>, about: &str) -> bool {
-    let (frame, rest) = halves(about);
-    let (at, event) = halves(rest);
-    ends_so(
-        world,
-        number_of(rt, frame),
-        number_of(rt, at),
-        event_of(rt, event),
-    ) && is_ready_next(world)
+pub fn is_up_after(world: &mut World<'_>, frame: usize, at: usize, event: Event) -> bool {
+    ends_so(world, frame, at, event) && is_ready_next(world)
 }
 
 /// Frames of a start-up, the first and the last among them: all slaves are asked and cleared, they are named, their identities
@@ -67,19 +58,26 @@ pub fn is_up_after(rt: &impl Abort, world: &mut World<'_>, about: &str) -> bool 
 const FRAMES: [usize; 12] = [0, 4, 7, 12, 25, 28, 31, 40, 58, 66, 70, 74];
 
 /// Trouble in a start-up.
-const TROUBLE: [&str; 7] = [
-    "lose 0", "reset 0", "reset 1", "reset 2", "fault 0", "fault 1", "fault 2",
+const TROUBLE: [Event; 7] = [
+    Lose(0),
+    Reset(0),
+    Reset(1),
+    Reset(2),
+    Fault(0),
+    Fault(1),
+    Fault(2),
 ];
 
-/// The step of a start-up with trouble.
-fn step_of(rt: &(impl AllocGlobal + Abort), frame: usize, at: usize, event: &str) -> String {
-    format!(in rt.alloc(); "trouble {frame} {at} {event} > true").expect(rt, "memory")
+/// Expects of a new world that it rises after trouble.
+fn expect_up(rt: &(impl AllocGlobal + Abort), machine: &Machine, trial: Trial) {
+    expect_trial(rt, World::of_machine(rt.alloc(), machine), trial);
 }
 
-/// Expects of new worlds that they rise, after each trouble at a place of a frame of their start-up.
+/// Expects this after each trouble at a place of a frame.
 fn expect_place(rt: &(impl AllocGlobal + Abort), machine: &Machine, frame: usize, at: usize) {
     for event in &TROUBLE {
-        expect_world(rt, machine, step_of(rt, frame, at, event).as_str());
+        let event = *event;
+        expect_up(rt, machine, Trial::Trouble { frame, at, event });
     }
 }
 
@@ -99,5 +97,5 @@ fn expect_frames(rt: &(impl AllocGlobal + Abort), machine: &Machine) {
 
 #[test]
 fn trouble_in_a_start_up(rt: HostRuntime) {
-    expect_frames(&rt, &machine_of(&rt, ec_examples::SHORT_THREE_SLAVES));
+    expect_frames(&rt, &machine_of(&rt));
 }
