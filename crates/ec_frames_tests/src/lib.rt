@@ -1,6 +1,8 @@
-//! Frames, their texts and captures, each by the public calls of its crate.
+//! Frames, their texts and captures, and what is told of them, each by the public calls of its crate.
 #![tactic(auto)]
 
+#[cfg(test)]
+mod annotate;
 #[cfg(test)]
 mod capture;
 #[cfg(test)]
@@ -9,3 +11,5 @@ mod decode;
 mod frame;
 #[cfg(test)]
 mod lines;
+#[cfg(test)]
+mod remark;

@@ -1,8 +1,13 @@
-//! What people are told, each by the public calls of its crate.
+//! What people are told, and lines as they come, over streams that ask and fail and with a master over wires of memory, each by
+//! the public calls of its crate.
 #![tactic(auto)]
 
 #[cfg(test)]
 mod explain;
+#[cfg(test)]
+mod live;
+#[cfg(test)]
+mod master;
 #[cfg(test)]
 mod script;
 #[cfg(test)]

@@ -1,6 +1,6 @@
 //! Cycles whose frames are as long as a frame can be: 1470 bytes behind the header, 1472 in all.
-use crate::tests::steps::Step::{Begins, Closes, Keeps, Next, Ready, Sends, Sets};
-use crate::tests::steps::expect_steps;
+use crate::cycle::steps::Step::{Begins, Closes, Keeps, Next, Ready, Sends, Sets};
+use crate::cycle::steps::expect_steps;
 use ec_link::ExpectedCounters::{Lrw, Split};
 use std::alloc::{AllocError, Global};
 use std::test::Fail;

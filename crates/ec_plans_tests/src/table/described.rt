@@ -1,7 +1,7 @@
 //! All that a table holds, a line for each row.
 ghost use Rattle.std.specs.Prelude.{◌<◌, length};
 
-use crate::tests::texts::{push_all, push_debug, push_numbers};
+use crate::table::texts::{push_all, push_debug, push_numbers};
 use ec_device::{Entry, Pdo};
 use ec_table::{Direction, LinkRow, SlaveRow, Table, TypeRow, VariableRow};
 use std::process::Abort;

@@ -1,13 +1,13 @@
 //! All that a table holds, and what its slaves show besides, before and after it is shown in full.
 ghost use Rattle.std.specs.Prelude.{◌<◌, length};
 
-use crate::tests::described::rows_of;
-use crate::tests::examples::{
+use crate::table::described::rows_of;
+use crate::table::examples::{
     PLAIN, SMALL_MACHINE, SMALL_MACHINE_READ, THREE_OF_A_TYPE, THREE_OF_A_TYPE_READ, THREE_SLAVES,
     THREE_SLAVES_READ,
 };
-use crate::tests::read;
-use crate::tests::texts::{assert_same, push_all};
+use crate::table::read;
+use crate::table::texts::{assert_same, push_all};
 use ec_device::Face;
 use ec_table::Table;
 use std::process::Abort;

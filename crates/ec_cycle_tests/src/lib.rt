@@ -1,5 +1,0 @@
-//! Cycles of a master, by its public calls.
-#![tactic(auto)]
-
-#[cfg(test)]
-mod tests;
