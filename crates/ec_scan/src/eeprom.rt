@@ -1,10 +1,11 @@
 //! The SII of a slave, read by its port (ETG.1000.4, "Slave information interface"; ETG.1000.6, "Slave information interface
 //! area").
-use crate::bytes::{byte_at, bytes_of, word_at};
+use crate::bytes::{byte_at, long_at, word_at};
 use crate::error::ScanError;
 use crate::link::Carrier;
 use crate::master::{MAX_POLLS, Master};
-use std::alloc::{AllocError, Global};
+use crate::rows::EntryRow;
+use crate::trial::Trial;
 
 /// SII control and status; the word address follows it, and the data follow that.
 const SII_CONTROL: u16 = 0x0502;
@@ -25,210 +26,222 @@ const END_MARK: u16 = 0xFFFF;
 const MAX_CATEGORIES: usize = 32;
 
 /// A category.
-#[derive(Debug, Drop)]
+#[derive(Drop)]
 pub struct Category {
     /// Its type.
     pub number: u16,
-    /// Its words.
-    pub words: Vec<u16>,
+    /// The bytes of its words.
+    pub bytes: Vec<u8>,
 }
 
 /// What an SII says.
-#[derive(Debug, Drop)]
+#[derive(Drop)]
 pub struct Eeprom {
-    /// The words before the categories.
-    pub head: Vec<u16>,
+    /// The bytes of the words before the categories.
+    pub head: Vec<u8>,
     /// The categories, in order.
     pub categories: Vec<Category>,
     /// The word address of the mark behind them.
     pub end: u32,
 }
 
-/// A process data object in an SII.
-#[derive(Debug, Drop)]
+/// A process data object in a category of an SII.
+#[derive(Clone, Copy, Drop)]
 pub struct FoundPdo {
     /// Its index.
     pub index: u16,
     /// The sync manager that moves it.
     pub manager: u8,
-    /// Its entries: index, subindex, bits.
-    pub entries: Vec<(u16, u8, u8)>,
+    /// How many entries it has.
+    pub count: u8,
+    // where it stands in the category
+    place: usize,
 }
 
 impl FoundPdo {
+    /// The object whose first eight bytes stand at a place of a category.
+    fn at(bytes: &[u8], place: usize) -> FoundPdo {
+        FoundPdo {
+            index: word_at(bytes, place),
+            manager: byte_at(bytes, place.saturating_add(3)),
+            count: byte_at(bytes, place.saturating_add(2)),
+            place,
+        }
+    }
+
+    /// An entry of it, by the category that it stands in: index, subindex, bits.
+    pub fn entry(&self, bytes: &[u8], number: usize) -> EntryRow {
+        let at = self.place_of(number);
+        (
+            word_at(bytes, at),
+            byte_at(bytes, at.saturating_add(2)),
+            byte_at(bytes, at.saturating_add(5)),
+        )
+    }
+
+    /// Where an entry of it begins; with the number of the entries, where it ends.
+    fn place_of(&self, number: usize) -> usize {
+        self.place
+            .saturating_add(8)
+            .saturating_add(number.saturating_mul(8))
+    }
+
     /// How many bits it has.
-    pub fn bits(&self) -> u32 {
-        let mut bits: u32 = 0;
-        for (_, _, count) in &self.entries {
-            bits = bits.saturating_add(u32::from(*count));
+    fn bits(&self, bytes: &[u8]) -> usize {
+        let mut bits: usize = 0;
+        for number in 0..usize::from(self.count) {
+            let (_, _, count) = self.entry(bytes, number);
+            bits = bits.saturating_add(usize::from(count));
         }
         bits
     }
 }
 
-/// How many bytes objects have together.
-pub fn bytes_together(pdos: &[FoundPdo]) -> Result<u16, ScanError> {
-    let mut bits: u32 = 0;
-    for pdo in pdos {
-        bits = bits.saturating_add(pdo.bits());
+/// The objects of a category.
+pub fn pdos_of(trial: &mut Trial, bytes: &[u8]) -> Vec<FoundPdo> {
+    let mut pdos = Vec::new(trial.alloc);
+    let mut place: usize = 0;
+    for _ in 0..bytes.len() {
+        if place >= bytes.len() {
+            break;
+        }
+        let pdo = FoundPdo::at(bytes, place);
+        place = pdo.place_of(usize::from(pdo.count));
+        trial.stored(pdos.push(pdo));
     }
-    Ok(u16::try_from(bits.div_ceil(8))?)
+    pdos
+}
+
+/// How many bytes the objects of a category have together.
+pub fn bytes_together(trial: &mut Trial, bytes: &[u8]) -> u16 {
+    let mut bits: usize = 0;
+    for pdo in &pdos_of(trial, bytes) {
+        bits = bits.saturating_add(pdo.bits(bytes));
+    }
+    trial.word_of(bits.div_ceil(8))
 }
 
 impl Eeprom {
     /// A word before the categories.
     pub fn word(&self, address: usize) -> u16 {
-        self.head.get(address).copied().unwrap_or(0)
+        word_at(&self.head, address.saturating_mul(2))
     }
 
     /// A number of two words before the categories.
     pub fn long(&self, address: usize) -> u32 {
-        let low = u32::from(self.word(address));
-        low | u32::from(self.word(address.saturating_add(1))) << 16
+        long_at(&self.head, address.saturating_mul(2))
+    }
+
+    /// A category more, which has so many words behind its type and their count.
+    fn push(&mut self, trial: &mut Trial, number: u16, count: u16, bytes: Vec<u8>) {
+        let category = Category { number, bytes };
+        trial.stored(self.categories.push(category));
+        self.end = self.end.saturating_add(2).saturating_add(u32::from(count));
     }
 
     /// The bytes of the first category of a type; none where there is none.
-    pub fn bytes(&self, alloc: Global, number: u16) -> Result<Vec<u8>, AllocError> {
+    pub fn bytes(&self, number: u16) -> &[u8] {
         for category in &self.categories {
             if category.number == number {
-                return bytes_of(alloc, &category.words);
+                return &category.bytes;
             }
         }
-        Ok(Vec::new(alloc))
-    }
-
-    /// The objects in the category of a type.
-    pub fn pdos(&self, alloc: Global, number: u16) -> Result<Vec<FoundPdo>, AllocError> {
-        let bytes = self.bytes(alloc, number)?;
-        let mut pdos = Vec::new(alloc);
-        let mut place: usize = 0;
-        for _ in 0..bytes.len() {
-            if place >= bytes.len() {
-                break;
-            }
-            let pdo = pdo_at(alloc, &bytes, place)?;
-            place = place
-                .saturating_add(8)
-                .saturating_add(pdo.entries.len().saturating_mul(8));
-            pdos.push(pdo)?;
-        }
-        Ok(pdos)
+        &[]
     }
 }
 
 impl<L: Carrier + Drop> Master<L> {
     /// The two words at a word address; none where the port says that they can't be read.
-    pub fn words_at(
-        &mut self,
-        station: u16,
-        address: u32,
-    ) -> Result<Option<(u16, u16)>, ScanError> {
-        if self.await_port(station)? & ERRORS != 0 {
-            self.set(station, SII_CONTROL, &[0, 0])?;
+    pub fn words_at(&mut self, station: u16, address: u32) -> Option<(u16, u16)> {
+        if self.await_port(station) & ERRORS != 0 {
+            self.set(station, SII_CONTROL, &[0, 0]);
         }
         let [a, b, c, d] = address.to_le_bytes();
-        self.set(station, SII_CONTROL, &[0x00, 0x01, a, b, c, d])?;
-        if self.await_port(station)? & ERRORS != 0 {
-            return Ok(None);
+        self.set(station, SII_CONTROL, &[0x00, 0x01, a, b, c, d]);
+        if self.await_port(station) & ERRORS != 0 {
+            return None;
         }
-        let found = self.get(station, SII_DATA, 4)?;
-        Ok(Some((word_at(&found, 0), word_at(&found, 2))))
+        let found = self.get(station, SII_DATA, 4);
+        Some((word_at(&found, 0), word_at(&found, 2)))
+    }
+
+    /// The two words at a word address, which must be there.
+    pub fn words_there(&mut self, station: u16, address: u32) -> (u16, u16) {
+        match self.words_at(station, address) {
+            Some(words) => words,
+            None => {
+                self.trial.note(ScanError::NoWords(address));
+                (0, 0)
+            }
+        }
     }
 
     /// The status word of the port.
-    pub fn port_status(&mut self, station: u16) -> Result<u16, ScanError> {
-        Ok(word_at(&self.get(station, SII_CONTROL, 2)?, 0))
+    pub fn port_status(&mut self, station: u16) -> u16 {
+        word_at(&self.get(station, SII_CONTROL, 2), 0)
     }
 
     /// The two words at a word address by a shorter way: the command with half of the address, then status, address and data at
     /// once.
-    pub fn words_at_once(&mut self, station: u16, address: u16) -> Result<(u16, u16), ScanError> {
+    pub fn words_at_once(&mut self, station: u16, address: u16) -> u32 {
         let [low, high] = address.to_le_bytes();
-        self.set(station, SII_CONTROL, &[0x80, 0x01, low, high])?;
+        self.set(station, SII_CONTROL, &[0x80, 0x01, low, high]);
         for _ in 0..MAX_POLLS {
-            let shown = self.get(station, SII_CONTROL, 10)?;
+            let shown = self.get(station, SII_CONTROL, 10);
             if byte_at(&shown, 1) & 0x81 == 0 {
-                return Ok((word_at(&shown, 6), word_at(&shown, 8)));
+                return long_at(&shown, 6);
             }
         }
-        Err(ScanError::Busy)
+        self.trial.note(ScanError::Busy);
+        0
     }
 
     /// All that the SII of a slave says.
-    pub fn read_eeprom(&mut self, station: u16) -> Result<Eeprom, ScanError> {
+    pub fn read_eeprom(&mut self, station: u16) -> Eeprom {
         let mut eeprom = Eeprom {
-            head: self.words_from(station, 0, 0x40)?,
-            categories: Vec::new(self.alloc()),
+            head: self.words_from(station, 0, 0x40),
+            categories: Vec::new(self.trial.alloc),
             end: CATEGORIES,
         };
-        self.crawl(station, &mut eeprom)?;
-        Ok(eeprom)
+        self.crawl(station, &mut eeprom);
+        eeprom
     }
 
     /// Waits until the port isn't busy. Its status word.
-    fn await_port(&mut self, station: u16) -> Result<u16, ScanError> {
+    fn await_port(&mut self, station: u16) -> u16 {
         for _ in 0..MAX_POLLS {
-            let status = self.port_status(station)?;
+            let status = self.port_status(station);
             if status & BUSY == 0 {
-                return Ok(status);
+                return status;
             }
         }
-        Err(ScanError::Busy)
+        self.trial.note(ScanError::Busy);
+        0
     }
 
     /// Goes from category to category up to the end mark.
-    fn crawl(&mut self, station: u16, eeprom: &mut Eeprom) -> Result<(), ScanError> {
+    fn crawl(&mut self, station: u16, eeprom: &mut Eeprom) {
         for _ in 0..MAX_CATEGORIES {
-            let Some((number, count)) = self.words_at(station, eeprom.end)? else {
-                return Err(ScanError::NoWords(eeprom.end));
-            };
+            let (number, count) = self.words_there(station, eeprom.end);
             if number == END_MARK {
-                return Ok(());
+                return;
             }
-            let from = eeprom.end.saturating_add(2);
-            let words = self.words_from(station, from, count)?;
-            eeprom.categories.push(Category { number, words })?;
-            eeprom.end = from.saturating_add(u32::from(count));
+            let bytes = self.words_from(station, eeprom.end.saturating_add(2), count);
+            eeprom.push(&mut self.trial, number, count, bytes);
         }
-        Err(ScanError::Endless)
+        self.trial.note(ScanError::Endless);
     }
 
-    /// So many words from a word address on, two at a time.
-    fn words_from(
-        &mut self,
-        station: u16,
-        address: u32,
-        count: u16,
-    ) -> Result<Vec<u16>, ScanError> {
-        let mut words = Vec::new(self.alloc());
+    /// The bytes of so many words from a word address on, which are read two at a time.
+    fn words_from(&mut self, station: u16, address: u32, count: u16) -> Vec<u8> {
+        let mut bytes = Vec::new(self.trial.alloc);
         for step in 0..u32::from(count.div_ceil(2)) {
             let at = address.saturating_add(step.saturating_mul(2));
-            let Some((first, second)) = self.words_at(station, at)? else {
-                return Err(ScanError::NoWords(at));
-            };
-            words.push(first)?;
-            words.push(second)?;
+            let (first, second) = self.words_there(station, at);
+            let both = first as u32 | (second as u32) << 16;
+            self.trial.append(&mut bytes, &both.to_le_bytes());
         }
-        words.truncate(usize::from(count));
-        Ok(words)
+        bytes.truncate(usize::from(count).saturating_mul(2));
+        bytes
     }
-}
-
-/// The object whose first eight bytes stand at a place, with the entries behind them.
-fn pdo_at(alloc: Global, bytes: &[u8], place: usize) -> Result<FoundPdo, AllocError> {
-    let mut entries = Vec::new(alloc);
-    let mut at = place;
-    for _ in 0..byte_at(bytes, place.saturating_add(2)) {
-        at = at.saturating_add(8);
-        entries.push((
-            word_at(bytes, at),
-            byte_at(bytes, at.saturating_add(2)),
-            byte_at(bytes, at.saturating_add(5)),
-        ))?;
-    }
-    Ok(FoundPdo {
-        index: word_at(bytes, place),
-        manager: byte_at(bytes, place.saturating_add(3)),
-        entries,
-    })
 }

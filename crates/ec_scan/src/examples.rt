@@ -15,14 +15,44 @@ pub struct Example {
     pub slaves: &'static [SlaveRow],
 }
 
+/// The machines with their names.
+const EXAMPLES: [(&str, Example); 4] = [
+    (
+        "drive",
+        Example {
+            table: drive::TABLE,
+            slaves: drive::SLAVES,
+        },
+    ),
+    (
+        "line",
+        Example {
+            table: line::TABLE,
+            slaves: line::SLAVES,
+        },
+    ),
+    (
+        "small_machine",
+        Example {
+            table: small_machine::TABLE,
+            slaves: small_machine::SLAVES,
+        },
+    ),
+    (
+        "terminals",
+        Example {
+            table: terminals::TABLE,
+            slaves: terminals::SLAVES,
+        },
+    ),
+];
+
 /// The machine of a name, if there is one.
 pub fn example_of(name: &str) -> Option<Example> {
-    let (table, slaves) = match name {
-        "drive" => (drive::TABLE, drive::SLAVES),
-        "line" => (line::TABLE, line::SLAVES),
-        "small_machine" => (small_machine::TABLE, small_machine::SLAVES),
-        "terminals" => (terminals::TABLE, terminals::SLAVES),
-        _ => return None,
-    };
-    Some(Example { table, slaves })
+    for (known, example) in &EXAMPLES {
+        if *known == name {
+            return Some(*example);
+        }
+    }
+    None
 }

@@ -1,13 +1,13 @@
 //! What a scan found of a slave.
-use crate::bytes::{byte_at, part_of};
+use crate::bytes::byte_at;
 use crate::categories::STRINGS;
 use crate::eeprom::Eeprom;
 use crate::error::ScanError;
 use crate::process::Seat;
-use std::alloc::Global;
+use crate::trial::Trial;
 
 /// What a scan found of a slave.
-#[derive(Debug, Drop)]
+#[derive(Drop)]
 pub struct Found {
     /// The station address that it got.
     pub station: u16,
@@ -21,32 +21,39 @@ pub struct Found {
     pub input_bytes: u16,
 }
 
-impl Found {
-    /// What the SII of a slave says, and how many bytes its process data have by it.
-    pub fn of(
-        alloc: Global,
-        station: u16,
-        eeprom: &Eeprom,
-        seat: &Seat,
-    ) -> Result<Found, ScanError> {
-        Ok(Found {
-            station,
-            name: name_of(alloc, eeprom)?,
-            identity: [
-                eeprom.long(0x08),
-                eeprom.long(0x0A),
-                eeprom.long(0x0C),
-                eeprom.long(0x0E),
-            ],
-            output_bytes: seat.outputs.count,
-            input_bytes: seat.inputs.count,
-        })
-    }
+/// Adds what the SII of a slave says, and how many bytes its process data have by it, unless a fault stands.
+pub fn push_found(
+    trial: &mut Trial,
+    found: &mut Vec<Found>,
+    station: u16,
+    eeprom: &Eeprom,
+    seat: &Seat,
+) {
+    let Some(name) = name_of(trial, eeprom) else {
+        return;
+    };
+    let slave = Found {
+        station,
+        name,
+        identity: [
+            eeprom.long(0x08),
+            eeprom.long(0x0A),
+            eeprom.long(0x0C),
+            eeprom.long(0x0E),
+        ],
+        output_bytes: seat.outputs.count,
+        input_bytes: seat.inputs.count,
+    };
+    trial.stored(found.push(slave));
 }
 
-/// The first string of an SII.
-fn name_of(alloc: Global, eeprom: &Eeprom) -> Result<String, ScanError> {
-    let bytes = eeprom.bytes(alloc, STRINGS)?;
-    let name = part_of(alloc, &bytes, 2, usize::from(byte_at(&bytes, 1)))?;
-    String::from_utf8(name).map_err(|_| ScanError::Name)
+/// The first string of an SII, unless a fault stands.
+fn name_of(trial: &mut Trial, eeprom: &Eeprom) -> Option<String> {
+    let bytes = eeprom.bytes(STRINGS);
+    let name = trial.part(bytes, 2, usize::from(byte_at(bytes, 1)));
+    let name = String::from_utf8(name).ok();
+    if name.is_none() {
+        trial.note(ScanError::Name);
+    }
+    if trial.is_over() { None } else { name }
 }

@@ -10,7 +10,6 @@ mod categories;
 mod eeprom;
 mod error;
 pub mod examples;
-mod expected;
 mod found;
 mod frames;
 mod link;
@@ -22,6 +21,7 @@ mod rows;
 mod scan;
 mod segments;
 mod stations;
+mod trial;
 
 pub use crate::bytes::byte_at;
 pub use crate::error::ScanError;

@@ -3,7 +3,7 @@ use crate::error::ScanError;
 use ec_card::{CardWire, Patience, Sender};
 use ec_ring::Ring;
 use ec_slave::Slave;
-use ec_wire::{SocketFault, UdpWire, Wire, receive_on, send_on};
+use ec_wire::{UdpWire, Wire, receive_on, send_on};
 use std::net::{Net, SocketAddrV4};
 use std::time::Duration;
 
@@ -20,7 +20,7 @@ const ROOM: usize = 1500;
 const LEAST_PAYLOAD: usize = 46;
 
 /// What the applications of a segment make of their outputs.
-#[derive(Clone, Copy, Debug, PartialEq, Eq, Drop)]
+#[derive(Clone, Copy, Drop)]
 pub enum Applications {
     /// Each byte of the inputs is the complement of the output byte at its place, and 0xC0 with its place where there is none.
     Complement,
@@ -69,7 +69,9 @@ impl MemoryCarrier {
 
 impl Carrier for MemoryCarrier {
     fn exchange(&mut self, frame: &mut [u8]) -> Result<(), ScanError> {
-        self.ring.pass_all(frame)?;
+        if self.ring.pass_all(frame).is_err() {
+            return Err(ScanError::Frame);
+        }
         for place in 0..self.ring.len() {
             step_slave(&mut self.ring, place);
         }
@@ -90,28 +92,32 @@ pub struct WireCarrier<W: Wire + Drop> {
 }
 
 /// A link to the segment at an address.
-pub fn link_to<R: Net>(rt: &R, peer: SocketAddrV4) -> Result<WireCarrier<UdpWire>, SocketFault> {
-    let wire = UdpWire::connect_patient(rt, peer, PATIENCE)?;
-    Ok(WireCarrier { wire, least: 0 })
+pub fn link_to<R: Net>(rt: &R, peer: SocketAddrV4) -> Result<WireCarrier<UdpWire>, ScanError> {
+    match UdpWire::connect_patient(rt, peer, PATIENCE) {
+        Ok(wire) => Ok(WireCarrier { wire, least: 0 }),
+        Err(_) => Err(ScanError::Carrier),
+    }
 }
 
 /// A link to the segment behind the network card whose raw socket has a descriptor.
-pub fn link_over(descriptor: u16) -> Result<WireCarrier<CardWire>, SocketFault> {
+pub fn link_over(descriptor: u16) -> Result<WireCarrier<CardWire>, ScanError> {
     let patience = Patience::For(Duration::from_millis(u64::from(PATIENCE)));
-    let wire = CardWire::of_descriptor(i32::from(descriptor), Sender::Master, patience)?;
-    Ok(WireCarrier {
-        wire,
-        least: LEAST_PAYLOAD,
-    })
+    match CardWire::of_descriptor(i32::from(descriptor), Sender::Master, patience) {
+        Ok(wire) => Ok(WireCarrier {
+            wire,
+            least: LEAST_PAYLOAD,
+        }),
+        Err(_) => Err(ScanError::Carrier),
+    }
 }
 
 impl<W: Wire + Drop> WireCarrier<W> {
-    /// A payload of so many bytes goes out, and the answer takes its place in the buffer. How many bytes came.
-    fn carry(&mut self, payload: &[u8], buffer: &mut [u8]) -> Result<usize, SocketFault> {
+    /// A payload of so many bytes goes out, and the answer takes its place in the buffer. How many bytes came, if any did.
+    fn carry(&mut self, payload: &[u8], buffer: &mut [u8]) -> Option<usize> {
         if !send_on(&mut self.wire, payload) {
-            return Err(SocketFault);
+            return None;
         }
-        receive_on(&mut self.wire, buffer).ok_or(SocketFault)
+        receive_on(&mut self.wire, buffer)
     }
 }
 
@@ -119,7 +125,9 @@ impl<W: Wire + Drop> Carrier for WireCarrier<W> {
     fn exchange(&mut self, frame: &mut [u8]) -> Result<(), ScanError> {
         let length = frame.len();
         let mut buffer = [0; ROOM];
-        let count = self.carry(frame, &mut buffer)?;
+        let Some(count) = self.carry(frame, &mut buffer) else {
+            return Err(ScanError::Carrier);
+        };
         if length > ROOM || count != length.max(self.least) {
             return Err(ScanError::Length(count));
         }

@@ -1,11 +1,10 @@
 //! Mailbox messages, and SDOs in them (ETG.1000.4, "Mailbox structure"; ETG.1000.6, "SDO services").
-use crate::bytes::{byte_at, part_of};
+use crate::bytes::byte_at;
 use crate::eeprom::Eeprom;
 use crate::error::ScanError;
-use crate::expected::expect_bytes;
 use crate::link::Carrier;
 use crate::master::{MAX_POLLS, Master};
-use std::alloc::{AllocError, Global};
+use crate::trial::Trial;
 
 /// The status of sync manager 1.
 const SEND_STATUS: u16 = 0x080D;
@@ -47,39 +46,42 @@ impl Mailbox {
             answered: 0,
         })
     }
+
+    /// The next message to the slave: the mailbox as it is written whole.
+    fn next_message(&mut self, trial: &mut Trial, kind: u8, body: &[u8]) -> Vec<u8> {
+        self.sent = next_counter(self.sent);
+        let size = usize::from(self.receive_size);
+        message_of(trial, size, (kind, self.sent), body)
+    }
+
+    /// The next message from the slave, which was read whole, is of this type and has this behind its header.
+    fn expect_next(&mut self, trial: &mut Trial, answer: &[u8], wanted: (u8, &[u8])) {
+        self.answered = next_counter(self.answered);
+        let size = usize::from(self.send_size);
+        let whole = message_of(trial, size, (wanted.0, self.answered), wanted.1);
+        trial.expect_bytes("mailbox answer", 0, answer, &whole);
+    }
 }
 
 impl<L: Carrier + Drop> Master<L> {
-    /// A message, and what answers it.
-    pub fn converse(
-        &mut self,
-        mailbox: &mut Mailbox,
-        kind: u8,
-        body: &[u8],
-    ) -> Result<Option<Vec<u8>>, ScanError> {
-        self.send(mailbox, kind, body)?;
-        self.receive(mailbox)
+    /// A message, which is written whole, and what answers it: the mailbox of the slave, which is read whole.
+    pub fn converse(&mut self, mailbox: &mut Mailbox, kind: u8, body: &[u8]) -> Vec<u8> {
+        let whole = mailbox.next_message(&mut self.trial, kind, body);
+        self.set(mailbox.station, mailbox.receive_start, &whole);
+        self.await_message(mailbox.station);
+        let size = usize::from(mailbox.send_size);
+        self.get(mailbox.station, mailbox.send_start, size)
     }
 
-    /// Waits for a message from a slave, and reads its mailbox whole. None where none comes.
-    fn receive(&mut self, mailbox: &Mailbox) -> Result<Option<Vec<u8>>, ScanError> {
+    /// Waits for a message from a slave.
+    fn await_message(&mut self, station: u16) {
         for _ in 0..MAX_POLLS {
-            let status = self.get(mailbox.station, SEND_STATUS, 2)?;
+            let status = self.get(station, SEND_STATUS, 2);
             if byte_at(&status, 0) & 0x08 != 0 {
-                let size = usize::from(mailbox.send_size);
-                return Ok(Some(self.get(mailbox.station, mailbox.send_start, size)?));
+                return;
             }
         }
-        Ok(None)
-    }
-
-    /// A message goes into the mailbox of a slave, which is written whole.
-    fn send(&mut self, mailbox: &mut Mailbox, kind: u8, body: &[u8]) -> Result<(), ScanError> {
-        mailbox.sent = next_counter(mailbox.sent);
-        let message = message_of(self.alloc(), kind, mailbox.sent, body)?;
-        let size = usize::from(mailbox.receive_size);
-        let whole = part_of(self.alloc(), &message, 0, size)?;
-        self.set(mailbox.station, mailbox.receive_start, &whole)
+        self.trial.note(ScanError::Silent);
     }
 }
 
@@ -89,28 +91,38 @@ pub fn expect_answer<L: Carrier + Drop>(
     mailbox: &mut Mailbox,
     asked: (u8, &[u8]),
     wanted: (u8, &[u8]),
-) -> Result<(), ScanError> {
-    mailbox.answered = next_counter(mailbox.answered);
-    let (kind, body) = wanted;
-    let message = message_of(master.alloc(), kind, mailbox.answered, body)?;
-    let whole = part_of(master.alloc(), &message, 0, usize::from(mailbox.send_size))?;
-    let answer = master.converse(mailbox, asked.0, asked.1)?;
-    let Some(answer) = answer else {
-        return Err(ScanError::Silent);
-    };
-    expect_bytes("mailbox answer", 0, &answer, &whole)
+) {
+    let answer = master.converse(mailbox, asked.0, asked.1);
+    mailbox.expect_next(&mut master.trial, &answer, wanted);
 }
 
-/// An upload gives these bytes.
+/// A request with this command and these bytes is answered with this service, this command and these bytes.
+fn expect_sdo<L: Carrier + Drop>(
+    master: &mut Master<L>,
+    mailbox: &mut Mailbox,
+    object: Object,
+    asked: (u8, &[u8]),
+    wanted: (u8, u8, &[u8]),
+) {
+    let request = sdo_of(&mut master.trial, object, (2, asked.0, asked.1));
+    let response = sdo_of(&mut master.trial, object, wanted);
+    expect_answer(master, mailbox, (COE, &request), (COE, &response));
+}
+
+/// An upload gives these bytes: expedited up to four, normal where there are more.
 pub fn expect_upload<L: Carrier + Drop>(
     master: &mut Master<L>,
     mailbox: &mut Mailbox,
     object: Object,
     value: &[u8],
-) -> Result<(), ScanError> {
-    let asked = sdo_of(master.alloc(), 2, 0x40, object, &[])?;
-    let wanted = upload_response(master.alloc(), object, value)?;
-    expect_answer(master, mailbox, (COE, &asked), (COE, &wanted))
+) {
+    let command = if value.len() <= 4 {
+        expedited(0x43, value.len())
+    } else {
+        0x41
+    };
+    let content = content_of(&mut master.trial, value);
+    expect_sdo(master, mailbox, object, (0x40, &[]), (3, command, &content));
 }
 
 /// A download of these bytes is taken.
@@ -119,11 +131,9 @@ pub fn expect_download<L: Carrier + Drop>(
     mailbox: &mut Mailbox,
     object: Object,
     value: &[u8],
-) -> Result<(), ScanError> {
+) {
     let command = expedited(0x23, value.len());
-    let asked = sdo_of(master.alloc(), 2, command, object, value)?;
-    let wanted = sdo_of(master.alloc(), 3, 0x60, object, &[])?;
-    expect_answer(master, mailbox, (COE, &asked), (COE, &wanted))
+    expect_sdo(master, mailbox, object, (command, value), (3, 0x60, &[]));
 }
 
 /// A request with this command and these bytes is aborted with this code.
@@ -132,11 +142,16 @@ pub fn expect_abort<L: Carrier + Drop>(
     mailbox: &mut Mailbox,
     request: (u8, Object, &[u8]),
     code: u32,
-) -> Result<(), ScanError> {
+) {
     let (command, object, content) = request;
-    let asked = sdo_of(master.alloc(), 2, command, object, content)?;
-    let wanted = sdo_of(master.alloc(), 2, 0x80, object, &code.to_le_bytes())?;
-    expect_answer(master, mailbox, (COE, &asked), (COE, &wanted))
+    let code = code.to_le_bytes();
+    expect_sdo(
+        master,
+        mailbox,
+        object,
+        (command, content),
+        (2, 0x80, &code),
+    );
 }
 
 /// The counter behind another one: 1 to 7, and 1 again.
@@ -144,24 +159,25 @@ fn next_counter(counter: u8) -> u8 {
     counter % 7 + 1
 }
 
-/// The mailbox header of a message, and what follows it.
-fn message_of(alloc: Global, kind: u8, counter: u8, body: &[u8]) -> Result<Vec<u8>, ScanError> {
-    let mut message = Vec::new(alloc);
-    message.extend_from_slice(&u16::try_from(body.len())?.to_le_bytes())?;
-    message.extend_from_slice(&[0, 0, 0, kind | (counter % 8) << 4])?;
-    message.extend_from_slice(body)?;
-    Ok(message)
+/// A mailbox of so many bytes with a message, which has a type and a counter, in it: its header, what follows it, and zeros.
+fn message_of(trial: &mut Trial, size: usize, kind: (u8, u8), body: &[u8]) -> Vec<u8> {
+    let [low, high] = trial.word_of(body.len()).to_le_bytes();
+    let mut message = Vec::new(trial.alloc);
+    let kind = kind.0 | (kind.1 % 8) << 4;
+    trial.append(&mut message, &[low, high, 0, 0, 0, kind]);
+    trial.append(&mut message, body);
+    trial.part(&message, 0, size)
 }
 
-/// The response to an upload: expedited up to four bytes, normal where there are more.
-fn upload_response(alloc: Global, object: Object, value: &[u8]) -> Result<Vec<u8>, ScanError> {
-    if value.len() <= 4 {
-        return Ok(sdo_of(alloc, 3, expedited(0x43, value.len()), object, value)?);
+/// What stands behind the object in the response to an upload: up to four bytes, or how many there are and they.
+fn content_of(trial: &mut Trial, value: &[u8]) -> Vec<u8> {
+    let mut content = Vec::new(trial.alloc);
+    if value.len() > 4 {
+        let count = trial.word_of(value.len()) as u32;
+        trial.append(&mut content, &count.to_le_bytes());
     }
-    let mut content = Vec::new(alloc);
-    content.extend_from_slice(&u32::try_from(value.len())?.to_le_bytes())?;
-    content.extend_from_slice(value)?;
-    Ok(sdo_of(alloc, 3, 0x41, object, &content)?)
+    trial.append(&mut content, value);
+    content
 }
 
 /// The command byte of an expedited SDO with so many bytes: which of the four bytes aren't used stands in bits 2 and 3.
@@ -171,18 +187,15 @@ fn expedited(command: u8, count: usize) -> u8 {
 }
 
 /// What follows the mailbox header of an SDO: the CoE header with its service, the command, the object and at least four bytes.
-fn sdo_of(
-    alloc: Global,
-    service: u8,
-    command: u8,
-    object: Object,
-    content: &[u8],
-) -> Result<Vec<u8>, AllocError> {
-    let (index, subindex) = object;
-    let [low, high] = index.to_le_bytes();
-    let mut body = Vec::new(alloc);
-    body.extend_from_slice(&[0, (service % 16) << 4, command, low, high, subindex])?;
-    let padded = part_of(alloc, content, 0, content.len().max(4))?;
-    body.extend_from_slice(&padded)?;
-    Ok(body)
+fn sdo_of(trial: &mut Trial, object: Object, sdo: (u8, u8, &[u8])) -> Vec<u8> {
+    let (service, command, content) = sdo;
+    let [low, high] = object.0.to_le_bytes();
+    let mut body = Vec::new(trial.alloc);
+    let heading = [0, (service % 16) << 4, command, low, high, object.1];
+    trial.append(&mut body, &heading);
+    trial.append(&mut body, content);
+    for _ in content.len()..4 {
+        trial.append(&mut body, &[0]);
+    }
+    body
 }

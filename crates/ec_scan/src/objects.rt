@@ -1,12 +1,11 @@
 //! What a slave's objects must be by its table, and what it refuses.
-use crate::eeprom::FoundPdo;
-use crate::error::ScanError;
+use crate::eeprom::{FoundPdo, pdos_of};
 use crate::link::Carrier;
 use crate::mailbox::{
-    COE, ERROR, Mailbox, expect_abort, expect_answer, expect_download, expect_upload,
+    COE, ERROR, Mailbox, Object, expect_abort, expect_answer, expect_download, expect_upload,
 };
 use crate::master::Master;
-use crate::rows::{PdoRow, SlaveRow};
+use crate::rows::{EntryRow, PdoRow, SlaveRow};
 
 /// The command of an upload.
 const UPLOAD: u8 = 0x40;
@@ -31,7 +30,7 @@ type Aborted = (u8, (u16, u8), &'static [u8], u32);
 
 /// No such object, no such subindex, an object that is read alone, a download of eight bytes by a normal transfer, an upload of a
 /// segment.
-const ABORTS: [Aborted; 5] = [
+static ABORTS: [Aborted; 5] = [
     (UPLOAD, (0x2000, 0), &[], NO_OBJECT),
     (UPLOAD, (0x1018, 5), &[], NO_SUBINDEX),
     (0x23, (0x1000, 0), &[1, 0, 0, 0], READ_ONLY),
@@ -54,7 +53,7 @@ const FRAGMENT: [u8; 18] = [
 
 /// EoE and FoE aren't spoken; of CoE there are no emergencies from a master; a request without its last bytes is too short; and
 /// there is no SDO information: a list of objects is answered by its error.
-const REFUSALS: [Refused; 5] = [
+static REFUSALS: [Refused; 5] = [
     (2, &FRAGMENT, ERROR, &[1, 0, 2, 0]),
     (4, &[1, 0, 0, 0, 0, 0], ERROR, &[1, 0, 2, 0]),
     (
@@ -72,61 +71,76 @@ const REFUSALS: [Refused; 5] = [
     ),
 ];
 
+/// Objects that are the same in each slave: both versions "1", and what the managers are for, their count first.
+static SAME: [(Object, &[u8]); 7] = [
+    ((0x1009, 0), b"1"),
+    ((0x100A, 0), b"1"),
+    ((0x1C00, 0), &[4]),
+    ((0x1C00, 1), &[1]),
+    ((0x1C00, 2), &[2]),
+    ((0x1C00, 3), &[3]),
+    ((0x1C00, 4), &[4]),
+];
+
 /// The objects of a slave are as its row says.
 pub fn expect_objects<L: Carrier + Drop>(
     master: &mut Master<L>,
     mailbox: &mut Mailbox,
     row: &SlaveRow,
-) -> Result<(), ScanError> {
-    expect_device(master, mailbox, row)?;
-    expect_assigned(master, mailbox, OUTPUTS_ASSIGNED, row.outputs)?;
-    expect_assigned(master, mailbox, INPUTS_ASSIGNED, row.inputs)?;
-    expect_aborts(master, mailbox)?;
-    expect_refusals(master, mailbox)
+) {
+    expect_device(master, mailbox, row);
+    expect_assigned(master, mailbox, OUTPUTS_ASSIGNED, row.outputs);
+    expect_assigned(master, mailbox, INPUTS_ASSIGNED, row.inputs);
+    expect_aborts(master, mailbox);
+    expect_refusals(master, mailbox);
 }
 
-/// The assignment of a direction is written anew: no object, each of these, their count.
+/// The assignment of a direction, whose category has these bytes, is written anew, if there are objects.
 pub fn assign<L: Carrier + Drop>(
     master: &mut Master<L>,
     mailbox: &mut Mailbox,
     index: u16,
+    bytes: &[u8],
+) {
+    let pdos = pdos_of(&mut master.trial, bytes);
+    if !pdos.is_empty() {
+        assign_all(master, mailbox, index, &pdos);
+    }
+}
+
+/// An assignment is written anew: no object, each of these, their count.
+fn assign_all<L: Carrier + Drop>(
+    master: &mut Master<L>,
+    mailbox: &mut Mailbox,
+    index: u16,
     pdos: &[FoundPdo],
-) -> Result<(), ScanError> {
-    if pdos.is_empty() {
-        return Ok(());
+) {
+    let count = master.trial.byte_of(pdos.len());
+    let mut subindex: u8 = 0;
+    expect_download(master, mailbox, (index, 0), &[0]);
+    for pdo in pdos {
+        subindex = subindex.saturating_add(1);
+        let bytes = pdo.index.to_le_bytes();
+        expect_download(master, mailbox, (index, subindex), &bytes);
     }
-    let count = u8::try_from(pdos.len())?;
-    expect_download(master, mailbox, (index, 0), &[0])?;
-    for (place, pdo) in pdos.iter().enumerate() {
-        let object = (index, next_subindex(place)?);
-        expect_download(master, mailbox, object, &pdo.index.to_le_bytes())?;
-    }
-    expect_download(master, mailbox, (index, 0), &[count])?;
-    expect_upload(master, mailbox, (index, 0), &[count])
+    expect_download(master, mailbox, (index, 0), &[count]);
+    expect_upload(master, mailbox, (index, 0), &[count]);
 }
 
 /// What isn't spoken is refused, and an upload after each refusal is answered as ever.
-fn expect_refusals<L: Carrier + Drop>(
-    master: &mut Master<L>,
-    mailbox: &mut Mailbox,
-) -> Result<(), ScanError> {
-    for (kind, body, answer, wanted) in REFUSALS {
-        expect_answer(master, mailbox, (kind, body), (answer, wanted))?;
-        expect_upload(master, mailbox, (0x1000, 0), &[0, 0, 0, 0])?;
+fn expect_refusals<L: Carrier + Drop>(master: &mut Master<L>, mailbox: &mut Mailbox) {
+    for (kind, body, answer, wanted) in &REFUSALS {
+        expect_answer(master, mailbox, (*kind, body), (*answer, wanted));
+        expect_upload(master, mailbox, (0x1000, 0), &[0, 0, 0, 0]);
     }
-    Ok(())
 }
 
 /// What isn't there is aborted, and an upload after each abort is answered as ever.
-fn expect_aborts<L: Carrier + Drop>(
-    master: &mut Master<L>,
-    mailbox: &mut Mailbox,
-) -> Result<(), ScanError> {
-    for (command, object, content, code) in ABORTS {
-        expect_abort(master, mailbox, (command, object, content), code)?;
-        expect_upload(master, mailbox, (0x1000, 0), &[0, 0, 0, 0])?;
+fn expect_aborts<L: Carrier + Drop>(master: &mut Master<L>, mailbox: &mut Mailbox) {
+    for (command, object, content, code) in &ABORTS {
+        expect_abort(master, mailbox, (*command, *object, content), *code);
+        expect_upload(master, mailbox, (0x1000, 0), &[0, 0, 0, 0]);
     }
-    Ok(())
 }
 
 /// All objects of a direction are assigned, and each has its mapping; where there are none there is no assignment.
@@ -135,59 +149,71 @@ fn expect_assigned<L: Carrier + Drop>(
     mailbox: &mut Mailbox,
     index: u16,
     rows: &[PdoRow],
-) -> Result<(), ScanError> {
+) {
     if rows.is_empty() {
-        let request: (u8, (u16, u8), &[u8]) = (UPLOAD, (index, 0), &[]);
-        return expect_abort(master, mailbox, request, NO_OBJECT);
+        expect_abort(master, mailbox, (UPLOAD, (index, 0), &[]), NO_OBJECT);
+    } else {
+        expect_all_assigned(master, mailbox, index, rows);
     }
-    let count = u8::try_from(rows.len())?;
-    expect_upload(master, mailbox, (index, 0), &[count])?;
-    for (place, row) in rows.iter().enumerate() {
-        let object = (index, next_subindex(place)?);
-        expect_upload(master, mailbox, object, &row.index.to_le_bytes())?;
-        expect_mapping(master, mailbox, row)?;
+}
+
+/// These objects are assigned, and each has its mapping.
+fn expect_all_assigned<L: Carrier + Drop>(
+    master: &mut Master<L>,
+    mailbox: &mut Mailbox,
+    index: u16,
+    rows: &[PdoRow],
+) {
+    let count = master.trial.byte_of(rows.len());
+    let mut subindex: u8 = 0;
+    expect_upload(master, mailbox, (index, 0), &[count]);
+    for row in rows {
+        subindex = subindex.saturating_add(1);
+        let bytes = row.index.to_le_bytes();
+        expect_upload(master, mailbox, (index, subindex), &bytes);
+        expect_mapping(master, mailbox, row.index, row.entries);
     }
-    Ok(())
 }
 
 /// The entries of an object as its mapping says them: index, subindex and bits, from the highest byte down.
 fn expect_mapping<L: Carrier + Drop>(
     master: &mut Master<L>,
     mailbox: &mut Mailbox,
-    row: &PdoRow,
-) -> Result<(), ScanError> {
-    let count = u8::try_from(row.entries.len())?;
-    expect_upload(master, mailbox, (row.index, 0), &[count])?;
-    for (place, (index, subindex, bits)) in row.entries.iter().enumerate() {
+    object: u16,
+    entries: &[EntryRow],
+) {
+    let count = master.trial.byte_of(entries.len());
+    let mut subindex: u8 = 0;
+    expect_upload(master, mailbox, (object, 0), &[count]);
+    for (index, part, bits) in entries {
+        subindex = subindex.saturating_add(1);
         let [low, high] = index.to_le_bytes();
-        let object = (row.index, next_subindex(place)?);
-        expect_upload(master, mailbox, object, &[*bits, *subindex, low, high])?;
+        let bytes = [*bits, *part, low, high];
+        expect_upload(master, mailbox, (object, subindex), &bytes);
     }
-    Ok(())
 }
 
-/// Device type 0, the name, both versions "1", the identity, and what the managers are for.
-fn expect_device<L: Carrier + Drop>(
+/// Device type 0, the name, the identity, and what is the same in each slave.
+fn expect_device<L: Carrier + Drop>(master: &mut Master<L>, mailbox: &mut Mailbox, row: &SlaveRow) {
+    expect_identity(master, mailbox, &row.identity);
+    expect_upload(master, mailbox, (0x1000, 0), &[0, 0, 0, 0]);
+    expect_upload(master, mailbox, (0x1008, 0), row.name.as_bytes());
+    for (object, value) in &SAME {
+        expect_upload(master, mailbox, *object, value);
+    }
+}
+
+/// Vendor, product, revision and serial number.
+fn expect_identity<L: Carrier + Drop>(
     master: &mut Master<L>,
     mailbox: &mut Mailbox,
-    row: &SlaveRow,
-) -> Result<(), ScanError> {
-    expect_upload(master, mailbox, (0x1018, 0), &[4])?;
-    for (place, number) in row.identity.iter().enumerate() {
-        let object = (0x1018, next_subindex(place)?);
-        expect_upload(master, mailbox, object, &number.to_le_bytes())?;
+    identity: &[u32],
+) {
+    let mut subindex: u8 = 0;
+    expect_upload(master, mailbox, (0x1018, 0), &[4]);
+    for number in identity {
+        subindex = subindex.saturating_add(1);
+        let bytes = number.to_le_bytes();
+        expect_upload(master, mailbox, (0x1018, subindex), &bytes);
     }
-    expect_upload(master, mailbox, (0x1000, 0), &[0, 0, 0, 0])?;
-    expect_upload(master, mailbox, (0x1008, 0), row.name.as_bytes())?;
-    expect_upload(master, mailbox, (0x1009, 0), b"1")?;
-    expect_upload(master, mailbox, (0x100A, 0), b"1")?;
-    for (subindex, usage) in [(0, 4), (1, 1), (2, 2), (3, 3), (4, 4)] {
-        expect_upload(master, mailbox, (0x1C00, subindex), &[usage])?;
-    }
-    Ok(())
-}
-
-/// A subindex behind another one.
-fn next_subindex(place: usize) -> Result<u8, ScanError> {
-    Ok(u8::try_from(place.saturating_add(1))?)
 }

@@ -1,11 +1,10 @@
 //! The process data of a segment: where they lie in the logical memory, and cycles over them (ETG.1000.4, "Sync manager", "Fieldbus
 //! memory management unit").
-use crate::bytes::{byte_at, part_of};
-use crate::error::ScanError;
-use crate::expected::expect_number;
+use crate::bytes::byte_at;
 use crate::frames::Datagram;
 use crate::link::{Applications, Carrier};
 use crate::master::Master;
+use crate::trial::Trial;
 use std::alloc::Global;
 
 // the numbers of the commands
@@ -44,9 +43,10 @@ impl Area {
     }
 
     /// The bytes of it in an image of the logical memory.
-    fn part(self, alloc: Global, image: &[u8]) -> Result<Vec<u8>, ScanError> {
-        let place = usize::try_from(self.logical)?;
-        Ok(part_of(alloc, image, place, usize::from(self.count))?)
+    fn part(self, image: &[u8]) -> &[u8] {
+        let from = self.logical as usize;
+        let end = from.saturating_add(usize::from(self.count));
+        image.get(from..end).unwrap_or(&[])
     }
 }
 
@@ -72,33 +72,6 @@ struct Run {
 }
 
 impl Run {
-    /// The datagrams that carry it, and the working counter that each must come back with.
-    fn push_to(
-        self,
-        alloc: Global,
-        image: &[u8],
-        datagrams: &mut Vec<Datagram>,
-        counters: &mut Vec<u16>,
-    ) -> Result<(), ScanError> {
-        let bytes = part_of(
-            alloc,
-            image,
-            usize::try_from(self.from)?,
-            usize::from(self.count),
-        )?;
-        let zeros = vec![in alloc; 0u8; usize::from(self.count)]?;
-        if self.lrw {
-            datagrams.push(Datagram::new(alloc, LRW, self.from, &bytes)?)?;
-            counters.push(self.written.saturating_mul(2).saturating_add(self.read))?;
-        } else {
-            datagrams.push(Datagram::new(alloc, LWR, self.from, &bytes)?)?;
-            counters.push(self.written)?;
-            datagrams.push(Datagram::new(alloc, LRD, self.from, &zeros)?)?;
-            counters.push(self.read)?;
-        }
-        Ok(())
-    }
-
     /// This run with a slave behind it.
     fn with(self, seat: &Seat) -> Run {
         let written = u16::from(seat.outputs.count > 0);
@@ -115,10 +88,70 @@ impl Run {
     }
 }
 
+/// The datagrams of a cycle, and the working counter that each must come back with.
+#[derive(Drop)]
+struct Cycle {
+    datagrams: Vec<Datagram>,
+    counters: Vec<u16>,
+}
+
+impl Cycle {
+    /// No datagrams.
+    fn new(alloc: Global) -> Cycle {
+        Cycle {
+            datagrams: Vec::new(alloc),
+            counters: Vec::new(alloc),
+        }
+    }
+
+    /// The datagrams that carry a run with these outputs.
+    fn push_run(&mut self, trial: &mut Trial, run: Run, image: &[u8]) {
+        let count = usize::from(run.count);
+        let bytes = trial.part(image, run.from as usize, count);
+        if run.lrw {
+            let counter = run.written.saturating_mul(2).saturating_add(run.read);
+            self.push(trial, LRW, run.from, bytes, counter);
+        } else {
+            let zeros = trial.zeros(count);
+            self.push(trial, LWR, run.from, bytes, run.written);
+            self.push(trial, LRD, run.from, zeros, run.read);
+        }
+    }
+
+    /// A datagram more.
+    fn push(&mut self, trial: &mut Trial, command: u8, address: u32, bytes: Vec<u8>, counter: u16) {
+        let datagram = Datagram {
+            command,
+            address,
+            bytes,
+            counter: 0,
+        };
+        trial.stored(self.datagrams.push(datagram));
+        trial.stored(self.counters.push(counter));
+    }
+
+    /// Each datagram came back with its counter.
+    fn expect_counters(&self, trial: &mut Trial) {
+        for place in 0..self.counters.len() {
+            if place < self.datagrams.len() {
+                expect_counter(trial, &self.datagrams[place], self.counters[place]);
+            }
+        }
+    }
+
+    /// What the datagrams brought back to an image of so many bytes of the logical memory.
+    fn brought_back(&self, trial: &mut Trial, length: u32) -> Vec<u8> {
+        let mut image = trial.zeros(length as usize);
+        for datagram in &self.datagrams {
+            bring_back(&mut image, datagram);
+        }
+        image
+    }
+}
+
 /// The process data of all slaves, one slave after another from logical address 0 on.
 #[derive(Drop)]
 pub struct Process {
-    alloc: Global,
     seats: Vec<Seat>,
     next: u32,
 }
@@ -127,7 +160,6 @@ impl Process {
     /// No slaves.
     pub fn new(alloc: Global) -> Process {
         Process {
-            alloc,
             seats: Vec::new(alloc),
             next: 0,
         }
@@ -136,17 +168,18 @@ impl Process {
     /// A slave more: outputs and inputs, of each the address and how many bytes, and whether it takes part in LRW.
     pub fn seat(
         &mut self,
+        trial: &mut Trial,
         outputs: (u16, u16),
         inputs: (u16, u16),
         lrw: bool,
-    ) -> Result<Seat, ScanError> {
+    ) -> Seat {
         let seat = Seat {
             outputs: self.area(outputs.0, outputs.1),
             inputs: self.area(inputs.0, inputs.1),
             lrw,
         };
-        self.seats.push(seat)?;
-        Ok(seat)
+        trial.stored(self.seats.push(seat));
+        seat
     }
 
     /// The bytes behind those that have a place.
@@ -161,53 +194,54 @@ impl Process {
     }
 
     /// The runs of slaves that go by the same commands; `joint` says whether LRW is used at all.
-    fn runs(&self, joint: bool) -> Result<Vec<Run>, ScanError> {
-        let mut runs: Vec<Run> = Vec::new(self.alloc);
+    fn runs(&self, trial: &mut Trial, joint: bool) -> Vec<Run> {
+        let mut runs: Vec<Run> = Vec::new(trial.alloc);
         for seat in &self.seats {
             let lrw = joint && seat.lrw;
-            let run = match runs.pop() {
-                Some(run) if run.lrw == lrw => run,
-                other => {
-                    if let Some(run) = other {
-                        runs.push(run)?;
-                    }
-                    Run {
-                        from: seat.outputs.logical,
-                        count: 0,
-                        lrw,
-                        written: 0,
-                        read: 0,
-                    }
-                }
+            let before = match runs.last() {
+                Some(run) if run.lrw == lrw => runs.pop(),
+                _ => None,
             };
-            runs.push(run.with(seat))?;
+            let run = before.unwrap_or(Run {
+                from: seat.outputs.logical,
+                count: 0,
+                lrw,
+                written: 0,
+                read: 0,
+            });
+            trial.stored(runs.push(run.with(seat)));
         }
-        Ok(runs)
+        runs
+    }
+
+    /// The datagrams of a cycle with these outputs.
+    fn cycle(&self, trial: &mut Trial, joint: bool, outputs: &[u8]) -> Cycle {
+        let mut cycle = Cycle::new(trial.alloc);
+        for run in &self.runs(trial, joint) {
+            cycle.push_run(trial, *run, outputs);
+        }
+        cycle
     }
 
     /// The outputs of a cycle, other ones in each.
-    fn image(&self, cycle: u32) -> Result<Vec<u8>, ScanError> {
-        let mut image = Vec::new(self.alloc);
+    fn image(&self, trial: &mut Trial, cycle: u32) -> Vec<u8> {
+        let mut image = Vec::new(trial.alloc);
         for place in 0..self.next {
             let number = cycle.wrapping_mul(37).wrapping_add(place.wrapping_mul(11));
-            image.push((number % 256) as u8)?;
+            trial.stored(image.push((number % 256) as u8));
         }
-        Ok(image)
+        image
     }
 }
 
 /// Cycles with other outputs in each, by LRW as far as the slaves take part in it; and two by LWR and LRD alone.
-pub fn expect_cycles<L: Carrier + Drop>(
-    master: &mut Master<L>,
-    process: &Process,
-) -> Result<(), ScanError> {
-    let mut before = vec![in master.alloc(); 0u8; usize::try_from(process.next)?]?;
+pub fn expect_cycles<L: Carrier + Drop>(master: &mut Master<L>, process: &Process) {
+    let mut before = master.trial.zeros(process.next as usize);
     for cycle in 1..=ALL_CYCLES {
-        let outputs = process.image(cycle)?;
-        expect_cycle(master, process, cycle <= CYCLES, &outputs, &before)?;
+        let outputs = process.image(&mut master.trial, cycle);
+        expect_cycle(master, process, cycle <= CYCLES, &outputs, &before);
         before = outputs;
     }
-    Ok(())
 }
 
 /// A cycle carries these outputs, and brings what the applications made of the outputs before.
@@ -217,87 +251,50 @@ fn expect_cycle<L: Carrier + Drop>(
     joint: bool,
     outputs: &[u8],
     before: &[u8],
-) -> Result<(), ScanError> {
-    let alloc = master.alloc();
-    let datagrams = exchange_cycle(master, &process.runs(joint)?, outputs)?;
-    let seen = brought_back(alloc, process.next, &datagrams)?;
+) {
+    let mut cycle = process.cycle(&mut master.trial, joint, outputs);
+    master.exchange(&mut cycle.datagrams);
+    let applications = master.applications();
+    cycle.expect_counters(&mut master.trial);
+    let seen = cycle.brought_back(&mut master.trial, process.next);
     for seat in &process.seats {
-        expect_inputs(alloc, master.applications(), seat, before, &seen)?;
+        expect_inputs(&mut master.trial, applications, seat, before, &seen);
     }
-    Ok(())
-}
-
-/// The runs go out in one frame with these outputs, and come back with their counters.
-fn exchange_cycle<L: Carrier + Drop>(
-    master: &mut Master<L>,
-    runs: &[Run],
-    outputs: &[u8],
-) -> Result<Vec<Datagram>, ScanError> {
-    let mut datagrams = Vec::new(master.alloc());
-    let mut counters = Vec::new(master.alloc());
-    for run in runs {
-        run.push_to(master.alloc(), outputs, &mut datagrams, &mut counters)?;
-    }
-    master.exchange(&mut datagrams)?;
-    expect_counters(&datagrams, &counters)?;
-    Ok(datagrams)
-}
-
-/// Each datagram came back with its counter.
-fn expect_counters(datagrams: &[Datagram], counters: &[u16]) -> Result<(), ScanError> {
-    for (datagram, counter) in datagrams.iter().zip(counters) {
-        let command = u32::from(datagram.command);
-        expect_number(
-            "counter of command",
-            command,
-            u32::from(datagram.counter),
-            u32::from(*counter),
-        )?;
-    }
-    Ok(())
 }
 
 /// The inputs of a slave are what its application made of the outputs of the cycle before.
 fn expect_inputs(
-    alloc: Global,
+    trial: &mut Trial,
     applications: Applications,
     seat: &Seat,
     before: &[u8],
     seen: &[u8],
-) -> Result<(), ScanError> {
-    let outputs = seat.outputs.part(alloc, before)?;
-    let inputs = seat.inputs.part(alloc, seen)?;
+) {
+    let outputs = seat.outputs.part(before);
+    let inputs = seat.inputs.part(seen);
     let mut at = seat.inputs.logical;
     for place in 0..usize::from(seat.inputs.count) {
-        let made = applications.input(&outputs, place);
-        expect_number(
-            "input",
-            at,
-            u32::from(byte_at(&inputs, place)),
-            u32::from(made),
-        )?;
+        let made = applications.input(outputs, place);
+        trial.expect_number("input", at, byte_at(inputs, place) as u32, made as u32);
         at = at.saturating_add(1);
     }
-    Ok(())
 }
 
-/// What the datagrams brought back to an image of the logical memory.
-fn brought_back(alloc: Global, length: u32, datagrams: &[Datagram]) -> Result<Vec<u8>, ScanError> {
-    let mut image = vec![in alloc; 0u8; usize::try_from(length)?]?;
-    for datagram in datagrams {
-        bring_back(&mut image, usize::try_from(datagram.address)?, datagram);
-    }
-    Ok(image)
+/// A datagram came back with this counter.
+fn expect_counter(trial: &mut Trial, datagram: &Datagram, counter: u16) {
+    let command = datagram.command as u16;
+    trial.expect_word("counter of command", command, datagram.counter, counter);
 }
 
 /// What a datagram brought back to its place of an image; LWR brings nothing.
-fn bring_back(image: &mut [u8], from: usize, datagram: &Datagram) {
+fn bring_back(image: &mut [u8], datagram: &Datagram) {
     if datagram.command == LWR {
         return;
     }
-    for (place, byte) in datagram.bytes.iter().enumerate() {
+    let from = datagram.address as usize;
+    for place in 0..datagram.bytes.len() {
         if let Some(cell) = image.get_mut(from.saturating_add(place)) {
-            *cell = *byte;
+            *cell = datagram.bytes[place];
         }
     }
 }

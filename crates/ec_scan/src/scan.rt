@@ -1,18 +1,17 @@
 //! A scan: what a usual master does from the first frame to cycles in OP.
 use crate::bytes::{byte_at, word_at};
-use crate::categories::{INPUTS, MANAGERS, OUTPUTS, expect_edge, expect_eeprom};
+use crate::categories::{GENERAL, INPUTS, MANAGERS, OUTPUTS, expect_edge, expect_eeprom};
 use crate::eeprom::{Eeprom, bytes_together};
 use crate::error::ScanError;
-use crate::expected::expect_number;
-use crate::found::Found;
+use crate::found::{Found, push_found};
 use crate::link::Carrier;
 use crate::mailbox::Mailbox;
 use crate::master::{Master, station_of};
 use crate::objects::{INPUTS_ASSIGNED, OUTPUTS_ASSIGNED, assign, expect_objects};
-use crate::process::{Process, Seat, expect_cycles};
+use crate::process::{Area, Process, Seat, expect_cycles};
 use crate::rows::SlaveRow;
-use crate::stations::expect_stations;
-use std::alloc::Global;
+use crate::stations::expect_places;
+use crate::trial::Trial;
 
 // the AL states
 const INIT: u8 = 1;
@@ -28,18 +27,6 @@ const SYNC_MANAGERS: u16 = 0x0800;
 
 const FMMUS: u16 = 0x0600;
 
-/// All slaves of a segment enter a state.
-pub fn expect_states<L: Carrier + Drop>(
-    master: &mut Master<L>,
-    count: usize,
-    state: u8,
-) -> Result<(), ScanError> {
-    for place in 0..count {
-        expect_state(master, station_of(place)?, state)?;
-    }
-    Ok(())
-}
-
 /// The slaves of a segment are counted, read, set up and run, and are as their rows say. What is found of each is added to
 /// `found`, also where a slave behind it isn't as its row says.
 pub fn expect_scan<L: Carrier + Drop>(
@@ -47,13 +34,12 @@ pub fn expect_scan<L: Carrier + Drop>(
     rows: &[SlaveRow],
     found: &mut Vec<Found>,
 ) -> Result<(), ScanError> {
-    let mut process = Process::new(master.alloc());
-    expect_stations(master, rows.len())?;
-    for (place, row) in rows.iter().enumerate() {
-        found.push(expect_slave(master, &mut process, place, row)?)?;
-    }
-    expect_states(master, rows.len(), OP)?;
-    expect_cycles(master, &process)
+    let mut process = Process::new(master.trial.alloc);
+    let count = expect_places(master, rows.len());
+    expect_slaves(master, &mut process, rows, found);
+    expect_states(master, count, OP);
+    expect_cycles(master, &process);
+    master.outcome()
 }
 
 /// All slaves go back to INIT.
@@ -61,27 +47,58 @@ pub fn expect_init<L: Carrier + Drop>(
     master: &mut Master<L>,
     count: usize,
 ) -> Result<(), ScanError> {
-    expect_states(master, count, INIT)
+    let count = master.trial.word_of(count);
+    expect_states(master, count, INIT);
+    master.outcome()
 }
 
-/// The slave at a place says what its row does, and is set up to SAFEOP. What was found of it.
+/// The first slaves of a segment, as many as are told, enter a state.
+fn expect_states<L: Carrier + Drop>(master: &mut Master<L>, count: u16, state: u8) {
+    for place in 0..count {
+        expect_state(master, station_of(place), state);
+    }
+}
+
+/// Each slave says what its row does, and is set up to SAFEOP.
+fn expect_slaves<L: Carrier + Drop>(
+    master: &mut Master<L>,
+    process: &mut Process,
+    rows: &[SlaveRow],
+    found: &mut Vec<Found>,
+) {
+    let mut place: u16 = 0;
+    for row in rows {
+        expect_slave(master, process, station_of(place), row, found);
+        place = place.saturating_add(1);
+    }
+}
+
+/// The slave with a station address says what its row does, and is set up to SAFEOP.
 fn expect_slave<L: Carrier + Drop>(
     master: &mut Master<L>,
     process: &mut Process,
-    place: usize,
+    station: u16,
     row: &SlaveRow,
-) -> Result<Found, ScanError> {
-    let station = station_of(place)?;
-    let eeprom = master.read_eeprom(station)?;
-    let managers = eeprom.bytes(master.alloc(), MANAGERS)?;
-    expect_eeprom(master.alloc(), &eeprom, row)?;
-    expect_edge(master, station, row)?;
-    expect_preop(master, station, &managers)?;
-    expect_mailbox(master, station, &eeprom, row)?;
-    let seat = seat_of(master.alloc(), process, &eeprom, &managers)?;
-    set_process_data(master, station, &managers, &seat)?;
-    expect_state(master, station, SAFEOP)?;
-    Found::of(master.alloc(), station, &eeprom, &seat)
+    found: &mut Vec<Found>,
+) {
+    let eeprom = master.read_eeprom(station);
+    expect_contents(master, station, &eeprom, row);
+    let seat = seat_of(&mut master.trial, process, &eeprom);
+    expect_safeop(master, station, eeprom.bytes(MANAGERS), &seat);
+    push_found(&mut master.trial, found, station, &eeprom, &seat);
+}
+
+/// The SII of a slave says what its row does, and in PREOP its objects do.
+fn expect_contents<L: Carrier + Drop>(
+    master: &mut Master<L>,
+    station: u16,
+    eeprom: &Eeprom,
+    row: &SlaveRow,
+) {
+    expect_eeprom(&mut master.trial, eeprom, row);
+    expect_edge(master, station, row);
+    expect_preop(master, station, eeprom.bytes(MANAGERS));
+    expect_mailbox(master, station, eeprom, row);
 }
 
 /// The objects of a slave with mailboxes are as its row says, and all of its process data objects are assigned anew.
@@ -90,47 +107,52 @@ fn expect_mailbox<L: Carrier + Drop>(
     station: u16,
     eeprom: &Eeprom,
     row: &SlaveRow,
-) -> Result<(), ScanError> {
-    let Some(mut mailbox) = Mailbox::of(station, eeprom) else {
-        return Ok(());
-    };
-    let outputs = eeprom.pdos(master.alloc(), OUTPUTS)?;
-    let inputs = eeprom.pdos(master.alloc(), INPUTS)?;
-    expect_objects(master, &mut mailbox, row)?;
-    assign(master, &mut mailbox, OUTPUTS_ASSIGNED, &outputs)?;
-    assign(master, &mut mailbox, INPUTS_ASSIGNED, &inputs)
+) {
+    if let Some(mut mailbox) = Mailbox::of(station, eeprom) {
+        let (outputs, inputs) = (eeprom.bytes(OUTPUTS), eeprom.bytes(INPUTS));
+        expect_objects(master, &mut mailbox, row);
+        assign(master, &mut mailbox, OUTPUTS_ASSIGNED, outputs);
+        assign(master, &mut mailbox, INPUTS_ASSIGNED, inputs);
+    }
 }
 
-/// Managers 2 and 3 and an FMMU for each direction with bytes are set.
-fn set_process_data<L: Carrier + Drop>(
+/// Managers 2 and 3 and an FMMU for each direction with bytes are set, and SAFEOP is entered.
+fn expect_safeop<L: Carrier + Drop>(
     master: &mut Master<L>,
     station: u16,
     managers: &[u8],
     seat: &Seat,
-) -> Result<(), ScanError> {
-    set_manager(master, station, managers, 2, seat.outputs.count)?;
-    set_manager(master, station, managers, 3, seat.inputs.count)?;
-    if seat.outputs.count > 0 {
-        master.set(station, FMMUS, &seat.outputs.fmmu(2))?;
+) {
+    let outputs = manager_page(managers, 2, seat.outputs.count);
+    let inputs = manager_page(managers, 3, seat.inputs.count);
+    master.set(station, SYNC_MANAGERS + 16, &outputs);
+    master.set(station, SYNC_MANAGERS + 24, &inputs);
+    set_fmmu(master, station, FMMUS, seat.outputs, 2);
+    set_fmmu(master, station, FMMUS + 16, seat.inputs, 1);
+    expect_state(master, station, SAFEOP);
+}
+
+/// An FMMU at a register is set to move an area by reads (1) or by writes (2), unless that has no bytes.
+fn set_fmmu<L: Carrier + Drop>(
+    master: &mut Master<L>,
+    station: u16,
+    register: u16,
+    area: Area,
+    direction: u8,
+) {
+    if area.count > 0 {
+        master.set(station, register, &area.fmmu(direction));
     }
-    if seat.inputs.count > 0 {
-        master.set(station, FMMUS.saturating_add(16), &seat.inputs.fmmu(1))?;
-    }
-    Ok(())
 }
 
 /// Where a slave's process data go, by its SII.
-fn seat_of(
-    alloc: Global,
-    process: &mut Process,
-    eeprom: &Eeprom,
-    managers: &[u8],
-) -> Result<Seat, ScanError> {
-    let outputs = bytes_together(&eeprom.pdos(alloc, OUTPUTS)?)?;
-    let inputs = bytes_together(&eeprom.pdos(alloc, INPUTS)?)?;
-    let general = eeprom.bytes(alloc, 30)?;
-    let lrw = byte_at(&general, 11) & 0x02 == 0;
+fn seat_of(trial: &mut Trial, process: &mut Process, eeprom: &Eeprom) -> Seat {
+    let outputs = bytes_together(trial, eeprom.bytes(OUTPUTS));
+    let inputs = bytes_together(trial, eeprom.bytes(INPUTS));
+    let lrw = byte_at(eeprom.bytes(GENERAL), 11) & 0x02 == 0;
+    let managers = eeprom.bytes(MANAGERS);
     process.seat(
+        trial,
         (word_at(managers, 16), outputs),
         (word_at(managers, 24), inputs),
         lrw,
@@ -138,44 +160,28 @@ fn seat_of(
 }
 
 /// Managers 0 and 1 get what the SII says, both by one datagram, and PREOP is entered.
-fn expect_preop<L: Carrier + Drop>(
-    master: &mut Master<L>,
-    station: u16,
-    managers: &[u8],
-) -> Result<(), ScanError> {
-    let mut pages = Vec::new(master.alloc());
-    pages.extend_from_slice(&manager_page(managers, 0, word_at(managers, 2)))?;
-    pages.extend_from_slice(&manager_page(managers, 1, word_at(managers, 10)))?;
-    master.set(station, SYNC_MANAGERS, &pages)?;
-    expect_state(master, station, PREOP)
+fn expect_preop<L: Carrier + Drop>(master: &mut Master<L>, station: u16, managers: &[u8]) {
+    let pages = mailbox_pages(&mut master.trial, managers);
+    master.set(station, SYNC_MANAGERS, &pages);
+    expect_state(master, station, PREOP);
+}
+
+/// The registers of managers 0 and 1.
+fn mailbox_pages(trial: &mut Trial, managers: &[u8]) -> Vec<u8> {
+    let mut pages = Vec::new(trial.alloc);
+    let receive = manager_page(managers, 0, word_at(managers, 2));
+    let send = manager_page(managers, 1, word_at(managers, 10));
+    trial.append(&mut pages, &receive);
+    trial.append(&mut pages, &send);
+    pages
 }
 
 /// A slave enters a state.
-fn expect_state<L: Carrier + Drop>(
-    master: &mut Master<L>,
-    station: u16,
-    state: u8,
-) -> Result<(), ScanError> {
-    let (shown, code) = master.change_state(station, state)?;
-    expect_number(
-        "AL status of",
-        u32::from(station),
-        u32::from(shown),
-        u32::from(state),
-    )?;
-    expect_number("AL status code of", u32::from(station), u32::from(code), 0)
-}
-
-/// Writes the registers of a manager.
-fn set_manager<L: Carrier + Drop>(
-    master: &mut Master<L>,
-    station: u16,
-    managers: &[u8],
-    number: u16,
-    length: u16,
-) -> Result<(), ScanError> {
-    let register = SYNC_MANAGERS.saturating_add(number.saturating_mul(8));
-    master.set(station, register, &manager_page(managers, number, length))
+fn expect_state<L: Carrier + Drop>(master: &mut Master<L>, station: u16, state: u8) {
+    let (shown, code) = master.change_state(station, state);
+    let trial = &mut master.trial;
+    trial.expect_word("AL status of", station, shown, state as u16);
+    trial.expect_word("AL status code of", station, code, 0);
 }
 
 /// The registers of a manager of so many bytes: what the SII says but for the length, and active where it has one.

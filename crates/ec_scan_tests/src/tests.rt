@@ -89,13 +89,12 @@ fn reads_words_of_categories(rt: HostRuntime) -> Result<(), Fail> {
     let ring = slaves_of_text(rt.alloc(), TABLE, true)?;
     let mut master = Master::new(rt.alloc(), MemoryCarrier::new(ring));
     expect_stations(&mut master, SLAVES.len())?;
-    let station = station_of(1)?;
     for (place, word) in LAMPS_WORDS.iter().enumerate() {
         let address = u32::try_from(place)?.saturating_add(0x40);
-        let Some((seen, _)) = master.words_at(station, address)? else {
+        let Some((seen, _)) = master.words_at(station_of(1), address) else {
             return Err("a word that can't be read".into());
         };
         assert_eq!(rt; seen, *word, "word {address:x}");
     }
-    Ok(())
+    Ok(master.outcome()?)
 }

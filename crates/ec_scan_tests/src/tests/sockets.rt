@@ -1,7 +1,7 @@
 //! A link over two sockets of one thread: the master's, and that of the segment that answers it.
-use ec_ring::{NotAFrame, Ring};
+use ec_ring::Ring;
 use ec_scan::{Applications, Carrier, ScanError};
-use ec_wire::{App, SocketFault, UdpWire, serve_segment};
+use ec_wire::{App, UdpWire, serve_segment};
 use std::io;
 use std::net::{Ipv4Addr, Net, SocketAddr, UdpSocket};
 use std::test::Fail;
@@ -36,7 +36,7 @@ fn here(port: u16) -> SocketAddr {
 }
 /// A call of the client's socket failed.
 fn fault_of(_: io::Error) -> ScanError {
-    ScanError::Carrier(SocketFault)
+    ScanError::Carrier
 }
 
 impl UdpLink {
@@ -54,11 +54,10 @@ impl UdpLink {
 
     /// The segment receives one payload and answers it.
     fn serve(&mut self) -> Result<(), ScanError> {
-        let served = serve_segment(&mut self.ring, &mut Complement, &mut self.segment, 1)?;
-        if served.answered == 1 {
-            Ok(())
-        } else {
-            Err(ScanError::Frame(NotAFrame))
+        match serve_segment(&mut self.ring, &mut Complement, &mut self.segment, 1) {
+            Ok(served) if served.answered == 1 => Ok(()),
+            Ok(_) => Err(ScanError::Frame),
+            Err(_) => Err(ScanError::Carrier),
         }
     }
 }

@@ -1,25 +1,22 @@
 //! What each error of a scan says.
+use crate::tests::machine::TABLE;
 use ec_link::LinkError;
-use ec_ring::NotAFrame;
-use ec_scan::{ScanError, station_of};
+use ec_scan::{Master, MemoryCarrier, ScanError, expect_init, slaves_of_text};
 use ec_table::TableError;
-use ec_wire::SocketFault;
-use std::alloc::AllocError;
 use std::process::Abort;
+use std::test::Fail;
 
-/// All but that of a number which is too large.
-const TEXTS: [(ScanError, &str); 16] = [
-    (ScanError::Memory(AllocError), "there is no memory"),
+/// All of them.
+const TEXTS: [(ScanError, &str); 17] = [
+    (ScanError::Memory, "there is no memory"),
+    (ScanError::Range, "a number that is too large for its place"),
     (
         ScanError::Table(TableError::Memory),
         "the text is no link table",
     ),
     (ScanError::Plan(LinkError::Memory), "the table has no plan"),
-    (
-        ScanError::Frame(NotAFrame),
-        "the slaves were given no frame",
-    ),
-    (ScanError::Carrier(SocketFault), "no frame came back"),
+    (ScanError::Frame, "the slaves were given no frame"),
+    (ScanError::Carrier, "no frame came back"),
     (ScanError::Length(28), "a frame came back with 28 bytes"),
     (ScanError::Datagram, "another datagram came back"),
     (ScanError::NotTaken(0x0120), "register 0x120 takes no write"),
@@ -49,14 +46,9 @@ const TEXTS: [(ScanError, &str); 16] = [
 ];
 
 /// An error says this.
-fn expect_said(rt: &(impl AllocGlobal + Abort), error: &ScanError, text: &str) {
+pub fn expect_said(rt: &(impl AllocGlobal + Abort), error: &ScanError, text: &str) {
     let said = format!(in rt.alloc(); "{error}").expect(rt, "memory");
     assert_eq!(rt; said.as_str(), text);
-}
-
-/// A place is too large for a station address.
-fn too_large(rt: &impl Abort) -> ScanError {
-    station_of(65_536).err().expect(rt, "a station")
 }
 
 #[test]
@@ -66,11 +58,12 @@ fn texts_of_errors(rt: HostRuntime) {
     }
 }
 
+// Their number is too large for a station address.
 #[test]
-fn text_of_a_number_that_is_too_large(rt: HostRuntime) {
-    expect_said(
-        &rt,
-        &too_large(&rt),
-        "a number that is too large for its place",
-    );
+fn text_of_too_many_slaves(rt: HostRuntime) -> Result<(), Fail> {
+    let ring = slaves_of_text(rt.alloc(), TABLE, true)?;
+    let mut master = Master::new(rt.alloc(), MemoryCarrier::new(ring));
+    let fault = expect_init(&mut master, 65_536).err().ok_or("a state")?;
+    expect_said(&rt, &fault, "a number that is too large for its place");
+    Ok(())
 }
