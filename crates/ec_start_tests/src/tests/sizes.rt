@@ -1,5 +1,5 @@
 //! Start-ups of every number of slaves, and the texts of their failures.
-use crate::start::{plan_of, startup_of};
+use crate::tests::{plan_of, startup_of};
 use ec_device::Device;
 use ec_link::Plan;
 use ec_start::{Phase, StartError};

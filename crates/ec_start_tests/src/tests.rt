@@ -1,6 +1,6 @@
 //! The calls of a start-up, with payloads written by hand.
 
-use crate::start::rows::STEPS;
+use crate::tests::rows::STEPS;
 use ec_device::Device;
 use ec_frame::Frame;
 use ec_link::{Plan, compile};
