@@ -1,8 +1,5 @@
-//! The program over memory and sockets, by the public calls of `ec_commands`; and beside the calls that it is made of, on tables
-//! and scripts at random.
+//! The program over memory and sockets, by the public calls of `ec_commands`.
 #![tactic(auto)]
 
-#[cfg(test)]
-mod joined;
 #[cfg(test)]
 mod tests;
