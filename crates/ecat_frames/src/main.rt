@@ -11,7 +11,7 @@ mod payloads;
 
 use crate::judge::is_told;
 use crate::payloads::payload_of;
-use ec_fixtures::Random;
+use ec_random::Random;
 use std::process::ExitCode;
 use std::{env, io};
 

@@ -2,8 +2,8 @@
 //! cycles, frames that came to no slave, and bytes at random.
 use crate::judge::is_answer;
 use crate::payloads::{frame_of, random_payload, tamper};
-use ec_fixtures::Random;
 use ec_frame::Frame;
+use ec_random::Random;
 use ec_ring::Ring;
 use ec_slave::Slave;
 use ec_wire::Wire;

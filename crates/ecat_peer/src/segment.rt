@@ -2,9 +2,9 @@
 use crate::payloads::random_payload;
 use crate::plain::{is_frame, may_answer};
 use crate::visits::visit;
-use ec_fixtures::Random;
 use ec_frame::Frame;
 use ec_frame::field::MAX_FRAME_LEN;
+use ec_random::Random;
 use ec_ring::Ring;
 use ec_wire::{Echo, UdpWire, Wire, serve_segment};
 use std::alloc::AllocError;

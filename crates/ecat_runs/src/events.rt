@@ -1,7 +1,7 @@
 //! Events at random.
 use crate::model::Model;
-use ec_fixtures::Random;
 use ec_link::Plan;
+use ec_random::Random;
 use ec_world::{Event, World};
 
 /// What events a world gets.

@@ -1,6 +1,7 @@
 //! What a seed decides: a table and a script. They are worth a run: tables that are unlike, most with slaves, and scripts with lines
 //! of each kind.
-use ec_fixtures::{Random, random_script, random_table};
+use ec_fixtures::{random_script, random_table};
+use ec_random::Random;
 use std::alloc::{AllocError, Global};
 use std::process::Abort;
 
