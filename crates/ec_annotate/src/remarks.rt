@@ -8,7 +8,8 @@ use ec_carried::{Told, write_process};
 use ec_decode::check_placed;
 use ec_frame::FrameError;
 use ec_frame::field::FRAME_HEADER_LEN;
-use ec_remark::{Seen, first_seen, write_remarks};
+use ec_remark::write_remarks;
+use ec_seen::{Seen, first_seen};
 use hex::FromHexError;
 use std::alloc::{AllocError, Global};
 

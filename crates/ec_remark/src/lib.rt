@@ -3,18 +3,13 @@
 #![tactic(auto)]
 
 mod abort;
-pub mod laws;
 mod mailbox;
-mod register;
 mod remark;
-mod seen;
 mod sii;
 mod state;
 mod value;
 
 pub use crate::abort::abort_text;
-pub use crate::register::{REGISTERS, Register, register_at, register_bytes, registers_within};
 pub use crate::remark::write_remarks;
-pub use crate::seen::{Seen, first_seen};
 pub use crate::sii::sii_text;
-pub use crate::state::{state_of, status_text};
+pub use crate::state::status_text;

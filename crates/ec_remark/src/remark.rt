@@ -1,12 +1,11 @@
 //! The remarks on a datagram.
 
 use crate::mailbox::write_message;
-use crate::register::{register_at, register_bytes, registers_within};
-use crate::seen::Seen;
 use crate::value::write_value;
 use ec_coe::read_message;
 use ec_frame::Command;
 use ec_regs::registers::RAM_START;
+use ec_seen::{Seen, register_at, register_bytes, registers_within};
 use std::alloc::{AllocError, Global};
 use std::fmt::Write as _;
 

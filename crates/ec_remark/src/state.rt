@@ -1,23 +1,9 @@
 //! States and why a slave shows an error.
-ghost use Rattle.ec_remark.specs.States.{IsStateOf};
-
 use ec_al::State;
+use ec_seen::state_of;
 
 /// The number of BOOT, which the simulated slaves lack.
 const BOOT: u8 = 3;
-
-/// The state with a number in an AL word; BOOT is none of these.
-pub fn state_of(number: u8) -> Option<State>
-    ensures { IsStateOf number result }
-{
-    match number {
-        1 => Some(State::Init),
-        2 => Some(State::PreOp),
-        4 => Some(State::SafeOp),
-        8 => Some(State::Op),
-        _ => None,
-    }
-}
 
 /// The standard's name of a state by its number.
 pub(crate) fn state_name(number: u8) -> &'static str {

@@ -1,9 +1,9 @@
 //! What the bytes of a register say.
 
-use crate::register::Register;
 use crate::sii::sii_text;
 use crate::state::{state_name, status_text};
 use ec_regs::{AlWord, FmmuSettings, SiiControl, SyncManagerSettings, decode_fmmu, decode_manager};
+use ec_seen::Register;
 use std::alloc::AllocError;
 use std::fmt::Write as _;
 

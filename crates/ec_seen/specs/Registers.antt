@@ -3,8 +3,8 @@
 use Rattle.std.specs.Prelude.{ℕ, ◌+◌, ◌-◌, ◌&&◌, nat_le, nat_lt, Bool, List, [], ◌∷◌, filter, Option, slice_range}
 use Rattle.std.specs.List.{find}
 use Rattle.ec_regs.specs.Memory.{number_of_fmmus, number_of_sync_managers, ram_size, station_address, al_control, al_status, al_status_code, sii_control, sii_address, sii_data, fmmu_place, manager_place}
-use Rattle.ec_remark.specs.declared.register.Register.{Register}
-use Rattle.ec_remark.specs.declared.register.Register.TheVariants.{ControllerType, Revision, Build, FmmuCount, ManagerCount, RamSize, PortDescriptors, Features, StationAddress, StationAlias, DlControl, DlStatus, AlControl, AlStatus, AlStatusCode, PdiControl, EventMask, AlEventMask, EventRequest, AlEventRequest, ReceiveErrors, LostLinks, WatchdogDivider, PdiWatchdog, ProcessWatchdog, WatchdogStatus, SiiConfiguration, SiiPdiAccess, SiiControl, SiiAddress, SiiData, Fmmu, Manager, SystemTime, SystemTimeOffset, SystemTimeDelay}
+use Rattle.ec_seen.specs.declared.register.Register.{Register}
+use Rattle.ec_seen.specs.declared.register.Register.TheVariants.{ControllerType, Revision, Build, FmmuCount, ManagerCount, RamSize, PortDescriptors, Features, StationAddress, StationAlias, DlControl, DlStatus, AlControl, AlStatus, AlStatusCode, PdiControl, EventMask, AlEventMask, EventRequest, AlEventRequest, ReceiveErrors, LostLinks, WatchdogDivider, PdiWatchdog, ProcessWatchdog, WatchdogStatus, SiiConfiguration, SiiPdiAccess, SiiControl, SiiAddress, SiiData, Fmmu, Manager, SystemTime, SystemTimeOffset, SystemTimeDelay}
 
 -- the address of its first byte
 abbrev pub place_of : Register → ℕ

@@ -1,7 +1,7 @@
 //! The datagrams that bytes spell.
 ghost use Rattle.std.specs.Prelude.{◌≡◌, ◌+◌, ◌<◌, IfSome, drop};
 ghost use Rattle.ec_frame.specs.Decoded.{after_data, decoded};
-ghost use Rattle.ec_remark.specs.Seeing.{Shows};
+ghost use Rattle.ec_seen.specs.Seeing.{Shows};
 
 use byteorder::{ByteOrder, LittleEndian};
 use ec_frame::Command;

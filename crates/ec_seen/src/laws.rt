@@ -1,5 +1,5 @@
 //! Laws of the registers. Each function does nothing: its contract is the law.
-ghost use Rattle.ec_remark.specs.Laws.{RegistersFollowEachOther, RegistersLieBeforeTheRam};
+ghost use Rattle.ec_seen.specs.Laws.{RegistersFollowEachOther, RegistersLieBeforeTheRam};
 
 /// The registers are listed in the order of their addresses, and no two of them share a byte.
 pub fn registers_follow_each_other()

@@ -1,6 +1,6 @@
 //! The registers of a slave, by name and address.
 ghost use Rattle.std.specs.Prelude.{◌≡◌, IfOk, Some, None, if◌then◌else◌, length, option_map};
-ghost use Rattle.ec_remark.specs.Registers.{bytes_in, has_address, lies_within, place_of, register_of, registers_within, size_of};
+ghost use Rattle.ec_seen.specs.Registers.{bytes_in, has_address, lies_within, place_of, register_of, registers_within, size_of};
 
 use ec_regs::registers::{
     AL_CONTROL, AL_STATUS, AL_STATUS_CODE, FMMU_SIZE, FMMUS, MANAGER_SIZE, NUMBER_OF_FMMUS,

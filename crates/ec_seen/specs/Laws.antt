@@ -2,8 +2,8 @@
 use Rattle.std.specs.Prelude.{◌≡◌, ◌+◌, ◌&&◌, nat_le, ℕ, Bool, true, List, [], ◌∷◌}
 use Rattle.std.specs.List.{list_all}
 use Rattle.ec_regs.specs.Memory.{ram_start}
-use Rattle.ec_remark.specs.declared.register.Register.{Register}
-use Rattle.ec_remark.specs.Registers.{place_of, registers, size_of}
+use Rattle.ec_seen.specs.declared.register.Register.{Register}
+use Rattle.ec_seen.specs.Registers.{place_of, registers, size_of}
 
 -- each begins where the one before it ends, or behind that
 abbrev pub follow : ℕ → List Register → Bool

@@ -1,0 +1,12 @@
+//! What is seen of frames by the standard's names: the registers of a slave, by name and address, the states that numbers are, and
+//! the datagrams that bytes spell.
+#![tactic(auto)]
+
+pub mod laws;
+mod register;
+mod seen;
+mod state;
+
+pub use crate::register::{REGISTERS, Register, register_at, register_bytes, registers_within};
+pub use crate::seen::{Seen, first_seen};
+pub use crate::state::state_of;

@@ -1,0 +1,17 @@
+//! The states that numbers of an AL word are.
+ghost use Rattle.ec_seen.specs.States.{IsStateOf};
+
+use ec_al::State;
+
+/// The state with a number in an AL word; BOOT is none of these.
+pub fn state_of(number: u8) -> Option<State>
+    ensures { IsStateOf number result }
+{
+    match number {
+        1 => Some(State::Init),
+        2 => Some(State::PreOp),
+        4 => Some(State::SafeOp),
+        8 => Some(State::Op),
+        _ => None,
+    }
+}
