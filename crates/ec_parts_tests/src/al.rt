@@ -1,101 +1,92 @@
 //! The AL state machine, step by step, by the public calls of `ec_al`.
-use ec_al::{Al, Checks, State};
+use ec_al::{Al, Checks};
 use std::process::Abort;
 
-const PASSED: Checks = Checks {
-    mailbox: true,
-    outputs: true,
-    inputs: true,
-};
+/// What is done to a state machine by its word, the control word of a request, whether it was taken, and the status word and the
+/// status code afterwards. `starts` is power-on; `asks` is a request whose checks all pass, `fails` one whose checks all fail,
+/// and `lacks_inputs` one where that of the inputs alone fails; `faults` is a fault of the application, which counts only in OP.
+type Step = (&'static str, u16, bool, u16, u16);
 
-/// A state machine that was brought up to a state.
-fn raised_to(state: State) -> Al {
-    let mut al = Al::new();
-    for control in [2, 4, 8] {
-        if control <= state.number() {
-            al.request();
-            al.step(control, PASSED);
-        }
+const STEPS: [Step; 26] = [
+    // INIT refuses what skips a state.
+    ("starts", 0x0000, true, 0x0001, 0x0000),
+    ("asks", 0x0004, true, 0x0011, 0x0011),
+    ("asks", 0x0013, true, 0x0011, 0x0013),
+    ("asks", 0x0015, true, 0x0011, 0x0012),
+    ("asks", 0x0011, true, 0x0001, 0x0000),
+    // PREOP keeps an error until it is acknowledged.
+    ("starts", 0x0000, true, 0x0001, 0x0000),
+    ("asks", 0x0002, true, 0x0002, 0x0000),
+    ("asks", 0x0008, true, 0x0012, 0x0011),
+    ("asks", 0x0004, true, 0x0012, 0x0011),
+    ("asks", 0x0012, true, 0x0002, 0x0000),
+    // A fault takes OP to SAFEOP.
+    ("starts", 0x0000, true, 0x0001, 0x0000),
+    ("asks", 0x0002, true, 0x0002, 0x0000),
+    ("asks", 0x0004, true, 0x0004, 0x0000),
+    ("asks", 0x0008, true, 0x0008, 0x0000),
+    ("faults", 0x0000, true, 0x0014, 0x0001),
+    ("faults", 0x0000, false, 0x0014, 0x0001),
+    ("asks", 0x0008, true, 0x0014, 0x0001),
+    ("asks", 0x0018, true, 0x0008, 0x0000),
+    // Checks refuse a wrong configuration: in INIT, in PREOP, and there that of the inputs alone.
+    ("starts", 0x0000, true, 0x0001, 0x0000),
+    ("fails", 0x0002, true, 0x0011, 0x0016),
+    ("starts", 0x0000, true, 0x0001, 0x0000),
+    ("asks", 0x0002, true, 0x0002, 0x0000),
+    ("fails", 0x0004, true, 0x0012, 0x001D),
+    ("starts", 0x0000, true, 0x0001, 0x0000),
+    ("asks", 0x0002, true, 0x0002, 0x0000),
+    ("lacks_inputs", 0x0004, true, 0x0012, 0x001E),
+];
+
+/// The checks of a request by its word.
+fn checks_of(word: &str) -> Checks {
+    Checks {
+        mailbox: word != "fails",
+        outputs: word != "fails",
+        inputs: word == "asks",
     }
-    al
 }
 
-/// Requests one control word after the other, and compares the status word and the status code after each.
-fn expect_answers(rt: &impl Abort, al: &mut Al, rows: &[(u16, u16, u16)]) {
-    for (control, status, code) in rows {
-        al.request();
-        al.step(*control, PASSED);
-        assert_eq!(rt; al.status_word(), *status, "after {control}");
-        assert_eq!(rt; al.code(), *code, "after {control}");
-    }
-}
-
-#[test]
-fn init_refuses_what_skips_a_state(rt: HostRuntime) {
-    let mut al = Al::new();
-    assert_eq!(rt; al.status_word(), 0x0001);
-    let rows = [
-        (0x0004, 0x0011, 0x0011),
-        (0x0013, 0x0011, 0x0013),
-        (0x0015, 0x0011, 0x0012),
-        (0x0011, 0x0001, 0x0000),
-    ];
-    expect_answers(&rt, &mut al, &rows);
-}
-
-#[test]
-fn preop_keeps_an_error_until_it_is_acknowledged(rt: HostRuntime) {
-    let mut al = raised_to(State::PreOp);
-    assert_eq!(rt; al.status_word(), 0x0002);
-    let rows = [
-        (0x0008, 0x0012, 0x0011),
-        (0x0004, 0x0012, 0x0011),
-        (0x0012, 0x0002, 0x0000),
-    ];
-    expect_answers(&rt, &mut al, &rows);
-}
-
-#[test]
-fn a_fault_takes_op_to_safeop(rt: HostRuntime) {
-    let mut al = raised_to(State::Op);
-    assert_eq!(rt; al.status_word(), 0x0008);
-    assert!(rt; al.fault());
-    assert_eq!(rt; al.status_word(), 0x0014);
-    assert_eq!(rt; al.code(), 0x0001);
-    assert!(rt; !al.fault());
-    expect_answers(
-        &rt,
-        &mut al,
-        &[(0x0008, 0x0014, 0x0001), (0x0018, 0x0008, 0x0000)],
-    );
-}
-
-#[test]
-fn checks_refuse_a_wrong_configuration(rt: HostRuntime) {
-    let rows = [
-        (State::Init, 0x0002, 0x0011, 0x0016),
-        (State::PreOp, 0x0004, 0x0012, 0x001D),
-    ];
-    let failed = Checks {
-        mailbox: false,
-        outputs: false,
-        inputs: false,
-    };
-    for (state, control, status, code) in rows {
-        let mut al = raised_to(state);
-        al.request();
-        al.step(control, failed);
-        assert_eq!(rt; al.status_word(), status);
-        assert_eq!(rt; al.code(), code);
-    }
-    let mut al = raised_to(State::PreOp);
+/// A request, and the firmware step that decides it.
+fn ask(al: &mut Al, word: &str, control: u16) -> bool {
     al.request();
-    al.step(
-        0x0004,
-        Checks {
-            inputs: false,
-            ..PASSED
-        },
+    al.step(control, checks_of(word));
+    true
+}
+
+/// Power-on.
+fn start(al: &mut Al) -> bool {
+    *al = Al::new();
+    true
+}
+
+/// Takes a step. Whether it was taken.
+fn take_step(rt: &impl Abort, al: &mut Al, word: &str, control: u16) -> bool {
+    match word {
+        "starts" => start(al),
+        "asks" | "fails" | "lacks_inputs" => ask(al, word, control),
+        "faults" => al.fault(),
+        _ => panic!(rt; "{word}"),
+    }
+}
+
+/// Takes a step, and compares what is seen then.
+fn expect_step(rt: &impl Abort, al: &mut Al, place: usize, step: &Step) {
+    let (word, control, taken, status, code) = *step;
+    let is_taken = take_step(rt, al, word, control);
+    assert_eq!(rt;
+        (is_taken, al.status_word(), al.code()),
+        (taken, status, code),
+        "step {place}: {word} {control}"
     );
-    assert_eq!(rt; al.code(), 0x001E);
+}
+
+#[test]
+fn state_machines(rt: HostRuntime) {
+    let mut al = Al::new();
+    for (place, step) in STEPS.iter().enumerate() {
+        expect_step(&rt, &mut al, place, step);
+    }
 }

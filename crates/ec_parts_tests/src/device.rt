@@ -1,119 +1,124 @@
 //! Types of slaves and lists, by the public calls of `ec_device` and `ec_listed`.
-use ec_device::{Device, Entry, Mailbox, Pdo, SlaveType};
+use crate::kinds::{DEVICE, MAILBOX, Pdos, kind_with, pdos_of};
+use ec_device::{Entry, Pdo, SlaveType};
 use ec_listed::Listed;
-use std::alloc::Global;
+use std::alloc::{AllocError, Global};
 use std::process::Abort;
-use std::test::Fail;
-
-fn one_pdo(alloc: Global, index: u16, entry: Entry) -> Result<Pdo, Fail> {
-    let mut entries = Listed::new(alloc);
-    entries.push(entry)?;
-    Ok(Pdo { index, entries })
-}
 
 /// Outputs of 12 bits, and a gap of 4.
-fn outputs_with_gap(alloc: Global) -> Result<Listed<Pdo>, Fail> {
-    let output = Entry {
-        index: 0x7010,
-        subindex: 1,
-        bits: 12,
-    };
-    let gap = Entry {
-        index: 0,
-        subindex: 0,
-        bits: 4,
-    };
-    let mut outputs = Listed::new(alloc);
-    outputs.push(one_pdo(alloc, 0x1600, output)?)?;
-    outputs.push(one_pdo(alloc, 0x17FF, gap)?)?;
-    Ok(outputs)
-}
+const OUTPUTS: Pdos<'static> = &[
+    (
+        0x1600,
+        &[Entry {
+            index: 0x7010,
+            subindex: 1,
+            bits: 12,
+        }],
+    ),
+    (
+        0x17FF,
+        &[Entry {
+            index: 0,
+            subindex: 0,
+            bits: 4,
+        }],
+    ),
+];
 
 /// Inputs of 16 bits.
-fn one_input(alloc: Global) -> Result<Listed<Pdo>, Fail> {
-    let input = Entry {
+const INPUTS: Pdos<'static> = &[(
+    0x1A00,
+    &[Entry {
         index: 0x6010,
         subindex: 1,
         bits: 16,
-    };
-    let mut inputs = Listed::new(alloc);
-    inputs.push(one_pdo(alloc, 0x1A00, input)?)?;
-    Ok(inputs)
+    }],
+)];
+
+/// Expects of a type the device, the mailboxes, and the outputs and inputs above.
+fn expect_objects(rt: &impl Abort, kind: &SlaveType) {
+    let identity = kind.device().identity(7);
+    let starts = [kind.out_start(), kind.in_start()];
+    let counts = [kind.outputs().len(), kind.inputs().len()];
+    let bits = [kind.output_bits(), kind.input_bits()];
+    assert_eq!(rt;
+        (
+            (kind.device(), identity.serial, identity.device()),
+            (kind.mailbox(), starts, kind.lrw()),
+            (counts, bits)
+        ),
+        (
+            (DEVICE, 7, DEVICE),
+            (Some(MAILBOX), [0x1100, 0x1400], true),
+            ([2, 1], [16, 16])
+        )
+    );
 }
 
-/// Expects of a type a device, these mailboxes, and the outputs and inputs above.
-fn expect_objects(rt: &impl Abort, kind: &SlaveType, device: Device, mailbox: Option<Mailbox>) {
-    assert_eq!(rt; kind.device(), device);
-    assert_eq!(rt; kind.device().identity(7).serial, 7);
-    assert_eq!(rt; kind.device().identity(7).device(), device);
-    assert_eq!(rt; kind.mailbox(), mailbox);
-    assert_eq!(rt; kind.out_start(), 0x1100);
-    assert_eq!(rt; kind.in_start(), 0x1400);
-    assert_eq!(rt; kind.outputs().len(), 2);
-    assert_eq!(rt; kind.inputs().len(), 1);
-    assert_eq!(rt; kind.output_bits(), 16);
-    assert_eq!(rt; kind.input_bits(), 16);
-    assert!(rt; kind.lrw());
+/// Expects the same of a copy.
+fn expect_copy(rt: &impl Abort, copy: Result<SlaveType, AllocError>) {
+    expect_objects(rt, &copy.expect(rt, "memory"));
 }
 
 // A slave with a mailbox, 12 output bits and a gap, and 16 input bits.
 #[test]
-fn a_type_with_objects(rt: HostRuntime) -> Result<(), Fail> {
-    let outputs = outputs_with_gap(rt.alloc())?;
-    let inputs = one_input(rt.alloc())?;
-    let mailbox = Some(Mailbox {
-        receive_start: 0x1000,
-        receive_size: 128,
-        send_start: 0x1080,
-        send_size: 128,
-    });
-    let device = Device {
-        vendor: 0xABCD,
-        product: 3,
-        revision: 1,
-    };
-    assert!(rt; SlaveType::is_within_limits(mailbox, outputs.as_slice(), inputs.as_slice()));
-    let kind = SlaveType::new(device, mailbox, 0x1100, 0x1400, outputs, inputs, true);
-    expect_objects(&rt, &kind, device, mailbox);
-    let copy = kind.copied(rt.alloc())?;
-    assert_eq!(rt; copy.device(), device);
-    assert_eq!(rt; copy.output_bits(), 16);
-    Ok(())
+fn a_type_with_objects(rt: HostRuntime) {
+    let kind = kind_with(&rt, OUTPUTS, INPUTS, 0x1400, true);
+    expect_objects(&rt, &kind);
+    expect_copy(&rt, kind.copied(rt.alloc()));
 }
 
-// Limits that a type breaks: an index twice, one of the other direction, an entry too long, and a
-// gap with a subindex.
+/// An entry of 64 bits.
+const LONG: Entry = Entry {
+    index: 0x7000,
+    subindex: 1,
+    bits: 64,
+};
+
+/// Compares what is within the limits: an index twice, one of the other direction and the same where it belongs, an entry too
+/// long, and a gap with a subindex.
+fn expect_limits(rt: &impl Abort, twice: &[Pdo], other: &[Pdo]) {
+    let within = [
+        SlaveType::is_within_limits(None, twice, &[]),
+        SlaveType::is_within_limits(None, other, &[]),
+        SlaveType::is_within_limits(None, &[], other),
+        Entry { bits: 65, ..LONG }.is_within_limits(),
+        Entry { index: 0, ..LONG }.is_within_limits(),
+    ];
+    assert_eq!(rt; within, [false, false, true, false, false]);
+}
+
 #[test]
-fn types_out_of_limits(rt: HostRuntime) -> Result<(), Fail> {
-    let entry = Entry {
-        index: 0x7000,
-        subindex: 1,
-        bits: 64,
-    };
-    let mut twice = Listed::new(rt.alloc());
-    twice.push(one_pdo(rt.alloc(), 0x1600, entry)?)?;
-    twice.push(one_pdo(rt.alloc(), 0x1600, entry)?)?;
-    assert!(rt; !SlaveType::is_within_limits(None, twice.as_slice(), &[]));
-    let other = [one_pdo(rt.alloc(), 0x1A00, entry)?];
-    assert!(rt; !SlaveType::is_within_limits(None, &other, &[]));
-    assert!(rt; SlaveType::is_within_limits(None, &[], &other));
-    assert!(rt; !Entry { bits: 65, ..entry }.is_within_limits());
-    assert!(rt; !Entry { index: 0, ..entry }.is_within_limits());
-    Ok(())
+fn types_out_of_limits(rt: HostRuntime) {
+    let twice = pdos_of(rt.alloc(), &[(0x1600, &[LONG]), (0x1600, &[LONG])]);
+    let other = pdos_of(rt.alloc(), &[(0x1A00, &[LONG])]);
+    expect_limits(
+        &rt,
+        twice.expect(&rt, "memory").as_slice(),
+        other.expect(&rt, "memory").as_slice(),
+    );
+}
+
+/// Expects of a type that it has nothing.
+fn expect_plain(rt: &impl Abort, plain: &SlaveType) {
+    assert_eq!(rt;
+        (
+            plain.mailbox(),
+            plain.outputs().is_empty(),
+            [plain.output_bits(), plain.input_bits()],
+            plain.lrw()
+        ),
+        (None, true, [0, 0], true)
+    );
 }
 
 #[test]
 fn a_type_without_objects(rt: HostRuntime) {
-    let plain = SlaveType::without_pdos(rt.alloc());
-    assert_eq!(rt; plain.mailbox(), None);
-    assert!(rt; plain.outputs().is_empty());
-    assert_eq!(rt; plain.output_bits(), 0);
-    assert_eq!(rt; plain.input_bits(), 0);
-    assert!(rt; plain.lrw());
+    expect_plain(&rt, &SlaveType::without_pdos(rt.alloc()));
 }
 
 /// A list of so many numbers.
-fn numbers(alloc: Global, count: u32) -> Result<Listed<u32>, Fail> {
+fn numbers(alloc: Global, count: u32) -> Result<Listed<u32>, AllocError> {
     let mut list = Listed::new(alloc);
     for number in 0..count {
         list.push(number)?;
@@ -121,14 +126,23 @@ fn numbers(alloc: Global, count: u32) -> Result<Listed<u32>, Fail> {
     Ok(list)
 }
 
+/// Compares the lengths of a list and of a copy of it.
+fn expect_lengths(rt: &impl Abort, list: &Listed<u32>, copied: &Listed<u32>, count: usize) {
+    assert_eq!(rt; (list.len(), copied.len()), (count, count));
+}
+
+/// Makes a list of so many numbers and a copy of it.
+fn expect_list(rt: &(impl AllocGlobal + Abort), count: u32) {
+    let list = numbers(rt.alloc(), count).expect(rt, "memory");
+    let copied = Listed::copied(rt.alloc(), list.as_slice()).expect(rt, "memory");
+    expect_lengths(rt, &list, &copied, count as usize);
+}
+
 // No length is told as want of memory, nor is a copy of it.
 #[test]
-fn lists_of_each_length(rt: HostRuntime) -> Result<(), Fail> {
+fn lists_of_each_length(rt: HostRuntime) {
     for count in 0..40 {
-        let list = numbers(rt.alloc(), count)?;
-        let copied = Listed::copied(rt.alloc(), list.as_slice())?;
-        assert_eq!(rt; copied.len(), list.len());
+        expect_list(&rt, count);
     }
-    assert_eq!(rt; numbers(rt.alloc(), 100_000)?.len(), 100_000);
-    Ok(())
+    expect_list(&rt, 100_000);
 }

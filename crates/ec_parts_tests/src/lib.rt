@@ -8,6 +8,8 @@ mod bits;
 #[cfg(test)]
 mod device;
 #[cfg(test)]
+mod kinds;
+#[cfg(test)]
 mod regs;
 #[cfg(test)]
 mod sii;

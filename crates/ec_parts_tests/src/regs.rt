@@ -13,15 +13,25 @@ use ec_regs::{
 fn output_manager(rt: HostRuntime) {
     let bytes = [0x00, 0x11, 0x02, 0x00, 0x24, 0x00, 0x01, 0x00];
     let settings = decode_manager(&bytes);
+    let answers = [
+        settings.is_set(),
+        settings.is_buffered(),
+        settings.is_master_written(),
+    ];
     assert_eq!(rt;
-        settings,
-        SyncManagerSettings::of_area(0x1100, 2, CONTROL_OUTPUTS)
+        (
+            settings,
+            answers,
+            settings.span(),
+            encode_manager(&settings)
+        ),
+        (
+            SyncManagerSettings::of_area(0x1100, 2, CONTROL_OUTPUTS),
+            [true; 3],
+            6,
+            bytes
+        )
     );
-    assert!(rt; settings.is_set());
-    assert!(rt; settings.is_buffered());
-    assert!(rt; settings.is_master_written());
-    assert_eq!(rt; settings.span(), 6);
-    assert!(rt; encode_manager(&settings) == bytes);
 }
 
 // What `ecat plan` prints for the output FMMU of the same slave.
@@ -43,81 +53,112 @@ fn output_fmmu(rt: HostRuntime) {
         writes: true,
         active: true,
     };
-    assert_eq!(rt; settings, fields);
-    assert!(rt; encode_fmmu(&settings) == bytes);
+    assert_eq!(rt; (settings, encode_fmmu(&settings)), (fields, bytes));
 }
 
+// Three buffers of one byte that don't fit at the last address, a mailbox of that byte, three buffers of 65535 bytes, and two
+// bytes that the master reads.
 #[test]
 fn spans_at_the_end_of_the_ram(rt: HostRuntime) {
     let buffered = decode_manager(&[0xFF, 0x2F, 0x01, 0x00, 0x24, 0x00, 0x01, 0x00]);
-    assert_eq!(rt; buffered.span(), 3);
-    assert!(rt; !buffered.is_set());
     let mailbox = decode_manager(&[0xFF, 0x2F, 0x01, 0x00, 0x26, 0x00, 0x01, 0x00]);
-    assert!(rt; mailbox.is_mailbox());
-    assert!(rt; mailbox.is_set());
     let longest = decode_manager(&[0x00, 0x10, 0xFF, 0xFF, 0x24, 0x00, 0x01, 0x00]);
-    assert!(rt; !longest.is_set());
     let input = decode_manager(&[0x00, 0x14, 0x02, 0x00, 0x20, 0x00, 0x01, 0x00]);
-    assert!(rt; input.is_master_read());
-    assert!(rt; input.is_set());
+    let are_set = [
+        buffered.is_set(),
+        mailbox.is_set(),
+        longest.is_set(),
+        input.is_set(),
+    ];
+    assert_eq!(rt;
+        (
+            are_set,
+            buffered.span(),
+            mailbox.is_mailbox(),
+            input.is_master_read()
+        ),
+        ([false, true, false, true], 3, true, true)
+    );
 }
+
+// The first and the last FMMU and sync manager.
+#[test]
+fn addresses_of_records(rt: HostRuntime) {
+    let fmmus = [fmmu_address(0), fmmu_address(3)];
+    let managers = [manager_address(0), manager_address(3)];
+    assert_eq!(rt; (fmmus, managers), ([0x0600, 0x0630], [0x0800, 0x0818]));
+}
+
+/// Addresses, and whether the byte there is stored as it is written.
+const STORED: [(usize, bool); 22] = [
+    (STATION_ADDRESS - 1, false),
+    (STATION_ADDRESS, true),
+    (STATION_ADDRESS + 1, true),
+    (STATION_ADDRESS + 2, false),
+    (AL_CONTROL - 1, false),
+    (AL_CONTROL, true),
+    (AL_CONTROL + 1, true),
+    (AL_CONTROL + 2, false),
+    (AL_STATUS, false),
+    (AL_STATUS_CODE, false),
+    (SII_CONTROL, false),
+    // the first FMMU and the last one
+    (0x05FF, false),
+    (0x0600, true),
+    (0x063F, true),
+    (0x0640, false),
+    // of a manager all bytes but the two that are no settings; first what stands before the first one
+    (0x07FF, false),
+    (0x0818, true),
+    (0x081C, true),
+    (0x081D, false),
+    (0x081E, true),
+    (0x081F, false),
+    (0x0820, false),
+];
 
 #[test]
 fn bytes_that_are_stored(rt: HostRuntime) {
-    let station = STATION_ADDRESS;
-    assert!(rt; !is_stored(station - 1));
-    assert!(rt; is_stored(station));
-    assert!(rt; is_stored(station + 1));
-    assert!(rt; !is_stored(station + 2));
-    let control = AL_CONTROL;
-    assert!(rt; !is_stored(control - 1));
-    assert!(rt; is_stored(control));
-    assert!(rt; is_stored(control + 1));
-    assert!(rt; !is_stored(control + 2));
-    assert!(rt; !is_stored(AL_STATUS));
-    assert!(rt; !is_stored(AL_STATUS_CODE));
-    assert!(rt; !is_stored(fmmu_address(0) - 1));
-    assert!(rt; is_stored(fmmu_address(0)));
-    assert!(rt; is_stored(fmmu_address(3) + 15));
-    assert!(rt; !is_stored(fmmu_address(3) + 16));
+    for (address, stored) in &STORED {
+        assert_eq!(rt; is_stored(*address), *stored, "at {address}");
+    }
 }
 
-#[test]
-fn bytes_of_a_manager_that_are_stored(rt: HostRuntime) {
-    let last = manager_address(3);
-    assert!(rt; !is_stored(manager_address(0) - 1));
-    assert!(rt; is_stored(last));
-    assert!(rt; is_stored(last + 4));
-    assert!(rt; !is_stored(last + 5));
-    assert!(rt; is_stored(last + 6));
-    assert!(rt; !is_stored(last + 7));
-    assert!(rt; !is_stored(last + 8));
-}
+/// Addresses about the port of the SII, whether it is busy, and whether a byte that is written there counts.
+const WRITTEN: [(usize, bool, bool); 6] = [
+    (SII_CONTROL - 1, false, false),
+    (SII_CONTROL, false, true),
+    (SII_CONTROL, true, false),
+    (SII_ADDRESS + 3, false, true),
+    (SII_DATA, false, false),
+    (AL_CONTROL, true, true),
+];
 
 #[test]
 fn bytes_of_the_sii_port(rt: HostRuntime) {
-    let control = SII_CONTROL;
-    assert!(rt; !is_stored(control));
-    assert!(rt; !takes_writes(control - 1, false));
-    assert!(rt; takes_writes(control, false));
-    assert!(rt; !takes_writes(control, true));
-    assert!(rt; takes_writes(SII_ADDRESS + 3, false));
-    assert!(rt; !takes_writes(SII_DATA, false));
-    assert!(rt; takes_writes(AL_CONTROL, true));
+    for (address, is_busy, counts) in &WRITTEN {
+        assert_eq!(rt; takes_writes(*address, *is_busy), *counts, "at {address}");
+    }
 }
 
 // The words that a slave in PREOP shows: after a refused request, and with an SII read under way.
 #[test]
 fn words(rt: HostRuntime) {
     let status = AlWord(0x0012);
-    assert_eq!(rt; status.state(), 2);
-    assert!(rt; status.has_error());
-    assert!(rt; status.acknowledges());
-    assert_eq!(rt; AlWord::new(8, true).0, 0x0018);
     let control = SiiControl(0x8100);
-    assert_eq!(rt; control.command(), 1);
-    assert!(rt; control.is_busy());
-    assert!(rt; !control.has_error());
-    assert_eq!(rt; SiiControl::new(1, false, true).0, 0x8100);
-    assert_eq!(rt; SiiControl::new(0, true, false).0, 0x2000);
+    let flags = [
+        status.has_error(),
+        status.acknowledges(),
+        control.is_busy(),
+        control.has_error(),
+    ];
+    let words = [
+        AlWord::new(8, true).0,
+        SiiControl::new(1, false, true).0,
+        SiiControl::new(0, true, false).0,
+    ];
+    assert_eq!(rt;
+        (status.state(), control.command(), flags, words),
+        (2, 1, [true, true, true, false], [0x0018, 0x8100, 0x2000])
+    );
 }

@@ -1,99 +1,17 @@
-//! The SII, read word by word through its registers, by the public calls of `ec_sii`.
-ghost use Rattle.std.specs.Prelude.{IfOk};
-ghost use Rattle.ec_device.specs.Types.{IsFace};
-
-use ec_device::{Device, Entry, Face, Identity, Mailbox, Pdo, SlaveType};
+//! The SII, word by word and through its registers, by the public calls of `ec_sii`. What is asked and what must be seen are
+//! lines of text, in hexadecimal digits, with blanks in between. A line with `#` is a comment.
+use crate::kinds::{DEVICE, MAILBOX, kind_with};
+use ec_device::{Entry, Face, Identity, MAX_NAME, SlaveType};
 use ec_listed::Listed;
 use ec_sii::{Port, SiiImage};
-use std::alloc::Global;
+use std::alloc::AllocError;
 use std::process::Abort;
-use std::test::Fail;
 
 const IDENTITY: Identity = Identity {
     vendor: 0xABCD,
     product: 3,
     revision: 0x0102_0304,
     serial: 7,
-};
-
-const MAILBOX: Mailbox = Mailbox {
-    receive_start: 0x1000,
-    receive_size: 128,
-    send_start: 0x1080,
-    send_size: 128,
-};
-
-/// Compares the ten bytes of the port, from 0x0502 on.
-fn expect_bytes(rt: &impl Abort, port: &Port, bytes: &[u8; 10]) {
-    for (k, byte) in bytes.iter().enumerate() {
-        assert_eq!(rt; port.read(0x0502 + k), *byte, "at byte {k}");
-    }
-}
-
-#[test]
-fn an_image_spells_identity_and_mailbox(rt: HostRuntime) {
-    let image = SiiImage::new(IDENTITY, Some(MAILBOX));
-    let words = [
-        (0x07, 0),
-        (0x08, 0xABCD),
-        (0x09, 0),
-        (0x0A, 3),
-        (0x0C, 0x0304),
-        (0x0D, 0x0102),
-        (0x0E, 7),
-        (0x18, 0x1000),
-        (0x19, 128),
-        (0x1A, 0x1080),
-        (0x1B, 128),
-        (0x1C, 4),
-        (0x1D, 0),
-        (64, 0),
-    ];
-    for (address, word) in words {
-        assert_eq!(rt; image.word(address), word, "at {address}");
-    }
-    assert_eq!(rt; SiiImage::new(IDENTITY, None).word(0x1C), 0);
-}
-
-#[test]
-fn a_read_is_finished_by_the_next_step(rt: HostRuntime) {
-    let mut port = Port::new(SiiImage::new(IDENTITY, None));
-    port.write(0x0502, &[0x00, 0x01, 0x08, 0, 0, 0]);
-    assert!(rt; port.is_busy());
-    expect_bytes(&rt, &port, &[0x00, 0x81, 0x08, 0, 0, 0, 0, 0, 0, 0]);
-    port.write(0x0502, &[0x00, 0x00, 0x09, 0, 0, 0]);
-    port.step();
-    assert!(rt; !port.is_busy());
-    expect_bytes(&rt, &port, &[0x00, 0x00, 0x08, 0, 0, 0, 0xCD, 0xAB, 0, 0]);
-    port.reset();
-    expect_bytes(&rt, &port, &[0; 10]);
-}
-
-#[test]
-fn a_read_past_the_image_is_an_error(rt: HostRuntime) {
-    let mut port = Port::new(SiiImage::new(IDENTITY, None));
-    port.write(0x0502, &[0x00, 0x01, 0x0C, 0, 0, 0]);
-    port.step();
-    port.write(0x0502, &[0x00, 0x01, 63, 0, 0, 0]);
-    port.step();
-    expect_bytes(
-        &rt,
-        &port,
-        &[0x00, 0x20, 63, 0, 0, 0, 0x04, 0x03, 0x02, 0x01],
-    );
-    // the command 0 clears the error, its bits 3 to 7 aside, and a write of 0x0502 alone does nothing
-    port.write(0x0502, &[0xFF]);
-    assert_eq!(rt; port.read(0x0503), 0x20);
-    port.write(0x0503, &[0xF8]);
-    assert_eq!(rt; port.read(0x0503), 0x00);
-    port.write(0x0503, &[0x02]);
-    assert_eq!(rt; port.read(0x0503), 0x20);
-}
-
-const DEVICE: Device = Device {
-    vendor: 0xABCD,
-    product: 3,
-    revision: 0x0102_0304,
 };
 
 /// Four outputs.
@@ -116,133 +34,274 @@ const GAP: Entry = Entry {
     bits: 4,
 };
 
-/// The last slave of its ring, whose name has three letters.
-fn face(alloc: Global) -> Result<Face, Fail>
-    ensures { IfOk result IsFace }
-{
-    let name = Listed::copied(alloc, &[b'd', b'o', b'4'])?;
-    Ok(Face {
+/// A type gets this name, and is then that of the last slave of its ring.
+fn show_named(rt: &impl Abort, kind: &mut SlaveType, name: Listed<u8>) {
+    assert!(rt; !name.as_slice().is_empty() && name.as_slice().len() <= MAX_NAME);
+    kind.show(Face {
         name,
         is_last: true,
-    })
+    });
 }
 
-/// A full slave that takes no part in LRW, with 4 bits of outputs and 16 bits of inputs, the last 4 of them a gap.
-fn full_type(rt: &impl Abort, alloc: Global) -> Result<SlaveType, Fail> {
-    let mut outputs = Listed::new(alloc);
-    outputs.push(Pdo {
-        index: 0x1600,
-        entries: Listed::copied(alloc, &[OUTPUT])?,
-    })?;
-    let mut inputs = Listed::new(alloc);
-    inputs.push(Pdo {
-        index: 0x1A00,
-        entries: Listed::copied(alloc, &[INPUT, GAP])?,
-    })?;
-    let mailbox = Some(MAILBOX);
-    assert!(rt; SlaveType::is_within_limits(mailbox, outputs.as_slice(), inputs.as_slice()));
-    let mut kind = SlaveType::new(DEVICE, mailbox, 0x1100, 0x1180, outputs, inputs, false);
-    kind.show(face(alloc)?);
-    Ok(kind)
+/// The image of a full slave of a type, whose name has three letters.
+fn named_image(
+    rt: &(impl AllocGlobal + Abort),
+    mut kind: SlaveType,
+) -> Result<SiiImage, AllocError> {
+    let name = Listed::copied(rt.alloc(), b"do4").expect(rt, "memory");
+    show_named(rt, &mut kind, name);
+    SiiImage::of(rt.alloc(), &kind, IDENTITY)
 }
 
-/// What stands from 0x3E on in the image of `full_type`, worked out from the tables of the categories.
-const FULL_WORDS: [u16; 73] = [
-    2, 1, // 3 kibibits hold 64 words, 69 of the categories and the end mark; version 1
-    10, 3, 0x0301, 0x6F64, 0x0034, // one string of 3 letters, "do4"
-    30, 16, 0x0000, 0x0101, 0x0500, 0, 0, 0x0200, 0, 0, 0x0011, // the first 18 bytes; no LRW
-    0, 0, 0, 0, 0, 0, 0, // and 14 zeros
-    40, 2, 0x0201, 0x0000, // FMMU 0 for outputs, 1 for inputs
-    41, 16, 0x1000, 128, 0x0026, 0x0101, // the mailbox that the master writes
-    0x1080, 128, 0x0022, 0x0201, // that which it reads
-    0x1100, 1, 0x0024, 0x0301, // 4 bits of outputs
-    0x1180, 2, 0x0020, 0x0401, // 16 bits of inputs
-    50, 12, 0x1A00, 0x0302, 0, 0, // two entries, manager 3
-    0x6000, 0x0002, 0x0C00, 0, 0x0000, 0x0000, 0x0400, 0, // twelve inputs, and a gap of four bits
-    51, 8, 0x1600, 0x0201, 0, 0, // one entry, manager 2
-    0x7000, 0x0001, 0x0400, 0, // four outputs
-    0xFFFF, 0xFFFF, // the end mark, and more of it
-];
+/// The image of a full slave that takes no part in LRW, with 4 bits of outputs and 16 bits of inputs, the last 4 of them a gap.
+fn full_image(rt: &(impl AllocGlobal + Abort)) -> Result<SiiImage, AllocError> {
+    let (outputs, inputs) = ([OUTPUT], [INPUT, GAP]);
+    let kind = kind_with(
+        rt,
+        &[(0x1600, &outputs)],
+        &[(0x1A00, &inputs)],
+        0x1180,
+        false,
+    );
+    named_image(rt, kind)
+}
 
-#[test]
-fn a_full_image_shows_categories(rt: HostRuntime) -> Result<(), Fail> {
-    let kind = full_type(&rt, rt.alloc())?;
-    let image = SiiImage::of(rt.alloc(), &kind, IDENTITY)?;
-    for (k, word) in FULL_WORDS.iter().enumerate() {
-        assert_eq!(rt; image.word(0x3E + k), *word, "at 0x3E and {k}");
+/// That of a full slave that has nothing but its name.
+fn bare_image(rt: &(impl AllocGlobal + Abort)) -> Result<SiiImage, AllocError> {
+    named_image(rt, SlaveType::without_pdos(rt.alloc()))
+}
+
+/// That of a slave without a name that has nothing.
+fn plain_image(rt: &impl AllocGlobal) -> Result<SiiImage, AllocError> {
+    SiiImage::of(rt.alloc(), &SlaveType::without_pdos(rt.alloc()), IDENTITY)
+}
+
+/// What stands before and behind the first place of a text.
+fn parts<'a>(rt: &impl Abort, text: &'a str, between: &str) -> (&'a str, &'a str) {
+    text.split_once(between).expect(rt, text)
+}
+
+/// A word, or the address of one.
+fn word_of(rt: &impl Abort, digits: &str) -> u16 {
+    u16::from_str_radix(digits, 16).expect(rt, digits)
+}
+
+/// The digits of a row.
+fn digits_of(rt: &(impl AllocGlobal + Abort), row: &str) -> String {
+    row.replace(rt.alloc(), " ", "").expect(rt, "memory")
+}
+
+/// The bytes of a row.
+fn bytes_of(rt: &(impl AllocGlobal + Abort), row: &str) -> Vec<u8> {
+    hex::decode(rt.alloc(), digits_of(rt, row).as_str()).expect(rt, row)
+}
+
+/// Compares the words of an image from an address on.
+fn expect_words(rt: &impl Abort, image: &SiiImage, line: &str, from: u16, words: &str) {
+    for (place, digits) in words.split(' ').enumerate() {
+        assert_eq!(rt;
+            image.word(place.saturating_add(usize::from(from))),
+            word_of(rt, digits),
+            "{place} of {line}"
+        );
     }
-    assert_eq!(rt; image.word(0x08), 0xABCD);
-    assert_eq!(rt; image.word(0x1C), 4);
-    assert_eq!(rt; image.word(0x1D), 0);
-    assert_eq!(rt; image.word(0x3D), 0);
-    Ok(())
 }
 
-/// Reads two words and compares the ten bytes of the port afterwards.
-fn expect_read(rt: &impl Abort, port: &mut Port, address: u8, status: u8, data: &[u8; 4]) {
-    port.write(0x0502, &[0x00, 0x01, address, 0, 0, 0]);
-    port.step();
-    let [byte_0, byte_1, byte_2, byte_3] = *data;
-    let bytes = [
-        0x00, status, address, 0, 0, 0, byte_0, byte_1, byte_2, byte_3,
-    ];
-    expect_bytes(rt, port, &bytes);
+/// Compares the words that a line says: an address, and behind `>` the words from there on.
+fn expect_line(rt: &impl Abort, image: &SiiImage, line: &str) {
+    if !line.starts_with("#") {
+        let (from, words) = parts(rt, line, " > ");
+        expect_words(rt, image, line, word_of(rt, from), words);
+    }
 }
 
-#[test]
-fn a_full_image_is_read_to_its_end(rt: HostRuntime) -> Result<(), Fail> {
-    let kind = full_type(&rt, rt.alloc())?;
-    let mut port = Port::new(SiiImage::of(rt.alloc(), &kind, IDENTITY)?);
-    expect_read(&rt, &mut port, 0x3E, 0x00, &[2, 0, 1, 0]);
-    expect_read(&rt, &mut port, 0x42, 0x00, &[1, 3, b'd', b'o']);
-    // the flags of the last entry, and the end mark; behind it; the last two words; past them
-    expect_read(&rt, &mut port, 0x84, 0x00, &[0x00, 0x00, 0xFF, 0xFF]);
-    expect_read(&rt, &mut port, 0x86, 0x00, &[0xFF; 4]);
-    expect_read(&rt, &mut port, 0x08, 0x00, &[0xCD, 0xAB, 0, 0]);
-    expect_read(&rt, &mut port, 0xBE, 0x00, &[0xFF; 4]);
-    expect_read(&rt, &mut port, 0x0A, 0x00, &[3, 0, 0, 0]);
-    expect_read(&rt, &mut port, 0xBF, 0x20, &[3, 0, 0, 0]);
-    port.reset();
-    expect_bytes(&rt, &port, &[0; 10]);
-    expect_read(&rt, &mut port, 0x41, 0x00, &[3, 0, 1, 3]);
-    Ok(())
+/// Compares the words of an image, as it is made.
+fn expect_image(rt: &impl Abort, image: Result<SiiImage, AllocError>, lines: &str) {
+    let image = image.expect(rt, "memory");
+    for line in lines.lines() {
+        expect_line(rt, &image, line);
+    }
 }
+
+/// Identity and mailboxes, and nothing else.
+const IDENTITY_AND_MAILBOX: &str = "\
+07 > 0000 abcd 0000 0003
+0c > 0304 0102 0007
+18 > 1000 0080 1080 0080 0004 0000
+40 > 0000";
 
 #[test]
-fn a_type_without_a_face_has_a_plain_image(rt: HostRuntime) -> Result<(), Fail> {
-    let kind = SlaveType::without_pdos(rt.alloc());
-    let mut port = Port::new(SiiImage::of(rt.alloc(), &kind, IDENTITY)?);
-    expect_read(&rt, &mut port, 62, 0x00, &[0; 4]);
-    expect_read(&rt, &mut port, 0x40, 0x20, &[0; 4]);
-    Ok(())
+fn an_image_spells_identity_and_mailbox(rt: HostRuntime) {
+    let with_mailbox = SiiImage::new(IDENTITY, Some(MAILBOX));
+    let without = SiiImage::new(IDENTITY, None);
+    expect_image(&rt, Ok(with_mailbox), IDENTITY_AND_MAILBOX);
+    expect_image(&rt, Ok(without), "1c > 0000");
+}
+
+/// What stands in the image of a full slave, worked out from the tables of the categories.
+const FULL_WORDS: &str = "\
+08 > abcd
+1c > 0004 0000
+3d > 0000
+# 3 kibibits hold 64 words, 69 of the categories and the end mark; version 1
+3e > 0002 0001
+# one string of 3 letters, do4
+40 > 000a 0003 0301 6f64 0034
+# the first 18 bytes, no LRW, and 14 zeros
+45 > 001e 0010 0000 0101 0500 0000 0000 0200 0000 0000 0011
+50 > 0000 0000 0000 0000 0000 0000 0000
+# FMMU 0 for outputs, 1 for inputs
+57 > 0028 0002 0201 0000
+# the mailbox that the master writes, and that which it reads
+5b > 0029 0010 1000 0080 0026 0101
+61 > 1080 0080 0022 0201
+# 4 bits of outputs, and 16 bits of inputs
+65 > 1100 0001 0024 0301
+69 > 1180 0002 0020 0401
+# two entries, manager 3: twelve inputs, and a gap of four bits
+6d > 0032 000c 1a00 0302 0000 0000
+73 > 6000 0002 0c00 0000 0000 0000 0400 0000
+# one entry, manager 2: four outputs
+7b > 0033 0008 1600 0201 0000 0000
+81 > 7000 0001 0400 0000
+# the end mark, and more of it
+85 > ffff ffff";
+
+#[test]
+fn a_full_image_shows_categories(rt: HostRuntime) {
+    expect_image(&rt, full_image(&rt), FULL_WORDS);
 }
 
 /// What a full slave shows that has nothing but its name: no PDOs, and so neither category of them; managers without
 /// lengths, which aren't enabled.
-const BARE_WORDS: [u16; 40] = [
-    10, 3, 0x0301, 0x6F64, 0x0034, // "do4"
-    30, 16, 0, 0x0101, 0, 0, 0, 0, 0, 0, 0x0011, 0, 0, 0, 0, 0, 0, 0, // no CoE, with LRW
-    40, 2, 0, 0, // no FMMU is used
-    41, 16, 0, 0, 0, 0, 0, 0, 0, 0, 0, 0, 0x0024, // no mailboxes; manager 2
-];
+const BARE_WORDS: &str = "\
+3e > 0001
+# do4
+40 > 000a 0003 0301 6f64 0034
+# no CoE, with LRW
+45 > 001e 0010 0000 0101 0000 0000 0000 0000 0000 0000 0011
+50 > 0000 0000 0000 0000 0000 0000 0000
+# no FMMU is used
+57 > 0028 0002 0000 0000
+# no mailboxes, and managers 2 and 3
+5b > 0029 0010 0000 0000 0000 0000 0000 0000 0000 0000 0000 0000 0024 0300
+6b > 0020 0400 ffff
+7f > ffff";
 
 #[test]
-fn a_bare_full_image_has_four_categories(rt: HostRuntime) -> Result<(), Fail> {
-    let mut kind = SlaveType::without_pdos(rt.alloc());
-    kind.show(face(rt.alloc())?);
-    let image = SiiImage::of(rt.alloc(), &kind, IDENTITY)?;
-    for (k, word) in BARE_WORDS.iter().enumerate() {
-        assert_eq!(rt; image.word(0x40 + k), *word, "at 0x40 and {k}");
+fn a_bare_full_image_has_four_categories(rt: HostRuntime) {
+    expect_image(&rt, bare_image(&rt), BARE_WORDS);
+}
+
+/// The ten bytes of the port, from 0x0502 on.
+fn bytes_seen(port: &Port) -> [u8; 10] {
+    let mut bytes = [0; 10];
+    for (place, byte) in bytes.iter_mut().enumerate() {
+        *byte = port.read(0x0502 + place);
     }
-    for (address, word) in [
-        (0x3E, 1),
-        (0x68, 0x0300),
-        (0x6B, 0x0020),
-        (0x6C, 0x0400),
-        (0x6D, 0xFFFF),
-        (0x7F, 0xFFFF),
-    ] {
-        assert_eq!(rt; image.word(address), word, "at {address}");
+    bytes
+}
+
+/// Compares the bytes of the port with a row. It is busy exactly where its status says so.
+fn assert_seen(rt: &impl Abort, port: &Port, line: &str, row: &str, wanted: &[u8]) {
+    assert_eq!(rt;
+        (port.is_busy(), bytes_seen(port).as_slice()),
+        (row.starts_with("0081"), wanted),
+        "{line}"
+    );
+}
+
+/// Writes bytes from an address on.
+fn write_row(rt: &(impl AllocGlobal + Abort), port: &mut Port, about: &str) {
+    let (from, row) = parts(rt, about, " ");
+    port.write(usize::from(word_of(rt, from)), &bytes_of(rt, row));
+}
+
+/// Asks for the words at an address, and lets the firmware step.
+fn read_row(rt: &(impl AllocGlobal + Abort), port: &mut Port, about: &str) {
+    port.write(0x0502, &bytes_of(rt, about));
+    port.step();
+}
+
+/// Takes a step: `writes` bytes from an address on, `reads` the words at an address, `steps` is one of the firmware.
+fn take_step(rt: &(impl AllocGlobal + Abort), port: &mut Port, word: &str, about: &str) {
+    match word {
+        "writes" => write_row(rt, port, about),
+        "reads" => read_row(rt, port, about),
+        "steps" => port.step(),
+        "resets" => port.reset(),
+        _ => panic!(rt; "{word}"),
     }
-    Ok(())
+}
+
+/// Takes the step of a line, and compares the bytes of the port with those behind `>`.
+fn expect_step(rt: &(impl AllocGlobal + Abort), port: &mut Port, line: &str) {
+    let (done, row) = parts(rt, line, "> ");
+    let (word, about) = parts(rt, done, " ");
+    take_step(rt, port, word, about);
+    assert_seen(rt, port, line, row, &bytes_of(rt, row));
+}
+
+/// Takes the steps of lines on the port of an image.
+fn expect_steps(rt: &(impl AllocGlobal + Abort), image: SiiImage, lines: &str) {
+    let mut port = Port::new(image);
+    for line in lines.lines() {
+        expect_step(rt, &mut port, line);
+    }
+}
+
+/// The same of an image as it is made.
+fn expect_port(rt: &(impl AllocGlobal + Abort), image: Result<SiiImage, AllocError>, lines: &str) {
+    expect_steps(rt, image.expect(rt, "memory"), lines);
+}
+
+/// A read is finished by the next step. While it is under way the port takes no write.
+const A_READ: &str = "\
+writes 0502 0001 08000000 > 0081 08000000 00000000
+writes 0502 0000 09000000 > 0081 08000000 00000000
+steps > 0000 08000000 cdab0000
+resets > 0000 00000000 00000000";
+
+/// A read past the image is an error. The command 0 clears the error, its bits 3 to 7 aside, and a write of 0x0502 alone does
+/// nothing.
+const PAST_THE_IMAGE: &str = "\
+reads 0001 0c000000 > 0000 0c000000 04030201
+reads 0001 3f000000 > 0020 3f000000 04030201
+writes 0502 ff > 0020 3f000000 04030201
+writes 0503 f8 > 0000 3f000000 04030201
+writes 0503 02 > 0020 3f000000 04030201";
+
+#[test]
+fn reads_of_an_identity(rt: HostRuntime) {
+    expect_steps(&rt, SiiImage::new(IDENTITY, None), A_READ);
+    expect_steps(&rt, SiiImage::new(IDENTITY, None), PAST_THE_IMAGE);
+}
+
+/// A full image is read to its end: the flags of the last entry and the end mark (0x84); behind it; the last two words (0xbe);
+/// past them.
+const TO_ITS_END: &str = "\
+reads 0001 3e000000 > 0000 3e000000 02000100
+reads 0001 42000000 > 0000 42000000 0103646f
+reads 0001 84000000 > 0000 84000000 0000ffff
+reads 0001 86000000 > 0000 86000000 ffffffff
+reads 0001 08000000 > 0000 08000000 cdab0000
+reads 0001 be000000 > 0000 be000000 ffffffff
+reads 0001 0a000000 > 0000 0a000000 03000000
+reads 0001 bf000000 > 0020 bf000000 03000000
+resets > 0000 00000000 00000000
+reads 0001 41000000 > 0000 41000000 03000103";
+
+#[test]
+fn a_full_image_is_read_to_its_end(rt: HostRuntime) {
+    expect_port(&rt, full_image(&rt), TO_ITS_END);
+}
+
+/// A type without a face has a plain image.
+const PLAIN: &str = "\
+reads 0001 3e000000 > 0000 3e000000 00000000
+reads 0001 40000000 > 0020 40000000 00000000";
+
+#[test]
+fn a_type_without_a_face_has_a_plain_image(rt: HostRuntime) {
+    expect_port(&rt, plain_image(&rt), PLAIN);
 }
