@@ -1,25 +1,104 @@
 //! Frames written by hand, and wires over sockets of this process in the place of a card's.
-
+//!
+//! What is done with a wire and the socket at its other end are lines of text:
+//!
+//! | Line | Says |
+//! |---|---|
+//! | `sends ROW`, `takes SIZE > ROW` | the wire sends a payload, or receives one into a buffer of so many bytes |
+//! | `gives ROW`, `meets > ROW` | the other end sends a frame, or receives one |
+//! | `failures > BYTE` | the faults of the wire so far |
+use crate::rows::{Line, assert_row, assert_same, bytes_of, line_of, number_of};
 use ec_card::{CardWire, Patience, Sender, framed, payload_of};
 use ec_frame::check;
 use ec_wire::{SocketFault, Wire};
-use std::alloc::Global;
 use std::net::{Ipv4Addr, Net, SocketAddr, UdpSocket};
 use std::os::fd::IntoRawFd;
 use std::process::Abort;
-use std::test::Fail;
 use std::time::Duration;
 
 /// A broadcast read of the AL status: EtherCAT's header, and one datagram.
 const READ: &str = "0e100701000030010200000000000000";
 
 /// The same as a master sends it in an Ethernet frame: to all, from 00:00:00:45:43:01, of type 0x88A4, padded to 60 bytes.
-const SENT: &str =
-    "ffffffffffff00000045430188a40e100701000030010200000000000000000000000000000000000000000000000000000000000000000000000000";
+const SENT: &str = "ffffffffffff 000000454301 88a4 0e100701000030010200000000000000 00x30";
 
-/// What comes back past three slaves, the first of which set bit 1 of the source's first byte.
-const CAME: &str =
-    "ffffffffffff02000045430188a40e100701030030010200000001000300000000000000000000000000000000000000000000000000000000000000";
+/// The same from a segment, which sets bit 1 of the source's first byte.
+const SENT_BACK: &str = "ffffffffffff 020000454301 88a4 0e100701000030010200000000000000 00x30";
+
+/// What comes back past three slaves, the first of which set that bit.
+const CAME: &str = "ffffffffffff 020000454301 88a4 0e100701030030010200000001000300 00x30";
+
+/// Compares the frame of a payload.
+fn expect_framed(rt: &(impl AllocGlobal + Abort), sender: Sender, payload: &str, frame: &str) {
+    let payload = bytes_of(rt, payload);
+    if payload.len() > 1472 {
+        panic!(rt; "a payload that is too long");
+    }
+    let met = framed(sender, &payload);
+    assert_same(rt, &met.as_slice(), &bytes_of(rt, frame).as_slice(), frame);
+}
+
+// The heading, the payload and the padding, byte by byte.
+#[test]
+fn frame_as_sent(rt: HostRuntime) {
+    expect_framed(&rt, Sender::Master, READ, SENT);
+    expect_framed(&rt, Sender::Segment, READ, SENT_BACK);
+    expect_framed(
+        &rt,
+        Sender::Master,
+        "07x1472",
+        "ffffffffffff 000000454301 88a4 07x1472",
+    );
+}
+
+/// A frame that comes to someone, and of the payload that is handed on its size and how many datagrams it has.
+type Row = (Sender, &'static str, Option<(usize, Option<usize>)>);
+
+/// What is handed on of a frame.
+fn handed_on(own: Sender, frame: &[u8]) -> Option<(usize, Option<usize>)> {
+    let payload = payload_of(own, frame)?;
+    Some((payload.len(), check(payload).ok()))
+}
+
+fn expect_handed_on(rt: &(impl AllocGlobal + Abort), row: &Row) {
+    let met = handed_on(row.0, &bytes_of(rt, row.1));
+    assert_same(rt, &met, &row.2, row.1);
+}
+
+#[test]
+fn frames_that_come(rt: HostRuntime) {
+    let rows: &[Row] = &[
+        // the answer, padded
+        (Sender::Master, CAME, Some((46, Some(1)))),
+        // its own frame
+        (Sender::Master, SENT, None),
+        // IPv4, and 0xA488
+        (
+            Sender::Master,
+            "ffffffffffff 020000454301 0800 450000000000000000000000",
+            None,
+        ),
+        (
+            Sender::Master,
+            "ffffffffffff 020000454301 a488 0e1007010300300102000000",
+            None,
+        ),
+        // a byte less than the heading
+        (Sender::Master, "ffffffffffff 020000454301 88", None),
+        (Sender::Master, "", None),
+        // a segment's own frame
+        (Sender::Segment, CAME, None),
+        // the heading alone
+        (
+            Sender::Master,
+            "ffffffffffff 020000454301 88a4",
+            Some((0, None)),
+        ),
+    ];
+    for row in rows {
+        expect_handed_on(&rt, row);
+    }
+}
 
 /// A port on 127.0.0.1.
 fn here(port: u16) -> SocketAddr {
@@ -31,114 +110,124 @@ fn soon() -> Patience {
     Patience::For(Duration::from_millis(50))
 }
 
-/// Two sockets that are connected with each other: of each message the other gets the whole.
-fn pair<R: Net>(rt: &R) -> Result<(UdpSocket, UdpSocket), Fail> {
-    let first = UdpSocket::bind(rt, here(0))?;
-    let second = UdpSocket::bind(rt, here(0))?;
-    first.connect(second.local_addr()?)?;
-    second.connect(first.local_addr()?)?;
-    second.set_read_timeout(Some(Duration::from_millis(500)))?;
-    Ok((first, second))
+/// A socket on a port that the system picks, which waits half a second.
+fn socket_of(rt: &(impl Net + Abort)) -> UdpSocket {
+    let socket = UdpSocket::bind(rt, here(0)).expect(rt, "a socket");
+    let wait = Some(Duration::from_millis(500));
+    socket.set_read_timeout(wait).expect(rt, "a patience");
+    socket
+}
+
+/// Connects a socket with another: it sends there, and hears nobody else.
+fn connect(rt: &impl Abort, socket: &UdpSocket, other: &UdpSocket) {
+    let address = other.local_addr().expect(rt, "an address");
+    socket.connect(address).expect(rt, "a connection");
 }
 
 /// A wire over a socket.
-fn wire_over<R: Abort>(rt: &R, socket: UdpSocket, own: Sender) -> Result<CardWire, Fail> {
+fn wire_over(rt: &impl Abort, socket: UdpSocket, own: Sender) -> CardWire {
     let descriptor = socket.into_raw_fd();
-    assert!(rt; descriptor >= 0);
-    Ok(CardWire::of_descriptor(descriptor, own, soon())?)
-}
-
-/// The bytes of hex digits.
-fn bytes(alloc: Global, digits: &str) -> Result<Vec<u8>, Fail> {
-    Ok(hex::decode(alloc, digits)?)
-}
-
-// The heading, the payload and the padding, byte by byte.
-#[test]
-fn frame_as_sent(rt: HostRuntime) -> Result<(), Fail> {
-    let payload = bytes(rt.alloc(), READ)?;
-    assert!(rt; payload.len() <= 1472);
-    let frame = framed(Sender::Master, &payload);
-    assert_eq!(rt; hex::encode(rt.alloc(), frame.as_slice())?.as_str(), SENT);
-    let back = framed(Sender::Segment, &payload);
-    assert_eq!(rt; back.as_slice().get(6..9), Some(&[2, 0, 0][..]));
-    let longest = framed(Sender::Master, &[7; 1472]);
-    assert_eq!(rt;
-        (longest.len(), longest.as_slice().last()),
-        (1486, Some(&7))
-    );
-    Ok(())
-}
-
-// What is handed on of frames that come to a master, and how many datagrams it has.
-#[test]
-fn frames_that_come(rt: HostRuntime) -> Result<(), Fail> {
-    let came = bytes(rt.alloc(), CAME)?;
-    for (frame, datagrams) in [
-        // the answer, padded
-        (CAME, Some(1)),
-        // its own frame
-        (SENT, None),
-        // IPv4, and 0xA488
-        ("ffffffffffff0200004543010800450000000000000000000000", None),
-        ("ffffffffffff020000454301a4880e1007010300300102000000", None),
-        // a byte less than the heading
-        ("ffffffffffff02000045430188", None),
-        ("", None),
-    ] {
-        let frame = bytes(rt.alloc(), frame)?;
-        let handed = payload_of(Sender::Master, &frame);
-        assert_eq!(rt;
-            handed.map(|payload| check(payload).ok()),
-            datagrams.map(|count| Some(count))
-        );
+    if descriptor < 0 {
+        panic!(rt; "a descriptor");
     }
-    assert_eq!(rt; payload_of(Sender::Segment, &came).is_none(), true);
-    let heading = came.get(..14).unwrap_or(&[]);
-    assert_eq!(rt;
-        payload_of(Sender::Master, heading).map(|payload| payload.len()),
-        Some(0)
-    );
-    Ok(())
+    CardWire::of_descriptor(descriptor, own, soon()).expect(rt, "a wire")
 }
 
-// A master's payload goes in a frame; of what comes it is handed the answer alone; then it waits in vain.
-#[test]
-fn master_over_a_socket(rt: HostRuntime) -> Result<(), Fail> {
-    let (card, peer) = pair(&rt)?;
-    let mut wire = wire_over(&rt, card, Sender::Master)?;
-    let payload = bytes(rt.alloc(), READ)?;
-    wire.send(&payload);
+/// The wire receives into a buffer.
+fn expect_taken(
+    rt: &(impl AllocGlobal + Abort),
+    wire: &mut CardWire,
+    line: &Line<'_>,
+    buffer: &mut [u8],
+) {
+    let count = wire.recv(buffer).min(buffer.len());
+    assert_row(rt, line, &buffer[..count]);
+}
+
+/// The other end receives a frame.
+fn expect_met(rt: &(impl AllocGlobal + Abort), peer: &UdpSocket, line: &Line<'_>) {
     let mut frame = [0; 1514];
-    let count = peer.recv(&mut frame)?;
-    assert_eq!(rt;
-        hex::encode(rt.alloc(), &frame[..count.min(1514)])?.as_str(),
-        SENT
-    );
-    for digits in [SENT, "0800", "", CAME] {
-        peer.send(&bytes(rt.alloc(), digits)?)?;
+    let count = peer.recv(&mut frame).expect(rt, "a frame");
+    assert_row(rt, line, &frame[..count.min(1514)]);
+}
+
+/// The other end sends a frame.
+fn give(rt: &impl Abort, peer: &UdpSocket, frame: &[u8]) {
+    peer.send(frame).expect(rt, "a frame");
+}
+
+/// Takes the step of a line.
+fn take_step(
+    rt: &(impl AllocGlobal + Abort),
+    wire: &mut CardWire,
+    peer: &UdpSocket,
+    line: &Line<'_>,
+) {
+    match line.word {
+        "sends" => wire.send(&bytes_of(rt, line.about)),
+        "takes" => {
+            let mut buffer = [0; 1472];
+            let size = number_of(rt, line.about).min(1472);
+            expect_taken(rt, wire, line, &mut buffer[..size]);
+        }
+        "gives" => give(rt, peer, &bytes_of(rt, line.about)),
+        "meets" => expect_met(rt, peer, line),
+        "failures" => assert_row(rt, line, &[(wire.failures() % 256) as u8]),
+        _ => panic!(rt; "{}", line.text),
     }
-    let mut room = [0; 1472];
-    assert_eq!(rt; (wire.recv(&mut room), wire.failures()), (46, 0));
-    assert_eq!(rt; check(&room[..46]), Ok(1));
-    assert_eq!(rt; (wire.recv(&mut room), wire.failures()), (0, 1));
-    wire.send(&[0; 1473]);
-    assert_eq!(rt; wire.failures(), 2);
-    Ok(())
+}
+
+/// Takes the steps of all lines, in their order.
+fn take_all(rt: &(impl AllocGlobal + Abort), wire: &mut CardWire, peer: &UdpSocket, lines: &str) {
+    for line in lines.lines() {
+        take_step(rt, wire, peer, &line_of(line));
+    }
+}
+
+/// Takes steps with a wire and a socket at its other end: of each message the other gets the whole.
+fn expect_steps(rt: &(impl Net + AllocGlobal + Abort), own: Sender, lines: &str) {
+    let (card, peer) = (socket_of(rt), socket_of(rt));
+    connect(rt, &card, &peer);
+    connect(rt, &peer, &card);
+    take_all(rt, &mut wire_over(rt, card, own), &peer, lines);
+}
+
+// A master's payload goes in a frame; of what comes it is handed the answer alone, behind its own frame and two that are too
+// short; then it waits in vain. A payload that is too long isn't sent.
+#[test]
+fn master_over_a_socket(rt: HostRuntime) {
+    expect_steps(
+        &rt,
+        Sender::Master,
+        "\
+sends 0e100701000030010200000000000000
+meets > ffffffffffff 000000454301 88a4 0e100701000030010200000000000000 00x30
+gives ffffffffffff 000000454301 88a4 0e100701000030010200000000000000 00x30
+gives 0800
+gives
+gives ffffffffffff 020000454301 88a4 0e100701030030010200000001000300 00x30
+takes 1472 > 0e100701030030010200000001000300 00x30
+failures > 00
+takes 1472 >
+failures > 01
+sends 00x1473
+failures > 02
+",
+    );
 }
 
 // What the buffer has no room for is dropped.
 #[test]
-fn short_buffer(rt: HostRuntime) -> Result<(), Fail> {
-    let (card, peer) = pair(&rt)?;
-    let mut wire = wire_over(&rt, card, Sender::Segment)?;
-    peer.send(&bytes(rt.alloc(), SENT)?)?;
-    let mut room = [0; 2];
-    assert_eq!(rt;
-        (wire.recv(&mut room), room, wire.failures()),
-        (2, [0x0e, 0x10], 0)
+fn short_buffer(rt: HostRuntime) {
+    expect_steps(
+        &rt,
+        Sender::Segment,
+        "\
+gives ffffffffffff 000000454301 88a4 0e100701000030010200000000000000 00x30
+takes 2 > 0e10
+failures > 00
+",
     );
-    Ok(())
 }
 
 // A descriptor that isn't open is no wire.
@@ -146,6 +235,6 @@ fn short_buffer(rt: HostRuntime) -> Result<(), Fail> {
 fn no_socket(rt: HostRuntime) {
     for patience in [soon(), Patience::Endless] {
         let wire = CardWire::of_descriptor(1000, Sender::Master, patience);
-        assert_eq!(rt; wire.err(), Some(SocketFault));
+        assert_same(&rt, &wire.err(), &Some(SocketFault), "");
     }
 }

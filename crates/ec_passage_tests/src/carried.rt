@@ -1,14 +1,15 @@
 //! The process data of plans, by the public calls of `ec_carried`.
 ghost use Rattle.ec_link.specs.Usable.{IsUsable};
 
+use crate::rows::assert_same;
+use ec_carried::ProcessCommand::{Read, Write};
 use ec_carried::{
-    Process, ProcessCommand, carried_bits, find_process, predicted_counter, variable_at,
+    Carried, ProcessCommand, carried_bits, find_process, predicted_counter, variable_at,
 };
 use ec_frame::Command;
-use ec_link::{Plan, compile};
-use ec_table::{Direction, Table, read_table};
+use ec_link::{Machine, Plan};
+use ec_table::Direction;
 use std::process::Abort;
-use std::test::Fail;
 
 /// Two slaves, of which the first takes no part in LRW. A variable of 12 bits is spread over both: its low 8 bits are outputs
 /// of the first, the others of the second, which has 4 inputs too.
@@ -21,68 +22,104 @@ variable = [ { name = "speed", dir = "out", bits = 12 }, { name = "ends", dir = 
 link = [ { var = "speed", slave = "low", index = 0x7000, sub = 1, bits = [0, 0, 8] }, { var = "speed", slave = "high", index = 0x7000, sub = 1, bits = [8, 0, 4] }, { var = "ends", slave = "high", index = 0x6000, sub = 1 } ]
 "#;
 
-/// The datagrams over the two bytes of the one part.
-fn expect_processes(rt: &impl Abort, plan: &Plan) {
-    for (command, way, counter) in [
-        (Command::Lwr, ProcessCommand::Write, 2),
-        (Command::Lrd, ProcessCommand::Read, 1),
-    ] {
-        let process = Process { part: 0, way };
-        assert_eq!(rt; find_process(plan, command, 0x0001_0000, 2), Some(process));
-        assert_eq!(rt; find_process(plan, command, 0x0001_0000, 1), None);
-        assert_eq!(rt; find_process(plan, command, 0x0001_0001, 2), None);
-        if plan.parts().len() == 1 {
-            assert_eq!(rt; predicted_counter(plan, process), Some(counter));
-        }
-    }
-    assert_eq!(rt; find_process(plan, Command::Lrw, 0x0001_0000, 2), None);
-    assert_eq!(rt; find_process(plan, Command::Bwr, 0x0001_0000, 2), None);
+/// A datagram with a command, a logical address and so many bytes, and the process datagram that it is: its part, its way, and
+/// the counter that is predicted.
+type ProcessRow = (
+    (Command, u32, usize),
+    Option<(usize, ProcessCommand, Option<usize>)>,
+);
+
+/// The process datagram of a row.
+fn process_of(plan: &Plan, row: &ProcessRow) -> Option<(usize, ProcessCommand, Option<usize>)> {
+    let (command, address, size) = row.0;
+    let process = find_process(plan, command, address, size)?;
+    Some((process.part, process.way, predicted_counter(plan, process)))
 }
 
-/// Whether links carry these numbers, in their order.
-fn are(rt: &impl Abort, found: &[ec_carried::Carried], numbers: &[(usize, usize, u64)]) {
-    assert_eq!(rt; found.len(), numbers.len());
-    for (one, (slave, image, number)) in found.iter().zip(numbers) {
-        assert_eq!(rt;
-            (one.link.slave, one.link.image, one.number),
-            (*slave, *image, *number)
-        );
+fn expect_processes(rt: &impl Abort, plan: &Plan, rows: &[ProcessRow]) {
+    for row in rows {
+        assert_same(rt, &(row.0, process_of(plan, row)), row, "");
     }
 }
 
-/// The variables of the one part with two bytes.
-fn expect_bits(rt: &(impl AllocGlobal + Abort), plan: &Plan) -> Result<(), Fail>
+/// A bit of the image of a direction, and the place of the variable that has it.
+type VariableRow = (Direction, usize, Option<usize>);
+
+fn expect_variables(rt: &impl Abort, plan: &Plan, rows: &[VariableRow]) {
+    for row in rows {
+        let (direction, bit, _) = *row;
+        let met = (direction, bit, variable_at(plan, direction, bit));
+        assert_same(rt, &met, row, "");
+    }
+}
+
+/// The slave, the bit of the image, and the number of bits that go over one link.
+type CarriedRow = (usize, usize, u64);
+
+/// Compares what links carry, in their order.
+fn assert_carried(rt: &impl Abort, found: &[Carried], rows: &[CarriedRow]) {
+    assert_same(rt, &found.len(), &rows.len(), "");
+    for (one, row) in found.iter().zip(rows) {
+        assert_same(rt, &(one.link.slave, one.link.image, one.number), row, "");
+    }
+}
+
+/// What two bytes of the one part carry of the variables of a direction.
+fn expect_carried(
+    rt: &(impl AllocGlobal + Abort),
+    plan: &Plan,
+    direction: Direction,
+    content: [u8; 2],
+    rows: &[CarriedRow],
+)
     requires { IsUsable plan.now }
 {
     if plan.parts().len() != 1 || plan.parts()[0].bytes != 2 {
         panic!(rt; "another layout");
     }
-    let found = carried_bits(rt.alloc(), plan, 0, Direction::Out, b"\xab\x0c")?;
-    are(rt, found.as_slice(), &[(0, 0, 0xAB), (1, 8, 0xC)]);
-    let found = carried_bits(rt.alloc(), plan, 0, Direction::In, b"\xab\x09")?;
-    are(rt, found.as_slice(), &[(1, 0, 9)]);
-    Ok(())
+    let found = carried_bits(rt.alloc(), plan, 0, direction, &content).expect(rt, "memory");
+    assert_carried(rt, found.as_slice(), rows);
 }
 
-/// What the plan of the split table says.
-fn expect_plan(rt: &(impl AllocGlobal + Abort), plan: &Plan) -> Result<(), Fail>
+/// What the plan of the split table says. Its one part has two bytes, from logical address 0x00010000 on.
+fn expect_plan(rt: &(impl AllocGlobal + Abort), plan: &Plan)
     requires { IsUsable plan.now }
 {
-    expect_processes(rt, plan);
-    assert_eq!(rt; variable_at(plan, Direction::Out, 11), Some(0));
-    assert_eq!(rt; variable_at(plan, Direction::Out, 12), None);
-    assert_eq!(rt; variable_at(plan, Direction::In, 3), Some(1));
-    expect_bits(rt, plan)
-}
-
-/// The same of a table.
-fn expect_table(rt: &(impl AllocGlobal + Abort), table: &Table) -> Result<(), Fail> {
-    let plan = compile(rt.alloc(), table)?;
-    expect_plan(rt, &plan)
+    expect_processes(
+        rt,
+        plan,
+        &[
+            ((Command::Lwr, 0x0001_0000, 2), Some((0, Write, Some(2)))),
+            ((Command::Lwr, 0x0001_0000, 1), None),
+            ((Command::Lwr, 0x0001_0001, 2), None),
+            ((Command::Lrd, 0x0001_0000, 2), Some((0, Read, Some(1)))),
+            ((Command::Lrd, 0x0001_0000, 1), None),
+            ((Command::Lrd, 0x0001_0001, 2), None),
+            ((Command::Lrw, 0x0001_0000, 2), None),
+            ((Command::Bwr, 0x0001_0000, 2), None),
+        ],
+    );
+    expect_variables(
+        rt,
+        plan,
+        &[
+            (Direction::Out, 11, Some(0)),
+            (Direction::Out, 12, None),
+            (Direction::In, 3, Some(1)),
+        ],
+    );
+    expect_carried(
+        rt,
+        plan,
+        Direction::Out,
+        [0xAB, 0x0C],
+        &[(0, 0, 0xAB), (1, 8, 0xC)],
+    );
+    expect_carried(rt, plan, Direction::In, [0xAB, 0x09], &[(1, 0, 9)]);
 }
 
 #[test]
-fn a_split_part_carries_its_variables(rt: HostRuntime) -> Result<(), Fail> {
-    let table = read_table(rt.alloc(), SPLIT)?;
-    expect_table(&rt, &table)
+fn a_split_part_carries_its_variables(rt: HostRuntime) {
+    let machine = Machine::read(rt.alloc(), SPLIT).expect(&rt, "a machine");
+    expect_plan(&rt, machine.plan());
 }

@@ -8,4 +8,6 @@ mod carried;
 #[cfg(test)]
 mod ring;
 #[cfg(test)]
+mod rows;
+#[cfg(test)]
 mod tap;

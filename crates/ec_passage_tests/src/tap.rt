@@ -1,11 +1,13 @@
 //! Wires whose payloads are noted in captures, by the public calls of `ec_tap`.
+ghost use Rattle.std.specs.Prelude.{◌≡◌, [], Some};
+
+use crate::rows::{assert_same, bytes_of};
 use ec_capture::Recorder;
 use ec_ring::Ring;
 use ec_tap::{CapturedWire, Side};
 use ec_wire::{MemoryWire, Wire};
 use std::io;
 use std::process::Abort;
-use std::test::Fail;
 use std::time::{Clock, Duration};
 
 /// A broadcast read of the AL status, as it is sent; a ring without slaves gives it back as it came.
@@ -32,61 +34,74 @@ impl Clock for Still {
     }
 }
 
-/// The bytes of rows of hexadecimal digits, with blanks between fields.
-fn bytes_of(rt: &(impl AllocGlobal + Abort), rows: &[&str]) -> Result<Vec<u8>, Fail> {
-    let mut bytes = Vec::new(rt.alloc());
-    for row in rows {
-        for field in row.split_whitespace() {
-            bytes.extend_from_slice(&hex::decode(rt.alloc(), field)?)?;
-        }
-    }
-    Ok(bytes)
+/// A wire to no slaves, of which the call of a number is a fault.
+fn wire_of(rt: &(impl AllocGlobal + Abort), fails_at: u64) -> MemoryWire
+    ensures { result ≡ record { sent = Some []; received = Some []; failed = 0 } }
+{
+    MemoryWire::new(rt.alloc(), Ring::new(Vec::new(rt.alloc())), 4, fails_at).expect(rt, "memory")
 }
 
-/// What is in the file behind its head, when a frame was sent and received by a wire at this end, of which the call of a number
-/// is a fault.
-fn noted(rt: &(impl AllocGlobal + Abort), side: Side, fails_at: u64) -> Result<Vec<u8>, Fail> {
-    let wire = MemoryWire::new(rt.alloc(), Ring::new(Vec::new(rt.alloc())), 4, fails_at)?;
-    let capture = Recorder::open(Vec::new(rt.alloc()), &["loop"])?;
-    let head = capture.file().len();
-    let mut tapped = CapturedWire::new(wire, capture, side, &Still);
+/// A capture of one interface.
+fn capture_of(rt: &(impl AllocGlobal + Abort)) -> Recorder<Vec<u8>> {
+    Recorder::open(Vec::new(rt.alloc()), &["loop"]).expect(rt, "memory")
+}
+
+/// Sends the broadcast, and receives. How many bytes came.
+fn carry(wire: &mut impl Wire) -> usize {
     let mut buffer = [0; 1472];
-    tapped.send(&STATUS);
-    let count = tapped.recv(&mut buffer);
-    assert_eq!(rt; count, if fails_at < 2 { 0 } else { 16 });
-    let (wire, capture) = tapped.into_parts();
-    assert_eq!(rt;
-        wire.failures(),
-        if fails_at == 0 {
-            2
-        } else if fails_at == 1 {
-            1
-        } else {
-            0
-        }
+    wire.send(&STATUS);
+    wire.recv(&mut buffer)
+}
+
+/// What stands in a file behind its head.
+fn behind(file: &[u8], head: usize) -> &[u8] {
+    file.get(head..).unwrap_or(&[])
+}
+
+/// A wire at an end, of which the call of a number is a fault; how many bytes come, the faults, and the packets that are noted.
+type Row = (Side, u64, (usize, u64), &'static str, &'static str);
+
+/// What is noted of a row.
+fn bytes_of_row(rt: &(impl AllocGlobal + Abort), row: &Row) -> Vec<u8> {
+    let mut bytes = bytes_of(rt, row.3);
+    bytes
+        .extend_from_slice(&bytes_of(rt, row.4))
+        .expect(rt, "memory");
+    bytes
+}
+
+/// Compares what came of a wire and its capture.
+fn assert_noted(rt: &(impl AllocGlobal + Abort), row: &Row, seen: (usize, u64), noted: &[u8]) {
+    let wanted = bytes_of_row(rt, row);
+    assert_same(
+        rt,
+        &(row.0, row.1, seen, noted),
+        &(row.0, row.1, row.2, wanted.as_slice()),
+        "",
     );
-    let mut bytes = Vec::new(rt.alloc());
-    bytes.extend_from_slice(&capture.file().as_slice()[head.min(capture.file().len())..])?;
-    Ok(bytes)
 }
 
-#[test]
-fn payloads_are_noted_as_they_pass(rt: HostRuntime) -> Result<(), Fail> {
-    let want = bytes_of(&rt, &[SENT, PASSED])?;
-    assert_eq!(rt; noted(&rt, Side::Master, 9)?, want);
-    Ok(())
+/// A frame is sent and received by the wire of a row.
+fn expect_noted(rt: &(impl AllocGlobal + Abort), row: &Row) {
+    let capture = capture_of(rt);
+    let head = capture.file().len();
+    let mut tapped = CapturedWire::new(wire_of(rt, row.1), capture, row.0, &Still);
+    let count = carry(&mut tapped);
+    let (wire, capture) = tapped.into_parts();
+    let seen = (count, wire.failures());
+    assert_noted(rt, row, seen, behind(capture.file().as_slice(), head));
 }
 
+// Payloads are noted as they pass; a segment sends what has passed; faults are not noted.
 #[test]
-fn a_segment_sends_what_has_passed(rt: HostRuntime) -> Result<(), Fail> {
-    let want = bytes_of(&rt, &[PASSED, SENT])?;
-    assert_eq!(rt; noted(&rt, Side::Segment, 9)?, want);
-    Ok(())
-}
-
-#[test]
-fn faults_are_not_noted(rt: HostRuntime) -> Result<(), Fail> {
-    assert_eq!(rt; noted(&rt, Side::Master, 0)?, bytes_of(&rt, &[])?);
-    assert_eq!(rt; noted(&rt, Side::Master, 1)?, bytes_of(&rt, &[SENT])?);
-    Ok(())
+fn payloads_in_captures(rt: HostRuntime) {
+    let rows: &[Row] = &[
+        (Side::Master, 9, (16, 0), SENT, PASSED),
+        (Side::Segment, 9, (16, 0), PASSED, SENT),
+        (Side::Master, 0, (0, 2), "", ""),
+        (Side::Master, 1, (0, 1), SENT, ""),
+    ];
+    for row in rows {
+        expect_noted(&rt, row);
+    }
 }

@@ -1,11 +1,10 @@
 //! Start-ups of every number of slaves, and the texts of their failures.
-use crate::tests::{plan_of, startup_of};
+use crate::tests::steps::{plan_of, startup_of};
 use ec_device::Device;
 use ec_link::Plan;
 use ec_start::{Phase, StartError};
-use std::alloc::{AllocError, Global};
+use std::alloc::AllocError;
 use std::process::Abort;
-use std::test::Fail;
 
 /// A type with a mailbox, to which slaves are added.
 const TYPE: &str = r#"[[type]]
@@ -20,14 +19,18 @@ rxpdo = [ { index = 0x1600, entries = [[0x7000, 1, 16], [0x7000, 2, 16]] }, { in
 txpdo = [ { index = 0x1A00, entries = [[0x6000, 1, 16]] } ]
 "#;
 
+/// Adds a slave of that type.
+fn push_slave(text: &mut String, place: usize) -> Result<(), AllocError> {
+    write!(text, "[[slave]]\nname = \"s{place}\"\ntype = \"t\"\n")
+}
+
 /// A table of so many slaves.
-fn table_of(alloc: Global, slaves: usize) -> Result<String, AllocError> {
-    let mut text = String::new(alloc);
-    text.push_str(TYPE)?;
+fn table_of(rt: &(impl AllocGlobal + Abort), slaves: usize) -> String {
+    let mut text = TYPE.to_string(rt.alloc()).expect(rt, "memory");
     for place in 0..slaves {
-        write!(text, "[[slave]]\nname = \"s{place}\"\ntype = \"t\"\n")?;
+        push_slave(&mut text, place).expect(rt, "memory");
     }
-    Ok(text)
+    text
 }
 
 /// A start-up of a plan is to begin with frame 7.
@@ -37,19 +40,16 @@ fn assert_idle(rt: &impl Abort, plan: &Plan) {
 }
 
 /// So many slaves can be started up.
-fn expect_size(rt: &(impl AllocGlobal + Abort), slaves: usize) -> Result<(), Fail> {
-    let table = table_of(rt.alloc(), slaves)?;
-    assert_idle(rt, &plan_of(rt.alloc(), table.as_str())?);
-    Ok(())
+fn expect_size(rt: &(impl AllocGlobal + Abort), slaves: usize) {
+    assert_idle(rt, &plan_of(rt, table_of(rt, slaves).as_str()));
 }
 
 // Each number of slaves can be started up.
 #[test]
-fn startups_of_all_sizes(rt: HostRuntime) -> Result<(), Fail> {
+fn startups_of_all_sizes(rt: HostRuntime) {
     for slaves in 1..65 {
-        expect_size(&rt, slaves)?;
+        expect_size(&rt, slaves);
     }
-    Ok(())
 }
 
 /// What each failure says.
@@ -99,16 +99,19 @@ const TEXTS: [(StartError, &str); 10] = [
     ),
 ];
 
+/// What is said of a failure.
+fn said(rt: &(impl AllocGlobal + Abort), error: StartError) -> String {
+    format!(in rt.alloc(); "{error}").expect(rt, "memory")
+}
+
 /// A failure says this.
-fn expect_text(rt: &(impl AllocGlobal + Abort), error: StartError, text: &str) -> Result<(), Fail> {
-    assert_eq!(rt; format!(in rt.alloc(); "{error}")?.as_str(), text);
-    Ok(())
+fn expect_text(rt: &(impl AllocGlobal + Abort), error: StartError, text: &str) {
+    assert_eq!(rt; said(rt, error).as_str(), text);
 }
 
 #[test]
-fn texts_of_failures(rt: HostRuntime) -> Result<(), Fail> {
+fn texts_of_failures(rt: HostRuntime) {
     for (error, text) in &TEXTS {
-        expect_text(&rt, *error, text)?;
+        expect_text(&rt, *error, text);
     }
-    Ok(())
 }
