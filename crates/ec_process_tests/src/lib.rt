@@ -4,4 +4,8 @@
 #[cfg(test)]
 mod fmmu;
 #[cfg(test)]
+mod rows;
+#[cfg(test)]
+mod runs;
+#[cfg(test)]
 mod sync;

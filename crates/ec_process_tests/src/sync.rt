@@ -1,29 +1,30 @@
-//! What the ring and a slave's own side see of a sync manager, by the public calls of `ec_sync`.
+//! What the ring and a slave's own side see of a sync manager, by the public calls of `ec_sync`. What is done to a manager, and
+//! what must be seen of it, are lines of text: a word, what it is about, and behind `>` what is seen. Each case begins with a new
+//! manager, and between cases stand empty lines.
+//!
+//! | Line | Says |
+//! |---|---|
+//! | `configures START LENGTH CONTROL ACTIVATE` | it gets settings |
+//! | `locks BYTE` | its deactivate bit is set, or cleared where the byte is 00 |
+//! | `writes ADDRESS ROW > 01` | the ring writes bytes from an address on; 00 where it may not, as in all that follows |
+//! | `ends FIRST LAST > 01` | it writes 0 at two bytes, and none between |
+//! | `reads ADDRESS LENGTH > 01`, `touches ADDRESS ROW > 01` | it reads so many bytes, or as many as the row has |
+//! | `gets PLACE > BYTE`, `puts PLACE BYTE > 01` | the application reads a byte, or none; writes one |
+//! | `gets_all > 01`, `puts_all ROW > 01` | it does so with all bytes at once |
+//! | `sends ROW > 01`, `takes > 01` | the firmware puts a message, takes one |
+//! | `published > ROW`, `shown > ROW`, `message > ROW` | what is published, what the ring sees, the message |
+//! | `register PLACE > BYTE`, `shown_byte ADDRESS > BYTE` | a byte of its registers, a byte that the ring sees |
+//! | `is_set > 01`, `is_enabled > 01`, `governs ADDRESS > 01` | whether it is set, is enabled, governs a byte |
+//! | `first > ADDRESS`, `value_end > ADDRESS`, `span_end > ADDRESS` | where it lies |
+//! | `# WORDS` | nothing |
 ghost use Rattle.std.specs.Prelude.{◌==◌, ◌||◌, ◌+◌, ◌-◌, length, slice_range};
 ghost use Rattle.ec_bits.specs.Bits.{within, zeros};
 
-use ec_regs::{CONTROL_INPUTS, CONTROL_MAILBOX_IN, SyncManagerSettings};
+use crate::rows::{byte_of, bytes_of, halves, parts, word_of};
+use ec_regs::SyncManagerSettings;
 use ec_sync::{Reach, SyncManager, Touching, Writing};
-use std::test::Fail;
-
-/// Two buffered bytes at 0x1100 that the ring writes.
-const OUTPUTS: SyncManagerSettings = SyncManagerSettings {
-    start: 0x1100,
-    length: 2,
-    control: 0x24,
-    activate: 1,
-};
-
-/// The same for the ring to read.
-const INPUTS: SyncManagerSettings = SyncManagerSettings {
-    start: 0x1100,
-    length: 2,
-    control: 0x20,
-    activate: 1,
-};
-
-/// The last byte of the RAM.
-const LAST: usize = 0x2fff;
+use std::alloc::AllocError;
+use std::process::Abort;
 
 /// Writes bytes from an address on.
 #[derive(Clone, Copy)]
@@ -81,239 +82,336 @@ impl Writing for Ends {
     }
 }
 
-#[test]
-fn outputs_row_by_row(rt: HostRuntime) -> Result<(), Fail> {
-    let mut manager = SyncManager::new(rt.alloc())?;
-    manager.configure(OUTPUTS);
-    let given = Range {
-        from: 0x1100,
-        bytes: &[0x23, 0x12],
-    };
-    assert!(rt; manager.ring_write(&given));
-    assert_eq!(rt; manager.published(), [0x23, 0x12].as_slice());
-
-    let short = Range {
-        from: 0x1100,
-        bytes: &[0x99],
-    };
-    assert!(rt; !manager.ring_write(&short), "the last byte is not touched");
-    assert_eq!(rt; manager.published(), [0x23, 0x12].as_slice());
-
-    let long = Range {
-        from: 0x1100,
-        bytes: &[0xaa, 0xbb, 0xcc],
-    };
-    assert!(rt; manager.ring_write(&long), "reaches the second buffer");
-    assert_eq!(rt; manager.published(), [0xaa, 0xbb].as_slice());
-
-    let read = Reach {
-        from: 0x1100,
-        len: 2,
-    };
-    assert!(rt; !manager.ring_read(&read), "the ring writes it");
-
-    manager.configure(OUTPUTS);
-    assert_eq!(rt; manager.published(), [0, 0].as_slice());
-    Ok(())
+/// A physical address, or a place.
+fn place_of(rt: &impl Abort, digits: &str) -> usize {
+    usize::from(word_of(rt, digits))
 }
 
-#[test]
-fn a_view_is_of_one_value(rt: HostRuntime) -> Result<(), Fail> {
-    let mut manager = SyncManager::new(rt.alloc())?;
-    manager.configure(OUTPUTS);
-    let old = Range {
-        from: 0x1100,
-        bytes: &[1, 2],
-    };
-    let new = Range {
-        from: 0x1100,
-        bytes: &[3, 4],
-    };
-    assert!(rt; manager.ring_write(&old));
-    assert_eq!(rt; manager.app_get(1), None, "no view is open");
-    assert_eq!(rt; manager.app_get(0), Some(1));
-    assert!(rt; manager.ring_write(&new));
-    assert_eq!(rt; manager.app_get(1), Some(2));
-    assert_eq!(rt; manager.app_get(1), None, "the last byte closes the view");
-    assert_eq!(rt; manager.app_get(0), Some(3));
-    assert!(rt; !manager.app_put(0, 5), "the ring writes it");
-    Ok(())
-}
-
-#[test]
-fn a_half_written_draft_is_not_shown(rt: HostRuntime) -> Result<(), Fail> {
-    let mut manager = SyncManager::new(rt.alloc())?;
-    manager.configure(INPUTS);
-    assert!(rt; !manager.app_put(1, 6), "no draft is open");
-    assert!(rt; manager.app_put(0, 5));
-    assert_eq!(rt; manager.published(), [0, 0].as_slice());
-    assert_eq!(rt; manager.shown_byte(0x1100), 0);
-    assert!(rt; manager.app_put(1, 6));
-    assert!(rt;
-        manager.ring_read(&Range {
-            from: 0x1100,
-            bytes: &[0, 0]
-        })
-    );
-    assert_eq!(rt; manager.shown_byte(0x1100), 5);
-    assert_eq!(rt; manager.shown_byte(0x1101), 6);
-    assert!(rt; !manager.app_put(2, 7), "past its length");
-    Ok(())
-}
-
-#[test]
-fn hostile_settings(rt: HostRuntime) -> Result<(), Fail> {
-    let mut manager = SyncManager::new(rt.alloc())?;
-    let last = SyncManagerSettings {
-        start: 0x2fff,
-        length: 1,
-        control: 0x24,
-        activate: 1,
-    };
-    manager.configure(last);
-    assert!(rt; !manager.is_set(), "three buffers do not fit");
-    let mut long = OUTPUTS;
-    long.length = 65535;
-    manager.configure(long);
-    assert!(rt; !manager.is_set());
-    assert!(rt; !manager.governs(0x1100));
-    Ok(())
-}
-
-#[test]
-fn a_mailbox_of_one_byte(rt: HostRuntime) -> Result<(), Fail> {
-    let mut manager = SyncManager::new(rt.alloc())?;
-    let mut settings = SyncManagerSettings {
-        start: 0x2fff,
-        length: 1,
-        control: 0x26,
-        activate: 1,
-    };
-    manager.configure(settings);
-    let byte = Range {
-        from: LAST,
-        bytes: &[8],
-    };
-    assert!(rt; manager.ring_write(&byte));
-    assert_eq!(rt; manager.register(5), 8);
-    assert!(rt; !manager.ring_write(&byte), "full");
-    assert_eq!(rt; manager.message(), Some([8].as_slice()));
-    assert!(rt; manager.mailbox_take());
-    assert!(rt; !manager.mailbox_take(), "empty");
-
-    settings.control = 0x22;
-    manager.configure(settings);
-    let read = Reach { from: LAST, len: 1 };
-    assert!(rt; !manager.ring_read(&read), "empty");
-    assert!(rt; !manager.mailbox_put(&[1, 2]), "too long");
-    assert!(rt; manager.mailbox_put(&[1]));
-    assert!(rt; !manager.mailbox_put(&[2]), "full");
-    manager.set_locked(true);
-    assert!(rt; !manager.ring_read(&read), "locked");
-    manager.set_locked(false);
-    assert!(rt; manager.ring_read(&read));
-    assert_eq!(rt; manager.register(5), 0);
-    Ok(())
-}
-
-#[test]
-fn untouched_bytes_are_zero(rt: HostRuntime) -> Result<(), Fail> {
-    let mut manager = SyncManager::new(rt.alloc())?;
-    let mut settings = OUTPUTS;
-    settings.length = 4;
-    manager.configure(settings);
-    let full = Range {
-        from: 0x1100,
-        bytes: &[1, 2, 3, 4],
-    };
-    let ends = Ends {
-        first: 0x1100,
-        last: 0x1103,
-    };
-    assert!(rt; manager.ring_write(&full));
-    assert!(rt; manager.ring_write(&ends));
-    assert_eq!(rt; manager.published(), [0, 0, 0, 0].as_slice());
-    Ok(())
-}
-
-// All bytes at once are as one after the other: a half written draft and an open view are closed.
-#[test]
-fn all_bytes_at_once(rt: HostRuntime) -> Result<(), Fail> {
-    let mut manager = SyncManager::new(rt.alloc())?;
-    manager.configure(INPUTS);
-    assert!(rt; manager.app_put(0, 5));
-    if manager.may_app_put() && manager.published().len() == 2 {
-        manager.app_put_all(&[7, 8]);
+/// Settings, each field as a number.
+fn settings_of(rt: &impl Abort, about: &str) -> SyncManagerSettings {
+    let (start, about) = parts(rt, about, " ");
+    let (length, about) = parts(rt, about, " ");
+    let (control, activate) = parts(rt, about, " ");
+    SyncManagerSettings {
+        start: word_of(rt, start),
+        length: word_of(rt, length),
+        control: byte_of(rt, control),
+        activate: byte_of(rt, activate),
     }
-    assert_eq!(rt; manager.published(), [7, 8].as_slice());
-    assert!(rt; !manager.app_put(1, 6), "the draft is closed");
+}
 
-    manager.configure(OUTPUTS);
-    assert_eq!(rt; manager.app_get(0), Some(0));
+/// Two numbers.
+fn places_of(rt: &impl Abort, about: &str) -> (usize, usize) {
+    let (first, second) = parts(rt, about, " ");
+    (place_of(rt, first), place_of(rt, second))
+}
+
+/// The ring writes bytes from an address on.
+fn are_written(manager: &mut SyncManager, from: usize, bytes: &[u8]) -> bool {
+    manager.ring_write(&Range { from, bytes })
+}
+
+/// The same of a row.
+fn is_row_written(rt: &(impl AllocGlobal + Abort), manager: &mut SyncManager, about: &str) -> bool {
+    let (from, row) = parts(rt, about, " ");
+    are_written(manager, place_of(rt, from), &bytes_of(rt, row))
+}
+
+/// The ring reads as many bytes as there are.
+fn are_touched(manager: &mut SyncManager, from: usize, bytes: &[u8]) -> bool {
+    manager.ring_read(&Range { from, bytes })
+}
+
+/// The same of a row.
+fn is_row_touched(rt: &(impl AllocGlobal + Abort), manager: &mut SyncManager, about: &str) -> bool {
+    let (from, row) = parts(rt, about, " ");
+    are_touched(manager, place_of(rt, from), &bytes_of(rt, row))
+}
+
+/// The ring writes 0 at two bytes.
+fn are_ends_written(rt: &impl Abort, manager: &mut SyncManager, about: &str) -> bool {
+    let (first, last) = places_of(rt, about);
+    manager.ring_write(&Ends { first, last })
+}
+
+/// The ring reads bytes.
+fn is_read(rt: &impl Abort, manager: &mut SyncManager, about: &str) -> bool {
+    let (from, len) = places_of(rt, about);
+    manager.ring_read(&Reach { from, len })
+}
+
+/// The application puts a byte.
+fn is_put(rt: &impl Abort, manager: &mut SyncManager, about: &str) -> bool {
+    let (place, byte) = parts(rt, about, " ");
+    manager.app_put(place_of(rt, place), byte_of(rt, byte))
+}
+
+/// The application puts all bytes at once, if it may.
+fn are_all_put(manager: &mut SyncManager, bytes: &[u8]) -> bool {
+    if manager.may_app_put() && manager.published().len() == bytes.len() {
+        manager.app_put_all(bytes);
+        return true;
+    }
+    false
+}
+
+/// The application gets all bytes at once, if it may.
+fn are_all_got(manager: &mut SyncManager) -> bool {
     if manager.may_app_get() {
         manager.app_get_all();
+        return true;
     }
-    assert_eq!(rt; manager.app_get(1), None, "the view is closed");
-    Ok(())
+    false
 }
 
-// New settings empty a manager, also where they are what they were, and where it wasn't set before.
-#[test]
-fn settings_written_again_empty_it(rt: HostRuntime) -> Result<(), Fail> {
-    let mut manager = SyncManager::new(rt.alloc())?;
-    let mailbox = SyncManagerSettings::of_area(0x1000, 16, CONTROL_MAILBOX_IN);
-    manager.configure(mailbox);
-    assert!(rt; manager.mailbox_put(&[1, 2, 3]));
-    assert_eq!(rt; manager.register(5), 8);
-    manager.configure(mailbox);
-    assert_eq!(rt; manager.register(5), 0);
-    assert!(rt; manager.mailbox_put(&[4]));
-    manager.configure(SyncManagerSettings {
-        activate: 0,
-        ..mailbox
-    });
-    assert_eq!(rt; manager.register(5), 0);
-    assert!(rt; manager.shown().is_empty());
-    Ok(())
-}
-
-// The deactivate bit is kept, and read back, also where the manager isn't set.
-#[test]
-fn locked_where_it_is_not_set(rt: HostRuntime) -> Result<(), Fail> {
-    let mut manager = SyncManager::new(rt.alloc())?;
-    manager.set_locked(true);
-    assert_eq!(rt; manager.register(7), 1);
-    manager.configure(OUTPUTS);
-    assert_eq!(rt; manager.register(7), 1);
-    assert!(rt; !manager.is_enabled());
-    Ok(())
-}
-
-// A span with its three buffers, a mailbox, and a manager that isn't set.
-#[test]
-fn bounds_of_managers(rt: HostRuntime) -> Result<(), Fail> {
-    let rows = [
-        (OUTPUTS, 0x1102, 0x1106),
-        (
-            SyncManagerSettings::of_area(0x2fff, 1, CONTROL_MAILBOX_IN),
-            0x3000,
-            0x3000,
-        ),
-        (
-            SyncManagerSettings::of_area(0x2fff, 1, CONTROL_INPUTS),
-            0x3000,
-            0,
-        ),
-    ];
-    let mut manager = SyncManager::new(rt.alloc())?;
-    for (settings, value_end, span_end) in rows {
-        manager.configure(settings);
-        let bounds = manager.bounds();
-        assert_eq!(rt; bounds.first, settings.start as usize);
-        assert_eq!(rt; bounds.value_end, value_end);
-        assert_eq!(rt; bounds.span_end, span_end);
-        assert_eq!(rt; manager.governs(bounds.first), span_end != 0);
-        assert!(rt; !manager.governs(span_end));
+/// What only asks, or is granted or not.
+fn is_granted(
+    rt: &(impl AllocGlobal + Abort),
+    manager: &mut SyncManager,
+    word: &str,
+    about: &str,
+) -> bool {
+    match word {
+        "writes" => is_row_written(rt, manager, about),
+        "touches" => is_row_touched(rt, manager, about),
+        "ends" => are_ends_written(rt, manager, about),
+        "reads" => is_read(rt, manager, about),
+        "puts" => is_put(rt, manager, about),
+        "puts_all" => are_all_put(manager, &bytes_of(rt, about)),
+        "gets_all" => are_all_got(manager),
+        "sends" => manager.mailbox_put(&bytes_of(rt, about)),
+        "takes" => manager.mailbox_take(),
+        "is_set" => manager.is_set(),
+        "is_enabled" => manager.is_enabled(),
+        "governs" => manager.governs(place_of(rt, about)),
+        _ => panic!(rt; "{word}"),
     }
-    Ok(())
+}
+
+/// A byte that is seen, or none.
+fn byte_seen(
+    rt: &(impl AllocGlobal + Abort),
+    manager: &mut SyncManager,
+    word: &str,
+    about: &str,
+) -> Option<u8> {
+    match word {
+        "gets" => manager.app_get(place_of(rt, about)),
+        "register" => Some(manager.register(place_of(rt, about) % 8)),
+        "shown_byte" => Some(manager.shown_byte(place_of(rt, about))),
+        _ => Some(u8::from(is_granted(rt, manager, word, about))),
+    }
+}
+
+/// An address as it stands in a row.
+fn address_bytes(rt: &impl Abort, address: usize) -> [u8; 2] {
+    u16::try_from(address)
+        .expect(rt, "an address")
+        .to_be_bytes()
+}
+
+/// A line, and the first line of its case: both are told where something isn't as it must be.
+type Place<'a> = (&'a str, &'a str);
+
+/// Compares bytes.
+fn assert_bytes(rt: &impl Abort, at: Place<'_>, met: &[u8], wanted: &[u8]) {
+    assert_eq!(rt; (at, met), (at, wanted));
+}
+
+/// Compares bytes with a row.
+fn assert_row(rt: &(impl AllocGlobal + Abort), at: Place<'_>, met: &[u8], row: &str) {
+    assert_bytes(rt, at, met, &bytes_of(rt, row));
+}
+
+/// Compares an address with a row.
+fn assert_address(rt: &(impl AllocGlobal + Abort), at: Place<'_>, address: usize, row: &str) {
+    assert_row(rt, at, &address_bytes(rt, address), row);
+}
+
+/// Takes the step of a line, and compares what is seen.
+fn expect_seen(
+    rt: &(impl AllocGlobal + Abort),
+    manager: &mut SyncManager,
+    at: Place<'_>,
+    (word, about): (&str, &str),
+    row: &str,
+) {
+    match word {
+        "#" => {}
+        "configures" => manager.configure(settings_of(rt, about)),
+        "locks" => manager.set_locked(byte_of(rt, about) != 0),
+        "published" => assert_row(rt, at, manager.published(), row),
+        "shown" => assert_row(rt, at, manager.shown(), row),
+        "message" => assert_row(rt, at, manager.message().unwrap_or(b"none"), row),
+        "first" => assert_address(rt, at, manager.bounds().first, row),
+        "value_end" => assert_address(rt, at, manager.bounds().value_end, row),
+        "span_end" => assert_address(rt, at, manager.bounds().span_end, row),
+        _ => assert_row(rt, at, byte_seen(rt, manager, word, about).as_slice(), row),
+    }
+}
+
+/// Takes a line apart, and its step.
+fn take_line(rt: &(impl AllocGlobal + Abort), manager: &mut SyncManager, at: Place<'_>) {
+    let (done, row) = halves(at.0, " >");
+    expect_seen(rt, manager, at, halves(done, " "), row);
+}
+
+/// Takes the steps of a case.
+fn take_case(rt: &(impl AllocGlobal + Abort), manager: &mut SyncManager, case: &str) {
+    let (name, _) = halves(case, "\n");
+    for line in case.lines() {
+        take_line(rt, manager, (line, name));
+    }
+}
+
+/// Takes the steps of a case on a manager as it is made, which goes away here.
+fn expect_case(
+    rt: &(impl AllocGlobal + Abort),
+    manager: Result<SyncManager, AllocError>,
+    case: &str,
+) {
+    let mut manager = manager.expect(rt, "memory");
+    take_case(rt, &mut manager, case);
+}
+
+/// Two buffered bytes at 0x1100 that the ring writes have the control byte 24, those that it reads 20; a mailbox 26 and 22. The
+/// last byte of the RAM stands at 0x2fff.
+const CASES: &str = "\
+# outputs row by row
+configures 1100 0002 24 01
+writes 1100 2312 > 01
+published > 2312
+# the last byte is not touched
+writes 1100 99 > 00
+published > 2312
+# reaches the second buffer
+writes 1100 aabbcc > 01
+published > aabb
+# the ring writes it
+reads 1100 0002 > 00
+configures 1100 0002 24 01
+published > 0000
+
+# a view is of one value
+configures 1100 0002 24 01
+writes 1100 0102 > 01
+# no view is open
+gets 1 >
+gets 0 > 01
+writes 1100 0304 > 01
+gets 1 > 02
+# the last byte closes the view
+gets 1 >
+gets 0 > 03
+# the ring writes it
+puts 0 05 > 00
+
+# a half written draft is not shown
+configures 1100 0002 20 01
+# no draft is open
+puts 1 06 > 00
+puts 0 05 > 01
+published > 0000
+shown_byte 1100 > 00
+puts 1 06 > 01
+touches 1100 0000 > 01
+shown_byte 1100 > 05
+shown_byte 1101 > 06
+# past its length
+puts 2 07 > 00
+
+# hostile settings: three buffers do not fit
+configures 2fff 0001 24 01
+is_set > 00
+configures 1100 ffff 24 01
+is_set > 00
+governs 1100 > 00
+
+# a mailbox of one byte
+configures 2fff 0001 26 01
+writes 2fff 08 > 01
+register 5 > 08
+# full
+writes 2fff 08 > 00
+message > 08
+takes > 01
+# empty
+takes > 00
+configures 2fff 0001 22 01
+# empty
+reads 2fff 0001 > 00
+# too long
+sends 0102 > 00
+sends 01 > 01
+# full
+sends 02 > 00
+locks 01
+# locked
+reads 2fff 0001 > 00
+locks 00
+reads 2fff 0001 > 01
+register 5 > 00
+
+# untouched bytes are 0
+configures 1100 0004 24 01
+writes 1100 01020304 > 01
+ends 1100 1103 > 01
+published > 00000000
+
+# All bytes at once are as one after the other: a half written draft and an open view are closed.
+configures 1100 0002 20 01
+puts 0 05 > 01
+puts_all 0708 > 01
+published > 0708
+# the draft is closed
+puts 1 06 > 00
+configures 1100 0002 24 01
+gets 0 > 00
+gets_all > 01
+# the view is closed
+gets 1 >
+
+# New settings empty a manager, also where they are what they were, and where it wasn't set before.
+configures 1000 0010 22 01
+sends 010203 > 01
+register 5 > 08
+configures 1000 0010 22 01
+register 5 > 00
+sends 04 > 01
+configures 1000 0010 22 00
+register 5 > 00
+shown >
+
+# The deactivate bit is kept, and read back, also where the manager isn't set.
+locks 01
+register 7 > 01
+configures 1100 0002 24 01
+register 7 > 01
+is_enabled > 00
+
+# bounds of a span with its three buffers, of a mailbox, and of a manager that isn't set
+configures 1100 0002 24 01
+first > 1100
+value_end > 1102
+span_end > 1106
+governs 1100 > 01
+governs 1106 > 00
+configures 2fff 0001 22 01
+first > 2fff
+value_end > 3000
+span_end > 3000
+governs 2fff > 01
+governs 3000 > 00
+configures 2fff 0001 20 01
+first > 2fff
+value_end > 3000
+span_end > 0000
+governs 2fff > 00
+governs 0000 > 00";
+
+#[test]
+fn managers(rt: HostRuntime) {
+    for case in CASES.split("\n\n") {
+        expect_case(&rt, SyncManager::new(rt.alloc()), case);
+    }
 }
