@@ -72,14 +72,13 @@ fn take_step(rt: &impl Abort, al: &mut Al, word: &str, control: u16) -> bool {
     }
 }
 
-/// Takes a step, and compares what is seen then.
+/// Takes the step at a place of the table, and compares what is seen then.
 fn expect_step(rt: &impl Abort, al: &mut Al, place: usize, step: &Step) {
     let (word, control, taken, status, code) = *step;
     let is_taken = take_step(rt, al, word, control);
     assert_eq!(rt;
-        (is_taken, al.status_word(), al.code()),
-        (taken, status, code),
-        "step {place}: {word} {control}"
+        (place, is_taken, al.status_word(), al.code()),
+        (place, taken, status, code)
     );
 }
 

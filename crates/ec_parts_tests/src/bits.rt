@@ -104,10 +104,10 @@ fn expect_run(rt: &impl Abort, before: [u8; 6], to: usize, from: usize, count: u
     copy_bits(&mut by_bytes, to, &SOURCE, from, count);
     copy_by_words(&mut by_words, to, &SOURCE, from, count);
     write_bits(&mut as_number, to, count, read_bits(&SOURCE, from, count));
+    let want = copied_by_bits(before, to, &SOURCE, from, count);
     assert_eq!(rt;
-        [by_bytes, by_words, as_number],
-        [copied_by_bits(before, to, &SOURCE, from, count); 3],
-        "{count} bits from {from} to {to}"
+        ((to, from, count), [by_bytes, by_words, as_number]),
+        ((to, from, count), [want, want, want])
     );
 }
 
@@ -150,7 +150,7 @@ fn expect_long_run(rt: &impl Abort, to: usize, src: &[u8; 19], from: usize)
 {
     let mut bytes = [0xff; 19];
     copy_by_words(&mut bytes, to, src, from, 130);
-    assert_eq!(rt; bytes, long_by_bits(to, src, from), "from {from} to {to}");
+    assert_eq!(rt; (to, from, bytes), (to, from, long_by_bits(to, src, from)));
 }
 
 // 130 bits, so two words of eight bytes, with bits before and behind them.

@@ -2,7 +2,7 @@
 use crate::kinds::{DEVICE, MAILBOX, Pdos, kind_with, pdos_of};
 use ec_device::{Entry, Pdo, SlaveType};
 use ec_listed::Listed;
-use std::alloc::{AllocError, Global};
+use std::alloc::AllocError;
 use std::process::Abort;
 
 /// Outputs of 12 bits, and a gap of 4.
@@ -90,13 +90,9 @@ fn expect_limits(rt: &impl Abort, twice: &[Pdo], other: &[Pdo]) {
 
 #[test]
 fn types_out_of_limits(rt: HostRuntime) {
-    let twice = pdos_of(rt.alloc(), &[(0x1600, &[LONG]), (0x1600, &[LONG])]);
-    let other = pdos_of(rt.alloc(), &[(0x1A00, &[LONG])]);
-    expect_limits(
-        &rt,
-        twice.expect(&rt, "memory").as_slice(),
-        other.expect(&rt, "memory").as_slice(),
-    );
+    let twice = pdos_of(&rt, &[(0x1600, &[LONG]), (0x1600, &[LONG])]);
+    let other = pdos_of(&rt, &[(0x1A00, &[LONG])]);
+    expect_limits(&rt, twice.as_slice(), other.as_slice());
 }
 
 /// Expects of a type that it has nothing.
@@ -118,24 +114,23 @@ fn a_type_without_objects(rt: HostRuntime) {
 }
 
 /// A list of so many numbers.
-fn numbers(alloc: Global, count: u32) -> Result<Listed<u32>, AllocError> {
-    let mut list = Listed::new(alloc);
+fn numbers(rt: &(impl AllocGlobal + Abort), count: u32) -> Listed<u32> {
+    let mut list = Listed::new(rt.alloc());
     for number in 0..count {
-        list.push(number)?;
+        list.push(number).expect(rt, "memory");
     }
-    Ok(list)
+    list
 }
 
-/// Compares the lengths of a list and of a copy of it.
-fn expect_lengths(rt: &impl Abort, list: &Listed<u32>, copied: &Listed<u32>, count: usize) {
-    assert_eq!(rt; (list.len(), copied.len()), (count, count));
+/// Copies a list, and compares the lengths of both.
+fn expect_lengths(rt: &(impl AllocGlobal + Abort), list: &Listed<u32>, count: usize) {
+    let copied = Listed::copied(rt.alloc(), list.as_slice()).expect(rt, "memory");
+    assert_eq!(rt; [list.len(), copied.len()], [count, count]);
 }
 
 /// Makes a list of so many numbers and a copy of it.
 fn expect_list(rt: &(impl AllocGlobal + Abort), count: u32) {
-    let list = numbers(rt.alloc(), count).expect(rt, "memory");
-    let copied = Listed::copied(rt.alloc(), list.as_slice()).expect(rt, "memory");
-    expect_lengths(rt, &list, &copied, count as usize);
+    expect_lengths(rt, &numbers(rt, count), count as usize);
 }
 
 // No length is told as want of memory, nor is a copy of it.

@@ -22,8 +22,8 @@ pub(crate) const MAILBOX: Mailbox = Mailbox {
 /// PDOs by their index, each with its entries.
 pub(crate) type Pdos<'a> = &'a [(u16, &'a [Entry])];
 
-/// A list of PDOs.
-pub(crate) fn pdos_of(alloc: Global, rows: Pdos<'_>) -> Result<Listed<Pdo>, AllocError> {
+/// A list of PDOs, or want of memory.
+fn listed_pdos(alloc: Global, rows: Pdos<'_>) -> Result<Listed<Pdo>, AllocError> {
     let mut pdos = Listed::new(alloc);
     for (index, entries) in rows {
         let entries = Listed::copied(alloc, entries)?;
@@ -33,6 +33,11 @@ pub(crate) fn pdos_of(alloc: Global, rows: Pdos<'_>) -> Result<Listed<Pdo>, Allo
         })?;
     }
     Ok(pdos)
+}
+
+/// A list of PDOs.
+pub(crate) fn pdos_of(rt: &(impl AllocGlobal + Abort), rows: Pdos<'_>) -> Listed<Pdo> {
+    listed_pdos(rt.alloc(), rows).expect(rt, "memory")
 }
 
 /// The type of a slave with mailboxes and these PDOs. The output manager lies at 0x1100.
@@ -56,7 +61,5 @@ pub(crate) fn kind_with(
     in_start: u16,
     lrw: bool,
 ) -> SlaveType {
-    let outputs = pdos_of(rt.alloc(), outputs).expect(rt, "memory");
-    let inputs = pdos_of(rt.alloc(), inputs).expect(rt, "memory");
-    kind_of(rt, outputs, inputs, in_start, lrw)
+    kind_of(rt, pdos_of(rt, outputs), pdos_of(rt, inputs), in_start, lrw)
 }

@@ -120,7 +120,7 @@ const STORED: [(usize, bool); 22] = [
 #[test]
 fn bytes_that_are_stored(rt: HostRuntime) {
     for (address, stored) in &STORED {
-        assert_eq!(rt; is_stored(*address), *stored, "at {address}");
+        assert_eq!(rt; (*address, is_stored(*address)), (*address, *stored));
     }
 }
 
@@ -137,7 +137,10 @@ const WRITTEN: [(usize, bool, bool); 6] = [
 #[test]
 fn bytes_of_the_sii_port(rt: HostRuntime) {
     for (address, is_busy, counts) in &WRITTEN {
-        assert_eq!(rt; takes_writes(*address, *is_busy), *counts, "at {address}");
+        assert_eq!(rt;
+            (*address, *is_busy, takes_writes(*address, *is_busy)),
+            (*address, *is_busy, *counts)
+        );
     }
 }
 
