@@ -6,7 +6,7 @@
 //! |---|---|
 //! | `sends ROW`, `takes SIZE > ROW` | the wire sends a payload, or receives one into a buffer of so many bytes |
 //! | `gives ROW`, `meets > ROW` | the other end sends a frame, or receives one |
-//! | `failures > BYTE` | the faults of the wire so far |
+//! | `failures > COUNT` | the faults of the wire so far |
 use crate::rows::{Line, assert_row, assert_same, bytes_of, line_of, number_of};
 use ec_card::{CardWire, Patience, Sender, framed, payload_of};
 use ec_frame::check;
@@ -133,15 +133,22 @@ fn wire_over(rt: &impl Abort, socket: UdpSocket, own: Sender) -> CardWire {
     CardWire::of_descriptor(descriptor, own, soon()).expect(rt, "a wire")
 }
 
-/// The wire receives into a buffer.
-fn expect_taken(
-    rt: &(impl AllocGlobal + Abort),
-    wire: &mut CardWire,
-    line: &Line<'_>,
-    buffer: &mut [u8],
-) {
-    let count = wire.recv(buffer).min(buffer.len());
-    assert_row(rt, line, &buffer[..count]);
+/// The wire sends a payload.
+fn send(rt: &(impl AllocGlobal + Abort), wire: &mut CardWire, row: &str) {
+    wire.send(&bytes_of(rt, row));
+}
+
+/// How many bytes the wire receives into a buffer.
+fn receive(wire: &mut CardWire, buffer: &mut [u8]) -> usize {
+    wire.recv(buffer)
+}
+
+/// The wire receives into a buffer of so many bytes.
+fn expect_taken(rt: &(impl AllocGlobal + Abort), wire: &mut CardWire, line: &Line<'_>) {
+    let mut buffer = [0; 1472];
+    let size = number_of(rt, line.about).min(1472);
+    let count = receive(wire, &mut buffer[..size]);
+    assert_row(rt, line, &buffer[..count.min(size)]);
 }
 
 /// The other end receives a frame.
@@ -152,8 +159,14 @@ fn expect_met(rt: &(impl AllocGlobal + Abort), peer: &UdpSocket, line: &Line<'_>
 }
 
 /// The other end sends a frame.
-fn give(rt: &impl Abort, peer: &UdpSocket, frame: &[u8]) {
-    peer.send(frame).expect(rt, "a frame");
+fn give(rt: &(impl AllocGlobal + Abort), peer: &UdpSocket, row: &str) {
+    peer.send(&bytes_of(rt, row)).expect(rt, "a frame");
+}
+
+/// Compares the faults of the wire.
+fn expect_failures(rt: &impl Abort, wire: &CardWire, line: &Line<'_>) {
+    let wanted = number_of(rt, line.row.trim()) as u64;
+    assert_same(rt, &wire.failures(), &wanted, line.text);
 }
 
 /// Takes the step of a line.
@@ -164,15 +177,11 @@ fn take_step(
     line: &Line<'_>,
 ) {
     match line.word {
-        "sends" => wire.send(&bytes_of(rt, line.about)),
-        "takes" => {
-            let mut buffer = [0; 1472];
-            let size = number_of(rt, line.about).min(1472);
-            expect_taken(rt, wire, line, &mut buffer[..size]);
-        }
-        "gives" => give(rt, peer, &bytes_of(rt, line.about)),
+        "sends" => send(rt, wire, line.about),
+        "takes" => expect_taken(rt, wire, line),
+        "gives" => give(rt, peer, line.about),
         "meets" => expect_met(rt, peer, line),
-        "failures" => assert_row(rt, line, &[(wire.failures() % 256) as u8]),
+        "failures" => expect_failures(rt, wire, line),
         _ => panic!(rt; "{}", line.text),
     }
 }
@@ -207,11 +216,11 @@ gives 0800
 gives
 gives ffffffffffff 020000454301 88a4 0e100701030030010200000001000300 00x30
 takes 1472 > 0e100701030030010200000001000300 00x30
-failures > 00
+failures > 0
 takes 1472 >
-failures > 01
+failures > 1
 sends 00x1473
-failures > 02
+failures > 2
 ",
     );
 }
@@ -225,7 +234,7 @@ fn short_buffer(rt: HostRuntime) {
         "\
 gives ffffffffffff 000000454301 88a4 0e100701000030010200000000000000 00x30
 takes 2 > 0e10
-failures > 00
+failures > 0
 ",
     );
 }

@@ -118,8 +118,16 @@ fn expect_plan(rt: &(impl AllocGlobal + Abort), plan: &Plan)
     expect_carried(rt, plan, Direction::In, [0xAB, 0x09], &[(1, 0, 9)]);
 }
 
+/// The machine of a table.
+fn machine_of(rt: &(impl AllocGlobal + Abort), text: &str) -> Machine {
+    Machine::read(rt.alloc(), text).expect(rt, "a machine")
+}
+
+fn expect_machine(rt: &(impl AllocGlobal + Abort), machine: &Machine) {
+    expect_plan(rt, machine.plan());
+}
+
 #[test]
 fn a_split_part_carries_its_variables(rt: HostRuntime) {
-    let machine = Machine::read(rt.alloc(), SPLIT).expect(&rt, "a machine");
-    expect_plan(&rt, machine.plan());
+    expect_machine(&rt, &machine_of(&rt, SPLIT));
 }

@@ -23,7 +23,7 @@ fn bytes_of_digits(rt: &(impl AllocGlobal + Abort), digits: &str) -> Vec<u8> {
     hex::decode(rt.alloc(), digits).expect(rt, digits)
 }
 
-/// Adds the bytes of hexadecimal digits so many times.
+/// Adds bytes so many times.
 fn add_times(rt: &impl Abort, bytes: &mut Vec<u8>, part: &[u8], count: usize) {
     for _ in 0..count {
         bytes.extend_from_slice(part).expect(rt, "memory");

@@ -157,23 +157,24 @@ fn expect_back(
     startup: &mut Startup<'_>,
     sent: &[u8],
     back: &str,
+    line: &str,
 ) {
     let taken = startup.take(&returned(rt, sent, back));
-    assert_same(rt, back, &taken, &Taken::Kept);
+    assert_same(rt, line, &taken, &Taken::Kept);
 }
 
 /// Sends the next frame of a start-up, which is taken as it comes back.
-fn exchange(rt: &(impl AllocGlobal + Abort), startup: &mut Startup<'_>, back: &str) {
+fn exchange(rt: &(impl AllocGlobal + Abort), startup: &mut Startup<'_>, back: &str, line: &str) {
     let mut frame = Frame::new();
     let next = startup.next(&mut frame);
-    assert_same(rt, back, &next, &NextFrame::Send);
-    expect_back(rt, startup, frame.as_slice(), back);
+    assert_same(rt, line, &next, &NextFrame::Send);
+    expect_back(rt, startup, frame.as_slice(), back, line);
 }
 
 /// Makes the first steps of the start-up of the three slaves, as all is well.
 fn make_steps(rt: &(impl AllocGlobal + Abort), startup: &mut Startup<'_>, count: usize) {
     for line in STEPS.lines().take(count) {
-        exchange(rt, startup, parts(rt, line, " ").1);
+        exchange(rt, startup, parts(rt, line, " ").1, line);
     }
 }
 
@@ -191,7 +192,7 @@ fn make_step(rt: &(impl AllocGlobal + Abort), startup: &mut Startup<'_>, line: &
     let (sent, back) = parts(rt, line, " ");
     let sent = sent_of(rt, sent);
     assert_sends(rt, startup, &sent, line);
-    expect_back(rt, startup, &sent, back);
+    expect_back(rt, startup, &sent, back, line);
 }
 
 /// All steps of the table.
@@ -202,11 +203,11 @@ fn make_all(rt: &(impl AllocGlobal + Abort), startup: &mut Startup<'_>) {
 }
 
 /// The next frame comes back so many times.
-fn poll(rt: &(impl AllocGlobal + Abort), startup: &mut Startup<'_>, about: &str) {
-    let (count, back) = parts(rt, about, " ");
+fn poll(rt: &(impl AllocGlobal + Abort), startup: &mut Startup<'_>, line: &Line<'_>) {
+    let (count, back) = parts(rt, line.about, " ");
     for _ in 0..number_of(rt, count) {
-        assert_same(rt, about, &startup.phase(), &Phase::Idle);
-        exchange(rt, startup, back);
+        assert_same(rt, line.text, &startup.phase(), &Phase::Idle);
+        exchange(rt, startup, back, line.text);
     }
 }
 
@@ -214,7 +215,7 @@ fn poll(rt: &(impl AllocGlobal + Abort), startup: &mut Startup<'_>, about: &str)
 fn expect_end(rt: &(impl AllocGlobal + Abort), startup: &mut Startup<'_>, line: &Line<'_>) {
     let (count, back) = parts(rt, line.about, " ");
     make_steps(rt, startup, count_of(rt, count));
-    exchange(rt, startup, back);
+    exchange(rt, startup, back, line.text);
     assert_shown(rt, line, &startup.phase());
 }
 
@@ -261,8 +262,8 @@ fn take_step(rt: &(impl AllocGlobal + Abort), startup: &mut Startup<'_>, line: &
         "" | "#" => {}
         "all" => make_all(rt, startup),
         "makes" => make_steps(rt, startup, count_of(rt, line.about)),
-        "comes" => exchange(rt, startup, line.about),
-        "polls" => poll(rt, startup, line.about),
+        "comes" => exchange(rt, startup, line.about, line.text),
+        "polls" => poll(rt, startup, line),
         "ends" => expect_end(rt, startup, line),
         "sends" => expect_next(rt, startup, line),
         "takes" => expect_taken(rt, startup, line),
