@@ -1,23 +1,19 @@
 //! What needs streams that fail, sockets that are held, arguments of a system, or calls of parts of the program. What a run over
 //! memory prints and tells, and what the helps list, stands as cases in `crates/ecat_cases/data/`.
 
-mod explains;
-mod inputs;
 mod loops;
 mod programs;
-mod segments;
 mod serials;
+mod streams;
 
-use ec_commands::{App, print_text, run_command};
+use self::streams::{Sink, Source, sink_of, source_of};
+use ec_commands::{App, UdpWire, print_text, read_text, run_command};
 use ec_examples::THREE_SLAVES;
+use std::alloc::Global;
 use std::fs::Files;
-use std::io;
-use std::io::{ErrorKind, Read, Write};
 use std::net::Net;
 use std::process::Abort;
 use std::time::Clock;
-
-const FRAME: &str = "0e100701000030010200000000000000";
 
 /// An application that does nothing.
 #[derive(Drop)]
@@ -27,228 +23,278 @@ impl App for Idle {
     fn step(&mut self, _outputs: &[u8], _inputs: &mut [u8]) {}
 }
 
-/// A writer that takes all bytes and refuses to hand them on.
-#[derive(Drop)]
-struct Stuck {
-    flushes: u32,
+/// A run: what is wrong with its streams, its arguments, its input, its exit status, what it prints, and what it tells. The last two
+/// may be cut short by `..`, which then stands at their ends. Among the arguments `PORT` is a port.
+type Run<'a> = (&'a str, &'a str, &'a str, u8, &'a str, &'a str);
+
+/// How many writes an output takes.
+fn output_writes(wrong: &str) -> u32 {
+    if wrong == "full output" { 0 } else { u32::MAX }
 }
 
-impl Write for Stuck {
-    fn write(&mut self, bytes: &[u8]) -> io::Result<usize> {
-        Ok(bytes.len())
+/// How many writes a fault stream takes.
+fn fault_writes(wrong: &str) -> u32 {
+    match wrong {
+        "full faults" => 0,
+        "faults of one write" => 1,
+        "faults of two writes" => 2,
+        _ => u32::MAX,
     }
-
-    fn flush(&mut self) -> io::Result<()> {
-        self.flushes = self.flushes.saturating_add(1);
-        Err(io::Error::from(ErrorKind::StorageFull))
-    }
 }
 
-/// A writer that takes one byte at a time, and after each is interrupted once.
-#[derive(Drop)]
-struct Slow {
-    bytes: Vec<u8>,
-    interrupted: bool,
-}
-
-impl Write for Slow {
-    fn write(&mut self, bytes: &[u8]) -> io::Result<usize> {
-        self.interrupted = !self.interrupted;
-        match bytes {
-            [first, ..] if !self.interrupted => {
-                self.bytes.push(*first)?;
-                Ok(1)
-            }
-            [] => Ok(0),
-            _ => Err(io::Error::from(ErrorKind::Interrupted)),
+/// The input of a run.
+fn input_of<'a>(wrong: &str, text: &'a str) -> Source<'a> {
+    let mut source = source_of(text);
+    match wrong {
+        "endless input" => source.again = &[b' '; 4096],
+        "failing input" => {
+            // one byte, an interruption, and no more
+            source.at_a_time = 1;
+            source.halts = true;
+            source.is_halted = true;
+            source.fails = true;
         }
+        _ => {}
     }
+    source
+}
 
-    fn flush(&mut self) -> io::Result<()> {
-        Ok(())
+/// Whether bytes are those of a text, or begin so where it ends with `..`.
+fn is_as(seen: &[u8], wanted: &str) -> bool {
+    match wanted.strip_suffix("..") {
+        Some(first) => seen.starts_with(first.as_bytes()),
+        None => seen == wanted.as_bytes(),
     }
 }
 
-/// A writer that takes `left` writes, and then fails.
-#[derive(Drop)]
-struct Narrow {
-    left: u32,
+/// Compares how a run ended: its exit status, what it printed and told, and that a stream that isn't handed on was to be, once.
+fn expect_ended(rt: &impl Abort, run: &Run, status: u8, output: &Sink, faults: &Sink) {
+    let (wrong, args, _, wanted, printed, told) = *run;
+    let stuck = u32::from(output.is_stuck) + u32::from(faults.is_stuck);
+    let refused = output.refused.saturating_add(faults.refused);
+    let is_printed = is_as(output.taken.as_slice(), printed);
+    let is_told = is_as(faults.taken.as_slice(), told);
+    assert_eq!(rt;
+        (status, refused, is_printed, is_told),
+        (wanted, stuck, true, true),
+        "{wrong}: {args}"
+    );
 }
 
-impl Write for Narrow {
-    fn write(&mut self, bytes: &[u8]) -> io::Result<usize> {
-        if self.left == 0 {
-            return Err(io::Error::from(ErrorKind::StorageFull));
-        }
-        self.left -= 1;
-        Ok(bytes.len())
-    }
-
-    fn flush(&mut self) -> io::Result<()> {
-        Ok(())
-    }
+/// Runs the program, with an application that does nothing, and compares how that ends.
+fn expect_args<H: AllocGlobal + Net + Files + Clock + Abort>(rt: &H, args: &[&str], run: &Run) {
+    let mut input = input_of(run.0, run.2);
+    let mut output = sink_of(rt.alloc(), output_writes(run.0), run.0 == "stuck output");
+    let mut faults = sink_of(rt.alloc(), fault_writes(run.0), run.0 == "stuck faults");
+    let status = run_args(rt, args, &mut input, &mut output, &mut faults);
+    expect_ended(rt, run, status, &output, &faults);
 }
 
-/// Runs the program with an application that does nothing, and answers the exit status. It promises nothing, so what calls it is
-/// quickly checked.
-fn run_args<H: AllocGlobal + Net + Files + Clock, R: Read, W: Write, F: Write>(
+/// Runs the program. It promises nothing, so what calls it is quickly checked.
+fn run_args<H: AllocGlobal + Net + Files + Clock>(
     rt: &H,
     args: &[&str],
-    input: &mut R,
-    output: &mut W,
-    faults: &mut F,
+    input: &mut Source<'_>,
+    output: &mut Sink,
+    faults: &mut Sink,
 ) -> u8 {
     run_command(rt, args, input, output, faults, &mut Idle)
 }
 
-/// How a run of the program ended: its exit status, what it printed and what it told.
-#[derive(Drop)]
-struct Ended {
-    status: u8,
-    printed: Vec<u8>,
-    told: Vec<u8>,
+/// The arguments of a run.
+fn with_port(rt: &(impl AllocGlobal + Abort), args: &str, port: u16) -> String {
+    let port = format!(in rt.alloc(); "{port}").expect(rt, "memory");
+    args.replace(rt.alloc(), "PORT", port.as_str())
+        .expect(rt, "memory")
 }
 
-/// Runs the program over memory.
-fn run_in_memory<H: AllocGlobal + Net + Files + Clock>(
-    rt: &H,
-    args: &[&str],
-    input: &[u8],
-) -> Ended {
-    let mut input = input;
-    let mut printed: Vec<u8> = Vec::new(rt.alloc());
-    let mut told: Vec<u8> = Vec::new(rt.alloc());
-    let status = run_args(rt, args, &mut input, &mut printed, &mut told);
-    Ended {
-        status,
-        printed,
-        told,
+/// The words of a text.
+fn words_of<'a>(rt: &(impl AllocGlobal + Abort), text: &'a str) -> Vec<&'a str> {
+    text.split(' ').collect(rt.alloc()).expect(rt, "memory")
+}
+
+/// Runs the program with a port, and compares how that ends.
+fn expect_run<H: AllocGlobal + Net + Files + Clock + Abort>(rt: &H, run: &Run, port: u16) {
+    let text = with_port(rt, run.1, port);
+    let args = words_of(rt, text.as_str());
+    expect_args(rt, args.as_slice(), run);
+}
+
+/// What a segment tells first.
+const LISTENING: &str = "ecat: listening on 127.0.0.1:..";
+
+/// Runs with a port that is free. Where what is told, or printed, is `..` alone, it isn't compared.
+const RUNS: [Run; 15] = [
+    // An output that takes nothing. Where that is explained, a command has printed something.
+    (
+        "full output",
+        "ecat pass --slaves 3 0e100701000030010200000000000000",
+        "",
+        4,
+        "",
+        "ecat: 41 Output\n",
+    ),
+    (
+        "full output",
+        "ecat plan",
+        THREE_SLAVES,
+        4,
+        "",
+        "ecat: 41 Output\n",
+    ),
+    (
+        "full output",
+        "ecat plan --explain",
+        THREE_SLAVES,
+        4,
+        "",
+        "ecat: 41 Output\nWhat was to be printed..",
+    ),
+    // An output that isn't handed on.
+    (
+        "stuck output",
+        "ecat pass --slaves=3 0e100701000030010200000000000000",
+        "",
+        4,
+        "..",
+        "ecat: 41 Output\n",
+    ),
+    (
+        "stuck output",
+        "ecat --help",
+        "",
+        4,
+        "..",
+        "ecat: 41 Output\n",
+    ),
+    // What is told isn't handed on.
+    (
+        "stuck faults",
+        "ecat pass --slaves=3 0e1",
+        "",
+        3,
+        "..",
+        "..",
+    ),
+    ("stuck faults", "ecat", "", 2, "..", ".."),
+    // A full fault stream changes nothing of a refusal.
+    ("full faults", "ecat pass --slaves 3 0e1", "", 3, "..", ""),
+    (
+        "full faults",
+        "ecat plan --explain",
+        "link = 1",
+        3,
+        "..",
+        "",
+    ),
+    (
+        "faults of one write",
+        "ecat plan --explain",
+        "link = 1",
+        3,
+        "..",
+        "..",
+    ),
+    (
+        "faults of two writes",
+        "ecat plan --explain",
+        "link = 1",
+        3,
+        "..",
+        "..",
+    ),
+    // An input that has no end, and one that can't be read.
+    ("endless input", "ecat plan", "", 4, "", "ecat: 42 Input\n"),
+    ("failing input", "ecat plan", " ", 4, "", "ecat: 42 Input\n"),
+    // Segments, the second of which nothing reaches for a second.
+    (
+        "nothing",
+        "ecat segment --frames 0 --port PORT --idle 1",
+        THREE_SLAVES,
+        0,
+        "served 0 refused 0\n",
+        LISTENING,
+    ),
+    (
+        "nothing",
+        "ecat segment --frames 1 --port PORT --idle 1",
+        THREE_SLAVES,
+        4,
+        "served 0 refused 0\n",
+        LISTENING,
+    ),
+];
+
+#[test]
+fn runs_over_streams_that_fail(rt: HostRuntime) {
+    let free = UdpWire::bind(&rt, 0).expect(&rt, "a socket").port();
+    for run in &RUNS {
+        expect_run(&rt, run, free);
     }
 }
 
-/// Compares the exit status of a run, and what it told.
-fn expect_told(rt: &impl Abort, args: &[&str], ended: (u8, &[u8]), wanted: (u8, &str)) {
-    let (status, told) = wanted;
-    assert_eq!(rt; ended, (status, told.as_bytes()), "{args:?}");
-}
-
-/// Compares how a run ended: its exit status, what it printed, and how what it told begins.
-fn expect_ended(rt: &impl Abort, args: &[&str], ended: &Ended, wanted: (u8, &str, &str)) {
-    let (status, printed, told) = wanted;
-    let is_told = ended.told.starts_with(told.as_bytes());
-    assert_eq!(rt;
-        (ended.status, ended.printed.as_slice(), is_told),
-        (status, printed.as_bytes(), true),
-        "{args:?}"
-    );
-}
-
-/// Runs the program over memory, and compares how it ends.
-fn expect_run<H: AllocGlobal + Net + Files + Clock + Abort>(
-    rt: &H,
-    args: &[&str],
-    input: &str,
-    wanted: (u8, &str, &str),
-) {
-    let ended = run_in_memory(rt, args, input.as_bytes());
-    expect_ended(rt, args, &ended, wanted);
-}
-
-/// Runs the program on an output that takes nothing.
-fn expect_full_output<H: AllocGlobal + Net + Files + Clock + Abort>(
-    rt: &H,
-    args: &[&str],
-    input: &str,
-) {
-    let mut input = input.as_bytes();
-    let mut faults: Vec<u8> = Vec::new(rt.alloc());
-    let mut output = Narrow { left: 0 };
-    let status = run_args(rt, args, &mut input, &mut output, &mut faults);
-    expect_told(
-        rt,
-        args,
-        (status, faults.as_slice()),
-        (4, "ecat: 41 Output\n"),
-    );
-}
+/// Segments on a port that another socket has. The table comes first, then the port.
+const HELD: [Run; 3] = [
+    (
+        "nothing",
+        "ecat segment --frames 0 --port PORT --idle 1",
+        THREE_SLAVES,
+        4,
+        "",
+        "ecat: 43 Socket\n..",
+    ),
+    (
+        "nothing",
+        "ecat segment --frames 0 --port PORT --idle 1",
+        "[[",
+        3,
+        "",
+        "ecat: 11 Toml\n..",
+    ),
+    (
+        "nothing",
+        "ecat segment --explain --frames 0 --port PORT",
+        THREE_SLAVES,
+        4,
+        "",
+        "ecat: 43 Socket\nThere is no socket as it is asked for..",
+    ),
+];
 
 #[test]
-fn tells_a_full_output(rt: HostRuntime) {
-    expect_full_output(&rt, &["ecat", "pass", "--slaves", "3", FRAME], "");
-    expect_full_output(&rt, &["ecat", "plan"], THREE_SLAVES);
+fn segments_on_a_port_that_is_held(rt: HostRuntime) {
+    let held = UdpWire::bind(&rt, 0).expect(&rt, "a socket");
+    for run in &HELD {
+        expect_run(&rt, run, held.port());
+    }
 }
 
-/// Compares the exit status of a run with one that is wanted, and how often a stream was to be handed on with once.
-fn expect_stuck(rt: &impl Abort, args: &[&str], status: u8, wanted: u8, flushes: u32) {
-    assert_eq!(rt; (status, flushes), (wanted, 1), "{args:?}");
+/// Compares what came of a text that was printed or read slowly.
+fn expect_text(rt: &impl Abort, seen: &[u8], wanted: &str) {
+    assert_eq!(rt; seen, wanted.as_bytes());
 }
 
-/// Runs the program on an output that isn't handed on.
-fn expect_stuck_output<H: AllocGlobal + Net + Files + Clock + Abort>(rt: &H, args: &[&str]) {
-    let mut input: &[u8] = b"";
-    let mut faults: Vec<u8> = Vec::new(rt.alloc());
-    let mut output = Stuck { flushes: 0 };
-    let status = run_args(rt, args, &mut input, &mut output, &mut faults);
-    expect_stuck(rt, args, status, 4, output.flushes);
-    expect_told(
-        rt,
-        args,
-        (status, faults.as_slice()),
-        (4, "ecat: 41 Output\n"),
-    );
-}
-
-/// Runs the program where what it tells isn't handed on.
-fn expect_stuck_faults<H: AllocGlobal + Net + Files + Clock + Abort>(
-    rt: &H,
-    args: &[&str],
-    wanted: u8,
-) {
-    let mut input: &[u8] = b"";
-    let mut output: Vec<u8> = Vec::new(rt.alloc());
-    let mut faults = Stuck { flushes: 0 };
-    let status = run_args(rt, args, &mut input, &mut output, &mut faults);
-    expect_stuck(rt, args, status, wanted, faults.flushes);
-}
-
-#[test]
-fn hands_on_what_it_prints(rt: HostRuntime) {
-    expect_stuck_output(&rt, &["ecat", "pass", "--slaves=3", FRAME]);
-    expect_stuck_output(&rt, &["ecat", "--help"]);
-    expect_stuck_faults(&rt, &["ecat", "pass", "--slaves=3", "0e1"], 3);
-    expect_stuck_faults(&rt, &["ecat"], 2);
-}
-
-/// Runs the program where so many writes of what it tells are taken, and compares the exit status, which is that of a refusal.
-fn expect_untold<H: AllocGlobal + Net + Files + Clock + Abort>(
-    rt: &H,
-    args: &[&str],
-    input: &str,
-    left: u32,
-) {
-    let mut input = input.as_bytes();
-    let mut output: Vec<u8> = Vec::new(rt.alloc());
-    let mut faults = Narrow { left };
-    let status = run_args(rt, args, &mut input, &mut output, &mut faults);
-    expect_told(rt, args, (status, b""), (3, ""));
-}
-
-#[test]
-fn a_full_fault_stream_changes_nothing(rt: HostRuntime) {
-    expect_untold(&rt, &["ecat", "pass", "--slaves", "3", "0e1"], "", 0);
-}
-
-/// Compares whether a text was printed, and what a writer took.
-fn expect_taken(rt: &impl Abort, is_printed: bool, taken: &[u8], wanted: &str) {
-    assert_eq!(rt; (is_printed, taken), (true, wanted.as_bytes()));
-}
-
+/// A writer takes one byte at a time, and is interrupted before each.
 #[test]
 fn writes_on_past_short_writes_and_interruptions(rt: HostRuntime) {
-    let mut output = Slow {
-        bytes: Vec::new(rt.alloc()),
-        interrupted: false,
-    };
-    let printed = print_text(b"ecat", &mut output);
-    expect_taken(&rt, printed.is_ok(), output.bytes.as_slice(), "ecat");
+    let mut output = sink_of(rt.alloc(), u32::MAX, false);
+    output.at_a_time = 1;
+    output.halts = true;
+    print_text(b"ecat", &mut output).expect(&rt, "a text");
+    expect_text(&rt, output.taken.as_slice(), "ecat");
+}
+
+/// The text of an input. What that is told by is no matter of those that call this.
+fn text_of(rt: &(impl AllocGlobal + Abort), input: &mut Source<'_>) -> String {
+    read_text(rt.alloc(), input).expect(rt, "a text")
+}
+
+/// A reader gives one byte at a time, and is interrupted before each.
+#[test]
+fn reads_on_past_interruptions(rt: HostRuntime) {
+    let mut input = source_of("version = 2");
+    input.at_a_time = 1;
+    input.halts = true;
+    let text = text_of(&rt, &mut input);
+    expect_text(&rt, text.as_str().as_bytes(), "version = 2");
 }

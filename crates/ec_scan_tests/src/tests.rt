@@ -6,95 +6,95 @@ mod sockets;
 mod startup;
 mod texts;
 
-use crate::tests::machine::{LAMPS_WORDS, SLAVES, TABLE};
+use crate::tests::machine::{LAMPS_WORDS, TABLE, machine_rows};
 use crate::tests::sockets::UdpLink;
-use ec_scan::examples::{drive, line, small_machine, terminals};
+use ec_ring::Ring;
 use ec_scan::{
-    Carrier, Found, Master, MemoryCarrier, SlaveRow, expect_scan, expect_stations, slaves_of_text,
-    station_of,
+    Carrier, Found, Master, MemoryCarrier, SlaveRow, example_of, expect_scan, expect_stations,
+    slaves_of_text, station_of,
 };
 use std::process::Abort;
-use std::test::Fail;
 
 /// What was found of a slave is what its row says.
 fn expect_found(rt: &impl Abort, found: &Found, row: &SlaveRow) {
-    assert_eq!(rt; found.name.as_str(), row.name);
-    assert_eq!(rt; found.identity, row.identity);
     assert_eq!(rt;
-        (found.output_bytes, found.input_bytes),
-        (row.output_bytes, row.input_bytes)
+        (
+            found.name.as_str(),
+            found.identity,
+            found.output_bytes,
+            found.input_bytes
+        ),
+        (row.name, row.identity, row.output_bytes, row.input_bytes)
     );
 }
 
-/// The slaves of a segment are as these rows say to a master that scans them, and each is found.
-fn expect_rows<L: Carrier + Drop>(
-    rt: &(impl AllocGlobal + Abort),
-    link: L,
-    rows: &[SlaveRow],
-) -> Result<(), Fail> {
-    let mut found = Vec::new(rt.alloc());
-    let mut master = Master::new(rt.alloc(), link);
-    expect_scan(&mut master, rows, &mut found)?;
+/// What was found of all slaves is what their rows say.
+fn expect_all(rt: &impl Abort, found: &[Found], rows: &[SlaveRow]) {
     assert_eq!(rt; found.len(), rows.len());
     for (slave, row) in found.iter().zip(rows) {
         expect_found(rt, slave, row);
     }
-    Ok(())
+}
+
+/// The slaves behind a link are as these rows say to a master that scans them, and each is found.
+fn expect_rows<L: Carrier + Drop>(rt: &(impl AllocGlobal + Abort), link: L, rows: &[SlaveRow]) {
+    let mut found = Vec::new(rt.alloc());
+    let mut master = Master::new(rt.alloc(), link);
+    expect_scan(&mut master, rows, &mut found).expect(rt, "slaves as their rows say");
+    expect_all(rt, found.as_slice(), rows);
+}
+
+/// The slaves of a table as they are switched on, full or as it states them.
+fn ring_of(rt: &(impl AllocGlobal + Abort), table: &str, full: bool) -> Ring {
+    slaves_of_text(rt.alloc(), table, full).expect(rt, "a good table")
 }
 
 /// The slaves of a table that is shown in full are as these rows say, to a master that scans them in memory.
-fn expect_full(
-    rt: &(impl AllocGlobal + Abort),
-    table: &str,
-    rows: &[SlaveRow],
-) -> Result<(), Fail> {
-    let ring = slaves_of_text(rt.alloc(), table, true)?;
-    expect_rows(rt, MemoryCarrier::new(ring), rows)
+fn expect_full(rt: &(impl AllocGlobal + Abort), table: &str, rows: &[SlaveRow]) {
+    expect_rows(rt, MemoryCarrier::new(ring_of(rt, table, true)), rows);
+}
+
+/// The same of a machine of `examples/`.
+fn expect_example(rt: &(impl AllocGlobal + Abort), name: &str) {
+    let example = example_of(name).expect(rt, name);
+    expect_full(rt, example.table, example.slaves);
 }
 
 #[test]
-fn scans_a_machine(rt: HostRuntime) -> Result<(), Fail> {
-    expect_full(&rt, TABLE, SLAVES)
+fn scans_in_memory(rt: HostRuntime) {
+    expect_full(&rt, TABLE, machine_rows());
+    for name in ["terminals", "drive", "line", "small_machine"] {
+        expect_example(&rt, name);
+    }
 }
 
 #[test]
-fn scans_terminals(rt: HostRuntime) -> Result<(), Fail> {
-    expect_full(&rt, terminals::TABLE, terminals::SLAVES)
+fn scans_over_sockets(rt: HostRuntime) {
+    let link = UdpLink::open(&rt, ring_of(&rt, TABLE, true));
+    expect_rows(&rt, link, machine_rows());
 }
 
-#[test]
-fn scans_a_drive(rt: HostRuntime) -> Result<(), Fail> {
-    expect_full(&rt, drive::TABLE, drive::SLAVES)
+/// A word of the categories of the second slave is this.
+fn expect_word(rt: &impl Abort, master: &mut Master<MemoryCarrier>, address: u32, word: u16) {
+    let seen = master.words_at(station_of(1), address);
+    assert_eq!(rt; (address, seen.map(|words| words.0)), (address, Some(word)));
 }
 
-#[test]
-fn scans_a_line(rt: HostRuntime) -> Result<(), Fail> {
-    expect_full(&rt, line::TABLE, line::SLAVES)
-}
-
-#[test]
-fn scans_a_small_machine(rt: HostRuntime) -> Result<(), Fail> {
-    expect_full(&rt, small_machine::TABLE, small_machine::SLAVES)
-}
-
-#[test]
-fn scans_over_sockets(rt: HostRuntime) -> Result<(), Fail> {
-    let ring = slaves_of_text(rt.alloc(), TABLE, true)?;
-    expect_rows(&rt, UdpLink::open(&rt, ring)?, SLAVES)
+/// The words of its categories are these.
+fn expect_words(rt: &impl Abort, master: &mut Master<MemoryCarrier>) {
+    let mut address: u32 = 0x40;
+    for word in &LAMPS_WORDS {
+        expect_word(rt, master, address, *word);
+        address = address.saturating_add(1);
+    }
 }
 
 // The categories of one slave, word by word.
 #[test]
-fn reads_words_of_categories(rt: HostRuntime) -> Result<(), Fail> {
-    let ring = slaves_of_text(rt.alloc(), TABLE, true)?;
-    let mut master = Master::new(rt.alloc(), MemoryCarrier::new(ring));
-    expect_stations(&mut master, SLAVES.len())?;
-    for (place, word) in LAMPS_WORDS.iter().enumerate() {
-        let address = u32::try_from(place)?.saturating_add(0x40);
-        let Some((seen, _)) = master.words_at(station_of(1), address) else {
-            return Err("a word that can't be read".into());
-        };
-        assert_eq!(rt; seen, *word, "word {address:x}");
-    }
-    Ok(master.outcome()?)
+fn reads_words_of_categories(rt: HostRuntime) {
+    let link = MemoryCarrier::new(ring_of(&rt, TABLE, true));
+    let mut master = Master::new(rt.alloc(), link);
+    expect_stations(&mut master, 3).expect(&rt, "three slaves");
+    expect_words(&rt, &mut master);
+    master.outcome().expect(&rt, "no fault");
 }

@@ -1,6 +1,7 @@
 //! The program on arguments that a system gives.
 
-use crate::tests::{Ended, FRAME};
+use crate::tests::streams::{Sink, sink_of, source_of};
+use crate::tests::{Run, expect_ended};
 use ec_commands::run_program;
 use std::env;
 use std::env::{Env, FillError};
@@ -37,40 +38,22 @@ impl Env for Called<'_> {
 }
 
 /// Runs the program on these arguments. It promises nothing, so what calls it is quickly checked.
-fn run_called<H: AllocGlobal + Net + Files + Clock>(rt: &H, args: &[&[u8]]) -> Ended {
+fn run_called<H: AllocGlobal + Net + Files + Clock>(
+    rt: &H,
+    args: &[&[u8]],
+    output: &mut Sink,
+    faults: &mut Sink,
+) -> u8 {
     let system = (Called { args }, rt.alloc());
-    let mut printed: Vec<u8> = Vec::new(rt.alloc());
-    let mut told: Vec<u8> = Vec::new(rt.alloc());
-    let mut input: &[u8] = b"";
-    let status = run_program(rt, env::args(&system), &mut input, &mut printed, &mut told);
-    Ended {
-        status,
-        printed,
-        told,
-    }
-}
-
-/// Compares the exit status, what was printed and what was told.
-fn expect_called(rt: &impl Abort, ended: &Ended, wanted: (u8, &str, &str)) {
-    let (status, printed, told) = wanted;
-    assert_eq!(rt;
-        (
-            ended.status,
-            ended.printed.as_slice(),
-            ended.told.as_slice()
-        ),
-        (status, printed.as_bytes(), told.as_bytes())
-    );
+    run_program(rt, env::args(&system), &mut source_of(""), output, faults)
 }
 
 /// Runs the program on these arguments, and compares how it ends.
-fn expect_program<H: AllocGlobal + Net + Files + Clock + Abort>(
-    rt: &H,
-    args: &[&[u8]],
-    wanted: (u8, &str, &str),
-) {
-    let ended = run_called(rt, args);
-    expect_called(rt, &ended, wanted);
+fn expect_program<H: AllocGlobal + Net + Files + Clock + Abort>(rt: &H, args: &[&[u8]], run: &Run) {
+    let mut output = sink_of(rt.alloc(), u32::MAX, false);
+    let mut faults = sink_of(rt.alloc(), u32::MAX, false);
+    let status = run_called(rt, args, &mut output, &mut faults);
+    expect_ended(rt, run, status, &output, &faults);
 }
 
 /// What is told of an argument that isn't text.
@@ -78,21 +61,21 @@ const NOT_TEXT: &str = "error: an argument of the command line isn't text\n";
 
 #[test]
 fn runs_on_the_arguments_of_a_system(rt: HostRuntime) {
+    let frame = b"0e100701000030010200000000000000";
     let back = "0e100701030030010200000001000300\n";
-    let frame = FRAME.as_bytes();
     expect_program(
         &rt,
         &[b"ecat", b"pass", b"--slaves", b"3", frame],
-        (0, back, ""),
+        &("nothing", "a frame", "", 0, back, ""),
     );
     expect_program(
         &rt,
         &[b"ecat", b"pass", b"--slaves=3", b"0e1"],
-        (3, "", "ecat: 40 BadHex\n"),
+        &("nothing", "half a byte", "", 3, "", "ecat: 40 BadHex\n"),
     );
     expect_program(
         &rt,
         &[b"ecat", b"pass", b"--slaves=3", b"\xff"],
-        (2, "", NOT_TEXT),
+        &("nothing", "no text", "", 2, "", NOT_TEXT),
     );
 }

@@ -15,12 +15,13 @@ slave = [ { name = "s0", type = "di4", serial = 1042 } ]
 "#;
 
 /// The first slave is to read its SII from word 0x0E on: control and address at 0x0502.
-const ASK: &str = "12100201000002050600000000010e0000000000";
+const ASK: &[u8] =
+    b"\x12\x10\x02\x01\x00\x00\x02\x05\x06\x00\x00\x00\x00\x01\x0e\x00\x00\x00\x00\x00";
 
 /// What it read, at 0x0508; and the same as it comes back, with 1042 in it.
-const READ: &str = "101001020000080504000000000000000000";
+const READ: &[u8] = b"\x10\x10\x01\x02\x00\x00\x08\x05\x04\x00\x00\x00\x00\x00\x00\x00\x00\x00";
 
-const BACK: &str = "101001020100080504000000120400000100";
+const BACK: &[u8] = b"\x10\x10\x01\x02\x01\x00\x08\x05\x04\x00\x00\x00\x12\x04\x00\x00\x01\x00";
 
 /// A port on 127.0.0.1.
 fn here(port: u16) -> SocketAddr {
@@ -28,14 +29,8 @@ fn here(port: u16) -> SocketAddr {
 }
 
 /// Sends a frame.
-fn send_bytes(rt: &impl Abort, client: &UdpSocket, port: u16, frame: &[u8]) {
+fn send(rt: &impl Abort, client: &UdpSocket, port: u16, frame: &[u8]) {
     client.send_to(frame, here(port)).expect(rt, "room");
-}
-
-/// Sends a frame that is written in hex.
-fn send(rt: &(impl AllocGlobal + Abort), client: &UdpSocket, port: u16, frame: &str) {
-    let bytes = hex::decode(rt.alloc(), frame).expect(rt, frame);
-    send_bytes(rt, client, port, bytes.as_slice());
 }
 
 /// Takes the next frame that comes back, and answers how many bytes it has.
@@ -45,12 +40,11 @@ fn take_back(rt: &impl Abort, client: &UdpSocket, buffer: &mut [u8; 1500]) -> us
 }
 
 /// The second frame that comes back has the serial number.
-fn expect_back(rt: &(impl AllocGlobal + Abort), client: &UdpSocket) {
+fn expect_back(rt: &impl Abort, client: &UdpSocket) {
     let mut buffer = [0; 1500];
     take_back(rt, client, &mut buffer);
     let count = take_back(rt, client, &mut buffer);
-    let seen = hex::encode(rt.alloc(), &buffer[..count.min(1500)]).expect(rt, "memory");
-    assert_eq!(rt; seen.as_str(), BACK);
+    assert_eq!(rt; &buffer[..count.min(1500)], BACK);
 }
 
 /// Serves two frames, and compares what is printed.

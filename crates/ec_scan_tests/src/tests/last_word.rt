@@ -1,7 +1,6 @@
 //! A slave whose categories end right before the last word of a kibibit.
 use crate::tests::expect_full;
 use ec_scan::{PdoRow, SlaveRow};
-use std::test::Fail;
 
 /// One object of three entries, and a name of three letters.
 const TABLE: &str = r#"slave = [ { name = "s0", type = "di3" } ]
@@ -39,6 +38,6 @@ const DI3: SlaveRow = SlaveRow {
 };
 
 #[test]
-fn scans_a_full_kibibit(rt: HostRuntime) -> Result<(), Fail> {
-    expect_full(&rt, TABLE, &[DI3])
+fn scans_a_full_kibibit(rt: HostRuntime) {
+    expect_full(&rt, TABLE, &[DI3]);
 }

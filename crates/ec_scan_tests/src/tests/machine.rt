@@ -138,7 +138,12 @@ const EYE: SlaveRow = SlaveRow {
 };
 
 /// Its slaves.
-pub const SLAVES: &[SlaveRow] = &[AXIS, LAMPS, EYE];
+const SLAVES: &[SlaveRow] = &[AXIS, LAMPS, EYE];
+
+/// The same. A constant is written out wherever it is named, so this one is named here alone.
+pub fn machine_rows() -> &'static [SlaveRow] {
+    SLAVES
+}
 
 /// The words of the lamps' categories as they stand in the SII, with the end mark.
 pub const LAMPS_WORDS: [u16; 69] = [

@@ -2,9 +2,8 @@
 use ec_ring::Ring;
 use ec_scan::{Applications, Carrier, ScanError};
 use ec_wire::{App, UdpWire, serve_segment};
-use std::io;
 use std::net::{Ipv4Addr, Net, SocketAddr, UdpSocket};
-use std::test::Fail;
+use std::process::Abort;
 use std::time::Duration;
 
 /// Half a second, in milliseconds: so long a client waits for an answer.
@@ -34,22 +33,34 @@ pub struct UdpLink {
 fn here(port: u16) -> SocketAddr {
     SocketAddr::from((Ipv4Addr::LOCALHOST, port))
 }
-/// A call of the client's socket failed.
-fn fault_of(_: io::Error) -> ScanError {
-    ScanError::Carrier
+
+/// A client's socket.
+fn client_of<R: Net + Abort>(rt: &R) -> UdpSocket {
+    let client = UdpSocket::bind(rt, here(0)).expect(rt, "a socket");
+    let patience = Some(Duration::from_millis(PATIENCE));
+    client
+        .set_read_timeout(patience)
+        .expect(rt, "a socket that waits");
+    client
+}
+
+/// What came back is taken in the place of a frame that was sent, if it has as many bytes.
+fn take_back(frame: &mut [u8], back: &[u8]) -> Result<(), ScanError> {
+    if back.len() != frame.len() {
+        return Err(ScanError::Length(back.len()));
+    }
+    frame.copy_from_slice(back);
+    Ok(())
 }
 
 impl UdpLink {
     /// Both on ports that the system picks.
-    pub fn open<R: Net>(rt: &R, ring: Ring) -> Result<UdpLink, Fail> {
-        let segment = UdpWire::bind(rt, 0)?;
-        let client = UdpSocket::bind(rt, here(0))?;
-        client.set_read_timeout(Some(Duration::from_millis(PATIENCE)))?;
-        Ok(UdpLink {
+    pub fn open<R: Net + Abort>(rt: &R, ring: Ring) -> UdpLink {
+        UdpLink {
             ring,
-            segment,
-            client,
-        })
+            segment: UdpWire::bind(rt, 0).expect(rt, "a socket"),
+            client: client_of(rt),
+        }
     }
 
     /// The segment receives one payload and answers it.
@@ -60,21 +71,30 @@ impl UdpLink {
             Err(_) => Err(ScanError::Carrier),
         }
     }
+
+    /// The client sends a payload.
+    fn send(&mut self, frame: &[u8]) -> Result<(), ScanError> {
+        match self.client.send_to(frame, here(self.segment.port())) {
+            Ok(_) => Ok(()),
+            Err(_) => Err(ScanError::Carrier),
+        }
+    }
+
+    /// The client receives what comes back of it.
+    fn receive(&mut self, frame: &mut [u8]) -> Result<(), ScanError> {
+        let mut buffer = [0; 1500];
+        match self.client.recv_from(&mut buffer) {
+            Ok((count, _)) => take_back(frame, &buffer[..count.min(1500)]),
+            Err(_) => Err(ScanError::Carrier),
+        }
+    }
 }
 
 impl Carrier for UdpLink {
     fn exchange(&mut self, frame: &mut [u8]) -> Result<(), ScanError> {
-        let mut buffer = [0; 1500];
-        self.client
-            .send_to(frame, here(self.segment.port()))
-            .map_err(fault_of)?;
+        self.send(frame)?;
         self.serve()?;
-        let (count, _) = self.client.recv_from(&mut buffer).map_err(fault_of)?;
-        if count > 1500 || count != frame.len() {
-            return Err(ScanError::Length(count));
-        }
-        frame.copy_from_slice(&buffer[..count]);
-        Ok(())
+        self.receive(frame)
     }
 
     fn applications(&self) -> Applications {

@@ -1,10 +1,10 @@
 //! What each error of a scan says.
 use crate::tests::machine::TABLE;
+use crate::tests::ring_of;
 use ec_link::LinkError;
-use ec_scan::{Master, MemoryCarrier, ScanError, expect_init, slaves_of_text};
+use ec_scan::{Master, MemoryCarrier, ScanError, expect_init};
 use ec_table::TableError;
 use std::process::Abort;
-use std::test::Fail;
 
 /// All of them.
 const TEXTS: [(ScanError, &str); 17] = [
@@ -46,24 +46,29 @@ const TEXTS: [(ScanError, &str); 17] = [
 ];
 
 /// An error says this.
-pub fn expect_said(rt: &(impl AllocGlobal + Abort), error: &ScanError, text: &str) {
+fn expect_text(rt: &(impl AllocGlobal + Abort), error: &ScanError, text: &str) {
     let said = format!(in rt.alloc(); "{error}").expect(rt, "memory");
     assert_eq!(rt; said.as_str(), text);
+}
+
+/// What ended by an error says this.
+pub fn expect_said(rt: &(impl AllocGlobal + Abort), ended: Result<(), ScanError>, text: &str) {
+    let fault = ended.err().expect(rt, "a fault");
+    expect_text(rt, &fault, text);
 }
 
 #[test]
 fn texts_of_errors(rt: HostRuntime) {
     for (error, text) in &TEXTS {
-        expect_said(&rt, error, text);
+        expect_text(&rt, error, text);
     }
 }
 
 // Their number is too large for a station address.
 #[test]
-fn text_of_too_many_slaves(rt: HostRuntime) -> Result<(), Fail> {
-    let ring = slaves_of_text(rt.alloc(), TABLE, true)?;
-    let mut master = Master::new(rt.alloc(), MemoryCarrier::new(ring));
-    let fault = expect_init(&mut master, 65_536).err().ok_or("a state")?;
-    expect_said(&rt, &fault, "a number that is too large for its place");
-    Ok(())
+fn text_of_too_many_slaves(rt: HostRuntime) {
+    let link = MemoryCarrier::new(ring_of(&rt, TABLE, true));
+    let mut master = Master::new(rt.alloc(), link);
+    let ended = expect_init(&mut master, 65_536);
+    expect_said(&rt, ended, "a number that is too large for its place");
 }
