@@ -1,8 +1,6 @@
-//! Frames, their texts and captures, and what is told of them, each by the public calls of its crate.
+//! Frames, their texts and captures, lines of an input, and what is seen of frames, each by the public calls of its crate.
 #![tactic(auto)]
 
-#[cfg(test)]
-mod annotate;
 #[cfg(test)]
 mod capture;
 #[cfg(test)]
@@ -12,4 +10,4 @@ mod frame;
 #[cfg(test)]
 mod lines;
 #[cfg(test)]
-mod remark;
+mod seen;

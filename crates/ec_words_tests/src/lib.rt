@@ -3,6 +3,8 @@
 #![tactic(auto)]
 
 #[cfg(test)]
+mod annotate;
+#[cfg(test)]
 mod explain;
 #[cfg(test)]
 mod live;
