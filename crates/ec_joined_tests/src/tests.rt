@@ -4,13 +4,16 @@ mod names;
 mod scripts;
 mod seeds;
 mod sizes;
+mod texts;
 
-use self::cycles::write_cycles_of;
+use self::cycles::write_cycles;
 use self::names::with_names;
-use self::scripts::{plan_text_of, write_answers};
+use self::scripts::{new_world, plan_text_of, write_answers};
 use self::seeds::{Seeded, of_seed};
 use self::sizes::{filled_up, table_of_size};
+use self::texts::with_number;
 use ec_commands::run_command;
+use ec_link::Machine;
 use ec_wire::Echo;
 use std::fs::Files;
 use std::net::Net;
@@ -24,6 +27,9 @@ struct Ended {
     printed: Vec<u8>,
     told: Vec<u8>,
 }
+
+/// How a run must end: the same. A text that ends with `..` is how it begins.
+type Wanted<'a> = (u8, &'a str, &'a str);
 
 const PLAN: [&str; 2] = ["ecat", "plan"];
 
@@ -46,29 +52,42 @@ fn run<H: AllocGlobal + Net + Files + Clock>(rt: &H, args: &[&str], input: &str)
     }
 }
 
-/// Compares how a run ended: its exit status, what it told, and what it printed.
-fn expect_ended(rt: &impl Abort, ended: &Ended, status: u8, told: &str, printed: &str) {
-    let is_printed = ended.printed.as_slice() == printed.as_bytes();
+/// Whether bytes are those of a text, or begin so where it ends with `..`.
+fn is_as(seen: &[u8], wanted: &str) -> bool {
+    match wanted.strip_suffix("..") {
+        Some(first) => seen.starts_with(first.as_bytes()),
+        None => seen == wanted.as_bytes(),
+    }
+}
+
+/// Compares how a run ended. The number is its seed, or its table's size: its bytes, or its slaves in hundreds and the bits of a
+/// link.
+fn expect_ended(rt: &impl Abort, number: u64, args: &[&str], ended: &Ended, wanted: Wanted) {
+    let (status, printed, told) = wanted;
+    let is_printed = is_as(ended.printed.as_slice(), printed);
+    let is_told = is_as(ended.told.as_slice(), told);
     assert_eq!(rt;
-        (ended.status, ended.told.as_slice(), is_printed),
-        (status, told.as_bytes(), true)
+        (number, ended.status, is_printed, is_told),
+        (number, status, true, true),
+        "{args:?}"
     );
 }
 
-/// Runs the program, which must end well, print this and tell nothing.
-fn expect_printed<H: AllocGlobal + Net + Files + Clock + Abort>(
+/// Runs the program, and compares how that ends.
+fn expect_run<H: AllocGlobal + Net + Files + Clock + Abort>(
     rt: &H,
+    number: u64,
     args: &[&str],
     input: &str,
-    printed: &str,
+    wanted: Wanted,
 ) {
     let ended = run(rt, args, input);
-    expect_ended(rt, &ended, 0, "", printed);
+    expect_ended(rt, number, args, &ended, wanted);
 }
 
 /// How often what a script expects wasn't so, by what it printed.
-fn unmet_in(printed: &str) -> u32 {
-    let mut unmet: u32 = 0;
+fn unmet_in(printed: &str) -> u64 {
+    let mut unmet: u64 = 0;
     for line in printed.lines() {
         if line.starts_with("unmet ") {
             unmet = unmet.saturating_add(1);
@@ -78,25 +97,9 @@ fn unmet_in(printed: &str) -> u32 {
 }
 
 /// What is told where what a script expects wasn't so, so many times.
-fn told_of(rt: &(impl AllocGlobal + Abort), unmet: u32) -> String {
-    if unmet == 0 {
-        return String::new(rt.alloc());
-    }
-    format!(in rt.alloc(); "ecat: 45 Unmet {unmet}\n").expect(rt, "memory")
-}
-
-/// `ecat sim` with these args prints this, and ends with status 5 where a line of it says that what is expected isn't so.
-fn expect_run<H: AllocGlobal + Net + Files + Clock + Abort>(
-    rt: &H,
-    args: &[&str],
-    input: &str,
-    printed: &str,
-) {
-    let unmet = unmet_in(printed);
-    let status = if unmet == 0 { 0 } else { 5 };
-    let told = told_of(rt, unmet);
-    let ended = run(rt, args, input);
-    expect_ended(rt, &ended, status, told.as_str(), printed);
+fn told_of(rt: &(impl AllocGlobal + Abort), unmet: u64) -> String {
+    let told = if unmet == 0 { "" } else { "ecat: 45 Unmet #\n" };
+    with_number(rt, told, "#", unmet)
 }
 
 /// A table, and a script behind it.
@@ -104,31 +107,71 @@ fn input_of(rt: &(impl AllocGlobal + Abort), table: &str, script: &str) -> Strin
     format!(in rt.alloc(); "{table}%%\n{script}").expect(rt, "memory")
 }
 
-/// `ecat sim` with these args prints what the calls answer to the script that a seed decides, where it is given it so.
+/// `ecat sim` with these args prints this of a table and a script, and ends with status 5 where a line of it says that what is
+/// expected isn't so.
 fn expect_script<H: AllocGlobal + Net + Files + Clock + Abort>(
     rt: &H,
+    seed: u64,
+    args: &[&str],
+    (table, script): (&str, &str),
+    printed: &str,
+) {
+    let unmet = unmet_in(printed);
+    let told = told_of(rt, unmet);
+    let input = input_of(rt, table, script);
+    let status = if unmet == 0 { 0 } else { 5 };
+    expect_run(
+        rt,
+        seed,
+        args,
+        input.as_str(),
+        (status, printed, told.as_str()),
+    );
+}
+
+/// What the calls answer to a script.
+fn answers_of<H: AllocGlobal + Abort>(rt: &H, machine: &Machine, script: &str) -> String {
+    let mut printed = String::new(rt.alloc());
+    let mut world = new_world(rt, machine);
+    write_answers(rt, machine.table(), &mut world, script, &mut printed);
+    printed
+}
+
+/// What a world says of three cycles.
+fn cycles_of<H: AllocGlobal + Abort>(rt: &H, machine: &Machine) -> String {
+    let mut printed = String::new(rt.alloc());
+    let mut world = new_world(rt, machine);
+    write_cycles(rt, machine, &mut world, 3, &mut printed);
+    printed
+}
+
+/// The machine of a table that a seed decides.
+fn machine_of(rt: &(impl AllocGlobal + Abort), table: &str) -> Machine {
+    Machine::read(rt.alloc(), table).expect(rt, "a good table")
+}
+
+/// `ecat sim` with these args prints what the calls answer to the script that a seed decides, where it is given it so.
+fn expect_seeded<H: AllocGlobal + Net + Files + Clock + Abort>(
+    rt: &H,
+    seed: u64,
     args: &[&str],
     seeded: &Seeded,
     script: &str,
 ) {
-    let input = input_of(rt, seeded.table.as_str(), script);
-    let mut printed = String::new(rt.alloc());
-    answers_of(rt, seeded, &mut printed);
-    expect_run(rt, args, input.as_str(), printed.as_str());
+    let table = seeded.table.as_str();
+    let machine = machine_of(rt, table);
+    let answers = answers_of(rt, &machine, seeded.script.as_str());
+    expect_script(rt, seed, args, (table, script), answers.as_str());
 }
 
-/// What the calls answer to the script that a seed decides.
-fn answers_of<H: AllocGlobal + Abort>(rt: &H, seeded: &Seeded, printed: &mut String) {
-    let (table, script) = (seeded.table.as_str(), seeded.script.as_str());
-    write_answers(rt.alloc(), table, script, printed).expect(rt, "a good table and script");
-}
-
-/// `ecat plan` and `ecat sim` print what the calls answer to the table and the script that a seed decides.
+/// `ecat plan` prints the plan of the table that a seed decides, and `ecat sim` what the calls answer to its script.
 fn expect_joined<H: AllocGlobal + Net + Files + Clock + Abort>(rt: &H, seed: u64) {
     let seeded = of_seed(rt, seed);
-    let plan = plan_text_of(rt.alloc(), seeded.table.as_str()).expect(rt, "a good table");
-    expect_printed(rt, &PLAN, seeded.table.as_str(), plan.as_str());
-    expect_script(rt, &SIM, &seeded, seeded.script.as_str());
+    let table = seeded.table.as_str();
+    let machine = machine_of(rt, table);
+    let plan = plan_text_of(rt, &machine);
+    expect_run(rt, seed, &PLAN, table, (0, plan.as_str(), ""));
+    expect_seeded(rt, seed, &SIM, &seeded, seeded.script.as_str());
 }
 
 #[test]
@@ -141,7 +184,7 @@ fn joined(rt: HostRuntime) {
 /// The script that a seed decides prints the same where its lines are run as they come.
 fn expect_live<H: AllocGlobal + Net + Files + Clock + Abort>(rt: &H, seed: u64) {
     let seeded = of_seed(rt, seed);
-    expect_script(rt, &LIVE, &seeded, seeded.script.as_str());
+    expect_seeded(rt, seed, &LIVE, &seeded, seeded.script.as_str());
 }
 
 #[test]
@@ -155,7 +198,7 @@ fn joined_live(rt: HostRuntime) {
 fn expect_named<H: AllocGlobal + Net + Files + Clock + Abort>(rt: &H, seed: u64) -> bool {
     let seeded = of_seed(rt, seed);
     let named = with_names(rt, seeded.table.as_str(), seeded.script.as_str());
-    expect_script(rt, &SIM, &seeded, named.as_str());
+    expect_seeded(rt, seed, &SIM, &seeded, named.as_str());
     named.as_str() != seeded.script.as_str()
 }
 
@@ -171,25 +214,13 @@ fn joined_by_names(rt: HostRuntime) {
     assert!(rt; named > 100);
 }
 
-/// A loop ended well, printed this, and told its ports.
-fn expect_looped(rt: &impl Abort, ended: &Ended, printed: &str) {
-    let is_printed = ended.printed.as_slice() == printed.as_bytes();
-    let is_told = ended.told.starts_with(b"ecat: loop between 127.0.0.1:");
-    assert_eq!(rt; (ended.status, is_printed, is_told), (0, true, true));
-}
-
 /// Three cycles by `ecat loop`, over the system's sockets, of the table that a seed decides, and as events of a world.
 fn expect_cycles<H: AllocGlobal + Net + Files + Clock + Abort>(rt: &H, seed: u64) {
-    let seeded = of_seed(rt, seed);
-    let mut printed = String::new(rt.alloc());
-    write_cycles(rt, seeded.table.as_str(), &mut printed);
-    let ended = run(rt, &LOOP, seeded.table.as_str());
-    expect_looped(rt, &ended, printed.as_str());
-}
-
-/// What a world says of three cycles of the table that a text states.
-fn write_cycles<H: AllocGlobal + Abort>(rt: &H, table: &str, printed: &mut String) {
-    write_cycles_of(rt.alloc(), table, printed).expect(rt, "a good table");
+    let Seeded { table, .. } = of_seed(rt, seed);
+    let machine = machine_of(rt, table.as_str());
+    let cycles = cycles_of(rt, &machine);
+    let told = "ecat: loop between 127.0.0.1:..";
+    expect_run(rt, seed, &LOOP, table.as_str(), (0, cycles.as_str(), told));
 }
 
 // The tables are those of the scripts.
@@ -200,43 +231,28 @@ fn joined_by_loops(rt: HostRuntime) {
     }
 }
 
-/// A run ended well and told nothing; whether what it printed begins with these bytes.
-fn expect_begun(rt: &impl Abort, ended: &Ended, first: &str) {
-    let is_begun = ended.printed.as_slice().starts_with(first.as_bytes());
-    assert_eq!(rt; (ended.status, ended.told.len(), is_begun), (0, 0, true));
-}
-
-/// Runs the program, which must end well and tell nothing, and print what begins with these bytes.
-fn expect_well<H: AllocGlobal + Net + Files + Clock + Abort>(
-    rt: &H,
-    args: &[&str],
-    input: &str,
-    first: &str,
-) {
-    let ended = run(rt, args, input);
-    expect_begun(rt, &ended, first);
-}
-
 /// The plan of a table, which begins so, and a start-up and a cycle of it, in a world.
 fn expect_size<H: AllocGlobal + Net + Files + Clock + Abort>(
     rt: &H,
-    slaves: u32,
-    count: u32,
+    slaves: u64,
+    count: u64,
     first: &str,
 ) {
+    let number = slaves.saturating_mul(100).saturating_add(count);
     let table = table_of_size(rt, slaves, count);
     let input = input_of(rt, table.as_str(), "ready\ncycle\nshow\n");
-    expect_well(rt, &PLAN, table.as_str(), first);
-    expect_well(rt, &SIM, input.as_str(), "ready\nreport taken missing 0 ");
+    expect_run(rt, number, &PLAN, table.as_str(), (0, first, ""));
+    let printed = "ready\nreport taken missing 0 ..";
+    expect_run(rt, number, &SIM, input.as_str(), (0, printed, ""));
 }
 
 /// How the plan of a table of size begins, if it has slaves.
-const FIRST: &str = "slave 0 part 0 out 16 in 16\n";
+const FIRST: &str = "slave 0 part 0 out 16 in 16\n..";
 
 // No size is told as want of memory, nor as anything else.
 #[test]
 fn each_number_of_slaves_has_room(rt: HostRuntime) {
-    expect_size(&rt, 0, 16, "part 0 ");
+    expect_size(&rt, 0, 16, "part 0 ..");
     for slaves in 1..=64 {
         expect_size(&rt, slaves, 16, FIRST);
     }
@@ -249,11 +265,10 @@ fn each_number_of_links_has_room(rt: HostRuntime) {
     }
 }
 
-/// The plan of a table that is so many bytes long.
+/// A table so many bytes long has a plan.
 fn expect_length<H: AllocGlobal + Net + Files + Clock + Abort>(rt: &H, len: usize) {
-    let table = table_of_size(rt, 3, 16);
-    let input = filled_up(rt, table.as_str(), len);
-    expect_well(rt, &PLAN, input.as_str(), FIRST);
+    let input = filled_up(rt, table_of_size(rt, 3, 16), len);
+    expect_run(rt, len as u64, &PLAN, input.as_str(), (0, FIRST, ""));
 }
 
 #[test]

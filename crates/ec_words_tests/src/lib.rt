@@ -13,6 +13,8 @@ mod master;
 #[cfg(test)]
 mod script;
 #[cfg(test)]
+mod streams;
+#[cfg(test)]
 mod told;
 #[cfg(test)]
 mod translate;

@@ -3,18 +3,19 @@
 mod askers;
 mod drivers;
 
+use crate::streams::Sink;
 use ec_console::{Explanation, Refusal};
 use ec_live::print_live;
 use ec_why::Reasons;
 use std::fs::Files;
-use std::io::{Read, Write};
+use std::io::Read;
 use std::process::Abort;
 
 /// Runs lines as they come behind a table. It promises nothing, so what calls it is quickly checked.
-fn run<H: AllocGlobal + Files, R: Read, W: Write>(
+fn run<H: AllocGlobal + Files, R: Read>(
     rt: &H,
     input: &mut R,
-    output: &mut W,
+    output: &mut Sink<'_>,
 ) -> Result<(), Refusal> {
     let mut behind = Explanation::new(rt.alloc(), false);
     print_live(rt, Reasons::Untold, None, input, output, &mut behind)
@@ -23,8 +24,10 @@ fn run<H: AllocGlobal + Files, R: Read, W: Write>(
 /// Compares how a run ended, and what it printed.
 fn expect_ended(
     rt: &impl Abort,
-    ended: (Result<(), Refusal>, &[u8]),
-    wanted: (Result<(), Refusal>, &[u8]),
+    ended: Result<(), Refusal>,
+    output: &Sink<'_>,
+    wanted: (Result<(), Refusal>, &str),
 ) {
-    assert_eq!(rt; ended, wanted);
+    let (end, printed) = wanted;
+    assert_eq!(rt; (ended, output.taken.as_slice()), (end, printed.as_bytes()));
 }

@@ -1,9 +1,8 @@
 //! `ecat decode` and `ecat encode` to a writer that is full. What they print and tell stands as cases in
 //! `crates/ecat_cases/data/translates.cases`.
+use crate::streams::{Sink, nothing_handed_on, sink_of, source_of};
 use ec_console::Refusal;
 use ec_translate::{print_decode, print_encode};
-use std::io;
-use std::io::Write;
 use std::process::Abort;
 
 /// A NOP with ten bytes of data, and a broadcast read of the AL status that three slaves answered.
@@ -17,39 +16,23 @@ frame 2
 1 BRD index 05 at 0003:0130 counter 3 data 0800
 ";
 
-/// A writer that takes so many bytes and no more.
-#[derive(Drop)]
-struct Narrow {
-    left: usize,
-}
-
-impl Write for Narrow {
-    fn write(&mut self, bytes: &[u8]) -> io::Result<usize> {
-        let count = bytes.len().min(self.left);
-        self.left -= count;
-        Ok(count)
-    }
-
-    fn flush(&mut self) -> io::Result<()> {
-        Ok(())
-    }
-}
-
 /// A command ends so, and the writer is full.
-fn expect_full(rt: &impl Abort, ended: Result<(), Refusal>, output: &Narrow) {
-    assert_eq!(rt; (ended, output.left), (Err(Refusal::Output), 0));
+fn expect_full(rt: &impl Abort, ended: Result<(), Refusal>, output: &Sink<'_>) {
+    assert_eq!(rt; (ended, output.room), (Err(Refusal::Output), 0));
 }
 
 #[test]
-fn a_full_output_of_decode_is_told(rt: HostRuntime) {
-    let mut output = Narrow { left: 10 };
-    let ended = print_decode(rt.alloc(), &mut CYCLE.as_bytes(), &mut output);
+fn a_full_output_is_told(rt: HostRuntime) {
+    let handed_on = nothing_handed_on();
+    let mut output = sink_of(rt.alloc(), &handed_on);
+    output.room = 10;
+    let ended = print_decode(rt.alloc(), &mut source_of(CYCLE.as_bytes()), &mut output);
     expect_full(&rt, ended, &output);
-}
-
-#[test]
-fn a_full_output_of_encode_is_told(rt: HostRuntime) {
-    let mut output = Narrow { left: 10 };
-    let ended = print_encode(rt.alloc(), &mut CYCLE_TEXT.as_bytes(), &mut output);
+    output.room = 10;
+    let ended = print_encode(
+        rt.alloc(),
+        &mut source_of(CYCLE_TEXT.as_bytes()),
+        &mut output,
+    );
     expect_full(&rt, ended, &output);
 }

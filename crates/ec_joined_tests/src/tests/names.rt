@@ -1,41 +1,39 @@
 //! Slaves by their names in the place of their numbers.
+use crate::tests::texts::{replaced, with_number};
 use std::process::Abort;
 
-/// The words behind which a slave stands.
-const VERBS: [&str; 6] = ["serve", "put", "get", "fault", "reset", "expect state"];
-
-/// A script with other words.
-fn replaced(rt: &(impl AllocGlobal + Abort), script: &str, old: &str, new: &str) -> String {
-    script.replace(rt.alloc(), old, new).expect(rt, "memory")
-}
-
-/// A word and the number of a slave.
-fn by_number(rt: &(impl AllocGlobal + Abort), verb: &str, slave: usize) -> String {
-    format!(in rt.alloc(); "{verb} {slave}").expect(rt, "memory")
-}
-
-/// A word and the name of a slave.
-fn by_name(rt: &(impl AllocGlobal + Abort), verb: &str, slave: usize) -> String {
-    format!(in rt.alloc(); "{verb} s{slave}").expect(rt, "memory")
-}
+/// The words behind which a slave stands, by its number and by its name.
+const WORDS: [(&str, &str); 6] = [
+    ("serve #", "serve s#"),
+    ("put #", "put s#"),
+    ("get #", "get s#"),
+    ("fault #", "fault s#"),
+    ("reset #", "reset s#"),
+    ("expect state #", "expect state s#"),
+];
 
 /// A script with the name of the slave with a number, of one digit, in the place of that number behind a word.
-fn with_verb(rt: &(impl AllocGlobal + Abort), script: &str, verb: &str, slave: usize) -> String {
-    let number = by_number(rt, verb, slave);
-    let name = by_name(rt, verb, slave);
+fn with_word(
+    rt: &(impl AllocGlobal + Abort),
+    script: &str,
+    (number, name): (&str, &str),
+    slave: u64,
+) -> String {
+    let number = with_number(rt, number, "#", slave);
+    let name = with_number(rt, name, "#", slave);
     replaced(rt, script, number.as_str(), name.as_str())
 }
 
 /// A script with the name of the slave with a number, of one digit, in the place of that number.
-fn with_name(rt: &(impl AllocGlobal + Abort), script: &mut String, slave: usize) {
-    for verb in &VERBS {
-        *script = with_verb(rt, script.as_str(), verb, slave);
+fn with_name(rt: &(impl AllocGlobal + Abort), script: &mut String, slave: u64) {
+    for words in &WORDS {
+        *script = with_word(rt, script.as_str(), *words, slave);
     }
 }
 
 /// How many slaves a table has.
-fn slaves_in(table: &str) -> usize {
-    let mut slaves: usize = 0;
+fn slaves_in(table: &str) -> u64 {
+    let mut slaves: u64 = 0;
     for line in table.lines() {
         if line == "[[slave]]" {
             slaves = slaves.saturating_add(1);

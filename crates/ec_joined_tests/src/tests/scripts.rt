@@ -1,104 +1,55 @@
-//! A script line by line over a world, by `read_script` and `run_line`.
-ghost use Rattle.std.specs.Prelude.{◌≡◌, None};
-ghost use Rattle.ec_link.specs.Faults.{compile_fault};
-ghost use Rattle.ec_link.specs.Plan.{plan_of};
-
-use ec_commands::{Line, Refusal, identities_of, plan_text, read_script, run_line};
-use ec_link::{Plan, compile};
-use ec_table::{Table, read_table};
+//! A script line by line over a world, by `read_script` and `run_line`, and the text of a plan.
+use ec_commands::{Line, plan_text, read_script, run_line};
+use ec_link::Machine;
+use ec_table::Table;
 use ec_world::World;
-use std::alloc::{AllocError, Global};
+use std::process::Abort;
 
-/// What a line prints, each time that it is done, by the calls.
-fn said_of(
-    alloc: Global,
+/// Adds what a line prints, each time that it is done, by the calls.
+fn write_answer(
+    rt: &(impl AllocGlobal + Abort),
     table: &Table,
-    world: &mut World,
+    world: &mut World<'_>,
     line: &Line,
     printed: &mut String,
-) -> Result<(), AllocError> {
+) {
     for _ in 0..line.times {
-        let text = run_line(alloc, world, table, line)?;
-        printed.push_str(text.as_str())?;
+        let text = run_line(rt.alloc(), world, table, line).expect(rt, "memory");
+        printed.push_str(text.as_str()).expect(rt, "memory");
     }
-    Ok(())
 }
 
-/// What the lines of a script print, by the calls.
-fn said(
-    alloc: Global,
+/// Adds what the lines of a script print, by the calls.
+fn write_lines(
+    rt: &(impl AllocGlobal + Abort),
     table: &Table,
-    world: &mut World,
+    world: &mut World<'_>,
     lines: &[Line],
     printed: &mut String,
-) -> Result<(), AllocError> {
+) {
     for line in lines {
-        said_of(alloc, table, world, line, printed)?;
+        write_answer(rt, table, world, line, printed);
     }
-    Ok(())
 }
 
-/// What a new world of a table says to the lines of a script.
-fn said_by(
-    alloc: Global,
-    table: &Table,
-    plan: &Plan,
-    lines: &[Line],
-    printed: &mut String,
-) -> Result<(), AllocError>
-    requires accepted { compile_fault table.now ≡ None }
-    requires plan { plan.now ≡ plan_of table.now }
-{
-    let identities = identities_of(alloc, table)?;
-    let mut world = World::new(alloc, table, plan, identities.as_slice())?;
-    said(alloc, table, &mut world, lines, printed)
-}
-
-/// What a script prints over a table and its plan, by the calls.
-fn simulated(
-    alloc: Global,
-    table: &Table,
-    plan: &Plan,
-    script: &str,
-    printed: &mut String,
-) -> Result<(), Refusal>
-    requires accepted { compile_fault table.now ≡ None }
-    requires plan { plan.now ≡ plan_of table.now }
-{
-    let lines = read_script(alloc, table, script)?;
-    Ok(said_by(alloc, table, plan, lines.as_slice(), printed)?)
-}
-
-/// The same over a table alone.
-fn simulated_on(
-    alloc: Global,
-    table: &Table,
-    script: &str,
-    printed: &mut String,
-) -> Result<(), Refusal> {
-    let plan = compile(alloc, table)?;
-    simulated(alloc, table, &plan, script, printed)
-}
-
-/// Adds what a script prints over the table that a text states, by the calls.
+/// Adds what a script prints over a world of a table, by the calls.
 pub fn write_answers(
-    alloc: Global,
-    table: &str,
+    rt: &(impl AllocGlobal + Abort),
+    table: &Table,
+    world: &mut World<'_>,
     script: &str,
     printed: &mut String,
-) -> Result<(), Refusal> {
-    let table = read_table(alloc, table)?;
-    simulated_on(alloc, &table, script, printed)
+) {
+    let lines = read_script(rt.alloc(), table, script).expect(rt, "a good script");
+    write_lines(rt, table, world, lines.as_slice(), printed);
+}
+
+/// A new world of a machine, whose slaves have the identities that the table says.
+pub fn new_world<'p>(rt: &(impl AllocGlobal + Abort), machine: &'p Machine) -> World<'p> {
+    World::of_machine(rt.alloc(), machine).expect(rt, "memory")
 }
 
 /// The text of the plan of a table, by the calls.
-fn plan_of_table(alloc: Global, table: &Table) -> Result<String, Refusal> {
-    let plan = compile(alloc, table)?;
-    Ok(plan_text(alloc, table.version(), &plan)?)
-}
-
-/// The text of the plan of the table that a text states, by the calls.
-pub fn plan_text_of(alloc: Global, table: &str) -> Result<String, Refusal> {
-    let table = read_table(alloc, table)?;
-    plan_of_table(alloc, &table)
+pub fn plan_text_of(rt: &(impl AllocGlobal + Abort), machine: &Machine) -> String {
+    plan_text(rt.alloc(), machine.table().version(), machine.plan()).expect(rt, "memory")
 }

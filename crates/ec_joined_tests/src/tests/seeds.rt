@@ -2,7 +2,6 @@
 //! of each kind.
 use ec_fixtures::{random_script, random_table};
 use ec_random::Random;
-use std::alloc::{AllocError, Global};
 use std::process::Abort;
 
 /// A table and a script that a seed decides.
@@ -12,17 +11,12 @@ pub struct Seeded {
     pub script: String,
 }
 
-/// The script that goes on with the numbers behind those of a table.
-fn with_script(alloc: Global, random: &mut Random, table: String) -> Result<Seeded, AllocError> {
-    let script = random_script(alloc, random, table.as_str())?;
-    Ok(Seeded { table, script })
-}
-
-/// What a seed decides.
+/// What a seed decides. The script goes on with the numbers behind those of the table.
 pub fn of_seed(rt: &(impl AllocGlobal + Abort), seed: u64) -> Seeded {
     let mut random = Random::new(seed);
     let table = random_table(rt.alloc(), &mut random).expect(rt, "memory");
-    with_script(rt.alloc(), &mut random, table).expect(rt, "memory")
+    let script = random_script(rt.alloc(), &mut random, table.as_str()).expect(rt, "memory");
+    Seeded { table, script }
 }
 
 /// The first words of a script's lines.
@@ -32,28 +26,33 @@ const WORDS: [&str; 18] = [
 ];
 
 /// Adds the script of a seed to those before, and its table to theirs.
-fn add_seeded(rt: &(impl AllocGlobal + Abort), seed: u64, scripts: &mut String) -> String {
+fn add_seeded(
+    rt: &(impl AllocGlobal + Abort),
+    seed: u64,
+    tables: &mut Vec<String>,
+    scripts: &mut String,
+) {
     let Seeded { table, script } = of_seed(rt, seed);
     scripts.push_str(script.as_str()).expect(rt, "memory");
-    table
+    tables.push(table).expect(rt, "memory");
 }
 
-/// More than half of the tables have a slave.
-fn expect_slaves(rt: &impl Abort, tables: &[String]) {
-    let mut with_slaves: u32 = 0;
+/// How many tables have a slave.
+fn with_slaves(tables: &[String]) -> usize {
+    let mut count: usize = 0;
     for table in tables {
         if table.as_str().contains("[[slave]]") {
-            with_slaves = with_slaves.saturating_add(1);
+            count = count.saturating_add(1);
         }
     }
-    assert!(rt; with_slaves > 100);
+    count
 }
 
-/// More than half of the tables are unlike.
-fn expect_unlike(rt: &impl Abort, tables: &mut Vec<String>) {
+/// How many tables are unlike.
+fn unlike(rt: &impl Abort, tables: &mut Vec<String>) -> usize {
     tables.sort().expect(rt, "memory");
     tables.dedup();
-    assert!(rt; tables.len() > 100);
+    tables.len()
 }
 
 /// Whether a word begins some line.
@@ -73,20 +72,15 @@ fn expect_words(rt: &impl Abort, scripts: &str) {
     }
 }
 
-/// What the seeds decide: their tables, and their scripts one behind the other.
-fn push_seeded(rt: &(impl AllocGlobal + Abort), tables: &mut Vec<String>, scripts: &mut String) {
-    for seed in 0..200 {
-        let table = add_seeded(rt, seed, scripts);
-        tables.push(table).expect(rt, "memory");
-    }
-}
-
+// More than half of the tables have a slave, and more than half are unlike.
 #[test]
 fn seeds_decide(rt: HostRuntime) {
     let mut tables: Vec<String> = Vec::new(rt.alloc());
     let mut scripts = String::new(rt.alloc());
-    push_seeded(&rt, &mut tables, &mut scripts);
+    for seed in 0..200 {
+        add_seeded(&rt, seed, &mut tables, &mut scripts);
+    }
     expect_words(&rt, scripts.as_str());
-    expect_slaves(&rt, tables.as_slice());
-    expect_unlike(&rt, &mut tables);
+    let (slaves, unlike) = (with_slaves(tables.as_slice()), unlike(&rt, &mut tables));
+    assert!(rt; slaves > 100 && unlike > 100, "{slaves} {unlike}");
 }

@@ -1,6 +1,6 @@
 //! Tables of every size: with each number of slaves, with many links, and as long as an input may be.
+use crate::tests::texts::with_number;
 use std::alloc::AllocError;
-use std::fmt::Write as _;
 use std::process::Abort;
 
 /// A type of slave: 16 outputs and 16 inputs behind a mailbox, its vendor the largest number.
@@ -16,33 +16,62 @@ rxpdo = [ { index = 0x1600, entries = [[0x7000, 1, 16]] } ]
 txpdo = [ { index = 0x1A00, entries = [[0x6000, 1, 16]] } ]
 "#;
 
-/// A slave, with a serial number from the largest downwards, a variable of its outputs and one of its inputs.
-fn write_slave(text: &mut String, slave: u32) -> Result<(), AllocError> {
-    let serial = u32::MAX - slave;
-    writeln!(
-        text,
-        "[[slave]]\nname = \"s{slave}\"\ntype = \"io\"\nserial = {serial}\n[[variable]]\nname = \"o{slave}\"\ndir = \"out\"\nbits = 16\n[[variable]]\nname = \"i{slave}\"\ndir = \"in\"\nbits = 16"
-    )
+/// A slave by its number (`$`), with a serial number (`@`), a variable of its outputs and one of its inputs.
+const SLAVE: &str = r#"[[slave]]
+name = "s$"
+type = "io"
+serial = @
+[[variable]]
+name = "o$"
+dir = "out"
+bits = 16
+[[variable]]
+name = "i$"
+dir = "in"
+bits = 16
+"#;
+
+/// A link between the variable of the outputs of a slave (`$`) and the slave from a bit on (`@`), of so many bits (`%`), and one
+/// of the inputs.
+const LINKS: &str = r#"[[link]]
+var = "o$"
+slave = "s$"
+index = 0x7000
+sub = 1
+bits = [@, @, %]
+[[link]]
+var = "i$"
+slave = "s$"
+index = 0x6000
+sub = 1
+bits = [@, @, %]
+"#;
+
+/// Adds lines with three numbers in the places of their marks.
+fn write_lines(
+    rt: &(impl AllocGlobal + Abort),
+    text: &mut String,
+    lines: &str,
+    numbers: (u64, u64, u64),
+) {
+    let first = with_number(rt, lines, "$", numbers.0);
+    let second = with_number(rt, first.as_str(), "@", numbers.1);
+    let third = with_number(rt, second.as_str(), "%", numbers.2);
+    text.push_str(third.as_str()).expect(rt, "memory");
 }
 
-/// A link between the variable of the outputs and the slave from a bit on, of so many bits, and one of the inputs.
-fn write_links(text: &mut String, slave: u32, bit: u32, count: u32) -> Result<(), AllocError> {
-    writeln!(
-        text,
-        "[[link]]\nvar = \"o{slave}\"\nslave = \"s{slave}\"\nindex = 0x7000\nsub = 1\nbits = [{bit}, {bit}, {count}]\n[[link]]\nvar = \"i{slave}\"\nslave = \"s{slave}\"\nindex = 0x6000\nsub = 1\nbits = [{bit}, {bit}, {count}]"
-    )
-}
-
-/// A slave each bit of which is linked, so many bits a link.
-fn write_linked(rt: &impl Abort, text: &mut String, slave: u32, count: u32) {
-    write_slave(text, slave).expect(rt, "memory");
+/// A slave each bit of which is linked, so many bits a link. Its serial number is from the largest downwards.
+fn write_linked(rt: &(impl AllocGlobal + Abort), text: &mut String, slave: u64, count: u64) {
+    let serial = 0xFFFF_FFFF_u64.saturating_sub(slave);
+    write_lines(rt, text, SLAVE, (slave, serial, count));
     for place in 0..16 / count.max(1) {
-        write_links(text, slave, place.saturating_mul(count), count).expect(rt, "memory");
+        let bit = place.saturating_mul(count);
+        write_lines(rt, text, LINKS, (slave, bit, count));
     }
 }
 
 /// A table of so many slaves, each bit of which is linked, so many bits a link.
-pub fn table_of_size(rt: &(impl AllocGlobal + Abort), slaves: u32, count: u32) -> String {
+pub fn table_of_size(rt: &(impl AllocGlobal + Abort), slaves: u64, count: u64) -> String {
     let mut text = String::from_str(rt.alloc(), TYPE).expect(rt, "memory");
     for slave in 0..slaves {
         write_linked(rt, &mut text, slave, count);
@@ -60,8 +89,7 @@ fn fill_up(text: &mut String, len: usize) -> Result<(), AllocError> {
 }
 
 /// The text with a comment behind it, so many bytes in all; as it is where it has more.
-pub fn filled_up(rt: &(impl AllocGlobal + Abort), table: &str, len: usize) -> String {
-    let mut text = String::from_str(rt.alloc(), table).expect(rt, "memory");
+pub fn filled_up(rt: &(impl AllocGlobal + Abort), mut text: String, len: usize) -> String {
     fill_up(&mut text, len).expect(rt, "memory");
     text
 }

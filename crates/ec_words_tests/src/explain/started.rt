@@ -6,25 +6,23 @@ use ec_device::Device;
 use ec_explain::{Cause, explanation};
 use ec_start::StartError;
 use std::process::Abort;
-use std::test::Fail;
 
 /// Each phrase stands in what is told. There is a `;` between phrases.
-fn assert_phrases(rt: &impl Abort, told: &str, wanted: &str) {
+fn expect_phrases(rt: &impl Abort, told: &str, wanted: &str) {
     for phrase in wanted.split(';') {
-        assert!(rt; told.find(phrase).is_some(), "no {phrase} in {told}");
+        assert!(rt; told.contains(phrase), "no {phrase} in {told}");
     }
 }
 
-/// Compares what is told of a text for a cause.
-fn assert_cause(
-    rt: &(impl AllocGlobal + Abort),
-    text: &str,
-    cause: Cause,
-    wanted: &str,
-) -> Result<(), Fail> {
-    let told = explanation(rt.alloc(), text, cause)?;
-    assert_phrases(rt, told.as_str(), wanted);
-    Ok(())
+/// What is told of a text for a cause.
+fn told_of(rt: &(impl AllocGlobal + Abort), text: &str, cause: Cause) -> String {
+    explanation(rt.alloc(), text, cause).expect(rt, "memory")
+}
+
+/// Compares what is told of the machine for a cause.
+fn expect_cause(rt: &(impl AllocGlobal + Abort), cause: Cause, wanted: &str) {
+    let told = told_of(rt, MACHINE, cause);
+    expect_phrases(rt, told.as_str(), wanted);
 }
 
 const DRIVE: Device = Device {
@@ -130,11 +128,10 @@ const ERRORS: [(StartError, &str); 15] = [
 ];
 
 #[test]
-fn start_ups(rt: HostRuntime) -> Result<(), Fail> {
+fn start_ups(rt: HostRuntime) {
     for (error, wanted) in &ERRORS {
-        assert_cause(&rt, MACHINE, Cause::Start(*error), wanted)?;
+        expect_cause(&rt, Cause::Start(*error), wanted);
     }
-    Ok(())
 }
 
 // The start-up of the machine has 109 steps: 6 for all, 1 to name each slave, 6 to identify it, 2 for
@@ -161,62 +158,42 @@ const STEPS: [(usize, &str); 14] = [
 ];
 
 /// Compares what is told of a step whose counter was wrong, and which was too slow.
-fn assert_step(rt: &(impl AllocGlobal + Abort), step: usize, wanted: &str) -> Result<(), Fail> {
-    let counter = Cause::Start(StartError::Counter { step });
-    assert_cause(rt, MACHINE, counter, wanted)?;
-    let slow = Cause::Start(StartError::TooSlow { step });
-    assert_cause(rt, MACHINE, slow, wanted)
+fn expect_step(rt: &(impl AllocGlobal + Abort), step: usize, wanted: &str) {
+    expect_cause(rt, Cause::Start(StartError::Counter { step }), wanted);
+    expect_cause(rt, Cause::Start(StartError::TooSlow { step }), wanted);
 }
 
 #[test]
-fn steps(rt: HostRuntime) -> Result<(), Fail> {
+fn steps(rt: HostRuntime) {
     for (step, wanted) in &STEPS {
-        assert_step(&rt, *step, wanted)?;
+        expect_step(&rt, *step, wanted);
     }
-    Ok(())
 }
 
 /// A phrase doesn't stand in what is told of a text for a cause.
-fn assert_untold(
-    rt: &(impl AllocGlobal + Abort),
-    text: &str,
-    cause: Cause,
-    phrase: &str,
-) -> Result<(), Fail> {
-    let told = explanation(rt.alloc(), text, cause)?;
-    let told = told.as_str();
-    assert!(rt; told.find(phrase).is_none(), "{told}");
-    Ok(())
+fn expect_untold(rt: &(impl AllocGlobal + Abort), text: &str, cause: Cause, phrase: &str) {
+    let told = told_of(rt, text, cause);
+    assert!(rt; !told.as_str().contains(phrase), "{}", told.as_str());
 }
 
-#[test]
-fn a_step_past_the_last(rt: HostRuntime) -> Result<(), Fail> {
-    let past = Cause::Start(StartError::TooSlow { step: 109 });
-    assert_untold(&rt, MACHINE, past, "step")
-}
-
-/// Cycles that can't be, and what is told of them.
-const CYCLES: [(Cause, &str); 5] = [
+/// Cycles that can't be, and a line that the script doesn't have, and what is told of them.
+const CAUSES: [(Cause, &str); 6] = [
     (Cause::Cycle(CycleError::NotReady), "ready"),
     (Cause::Cycle(CycleError::Open), "open already"),
     (Cause::Cycle(CycleError::NotOpen), "No cycle is open"),
     (Cause::Cycle(CycleError::NumbersSpent), "2^64"),
     (Cause::Wire, "socket;nothing of that cycle"),
+    (
+        Cause::Script { from: 0, line: 99 },
+        "line 99 of the script isn't found",
+    ),
 ];
 
 #[test]
-fn cycles(rt: HostRuntime) -> Result<(), Fail> {
-    for (cause, wanted) in &CYCLES {
-        assert_cause(&rt, MACHINE, *cause, wanted)?;
+fn cycles_and_a_line_past_the_last(rt: HostRuntime) {
+    for (cause, wanted) in &CAUSES {
+        expect_cause(&rt, *cause, wanted);
     }
-    Ok(())
-}
-
-/// A line that the script doesn't have.
-#[test]
-fn a_line_past_the_last(rt: HostRuntime) -> Result<(), Fail> {
-    let past = Cause::Script { from: 0, line: 99 };
-    assert_cause(&rt, MACHINE, past, "line 99 of the script isn't found")
 }
 
 /// Texts that are no table of this machine.
@@ -230,11 +207,13 @@ const OTHER_TEXTS: [&str; 7] = [
     "[[slave]]\n[[slave]]",
 ];
 
+// Nothing is told of a step of texts that have no such machine, nor of one past its last.
 #[test]
-fn other_texts(rt: HostRuntime) -> Result<(), Fail> {
+fn steps_that_are_none(rt: HostRuntime) {
     let cause = Cause::Start(StartError::Counter { step: 17 });
     for text in &OTHER_TEXTS {
-        assert_untold(&rt, text, cause, "step 17")?;
+        expect_untold(&rt, text, cause, "step 17");
     }
-    Ok(())
+    let past = Cause::Start(StartError::TooSlow { step: 109 });
+    expect_untold(&rt, MACHINE, past, "step");
 }

@@ -1,10 +1,9 @@
 //! Drivers that go wrong: whoever reads or writes fails at some line.
 
 use crate::live::{expect_ended, run};
+use crate::streams::{Source, nothing_handed_on, sink_of, source_of};
 use ec_console::Refusal;
 use std::fs::Files;
-use std::io;
-use std::io::{ErrorKind, Read, Write};
 use std::process::Abort;
 
 /// Lines of each kind over a table without slaves.
@@ -14,31 +13,9 @@ const LINES: &[u8] = b"%%\nbegin\nready\nready\n# now\nexpect failed\nstop\ncycl
 const ANSWERS: &str =
     "no 1\nready\nno 3\nunmet 5\nbad 6\nreport taken missing 0 counters 0 al 0000\n";
 
-/// A writer that takes so many writes, and hands them on so many times; it refuses the next ones.
-#[derive(Drop)]
-struct Closing {
-    writes: usize,
-    flushes: usize,
-    taken: Vec<u8>,
-}
-
-impl Write for Closing {
-    fn write(&mut self, bytes: &[u8]) -> io::Result<usize> {
-        if self.writes == 0 {
-            return Err(io::Error::from(ErrorKind::StorageFull));
-        }
-        self.writes -= 1;
-        self.taken.extend_from_slice(bytes)?;
-        Ok(bytes.len())
-    }
-
-    fn flush(&mut self) -> io::Result<()> {
-        if self.flushes == 0 {
-            return Err(io::Error::from(ErrorKind::StorageFull));
-        }
-        self.flushes -= 1;
-        Ok(())
-    }
+/// Compares what wasn't read.
+fn expect_unread(rt: &impl Abort, input: &Source<'_>, wanted: &str) {
+    assert_eq!(rt; input.text, wanted.as_bytes());
 }
 
 /// How many writes are taken, how the run then ends, and what was answered.
@@ -55,15 +32,11 @@ const CLOSED: [(usize, Refusal, &str); 7] = [
 /// Runs the lines where so many writes are taken.
 fn expect_closed<H: AllocGlobal + Files + Abort>(rt: &H, closed: &(usize, Refusal, &str)) {
     let (writes, refusal, answers) = *closed;
-    let mut input = LINES;
-    let mut output = Closing {
-        writes,
-        flushes: usize::MAX,
-        taken: Vec::new(rt.alloc()),
-    };
-    let ended = run(rt, &mut input, &mut output);
-    let seen = (ended, output.taken.as_slice());
-    expect_ended(rt, seen, (Err(refusal), answers.as_bytes()));
+    let handed_on = nothing_handed_on();
+    let mut output = sink_of(rt.alloc(), &handed_on);
+    output.writes = writes;
+    let ended = run(rt, &mut source_of(LINES), &mut output);
+    expect_ended(rt, ended, &output, (Err(refusal), answers));
 }
 
 /// Wherever a write is refused, the run ends there, and what was answered before stays.
@@ -74,84 +47,32 @@ fn ends_at_each_write_that_is_refused(rt: HostRuntime) {
     }
 }
 
-/// Compares what wasn't read.
-fn expect_unread(rt: &impl Abort, unread: &[u8], wanted: &str) {
-    assert_eq!(rt; unread, wanted.as_bytes());
-}
-
 /// An answer that isn't handed on ends the run: no line behind it is done.
 #[test]
 fn ends_where_answers_are_stuck(rt: HostRuntime) {
-    let mut input = LINES;
-    let mut output = Closing {
-        writes: usize::MAX,
-        flushes: 2,
-        taken: Vec::new(rt.alloc()),
-    };
+    let handed_on = nothing_handed_on();
+    let mut input = source_of(LINES);
+    let mut output = sink_of(rt.alloc(), &handed_on);
+    output.flushes = 2;
     let ended = run(&rt, &mut input, &mut output);
-    let wanted = (Err(Refusal::Output), b"no 1\nready\nno 3\n".as_slice());
-    expect_ended(&rt, (ended, output.taken.as_slice()), wanted);
-    expect_unread(&rt, input, "# now\nexpect failed\nstop\ncycle\n");
+    let wanted = (Err(Refusal::Output), "no 1\nready\nno 3\n");
+    expect_ended(&rt, ended, &output, wanted);
+    expect_unread(&rt, &input, "# now\nexpect failed\nstop\ncycle\n");
 }
 
-/// A writer that takes a byte at a time, and is interrupted before each.
-#[derive(Drop)]
-struct Slow {
-    is_interrupted: bool,
-    taken: Vec<u8>,
-}
-
-impl Write for Slow {
-    fn write(&mut self, bytes: &[u8]) -> io::Result<usize> {
-        self.is_interrupted = !self.is_interrupted;
-        match bytes {
-            [] => Ok(0),
-            [first, ..] if !self.is_interrupted => {
-                self.taken.push(*first)?;
-                Ok(1)
-            }
-            _ => Err(io::Error::from(ErrorKind::Interrupted)),
-        }
-    }
-
-    fn flush(&mut self) -> io::Result<()> {
-        Ok(())
-    }
-}
-
-/// Nothing is lost where answers are taken byte by byte.
+/// Nothing is lost where answers are taken byte by byte, with an interruption before each.
 #[test]
 fn answers_byte_by_byte(rt: HostRuntime) {
-    let mut input = LINES;
-    let mut output = Slow {
-        is_interrupted: false,
-        taken: Vec::new(rt.alloc()),
-    };
-    let ended = run(&rt, &mut input, &mut output);
-    let wanted = (Err(Refusal::Unmet(1)), ANSWERS.as_bytes());
-    expect_ended(&rt, (ended, output.taken.as_slice()), wanted);
+    let handed_on = nothing_handed_on();
+    let mut output = sink_of(rt.alloc(), &handed_on);
+    output.at_a_time = 1;
+    output.halts = true;
+    let ended = run(&rt, &mut source_of(LINES), &mut output);
+    let wanted = (Err(Refusal::Unmet(1)), ANSWERS);
+    expect_ended(&rt, ended, &output, wanted);
 }
 
-/// A reader that gives bytes one at a time, and refuses the next read.
-#[derive(Drop)]
-struct Breaking<'a> {
-    left: &'a [u8],
-}
-
-impl Read for Breaking<'_> {
-    fn read(&mut self, buffer: &mut [u8]) -> io::Result<usize> {
-        match (self.left, buffer) {
-            ([next, left @ ..], [first, ..]) => {
-                *first = *next;
-                self.left = left;
-                Ok(1)
-            }
-            _ => Err(io::Error::from(ErrorKind::Other)),
-        }
-    }
-}
-
-/// What is given before a read is refused, and what is answered by then: a line without its end isn't done.
+/// What is given, byte by byte, before a read is refused, and what is answered by then: a line without its end isn't done.
 const BROKEN: [(&str, &str); 6] = [
     ("", ""),
     ("version = 2\n", ""),
@@ -164,13 +85,13 @@ const BROKEN: [(&str, &str); 6] = [
 /// Runs what is given before a read is refused.
 fn expect_broken<H: AllocGlobal + Files + Abort>(rt: &H, broken: &(&str, &str)) {
     let (given, answers) = *broken;
-    let mut input = Breaking {
-        left: given.as_bytes(),
-    };
-    let mut output: Vec<u8> = Vec::new(rt.alloc());
+    let handed_on = nothing_handed_on();
+    let mut input = source_of(given.as_bytes());
+    input.at_a_time = 1;
+    input.fails = true;
+    let mut output = sink_of(rt.alloc(), &handed_on);
     let ended = run(rt, &mut input, &mut output);
-    let wanted = (Err(Refusal::Input), answers.as_bytes());
-    expect_ended(rt, (ended, output.as_slice()), wanted);
+    expect_ended(rt, ended, &output, (Err(Refusal::Input), answers));
 }
 
 #[test]

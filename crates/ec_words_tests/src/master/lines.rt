@@ -9,15 +9,11 @@ use ec_why::Reasons;
 use ec_wire::MemoryWire;
 use std::alloc::Global;
 use std::process::Abort;
-use std::test::Fail;
 
 const THREE_SLAVES: &str = ec_examples::BARE_THREE_SLAVES;
 
 /// So many calls of a wire never fail.
 const NEVER: u64 = u64::MAX;
-
-/// How often what lines expect isn't so, or how they are cut short, and what they print.
-type Ended = (Result<u64, Refusal>, Vec<u8>);
 
 /// Runs lines by a control over a wire. What they answer is told by no clause, so that the comparisons behind it carry nothing
 /// of it.
@@ -27,66 +23,65 @@ fn run_lines(
     reasons: Reasons,
     control: &mut Control,
     wire: &mut MemoryWire,
-    lines: &[u8],
-) -> Ended {
-    let mut input = lines;
-    let mut output = Vec::new(alloc);
-    let ended = print_lines(
+    lines: &str,
+    output: &mut Vec<u8>,
+) -> Result<u64, Refusal> {
+    let mut input = lines.as_bytes();
+    print_lines(
         alloc,
         machine.table(),
         reasons,
         control,
         wire,
         &mut input,
-        &mut output,
-    );
-    (ended, output)
+        output,
+    )
 }
 
-/// Runs lines over a wire.
-fn run_over(
-    alloc: Global,
-    machine: &Machine,
-    reasons: Reasons,
-    lines: &[u8],
-    wire: &mut MemoryWire,
-) -> Result<Ended, Fail> {
-    let mut control = Control::new(alloc, machine)?;
-    Ok(run_lines(alloc, machine, reasons, &mut control, wire, lines))
+/// A wire to the slaves of a machine, whose call of this number fails.
+fn wire_of(rt: &(impl AllocGlobal + Abort), machine: &Machine, fails_at: u64) -> MemoryWire {
+    let slaves = slaves_of_machine(rt.alloc(), machine).expect(rt, "memory");
+    MemoryWire::new(rt.alloc(), slaves, 1000, fails_at).expect(rt, "memory")
 }
 
-/// Runs lines over a wire to the slaves of a machine.
-fn run_bytes(
-    alloc: Global,
-    machine: &Machine,
-    reasons: Reasons,
-    lines: &[u8],
-    fails_at: u64,
-) -> Result<Ended, Fail> {
-    let slaves = slaves_of_machine(alloc, machine)?;
-    let mut wire = MemoryWire::new(alloc, slaves, 1000, fails_at)?;
-    run_over(alloc, machine, reasons, lines, &mut wire)
-}
-
-/// The same of the three slaves.
-fn run(alloc: Global, reasons: Reasons, lines: &[u8], fails_at: u64) -> Result<Ended, Fail> {
-    let machine = Machine::read(alloc, THREE_SLAVES)?;
-    run_bytes(alloc, &machine, reasons, lines, fails_at)
+/// A master of a machine.
+fn control_of<'p>(rt: &(impl AllocGlobal + Abort), machine: &'p Machine) -> Control<'p> {
+    Control::new(rt.alloc(), machine).expect(rt, "memory")
 }
 
 /// Lines, the call of the wire that fails, how often what they expect isn't so, and what they print.
 type Run<'a> = (&'a str, u64, u64, &'a str);
 
-/// Runs lines, and compares what they print.
-fn expect_run<H: AllocGlobal + Abort>(rt: &H, reasons: Reasons, run_of: &Run) -> Result<(), Fail> {
-    let (lines, fails_at, unmet, printed) = *run_of;
-    let (ended, output) = run(rt.alloc(), reasons, lines.as_bytes(), fails_at)?;
-    assert_eq!(rt;
-        (ended, output.as_slice()),
-        (Ok(unmet), printed.as_bytes()),
-        "{lines}"
+/// Compares how often what lines expect isn't so, and what they print.
+fn expect_ended(rt: &impl Abort, run: &Run, ended: Result<u64, Refusal>, output: &[u8]) {
+    let (lines, _, unmet, printed) = *run;
+    assert_eq!(rt; (ended, output), (Ok(unmet), printed.as_bytes()), "{lines}");
+}
+
+/// Runs lines over a wire to the slaves of a machine, and compares what they print.
+fn expect_run<H: AllocGlobal + Abort>(rt: &H, machine: &Machine, reasons: Reasons, run: &Run) {
+    let mut wire = wire_of(rt, machine, run.1);
+    let mut control = control_of(rt, machine);
+    let mut output = Vec::new(rt.alloc());
+    let alloc = rt.alloc();
+    let ended = run_lines(
+        alloc,
+        machine,
+        reasons,
+        &mut control,
+        &mut wire,
+        run.0,
+        &mut output,
     );
-    Ok(())
+    expect_ended(rt, run, ended, output.as_slice());
+}
+
+/// Does so with each of these, of the three slaves.
+fn expect_runs<H: AllocGlobal + Abort>(rt: &H, reasons: Reasons, runs: &[Run]) {
+    let machine = Machine::read(rt.alloc(), THREE_SLAVES).expect(rt, "a good table");
+    for run in runs {
+        expect_run(rt, &machine, reasons, run);
+    }
 }
 
 // The start-up of the three slaves has 75 frames, each sent in one call of the wire and received in the next, and a cycle has
@@ -163,11 +158,8 @@ const RUNS: [Run; 10] = [
 ];
 
 #[test]
-fn lines_move_a_master(rt: HostRuntime) -> Result<(), Fail> {
-    for one in &RUNS {
-        expect_run(&rt, Reasons::Untold, one)?;
-    }
-    Ok(())
+fn lines_move_a_master(rt: HostRuntime) {
+    expect_runs(&rt, Reasons::Untold, &RUNS);
 }
 
 // Behind each line that can't be done, and behind a start-up that has failed, stands why, where reasons are told.
@@ -206,9 +198,6 @@ const REASONED: [Run; 4] = [
 ];
 
 #[test]
-fn lines_tell_why(rt: HostRuntime) -> Result<(), Fail> {
-    for one in &REASONED {
-        expect_run(&rt, Reasons::Told, one)?;
-    }
-    Ok(())
+fn lines_tell_why(rt: HostRuntime) {
+    expect_runs(&rt, Reasons::Told, &REASONED);
 }
