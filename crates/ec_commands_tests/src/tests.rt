@@ -9,7 +9,6 @@ mod streams;
 use self::streams::{Sink, Source, sink_of, source_of};
 use ec_commands::{App, UdpWire, print_text, read_text, run_command};
 use ec_examples::THREE_SLAVES;
-use std::alloc::Global;
 use std::fs::Files;
 use std::net::Net;
 use std::process::Abort;

@@ -1,6 +1,6 @@
 //! The SII, word by word and through its registers, by the public calls of `ec_sii`. What is asked and what must be seen are
 //! lines of text, in hexadecimal digits, with blanks in between. A line with `#` is a comment.
-use crate::kinds::{DEVICE, MAILBOX, kind_with};
+use crate::kinds::{MAILBOX, kind_with};
 use ec_device::{Entry, Face, Identity, MAX_NAME, SlaveType};
 use ec_listed::Listed;
 use ec_sii::{Port, SiiImage};
