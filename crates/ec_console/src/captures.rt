@@ -1,5 +1,5 @@
 //! A capture in a file of the system, and how a command ends that has one.
-ghost use Rattle.std.specs.Prelude.{◌≡◌, All, IfErr, IfOk, map, true};
+ghost use Rattle.std.specs.Prelude.{◌≡◌, All, IfErr, IfOk, is_some, map, true};
 ghost use Rattle.ec_capture.specs.Captures.{IsText};
 ghost use Rattle.ec_console.specs.Capturing.{Finishes, IsUnopened};
 
@@ -16,7 +16,7 @@ pub type Recording<F> = Recorder<BufWriter<F>>;
 /// The capture of a command, if there is to be one.
 pub type Capture<F> = Option<Recording<F>>;
 
-/// Opens the file of a capture with one interface, of this name.
+/// Opens the file of a capture with one interface, of this name. There is a capture then.
 ///
 /// # Errors
 ///
@@ -26,7 +26,8 @@ pub fn open_capture<H: AllocGlobal + Files>(
     path: &str,
     name: &'static str,
 ) -> Result<Capture<H::File>, Refusal>
-    ensures { IfErr result IsUnopened }
+    ensures refused { IfErr result IsUnopened }
+    ensures opened { IfOk result (λ capture. is_some capture ≡ true) }
 {
     Ok(Some(open_recorder(rt, path, &[short(name)])?))
 }

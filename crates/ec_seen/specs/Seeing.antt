@@ -1,7 +1,13 @@
 -- What remarks are made of: the command, the address, the data and the counter of a datagram.
-use Rattle.std.specs.Prelude.{◌≡◌}
-use Rattle.ec_frame.specs.Datagram.{Datagram}
+use Rattle.std.specs.Prelude.{◌≡◌, ℕ, ◌+◌, ◌&&◌, nat_le, Bool, List, length, get_or}
+use Rattle.ec_frame.specs.Datagram.{Datagram, data_length}
 use Rattle.ec_seen.specs.declared.seen.Seen.{Seen}
+
+-- A whole datagram begins the bytes: its heading, its data and its counter are there, and its command is one of those
+-- that there are (ETG.1000.4, "EtherCAT datagram" and "Commands").
+abbrev pub begins_a_datagram : List ℕ → Bool
+begins_a_datagram bytes =
+    nat_le 12 (length bytes) && nat_le (12 + data_length bytes) (length bytes) && nat_le (get_or bytes 0 0) 14
 
 pub record Shows (s : Seen) (d : Datagram) : Type 0 where
   pub command : s.command ≡ d.command

@@ -1,7 +1,7 @@
 //! The datagrams that bytes spell.
-ghost use Rattle.std.specs.Prelude.{◌≡◌, ◌+◌, ◌<◌, IfSome, drop};
+ghost use Rattle.std.specs.Prelude.{◌≡◌, ◌+◌, ◌<◌, IfSome, drop, is_some};
 ghost use Rattle.ec_frame.specs.Decoded.{after_data, decoded};
-ghost use Rattle.ec_seen.specs.Seeing.{Shows};
+ghost use Rattle.ec_seen.specs.Seeing.{Shows, begins_a_datagram};
 
 use byteorder::{ByteOrder, LittleEndian};
 use ec_frame::Command;
@@ -29,6 +29,7 @@ pub struct Seen<'a> {
 
 /// The datagram that begins some bytes, and what follows it; none where it isn't whole or has no command.
 pub fn first_seen(bytes: &[u8]) -> Option<(Seen<'_>, &[u8])>
+    ensures found { is_some result ≡ begins_a_datagram bytes.now }
     ensures shows { IfSome result (λ found. Shows found.0 (decoded bytes.now)) }
     ensures rest { IfSome result (λ found. found.1.now ≡ drop 2 (after_data bytes.now)) }
 {

@@ -1,6 +1,8 @@
 -- Remarks on a text, and the places that they name.
-use Rattle.std.specs.Prelude.{◌++◌, ◌∷◌, [], ℕ, List, codes, Option, Some, None}
+use Rattle.std.specs.Prelude.{◌≡◌, ◌++◌, ◌∷◌, [], ℕ, List, codes, Option, Some, None}
 use Rattle.std.specs.Fmt.{decimal}
+use Rattle.std.specs.declared.alloc.Global.{Global}
+use Rattle.std.specs.declared.string.String.{String}
 use Rattle.ec_told.specs.declared.spot.Spot.{Spot}
 use Rattle.ec_told.specs.declared.remark.Remark.{Remark}
 use Rattle.ec_told.specs.Spots.{LiesIn}
@@ -17,6 +19,11 @@ IsIn text (Some spot) = LiesIn text spot
 
 abbrev pub StandsIn : List ℕ → Remark → Type 0
 StandsIn text remark = IsIn text remark.spot
+
+-- one remark more, behind those that there were: its place, as many characters as are marked there, and its words
+abbrev pub SaysMore : Said → Said → Option Spot → String Global → Type 0
+SaysMore old new spot words =
+    (new.text ≡ old.text) × ((width : ℕ) × (new.remarks ≡ old.remarks ++ (record { spot = spot; width = width; words = words } ∷ [])))
 
 -- the line that says where it stands
 abbrev pub heading : Spot → List ℕ → List ℕ

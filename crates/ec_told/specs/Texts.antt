@@ -1,7 +1,7 @@
 -- Which text is explained.
-use Rattle.std.specs.Prelude.{◌≡◌, ◌⊎◌, ℕ, List, drop, Some}
+use Rattle.std.specs.Prelude.{◌≡◌, ◌⊎◌, ℕ, List, drop, None, Some}
 use Rattle.std.specs.Str.Pattern.{FindsCharPrefix}
 
--- the text, without the mark U+FEFF that some editors write before it
+-- the text, without the mark U+FEFF if it begins with it, which some editors write before it
 abbrev pub IsUnmarked : List ℕ → List ℕ → Type 0
-IsUnmarked text rest = (rest ≡ text) ⊎ ((n : ℕ) × FindsCharPrefix 65279 text (Some n) × (rest ≡ drop n text))
+IsUnmarked text rest = (FindsCharPrefix 65279 text None × (rest ≡ text)) ⊎ ((n : ℕ) × FindsCharPrefix 65279 text (Some n) × (rest ≡ drop n text))

@@ -1,6 +1,7 @@
 //! Remarks on a text, and how they are told.
-ghost use Rattle.std.specs.Prelude.{◌≡◌, ◌++◌, [], All, OnOk, string_bytes};
-ghost use Rattle.ec_told.specs.Remarks.{StandsIn, heading};
+ghost use Rattle.std.specs.Prelude.{◌≡◌, ◌++◌, [], All, None, OnErr, OnOk, Some, string_bytes};
+ghost use Rattle.ec_told.specs.Remarks.{SaysMore, StandsIn, heading};
+ghost use Rattle.ec_told.specs.Spots.{spot_at};
 
 use crate::spot::{Span, Spot, spot_of};
 use crate::text::printed;
@@ -52,9 +53,11 @@ impl<'a> Remarks<'a> {
         }
     }
 
-    /// Says something of some bytes of the text.
+    /// Says something of some bytes of the text, behind all that was said. The error is want of memory, and
+    /// then nothing is added.
     pub fn at(&mut self, span: Span, words: String) -> Result<(), AllocError>
-        ensures { self.new.text ≡ self.old.text }
+        ensures said { OnOk result (SaysMore self.old self.new (Some (spot_at self.old.text span.start)) words) }
+        ensures kept { OnErr result (self.new ≡ self.old) }
     {
         self.list.push(Remark {
             spot: Some(spot_of(self.text, span.start)),
@@ -64,9 +67,11 @@ impl<'a> Remarks<'a> {
         Ok(())
     }
 
-    /// Says something that has no place.
+    /// Says something that has no place, behind all that was said. The error is want of memory, and then
+    /// nothing is added.
     pub fn note(&mut self, words: String) -> Result<(), AllocError>
-        ensures { self.new.text ≡ self.old.text }
+        ensures said { OnOk result (SaysMore self.old self.new None words) }
+        ensures kept { OnErr result (self.new ≡ self.old) }
     {
         self.list.push(Remark {
             spot: None,
