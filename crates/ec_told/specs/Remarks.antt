@@ -20,7 +20,8 @@ IsIn text (Some spot) = LiesIn text spot
 abbrev pub StandsIn : List ℕ → Remark → Type 0
 StandsIn text remark = IsIn text remark.spot
 
--- one remark more, behind those that there were: its place, as many characters as are marked there, and its words
+-- One remark more, behind those that there were, with its place and its words. How many characters are marked there is
+-- left open: tests compare the marks.
 abbrev pub SaysMore : Said → Said → Option Spot → String Global → Type 0
 SaysMore old new spot words =
     (new.text ≡ old.text) × ((width : ℕ) × (new.remarks ≡ old.remarks ++ (record { spot = spot; width = width; words = words } ∷ [])))
