@@ -19,8 +19,8 @@ use Rattle.ec_slave.specs.Managers.{reads_under, shown_under}
 use Rattle.ec_slave.specs.Physical.{Window, touches, byte_read, byte_at, ram_byte, may_read_byte}
 use Rattle.ec_slave.specs.Logical.{readable_bit, read_bit}
 use Rattle.ec_slave.specs.Application.{is_running, output_got}
-use Rattle.ec_slave.specs.Steps.{IsRunTo}
-use Rattle.ec_slave.specs.Showing.{IsShown, ReadsShowTheRun, Happening, Meets, Serves, Faults, Puts, Gets, Resets, after_one, after_all, ShowsWholeValues, SlavesShowWholeValues}
+use Rattle.ec_slave.specs.Steps.{IsRunTo, Happening, Meets, Serves, Faults, Puts, Gets, Resets, after_one, steps_at, is_of_ring, is_of_firmware, is_of_application}
+use Rattle.ec_slave.specs.Showing.{IsShown, as_read, ReadsShowTheRun, after_all, steps_behind, steps_since, ShowsWholeValues, SlavesShowWholeValues}
 use Rattle.ec_slave.proofs.Steps.{managers_go_by_runs, run-append}
 use Rattle.ec_slave.proofs.WholeInputs.{both_true}
 
@@ -37,27 +37,28 @@ or_rest true b f e = absurd (let g : true ≡ false = f in cc)
 granted : (m : SyncManager) (covered : Bool) → (covered && may_read m) ≡ true → shown_by m (RingRead covered) ≡ Some (shown m)
 granted m covered e = if_true _ _ _ e
 
-byte_shown : (s : SlaveState) (w : Window) (k n x : ℕ) → ram_start ≤ w.from + k → governor s.managers (w.from + k) ≡ Some n
-    → byte_read s false w k ≡ Some x
+byte_shown : (s : SlaveState) (joining : Bool) (w : Window) (k n x : ℕ) → ram_start ≤ w.from + k → governor s.managers (w.from + k) ≡ Some n
+    → byte_read s joining w k ≡ Some x
     → IsShown (manager_at s.managers n) (RingRead (covers (touches w) (manager_at s.managers n)))
-    (λ value. slice_index value (w.from + k - (manager_at s.managers n).settings.start)) x
+    (λ value. as_read joining (slice_index w.bytes k) (slice_index value (w.from + k - (manager_at s.managers n).settings.start))) x
 unfolding may_read_byte byte_at
-byte_shown s w k n x l g e =
+byte_shown s joining w k n x l g e =
     let a : ℕ = w.from + k in
     let ms = s.managers in
     let m = manager_at ms n in
     let low : nat_lt a ram_start ≡ false = le-ltb a ram_start l in
+    let read : ℕ = as_read joining (slice_index w.bytes k) (byte_at s a) in
     elim (cases_Bool (may_read_byte ms (touches w) a)) [
       | inl t ↦
-          let value : byte_at s a ≡ x = some_same _ _ (sym (if_true _ (Some (byte_at s a)) None t) ∙ e) in
+          let value : read ≡ x = some_same _ _ (sym (if_true _ (Some read) None t) ∙ e) in
           let rest : (nat_lt a ram_end && reads_under ms (touches w) a (governor ms a)) ≡ true = or_rest (nat_lt a ram_start) _ low t in
           let under : reads_under ms (touches w) a (Some n) ≡ true = subst (λ (o : Option ℕ). reads_under ms (touches w) a o ≡ true) g (both_true (nat_lt a ram_end) _ rest).1 in
           record {
             value = shown m;
             shown = granted m (covers (touches w) m) (both_true (in_first_buffer m a) _ under).1;
-            found = sym value ∙ (if_false _ _ _ low ∙ ap (λ (o : Option ℕ). ram_byte s.memory ms a o) g);
+            found = sym value ∙ ap (as_read joining (slice_index w.bytes k)) (if_false _ _ _ low ∙ ap (λ (o : Option ℕ). ram_byte s.memory ms a o) g);
           }
-      | inr f ↦ absurd (let none : None ≡ Some x = sym (if_false _ (Some (byte_at s a)) None f) ∙ e in cc)
+      | inr f ↦ absurd (let none : None ≡ Some x = sym (if_false _ (Some read) None f) ∙ e in cc)
     ]
 
 bit_shown : (s : SlaveState) (p : Place) (i q n : ℕ) (x : Bool) → target (readers (fmmus s)) (p.from + i) ≡ Some q → governor s.managers (q / 8) ≡ Some n
@@ -98,49 +99,38 @@ reads_show_the_run = record { byte = byte_shown; bit = bit_shown; got = got_show
 
 -- ---- whatever happens
 
--- a run leads there from a new manager
-record Led (m : SyncManager) : Type 0 where
-  operations : List Operation
-  leads : run no_manager operations ≡ m
+further : (h : Happening) (s : SlaveState) (kind : Operation → Bool) (most n : ℕ) (before : List Operation) → run no_manager before ≡ manager_at s.managers n
+    → IsRunTo kind most (steps_at s h n) (manager_at s.managers n) (manager_at (after_one s h).managers n)
+    → run no_manager (before ++ steps_at s h n) ≡ manager_at (after_one s h).managers n
+further h s kind most n before e r = run-append no_manager before (steps_at s h n) ∙ (ap (λ (x : SyncManager). run x (steps_at s h n)) e ∙ r.leads)
 
-new_led : Led no_manager
-new_led = record { operations = []; leads = refl }
-
-further : (kind : Operation → Bool) (most : ℕ) (m after : SyncManager) → Led m → IsRunTo kind most m after → Led after
-further kind most m after l r = record {
-  operations = l.operations ++ r.operations;
-  leads = run-append no_manager l.operations r.operations ∙ (ap (λ (x : SyncManager). run x r.operations) l.leads ∙ r.leads);
-}
-
-abbrev AreLed : SlaveState → Type 0
-AreLed s = (n : ℕ) → Led (manager_at s.managers n)
-
-on_led : (kind : SlaveKind) (identity : Identity) → AreLed (power_on kind identity)
+on_led : (kind : SlaveKind) (identity : Identity) (n : ℕ) → run no_manager [] ≡ manager_at (power_on kind identity).managers n
 unfolding power_on
-on_led kind identity zero = new_led
-on_led kind identity (suc zero) = new_led
-on_led kind identity (suc (suc zero)) = new_led
-on_led kind identity (suc (suc (suc zero))) = new_led
-on_led kind identity (suc (suc (suc (suc n)))) = new_led
+on_led kind identity zero = refl
+on_led kind identity (suc zero) = refl
+on_led kind identity (suc (suc zero)) = refl
+on_led kind identity (suc (suc (suc zero))) = refl
+on_led kind identity (suc (suc (suc (suc n)))) = refl
 
-one_led : (s : SlaveState) (h : Happening) → AreLed s → AreLed (after_one s h)
-one_led s (Meets d) l n = further _ _ _ _ (l n) (managers_go_by_runs.met s d n)
-one_led s Serves l n = further _ _ _ _ (l n) (managers_go_by_runs.served s n)
-one_led s Faults l n = further _ _ _ _ (l n) (managers_go_by_runs.faulted s n)
-one_led s (Puts place byte) l n = further _ _ _ _ (l n) (managers_go_by_runs.put s place byte n)
-one_led s (Gets place) l n = further _ _ _ _ (l n) (managers_go_by_runs.taken s place n)
-one_led s Resets l n = on_led s.kind s.identity n
+one_led : (s : SlaveState) (h : Happening) (n : ℕ) (before : List Operation) → run no_manager before ≡ manager_at s.managers n
+    → run no_manager (steps_behind before s h n) ≡ manager_at (after_one s h).managers n
+one_led s (Meets d) n before e = further (Meets d) s is_of_ring 1 n before e (managers_go_by_runs.met s d n)
+one_led s Serves n before e = further Serves s is_of_firmware 3 n before e (managers_go_by_runs.served s n)
+one_led s Faults n before e = further Faults s is_of_firmware 2 n before e (managers_go_by_runs.faulted s n)
+one_led s (Puts place byte) n before e = further (Puts place byte) s is_of_application 1 n before e (managers_go_by_runs.put s place byte n)
+one_led s (Gets place) n before e = further (Gets place) s is_of_application 1 n before e (managers_go_by_runs.taken s place n)
+one_led s Resets n before e = on_led s.kind s.identity n
 
-all_led : (s : SlaveState) (hs : List Happening) → AreLed s → AreLed (after_all s hs)
-all_led s [] l = l
-all_led s (h ∷ hs) l = all_led (after_one s h) hs (one_led s h l)
+all_led : (s : SlaveState) (hs : List Happening) (n : ℕ) (before : List Operation) → run no_manager before ≡ manager_at s.managers n
+    → run no_manager (steps_since before s hs n) ≡ manager_at (after_all s hs).managers n
+all_led s [] n before e = e
+all_led s (h ∷ hs) n before e = all_led (after_one s h) hs n (steps_behind before s h n) (one_led s h n before e)
 
-shows_whole : (m : SyncManager) → Led m → ShowsWholeValues m
-shows_whole m l = record {
-  operations = l.operations;
-  leads = l.leads;
-  whole = λ o value e. whole_values l.operations o value (ap (λ (x : SyncManager). shown_by x o) l.leads ∙ e);
+shows_whole : (operations : List Operation) (m : SyncManager) → run no_manager operations ≡ m → ShowsWholeValues operations m
+shows_whole operations m e = record {
+  leads = e;
+  whole = λ o value shown. whole_values operations o value (ap (λ (x : SyncManager). shown_by x o) e ∙ shown);
 }
 
 pub slaves_show_whole_values : SlavesShowWholeValues
-slaves_show_whole_values kind identity hs n = shows_whole _ (all_led (power_on kind identity) hs (on_led kind identity) n)
+slaves_show_whole_values kind identity hs n = shows_whole _ _ (all_led (power_on kind identity) hs n [] (on_led kind identity n))

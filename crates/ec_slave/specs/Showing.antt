@@ -1,11 +1,10 @@
 -- Who reads of a sync manager of a slave, on the ring or as its application, is shown what a run of that manager shows, and so
 -- only values that were published whole (`ec_sync`, specs/Runs.antt), whatever has happened to the slave since it was switched on.
-use Rattle.std.specs.Prelude.{ℕ, ◌+◌, ◌-◌, ◌*◌, ◌/◌, ◌≡◌, ◌≤◌, List, [], ◌∷◌, Bool, false, slice_index, Some, unwrap_or, Contains}
+use Rattle.std.specs.Prelude.{ℕ, ◌+◌, ◌-◌, ◌*◌, ◌/◌, ◌≡◌, ◌≤◌, List, [], ◌∷◌, ◌++◌, Bool, if◌then◌else◌, bit_or, slice_index, Some, Contains}
 use Rattle.ec_bits.specs.Bits.{bit}
 use Rattle.ec_device.specs.declared.slave_type.Identity.{Identity}
 use Rattle.ec_regs.specs.Memory.{ram_start}
 use Rattle.ec_device.specs.Types.{SlaveKind}
-use Rattle.ec_frame.specs.Datagram.{Datagram}
 use Rattle.ec_sync.specs.Buffer.{Got}
 use Rattle.ec_sync.specs.SyncManager.{SyncManager, no_manager}
 use Rattle.ec_sync.specs.Governing.{covers, governor}
@@ -15,10 +14,8 @@ use Rattle.ec_fmmu.specs.Applied.{Place, touched_by_reading}
 use Rattle.ec_slave.specs.State.{SlaveState, manager_at, fmmus, power_on}
 use Rattle.ec_slave.specs.Physical.{Window, touches, byte_read}
 use Rattle.ec_slave.specs.Logical.{read_bit}
-use Rattle.ec_slave.specs.Meeting.{slave_met}
-use Rattle.ec_slave.specs.Application.{input_put, output_got, output_taken}
-use Rattle.ec_slave.specs.Serving.{served}
-use Rattle.ec_slave.specs.Faulting.{faulted}
+use Rattle.ec_slave.specs.Application.{output_got}
+use Rattle.ec_slave.specs.Steps.{Happening, Resets, after_one, steps_at}
 
 -- ---- what a read brings
 
@@ -28,13 +25,17 @@ pub record IsShown {X : Type 0} (m : SyncManager) (o : Operation) (f : List ℕ 
   pub shown : shown_by m o ≡ Some value
   pub found : x ≡ f value
 
+-- a byte that is read, where a datagram brought another: a broadcast joins the two
+abbrev pub as_read : Bool → ℕ → ℕ → ℕ
+as_read joining brought found = if joining then bit_or brought found else found
+
 -- What is read of a manager is of the value that its run shows to that read: a byte that a physical datagram brings back, of
 -- the RAM that the manager governs; a bit that a logical one does; a byte that the application gets of the outputs.
 pub record ReadsShowTheRun : Type 0 where
-  pub byte : (s : SlaveState) (w : Window) (k n x : ℕ) → ram_start ≤ w.from + k → governor s.managers (w.from + k) ≡ Some n
-      → byte_read s false w k ≡ Some x
+  pub byte : (s : SlaveState) (joining : Bool) (w : Window) (k n x : ℕ) → ram_start ≤ w.from + k → governor s.managers (w.from + k) ≡ Some n
+      → byte_read s joining w k ≡ Some x
       → IsShown (manager_at s.managers n) (RingRead (covers (touches w) (manager_at s.managers n)))
-      (λ value. slice_index value (w.from + k - (manager_at s.managers n).settings.start)) x
+      (λ value. as_read joining (slice_index w.bytes k) (slice_index value (w.from + k - (manager_at s.managers n).settings.start))) x
   pub bit : (s : SlaveState) (p : Place) (i q n : ℕ) (x : Bool) → target (readers (fmmus s)) (p.from + i) ≡ Some q → governor s.managers (q / 8) ≡ Some n
       → read_bit s.memory s.managers (fmmus s) p i ≡ Some x
       → IsShown (manager_at s.managers n) (RingRead (covers (touched_by_reading (fmmus s) p) (manager_at s.managers n)))
@@ -44,38 +45,29 @@ pub record ReadsShowTheRun : Type 0 where
 
 -- ---- whatever happens
 
--- A datagram meets the slave; its firmware makes a step; it has a fault; its application puts a byte of the inputs, or gets one
--- of the outputs; it is switched off and on.
-pub data Happening : Type 0 where
-  Meets : Datagram → Happening
-  Serves : Happening
-  Faults : Happening
-  Puts : (place byte : ℕ) → Happening
-  Gets : (place : ℕ) → Happening
-  Resets : Happening
-
-abbrev pub after_one : SlaveState → Happening → SlaveState
-after_one s (Meets d) = slave_met s d
-after_one s Serves = served s
-after_one s Faults = faulted s
-after_one s (Puts place byte) = unwrap_or (input_put s place byte) s
-after_one s (Gets place) = output_taken s (output_got s place)
-after_one s Resets = power_on s.kind s.identity
-
 abbrev pub after_all : SlaveState → List Happening → SlaveState
 after_all s [] = s
 after_all s (h ∷ hs) = after_all (after_one s h) hs
 
--- A manager stands where a run from a new one leads; and what it shows to any reader was published as a whole in that run,
+-- The steps that led to manager n since the slave was switched on last; `before` led to it so far.
+abbrev pub steps_behind : List Operation → SlaveState → Happening → ℕ → List Operation
+steps_behind before s Resets n = []
+steps_behind before s h n = before ++ steps_at s h n
+
+abbrev pub steps_since : List Operation → SlaveState → List Happening → ℕ → List Operation
+steps_since before s [] n = before
+steps_since before s (h ∷ hs) n = steps_since (steps_behind before s h n) (after_one s h) hs n
+
+-- These steps lead from a new manager to this one; and what it shows to any reader was published as a whole by one of them,
 -- or is what a new manager holds.
-pub record ShowsWholeValues (m : SyncManager) : Type 0 where
-  pub operations : List Operation
+pub record ShowsWholeValues (operations : List Operation) (m : SyncManager) : Type 0 where
   pub leads : run no_manager operations ≡ m
   pub whole : (o : Operation) (value : List ℕ) → shown_by m o ≡ Some value
       → Contains (no_manager.buffer.published ∷ history no_manager operations) value
 
--- So it is with each manager of a slave that was switched on, whatever happened to it since.
+-- So it is with each manager of a slave that was switched on, whatever happened to it since: the steps are those that datagrams,
+-- firmware, faults and application did to it.
 abbrev pub SlavesShowWholeValues : Type 0
 SlavesShowWholeValues =
     (kind : SlaveKind) (identity : Identity) (happenings : List Happening) (n : ℕ)
-    → ShowsWholeValues (manager_at (after_all (power_on kind identity) happenings).managers n)
+    → ShowsWholeValues (steps_since [] (power_on kind identity) happenings n) (manager_at (after_all (power_on kind identity) happenings).managers n)

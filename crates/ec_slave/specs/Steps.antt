@@ -1,15 +1,26 @@
 -- The sync managers of a slave go by the steps of a manager's run, of which the laws over whole runs speak (`ec_sync`,
--- specs/Runs.antt): nothing that happens to a slave does anything else to one.
-use Rattle.std.specs.Prelude.{ℕ, ◌≡◌, ◌≤◌, List, length, Bool, true, false, if◌then◌else◌, unwrap_or}
+-- specs/Runs.antt): nothing that happens to a slave does anything else to one. Which steps these are is said here.
+use Rattle.std.specs.Prelude.{ℕ, zero, suc, ◌+◌, ◌==◌, ◌&&◌, not, ◌≡◌, ◌≤◌, List, [], ◌∷◌, ◌++◌, length, Bool, true, false, if◌then◌else◌, Option, Some, None, is_some, unwrap_or}
 use Rattle.std.specs.List.{All}
-use Rattle.ec_frame.specs.Datagram.{Datagram}
-use Rattle.ec_sync.specs.SyncManager.{SyncManager}
+use Rattle.ec_al.specs.Al.{decided, is_operational}
+use Rattle.ec_al.specs.declared.state.State.{State}
+use Rattle.ec_coe.specs.declared.message.Message.{Message}
+use Rattle.ec_frame.specs.declared.command.Command.{Command}
+use Rattle.ec_frame.specs.declared.command.Command.TheVariants.{Nop, Aprd, Apwr, Aprw, Fprd, Fpwr, Fprw, Brd, Bwr, Brw, Lrd, Lwr, Lrw, Armw, Frmw}
+use Rattle.ec_frame.specs.Datagram.{Datagram, adp_of}
+use Rattle.ec_fmmu.specs.Applied.{touched_by_reading, touched_by_writing}
+use Rattle.ec_sync.specs.SyncManager.{SyncManager, message_taken}
 use Rattle.ec_sync.specs.Runs.{Operation, Configure, Lock, Empty, PublishZeros, RingWrite, RingRead, AppPut, AppGet, MessageTake, MessagePut, step, run}
-use Rattle.ec_slave.specs.State.{SlaveState, manager_at}
+use Rattle.ec_slave.specs.Roles.{role_of, is_reading, is_writing}
+use Rattle.ec_slave.specs.State.{SlaveState, manager_at, fmmus, power_on, station_of}
 use Rattle.ec_slave.specs.Managers.{gets_at, is_written_by, manager_after}
-use Rattle.ec_slave.specs.Meeting.{slave_met}
-use Rattle.ec_slave.specs.Application.{input_put, output_got, output_taken}
-use Rattle.ec_slave.specs.Serving.{served}
+use Rattle.ec_slave.specs.Physical.{touches, is_configured, settings_written}
+use Rattle.ec_slave.specs.Logical.{place_of}
+use Rattle.ec_slave.specs.AgainstAll.{governs_among, value_among, bits_among}
+use Rattle.ec_slave.specs.Meeting.{slave_met, window_of}
+use Rattle.ec_slave.specs.Application.{input_put, output_got, output_taken, with_manager}
+use Rattle.ec_slave.specs.Checking.{checks_of, control_word}
+use Rattle.ec_slave.specs.Serving.{served, is_init, is_preop, is_safeop, request_decided, read_finished, is_served, request_in, refusal_in, bytes_to}
 use Rattle.ec_slave.specs.Faulting.{faulted}
 
 -- One manager after an access is as after one step: what counts as reaching its first and its last byte is that the
@@ -24,6 +35,123 @@ pub record AccessesAreSteps : Type 0 where
       → manager_after true true read_touches write_touches own value m
       ≡ step m (if is_written_by write_touches own m then RingWrite true (value m.settings.start m.settings.length)
       else RingRead (gets_at read_touches own m))
+
+-- ---- what happens to a slave
+
+-- A datagram meets it; its firmware makes a step; it has a fault; its application puts a byte of the inputs, or gets one
+-- of the outputs; it is switched off and on.
+pub data Happening : Type 0 where
+  Meets : Datagram → Happening
+  Serves : Happening
+  Faults : Happening
+  Puts : (place byte : ℕ) → Happening
+  Gets : (place : ℕ) → Happening
+  Resets : Happening
+
+abbrev pub after_one : SlaveState → Happening → SlaveState
+after_one s (Meets d) = slave_met s d
+after_one s Serves = served s
+after_one s Faults = faulted s
+after_one s (Puts place byte) = unwrap_or (input_put s place byte) s
+after_one s (Gets place) = output_taken s (output_got s place)
+after_one s Resets = power_on s.kind s.identity
+
+-- ---- the steps that it does to manager n
+
+-- what f says of manager n, if there is one; the first of the list has number k
+abbrev pub said_from : ℕ → (ℕ → SyncManager → List Operation) → List SyncManager → ℕ → List Operation
+said_from k f [] n = []
+said_from k f (m ∷ ms) zero = f k m
+said_from k f (m ∷ ms) (suc n) = said_from (k + 1) f ms n
+
+-- the same steps to every manager; to manager k alone
+abbrev pub to_each : List Operation → List SyncManager → ℕ → List Operation
+to_each ops ms n = said_from 0 (λ j m. ops) ms n
+
+abbrev pub to_one : ℕ → List Operation → List SyncManager → ℕ → List Operation
+to_one k ops ms n = said_from 0 (λ j m. if j == k then ops else []) ms n
+
+-- An access that writes brings a value to the manager, and counts where it gets at the first byte and the last; one that reads
+-- likewise. One that does both reads where it doesn't write.
+abbrev pub access_steps : Bool → Bool → (ℕ → Bool) → (ℕ → Bool) → (ℕ → Bool) → (ℕ → ℕ → List ℕ) → SyncManager → List Operation
+access_steps true true read_touches write_touches own value m =
+    (if is_written_by write_touches own m then RingWrite true (value m.settings.start m.settings.length) else RingRead (gets_at read_touches own m)) ∷ []
+access_steps true false read_touches write_touches own value m = RingRead (gets_at read_touches own m) ∷ []
+access_steps false true read_touches write_touches own value m = RingWrite (gets_at write_touches own m) (value m.settings.start m.settings.length) ∷ []
+access_steps false false read_touches write_touches own value m = []
+
+-- A physical datagram sets a manager whose registers it writes, and accesses any other by the bytes that it touches. The value
+-- is what it brings to the bytes that the manager governs.
+abbrev pub physical_steps : SlaveState → Datagram → ℕ → List Operation
+physical_steps s d n =
+    let role = role_of d.command (adp_of d) (station_of s) in
+    let w = window_of d in
+    said_from 0 (λ k m. if is_writing role && is_configured w k then Configure (settings_written w k m) ∷ []
+    else access_steps (is_reading role) (is_writing role) (touches w) (touches w) (governs_among s.managers k) (value_among s.managers w k) m) s.managers n
+
+-- a logical one likewise, by the bits that FMMUs lead it to
+abbrev pub logical_steps : SlaveState → Bool → Bool → Datagram → ℕ → List Operation
+logical_steps s reading writing d n =
+    said_from 0 (λ k m. access_steps reading writing (touched_by_reading (fmmus s) (place_of d)) (touched_by_writing (fmmus s) (place_of d))
+    (governs_among s.managers k) (bits_among s.managers (fmmus s) (place_of d) d.data_bytes k) m) s.managers n
+
+abbrev pub steps_met : Command → SlaveState → Datagram → ℕ → List Operation
+steps_met Nop s d n = []
+steps_met Aprd s d n = physical_steps s d n
+steps_met Apwr s d n = physical_steps s d n
+steps_met Aprw s d n = physical_steps s d n
+steps_met Fprd s d n = physical_steps s d n
+steps_met Fpwr s d n = physical_steps s d n
+steps_met Fprw s d n = physical_steps s d n
+steps_met Brd s d n = physical_steps s d n
+steps_met Bwr s d n = physical_steps s d n
+steps_met Brw s d n = physical_steps s d n
+steps_met Lrd s d n = logical_steps s true false d n
+steps_met Lwr s d n = logical_steps s false true d n
+steps_met Lrw s d n = if s.kind.lrw then logical_steps s true true d n else []
+steps_met Armw s d n = physical_steps s d n
+steps_met Frmw s d n = physical_steps s d n
+
+-- where a state is left for another: INIT unlocks and empties all managers, SAFEOP behind PREOP publishes zeros in manager 3
+abbrev pub steps_entered : State → State → List SyncManager → ℕ → List Operation
+steps_entered old new ms n =
+    if is_init new && not (is_init old) then to_each (Lock false ∷ Empty ∷ []) ms n
+    else (if is_safeop new && is_preop old then to_one 3 (PublishZeros ∷ []) ms n else [])
+
+abbrev pub steps_decided : SlaveState → ℕ → List Operation
+steps_decided s n =
+    if s.al.requested then steps_entered s.al.state (decided s.al (control_word s) (checks_of s)).state s.managers n else []
+
+-- the bytes that a message is answered by, or refused
+abbrev pub bytes_back : SlaveState → Option (List ℕ) → Option Message → Option (List ℕ)
+bytes_back s refusal None = refusal
+bytes_back s refusal (Some r) = Some (bytes_to s r)
+
+abbrev pub put_back : Option (List ℕ) → List Operation
+put_back None = []
+put_back (Some bytes) = MessagePut bytes ∷ []
+
+-- a message is taken out of manager 0, and what answers it is put into manager 1
+abbrev pub message_steps : Option (List ℕ) → ℕ → SyncManager → List Operation
+message_steps back n m = if n == 0 then MessageTake ∷ [] else (if n == 1 then put_back back else [])
+
+abbrev pub steps_answered : SlaveState → ℕ → List Operation
+steps_answered s n =
+    if is_served s
+    then said_from 0 (message_steps (bytes_back (with_manager s 0 (message_taken (manager_at s.managers 0))) (refusal_in s) (request_in s))) s.managers n
+    else []
+
+-- A fault locks and empties the outputs; a byte that the application may put or get is put or got. Who is switched off and on
+-- has new managers.
+abbrev pub steps_at : SlaveState → Happening → ℕ → List Operation
+steps_at s (Meets d) n = steps_met d.command s d n
+steps_at s Serves n = steps_decided s n ++ steps_answered (read_finished (request_decided s)) n
+steps_at s Faults n = if is_operational s.al.state then to_one 2 (Lock true ∷ Empty ∷ []) s.managers n else []
+steps_at s (Puts place byte) n = if is_some (input_put s place byte) then to_one 3 (AppPut place byte ∷ []) s.managers n else []
+steps_at s (Gets place) n = if is_some (output_got s place) then to_one 2 (AppGet place ∷ []) s.managers n else []
+steps_at s Resets n = []
+
+-- ---- who acts
 
 -- by who acts: a datagram, the slave's firmware, its application
 abbrev pub is_of_ring : Operation → Bool
@@ -45,22 +173,21 @@ is_of_application (AppPut i x) = true
 is_of_application (AppGet i) = true
 is_of_application o = false
 
--- a run of at most so many steps, all of a kind, leads from one manager to the other
-pub record IsRunTo (kind : Operation → Bool) (most : ℕ) (m after : SyncManager) : Type 0 where
-  pub operations : List Operation
+-- these steps, at most so many and all of a kind, lead from one manager to the other
+pub record IsRunTo (kind : Operation → Bool) (most : ℕ) (operations : List Operation) (m after : SyncManager) : Type 0 where
   pub of_kind : All (λ o. kind o ≡ true) operations
   pub few : length operations ≤ most
   pub leads : run m operations ≡ after
 
 -- and from each manager of a slave to the one of that number
-abbrev pub AreRunTo : (Operation → Bool) → ℕ → SlaveState → SlaveState → Type 0
-AreRunTo kind most s t = (n : ℕ) → IsRunTo kind most (manager_at s.managers n) (manager_at t.managers n)
+abbrev pub AreRunTo : (Operation → Bool) → ℕ → SlaveState → Happening → Type 0
+AreRunTo kind most s h = (n : ℕ) → IsRunTo kind most (steps_at s h n) (manager_at s.managers n) (manager_at (after_one s h).managers n)
 
 -- A datagram does one step to a manager, or none; a firmware step does three: a state is entered, and a message taken or
 -- put; a fault does two; the application does one with each byte.
 pub record ManagersGoByRuns : Type 0 where
-  pub met : (s : SlaveState) (d : Datagram) → AreRunTo is_of_ring 1 s (slave_met s d)
-  pub served : (s : SlaveState) → AreRunTo is_of_firmware 3 s (served s)
-  pub faulted : (s : SlaveState) → AreRunTo is_of_firmware 2 s (faulted s)
-  pub put : (s : SlaveState) (place byte : ℕ) → AreRunTo is_of_application 1 s (unwrap_or (input_put s place byte) s)
-  pub taken : (s : SlaveState) (place : ℕ) → AreRunTo is_of_application 1 s (output_taken s (output_got s place))
+  pub met : (s : SlaveState) (d : Datagram) → AreRunTo is_of_ring 1 s (Meets d)
+  pub served : (s : SlaveState) → AreRunTo is_of_firmware 3 s Serves
+  pub faulted : (s : SlaveState) → AreRunTo is_of_firmware 2 s Faults
+  pub put : (s : SlaveState) (place byte : ℕ) → AreRunTo is_of_application 1 s (Puts place byte)
+  pub taken : (s : SlaveState) (place : ℕ) → AreRunTo is_of_application 1 s (Gets place)

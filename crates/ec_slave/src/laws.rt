@@ -106,8 +106,8 @@ pub fn accesses_are_steps()
     ensures { AccessesAreSteps }
 {}
 
-/// Whatever datagrams, firmware and application do, each manager of a slave goes by a run of a few steps that are theirs:
-/// what is proved of all runs holds of it.
+/// Whatever datagrams, firmware and application do, each manager of a slave goes by a few steps that are theirs, and it is said
+/// which: what is proved of all runs holds of it.
 #[tactic(auto, using(crate::proofs::Steps::managers_go_by_runs))]
 pub fn managers_go_by_runs()
     ensures { ManagersGoByRuns }
@@ -120,7 +120,7 @@ pub fn reads_show_the_run()
 {}
 
 /// Whatever happened to a slave since it was switched on, each of its managers shows whoever reads only values that were
-/// published whole.
+/// published whole, by a step that one of these happenings did to it.
 pub fn slaves_show_whole_values()
     ensures { SlavesShowWholeValues }
 {}
