@@ -23,6 +23,8 @@ pub mod Keeping
 pub mod Devices
 -- devices stay devices, one and a ring of them
 pub mod Genuine
+-- the slaves of a table, as they are switched on, are devices of their types
+pub mod OfTable
 -- the FMMUs of a slave that holds a plan's registers are the plan's
 pub mod Decodes
 -- ---- One frame of a start-up at one slave

@@ -61,6 +61,6 @@ pub record IsTrue (kind : SlaveKind) (s : SlaveState) : Type 0 where
 pub record AreTrue (w : Starting) : Type 0 where
   pub each : (i : ℕ) → i < length w.start.plan → IsTrue (plan_at w.start.plan i).kind (slave_of w.slaves i)
 
--- After any run of a new world, disturbed as it may be, its slaves are devices: from there too a start-up comes up.
+-- After any run of a new segment (`Starting`), disturbed as it may be, its slaves are devices: from there too a start-up comes up.
 abbrev pub AgainLaw : Type 0
 AgainLaw = (ps : List SlavePlan) → ArePlans ps → (w v : Starting) → IsNew ps w → AreTrue w → Runs w v → AreDevices ps v.slaves

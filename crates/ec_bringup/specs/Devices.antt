@@ -1,5 +1,5 @@
 -- Devices stay devices, whatever happens to them: so a start-up can be begun at any time over slaves that were devices once.
-use Rattle.std.specs.Prelude.{ℕ, ◌<◌, ◌≤◌, ◌≡◌, List, length, set, unwrap_or}
+use Rattle.std.specs.Prelude.{ℕ, ◌<◌, ◌≤◌, ◌≡◌, List, length, set, None, unwrap_or}
 use Rattle.ec_device.specs.declared.slave_type.Device.{Device}
 use Rattle.ec_device.specs.declared.slave_type.Identity.{Identity}
 use Rattle.ec_device.specs.Types.{SlaveKind}
@@ -10,7 +10,12 @@ use Rattle.ec_slave.specs.Application.{input_put, inputs_put, output_got, output
 use Rattle.ec_slave.specs.Serving.{served}
 use Rattle.ec_slave.specs.Faulting.{faulted}
 use Rattle.ec_ring.specs.Rings.{passes_ring}
+use Rattle.ec_table.specs.Contents.{Contents}
+use Rattle.ec_table.specs.Sound as table
+use Rattle.ec_link.specs.Faults.{compile_fault}
+use Rattle.ec_link.specs.Plan.{plan_of}
 use Rattle.ec_link.specs.declared.settings.SlavePlan.{SlavePlan}
+use Rattle.ec_bringup.specs.SwitchedOn.{AreSlavesOf}
 use Rattle.ec_bringup.specs.Standing.{IsOfKind}
 use Rattle.ec_bringup.specs.Undisturbed.{plan_at, slave_of, AreDevices}
 use Rattle.ec_bringup.specs.ComesUp.{IsTrue}
@@ -67,3 +72,7 @@ pub record StayGenuine (ps : List SlavePlan) (ss : List SlaveState) : Type 0 whe
 
 abbrev pub RingLaw : Type 0
 RingLaw = (ps : List SlavePlan) (ss : List SlaveState) → AreGenuine ps ss → StayGenuine ps ss
+
+-- The slaves of a table that `compile` accepts, as they are switched on, are devices of their types.
+abbrev pub SlavesOfLaw : Type 0
+SlavesOfLaw = (t : Contents) → table.IsSound t → compile_fault t ≡ None → (ss : List SlaveState) → AreSlavesOf t ss → AreGenuine (plan_of t).slaves ss

@@ -130,14 +130,14 @@ pub data Shown (i : ℕ) (p : SlavePlan) (trouble : Bool) (s : SlaveState) : Typ
   Faulted : trouble ≡ true → HasFault i p s → Shown i p trouble s
   WasReset : trouble ≡ true → s ≡ power_on s.kind s.identity → Shown i p trouble s
 
--- a new world
+-- a new segment (`Starting`)
 pub record IsNew (ps : List SlavePlan) (w : Starting) : Type 0 where
   pub plan_is : w.start.plan ≡ ps
   pub start : w ≡ with_begun w
   pub slaves : AreSlaves w
 
--- After every run of a new world that makes it ready, each slave works as the plan says, or it had a fault or a reset since the
--- first frame of that start-up was sent, and then holds what a fault leaves, or is as the power comes on.
+-- After every run of a new segment (`Starting`) that makes it ready, each slave works as the plan says, or it had a fault or a
+-- reset since the first frame of that start-up was sent, and then holds what a fault leaves, or is as the power comes on.
 abbrev pub StartUpLaw : Type 0
 StartUpLaw =
     (ps : List SlavePlan) → AreStartable ps → (w v : Starting) → IsNew ps w → Runs w v → v.start.phase ≡ Ready → (i : ℕ) → i < length ps

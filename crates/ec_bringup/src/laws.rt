@@ -3,12 +3,12 @@
 ghost use Rattle.ec_bringup.specs.Keeping.{StandingLaw, GoneLaw, ForOthersLaw, FrameLaw};
 ghost use Rattle.ec_bringup.specs.Runs.{BeginningLaw, StartUpLaw};
 ghost use Rattle.ec_bringup.specs.Undisturbed.{RoundLaw};
-ghost use Rattle.ec_bringup.specs.Devices.{DevicesLaw, RingLaw, SwitchedOnLaw};
+ghost use Rattle.ec_bringup.specs.Devices.{DevicesLaw, RingLaw, SlavesOfLaw, SwitchedOnLaw};
 ghost use Rattle.ec_bringup.specs.Applied.{AppliedUpLaw};
 ghost use Rattle.ec_bringup.specs.ComesUp.{AgainLaw, ComesUpLaw, CompiledPlansLaw, CompiledUpLaw};
 
-/// After every run of a new world that makes it ready, each slave works as the plan says, or it had a fault or a reset
-/// since the first frame of that start-up was sent.
+/// After every run of a new segment (`Starting`) that makes it ready, each slave works as the plan says, or it had a fault or a
+/// reset since the first frame of that start-up was sent.
 pub fn start_up()
     ensures { StartUpLaw }
 {}
@@ -30,7 +30,7 @@ pub fn comes_up_beside_applications()
     ensures { AppliedUpLaw }
 {}
 
-/// After any run of a new world its slaves are devices of their types: from there too a start-up comes up.
+/// After any run of a new segment (`Starting`) its slaves are devices of their types: from there too a start-up comes up.
 pub fn again()
     ensures { AgainLaw }
 {}
@@ -71,10 +71,11 @@ pub fn frame()
     ensures { FrameLaw }
 {}
 
-/// A slave that was just switched on, with the identity of a device of its type, is a genuine device of the type.
-#[tactic(auto, using(crate::proofs::Genuine::switched_on))]
+/// A slave that was just switched on, with the identity of a device of its type, is a genuine device of the type. So the slaves of
+/// a table that `compile` accepts, as they are switched on, are genuine devices of their types.
 pub fn switched_on_slaves_are_devices()
-    ensures { SwitchedOnLaw }
+    ensures one { SwitchedOnLaw }
+    ensures of_table { SlavesOfLaw }
 {}
 
 /// It stays one, whatever happens to it: at any frame, a firmware step, what its application writes or reads, a fault, a reset.
