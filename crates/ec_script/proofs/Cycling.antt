@@ -1,10 +1,11 @@
 -- A `cycle` that nothing disturbs.
 use Rattle.std.proofs.Common.{◌≡◌, ◌∙◌, ℕ, zero, suc, ◌+◌, ◌<◌, ◌≤◌, max, List, [], ◌∷◌, ◌++◌, length, get_or, replicate, Bool, true, false, Option, Some, None, is_none, if◌then◌else◌, refl, sym, ap, subst, arith}
-use Rattle.std.specs.List.{list_all}
+use Rattle.std.specs.List.{list_all, slice_get}
 use Rattle.std.specs.Prelude.{codes}
 use Rattle.std.specs.Fmt.{decimal}
 use Rattle.std.proofs.lemmas.Bool.{eq-eqb, and_from}
 use Rattle.std.proofs.lemmas.List.{length-map}
+use Rattle.std.proofs.lemmas.Option.{get_or_from_slice_get}
 use Rattle.ec_table.specs.declared.rows.Version.{Version}
 use Rattle.ec_table.specs.declared.rows.Version.TheVariants as version
 use Rattle.ec_text.specs.PlanText.{lines_from}
@@ -200,11 +201,6 @@ all_true : (xs : List Bool) → ((i : ℕ) → i < length xs → get_or xs i tru
 all_true [] h = refl
 all_true (x ∷ xs) h = and_from x (list_all (λ (b : Bool). b) xs) (h 0 (omega arith)) (all_true xs (λ i l. h (suc i) (omega (arith, l))))
 
-other_default : (xs : List Bool) (i : ℕ) → i < length xs → get_or xs i true ≡ true → get_or xs i false ≡ true
-other_default [] i l h = absurd (omega (arith, l))
-other_default (x ∷ xs) zero l h = h
-other_default (x ∷ xs) (suc i) l h = other_default xs i (omega (arith, l)) h
-
 lines_taken : (taken : List Bool) (j : ℕ) (units : List ℕ) → ((i : ℕ) → i < length units → get_or taken (j + i) false ≡ true)
     → lines_from (unit_at taken) j units ≡ lines_from taken_unit j units
 lines_taken taken j [] h = refl
@@ -214,9 +210,9 @@ lines_taken taken j (u ∷ us) h =
     ap (λ (b : Bool). (codes " " ++ decimal u ++ taken_text b) ++ lines_from (unit_at taken) (j + 1) us) here
     ∙ ap (λ (xs : List ℕ). (codes " " ++ decimal u ++ codes " taken") ++ xs) rest
 
-units_are : (v : Version) (r : ReportState) → length r.taken ≡ length r.units → ((i : ℕ) → i < length r.units → get_or r.taken i true ≡ true) → units_text v r ≡ taken_units v r.units
-units_are version.One r e h = ap (λ (b : Bool). taken_text b) (all_true r.taken (λ i l. h i (omega (arith, l, e))))
-units_are version.Two r e h = lines_taken r.taken 0 r.units (λ i l. (let z : 0 + i ≡ i = omega arith in ap (λ (k : ℕ). get_or r.taken k false) z) ∙ other_default r.taken i (omega (arith, l, e)) (h i l))
+units_are : (v : Version) (r : ReportState) → length r.taken ≡ length r.units → ((i : ℕ) → i < length r.units → slice_get r.taken i ≡ Some true) → units_text v r ≡ taken_units v r.units
+units_are version.One r e h = ap (λ (b : Bool). taken_text b) (all_true r.taken (λ i l. get_or_from_slice_get r.taken i true true (h i (omega (arith, l, e)))))
+units_are version.Two r e h = lines_taken r.taken 0 r.units (λ i l. (let z : 0 + i ≡ i = omega arith in ap (λ (k : ℕ). get_or r.taken k false) z) ∙ get_or_from_slice_get r.taken i true false (h i l))
 
 some_same : (x y : ReportState) → Some x ≡ Some y → x ≡ y
 some_same x y e = cc
@@ -230,7 +226,7 @@ taken_text_law t ids old new word rest h r e =
     let told : r ≡ x.report = some_same r x.report (sym e ∙ x.reported) in
     units_are t.version r
     (ap (λ (y : ReportState). length y.taken) own ∙ (length-map c.plan.units (unit_taken c.plan c.kept) ∙ ap (λ (y : ReportState). length y.units) (sym own)))
-    (λ i l. subst (λ (y : ReportState). get_or y.taken i true ≡ true) (sym told)
+    (λ i l. subst (λ (y : ReportState). slice_get y.taken i ≡ Some true) (sym told)
     (x.taken (get_or x.report.units i 0) i (subst (λ (y : ReportState). i < length y.units) told l) refl))
 
 -- a new world that was brought up is at rest

@@ -1,6 +1,7 @@
 -- The slaves of a new world are devices of their types.
-use Rattle.ec_world.proofs.Words.{ℕ, zero, suc, ◌<◌, ◌≡◌, refl, sym, ◌∙◌, ap, arith, List, [], ◌∷◌, length, get_or, None, ◌+◌, ◌⊎◌, true, false, if◌then◌else◌, Option, subst, inl, inr, ◌++◌, replicate, Identity, SlavePlan, plan_of, PlanState, plan_sound, IsOfType, IsGenuine, AreGenuine, plan_at, bringup_slave_of as slave_of, BringupRising as Rising, turns, genuine-on, stay, no_identity, bringup_switched_on as switched_on, Contents, compile_fault, AreOfTypes, IsTurn, AreTurns, BringUp, IsToStart, IsBroughtUp, NewLaw, rising_of, append-nil, length-append, SlaveState, plan_usable, MasterState, readied, cycle_limit, StartError, Phase, Idle, Ready, Failed, script, StartState, begun, IsUpAndWorks, AreStartable, are-plans, compiled-up, Event, WorldState, Flight, flight_at, phase_ready, phase_awaits, is_up, awaits, resumed, ready_with, IsRun, IsNew, new_world, all_none, none_free}
+use Rattle.ec_world.proofs.Words.{ℕ, zero, suc, ◌<◌, ◌≡◌, refl, sym, ◌∙◌, ap, arith, List, [], ◌∷◌, length, get_or, None, ◌+◌, ◌⊎◌, true, false, if◌then◌else◌, Option, Some, option_map, option_and_then, unwrap_or, slice_get, subst, inl, inr, ◌++◌, replicate, Identity, SlaveKind, plain_kind, device_identity, SlaveRow, TypeRow, table_kind_at as kind_at, identity_of, AreIdentities, slave_at, SlavePlan, plan_of, PlanState, plan_sound, IsOfType, IsGenuine, AreGenuine, plan_at, bringup_slave_of as slave_of, BringupRising as Rising, turns, genuine-on, stay, no_identity, bringup_switched_on as switched_on, Contents, compile_fault, AreOfTypes, IsTurn, AreTurns, BringUp, IsToStart, IsBroughtUp, NewLaw, MachineLaw, rising_of, append-nil, length-append, SlaveState, plan_usable, MasterState, readied, cycle_limit, StartError, Phase, Idle, Ready, Failed, script, StartState, begun, IsUpAndWorks, AreStartable, are-plans, compiled-up, Event, WorldState, Flight, flight_at, phase_ready, phase_awaits, is_up, awaits, resumed, ready_with, IsRun, IsNew, IsOfMachine, new_world, all_none, none_free, none_some, some_same}
 use Rattle.ec_table.specs.Sound as table
+use Rattle.ec_link.specs.Sound as link
 use Rattle.ec_world.proofs.ScriptLengths.{script_fits}
 use Rattle.ec_world.proofs.Sized.{run_same}
 use Rattle.ec_world.proofs.Whole.{StillRises, still_rises, new-rises, new-low, on-count}
@@ -248,3 +249,34 @@ new_law t identities w n d = record {
   begins = inl (ap (λ (x : WorldState). x.start) n.is ∙ ap (λ (k : ℕ). begun (plan_of t).slaves k) (sym (ap (λ (x : WorldState). x.start.next) n.is)));
   numbers = let fits = script_fits t n.sound n.accepted in let z : w.start.next ≡ 0 = ap (λ (x : WorldState). x.start.next) n.is in omega (arith, fits, z);
 }
+
+-- ---- a world of a machine
+
+-- what the slave of a row shows
+abbrev row_shows : Contents → Option SlaveRow → Option Identity
+row_shows t o = option_and_then (λ (r : SlaveRow). option_map (λ (y : TypeRow). device_identity y.device r.serial) (slice_get t.types r.type_place)) o
+
+by_type : (t : Contents) (i serial : ℕ) (o : Option TypeRow) (k : SlaveKind) (x : Identity) → k ≡ unwrap_or (option_map (kind_at t i) o) plain_kind
+    → option_map (λ (y : TypeRow). device_identity y.device serial) o ≡ Some x → IsOfType k.device x
+by_type t i serial None k x kind shown = absurd (none_some x shown)
+by_type t i serial (Some y) k x kind shown =
+    let is : device_identity y.device serial ≡ x = some_same (device_identity y.device serial) x shown in
+    record {
+      vendor = sym (ap (λ (z : Identity). z.vendor) is) ∙ sym (ap (λ (z : SlaveKind). z.device.vendor) kind);
+      product = sym (ap (λ (z : Identity). z.product) is) ∙ sym (ap (λ (z : SlaveKind). z.device.product) kind);
+      revision = sym (ap (λ (z : Identity). z.revision) is) ∙ sym (ap (λ (z : SlaveKind). z.device.revision) kind);
+    }
+
+by_row : (t : Contents) → link.IsSound t (plan_of t) → (i : ℕ) (x : Identity) → identity_of t i ≡ Some x → (o : Option SlaveRow) → slice_get t.slaves i ≡ o → IsOfType (slave_at (plan_of t) i).kind.device x
+by_row t sound i x shown None e = absurd (none_some x (sym (ap (row_shows t) e) ∙ shown))
+by_row t sound i x shown (Some r) e =
+    by_type t i r.serial (slice_get t.types r.type_place) (slave_at (plan_of t) i).kind x
+    ((sound.each i r e).kind ∙ ap (λ (o : Option SlaveRow). unwrap_or (option_map (kind_at t i) (option_and_then (λ (q : SlaveRow). slice_get t.types q.type_place) o)) plain_kind) e)
+    (sym (ap (row_shows t) e) ∙ shown)
+
+-- the identities that a table says are those of devices of its types
+are_of_types : (t : Contents) (identities : List Identity) → table.IsSound t → compile_fault t ≡ None → AreIdentities t identities → AreOfTypes t identities
+are_of_types t is sound free shown i l = by_row t (plan_sound t sound free) i (get_or is i no_identity) (shown.each i l) (slice_get t.slaves i) refl
+
+pub machine_law : MachineLaw
+machine_law t w m = new_law t m.identities w m.new (are_of_types t m.identities m.new.sound m.new.accepted m.shown)

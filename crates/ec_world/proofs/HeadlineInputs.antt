@@ -1,5 +1,5 @@
 -- The headline of a close, of what a world's calls show.
-use Rattle.ec_world.proofs.Words.{ℕ, zero, suc, ◌+◌, ◌*◌, ◌<◌, ◌≤◌, ◌≡◌, ◌≢◌, ◌==◌, ◌||◌, Bool, true, false, Option, Some, None, refl, sym, ◌∙◌, ap, subst, inl, inr, arith, List, [], ◌∷◌, ◌++◌, length, map, get_or, if◌then◌else◌, option_map, slice_get, option_map_or, AllByRecursion, bit_at, cases_Bool, cases_lt, cases_eq, and_from, or_left, or_right, or_cases, lt-ltb, ltb-true, eq-eqb, true≢false, append_assoc, list_get_or-map as get_or-map, length-replicate, bit_at_above, bit, bytes_of_bits, if_true, if_false, bits_number-lt, bit_at-bits_number, Identity, Buffer, SlaveState, inputs_of, Direction, Out, In, SlaveRow, Contents, Variable, Share, SlavePlan, has_outs, has_ins, predicted, unit_of_part as unit_of_plain, IsLinked, is_out, image_from, IsPair, AreItsLinks, Meaning, Linked, meaning, share_of, in_source, slave_at as settings_of, PlanState, plan_of, part_of, part_at, IsUsable, IsInImage, HasBit, IsPlaced, linked_inputs, variables_are_placed, linked_bits_are_there, plan_sound, links_are_the_tables, lists_units, bits_are_apart, ReportState, MasterState, OpenCycle, value_at, value_of, Event, Begin, Pass, Lose, Close, Progress, Plain, PlainSlave, PlainFrame, Health, Faulted, Reset, Note, Short, Full, Cycle, unit_full, giving, step, run, frame_at, plain_slave, progress_of, met_note, WorldState, slave_of, is_up, ByStart, GivesUp, Closes, IsStep, IsAs, Shows, CyclesShow, IsRun, IsNew, plain_of, IsNoted, IsMissed as IsMissedPlain, NotBack, FellShort as FellShortAt, FallsShort, IsClosedAs, IsNotedAt, IsBegun as IsBegunPlain, PromisesIsQuiet as IsQuiet, unit_of_slave, is_of_unit, holds_of_unit, IsMade, HeadlineIsBegun as IsBegun, HasLost, IsUnderWay, HadTrouble, IsInOp, progress_at, variable_bit, output_bits, input_bits, GivesLess, unit_of, headline_unit_of_part as unit_of_part, Says, IsRead, HeadlineIsTaken as IsTaken, HeadlineFellShort as FellShort, Cause, ByLoss, ByEarlyClose, ByFallingShort, HeadlineIsMissed as IsMissed, ListsUnits, CloseShows, HeadlineLaw, EachIsPromised, same_progress, none_some, some_same, plain_frame, some_of, HeadlineShows}
+use Rattle.ec_world.proofs.Words.{ℕ, zero, suc, ◌+◌, ◌*◌, ◌<◌, ◌≤◌, ◌≡◌, ◌≢◌, ◌==◌, ◌||◌, Bool, true, false, Option, Some, None, refl, sym, ◌∙◌, ap, subst, inl, inr, arith, List, [], ◌∷◌, ◌++◌, length, map, get_or, if◌then◌else◌, option_map, slice_get, option_map_or, AllByRecursion, bit_at, cases_Bool, cases_lt, cases_eq, and_from, or_left, or_right, or_cases, lt-ltb, ltb-true, eq-eqb, true≢false, append_assoc, list_get_or-map as get_or-map, length-map, length-replicate, slice_get-get_or, bit_at_above, bit, bytes_of_bits, if_true, if_false, bits_number-lt, bit_at-bits_number, Identity, Buffer, SlaveState, inputs_of, Direction, Out, In, SlaveRow, Contents, Variable, Share, SlavePlan, has_outs, has_ins, predicted, unit_of_part as unit_of_plain, IsLinked, is_out, image_from, IsPair, AreItsLinks, Meaning, Linked, meaning, share_of, in_source, slave_at as settings_of, PlanState, plan_of, part_of, part_at, IsUsable, IsInImage, HasBit, IsPlaced, linked_inputs, variables_are_placed, linked_bits_are_there, plan_sound, links_are_the_tables, lists_units, bits_are_apart, ReportState, MasterState, OpenCycle, value_at, value_of, Event, Begin, Pass, Lose, Close, Progress, Plain, PlainSlave, PlainFrame, Health, Faulted, Reset, Note, Short, Full, Cycle, unit_full, giving, step, run, frame_at, plain_slave, progress_of, met_note, WorldState, slave_of, is_up, ByStart, GivesUp, Closes, IsStep, IsAs, Shows, CyclesShow, IsRun, IsNew, plain_of, IsNoted, IsMissed as IsMissedPlain, NotBack, FellShort as FellShortAt, FallsShort, IsClosedAs, IsNotedAt, IsBegun as IsBegunPlain, PromisesIsQuiet as IsQuiet, unit_of_slave, is_of_unit, holds_of_unit, IsMade, HeadlineIsBegun as IsBegun, HasLost, IsUnderWay, HadTrouble, IsInOp, progress_at, variable_bit, output_bits, input_bits, GivesLess, unit_of, headline_unit_of_part as unit_of_part, Says, IsRead, HeadlineIsTaken as IsTaken, HeadlineFellShort as FellShort, Cause, ByLoss, ByEarlyClose, ByFallingShort, HeadlineIsMissed as IsMissed, ListsUnits, CloseShows, HeadlineLaw, EachIsPromised, same_progress, none_some, some_same, plain_frame, some_of, HeadlineShows}
 use Rattle.ec_world.proofs.CloseLaws.{unit_is as part_unit}
 use Rattle.ec_world.proofs.Origins.{made_later, preceded}
 use Rattle.ec_link.specs.Sound as link
@@ -66,7 +66,9 @@ in_image t usable x b h =
 pub says : (f : ℕ → Bool) (r : ReportState) (us : List ℕ) (u : ℕ) (b : Bool) → r.units ≡ us → r.taken ≡ map f us → f u ≡ b → Says r u b
 says f r us u b units taken is i l at =
     let few : i < length us = let n = ap length units in omega (arith, l, n) in
-    ap (λ bs. get_or bs i b) taken ∙ (get_or-map f us i 0 b few ∙ (ap f (sym (ap (λ xs. get_or xs i 0) units) ∙ at) ∙ is))
+    let own : get_or (map f us) i b ≡ b = get_or-map f us i 0 b few ∙ (ap f (sym (ap (λ xs. get_or xs i 0) units) ∙ at) ∙ is) in
+    let there : i < length (map f us) = let n = length-map us f in omega (arith, few, n) in
+    ap (λ bs. slice_get bs i) taken ∙ (slice_get-get_or (map f us) i b there ∙ ap (λ (x : Bool). Some x) own)
 
 -- ---- a bit without a link
 
@@ -563,6 +565,7 @@ module _ (t : Contents) (ids : List Identity) (old : WorldState) (events : List 
   close_shows = record {
     number = c.number;
     begun = begun;
+    is_open = ap (option_map (λ (x : OpenCycle). x.number)) closes.is_open ∙ ap (λ (n : ℕ). Some n) both.shows.number;
     report = closed.report;
     reported = closed.reported;
     listed = (

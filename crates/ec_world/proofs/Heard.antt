@@ -312,6 +312,9 @@ module _ (t : Contents) (ids : List Identity) (old : WorldState) (events : List 
     begun = begun;
     report = report_of w.master.plan c.kept;
     reported = ap (λ (x : WorldState). x.report) closes.is;
+    counted = (
+        length-map c.kept (λ (o : Option KeptPart). option_map (λ (x : KeptPart). x.counters) o)
+        ∙ (both.shows.each_part ∙ ap (λ (x : PlanState). length x.parts) s.plan_kept));
     words = map word_of_kept c.kept;
     count = length-map c.kept word_of_kept ∙ (both.shows.each_part ∙ ap (λ (x : PlanState). length x.parts) s.plan_kept);
     each = λ k l. part k (let z = length-map c.kept word_of_kept in omega (arith, l, z));

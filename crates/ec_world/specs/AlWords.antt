@@ -45,6 +45,8 @@ pub record WordShows (t : Contents) (old : WorldState) (events : List Event) (w 
   pub begun : IsBegun old events w number
   pub report : ReportState
   pub reported : v.report ≡ Some report
+  -- the report has a place for the counters of each part
+  pub counted : length report.counters ≡ length (plan_of t).parts
   pub words : List ℕ
   pub count : length words ≡ length (plan_of t).parts
   pub each : (k : ℕ) → k < length words → PartSays t begun.event.next begun.event.behind w number k (get_or report.counters k None) (get_or words k 0)

@@ -1,6 +1,6 @@
 -- The headline: what is promised of a segment under this master, over what a world's calls show. Who believes this page needs no
 -- other page on how it is done: nothing here of addresses, FMMUs, registers, datagrams or what counters mean.
--- Read with it: which bits a table links (`IsLinked`, ec_link's Wires), what a run of events is (`IsRun`, Laws) and what a new
+-- Read with it: which bits a table links (`IsLinked`, ec_link's LinkRuns), what a run of events is (`IsRun`, Laws) and what a new
 -- world is (`IsNew`, Whole). Events and their order are those of the list that the calls of `World` were given; "made" is
 -- what `World::step` answered.
 use Rattle.std.specs.Prelude.{ℕ, ◌+◌, ◌<◌, ◌≡◌, ◌≢◌, ◌⊎◌, ◌==◌, ◌&&◌, List, [], ◌∷◌, ◌++◌, length, get_or, Bool, true, false, Option, Some, None, option_map, slice_get}
@@ -20,7 +20,7 @@ use Rattle.ec_link.specs.LinkRuns.{IsLinked}
 use Rattle.ec_link.specs.Shares.{predicted}
 use Rattle.ec_link.specs.Plan.{plan_of, part_of, part_at}
 use Rattle.ec_cycle.specs.Closing.{ReportState}
-use Rattle.ec_cycle.specs.Master.{value_at}
+use Rattle.ec_cycle.specs.Master.{OpenCycle, value_at}
 use Rattle.ec_bringup.specs.Runs.{is_beginning}
 use Rattle.ec_world.specs.declared.event.Event.{Event}
 use Rattle.ec_world.specs.declared.event.Event.TheVariants.{StartNext, Begin, Pass, Lose, Close, Fault, Reset}
@@ -202,7 +202,7 @@ pub record ListsUnits (t : Contents) (units : List ℕ) : Type 0 where
 
 -- the report says of unit u, wherever it lists it, whether it was taken
 abbrev pub Says : ReportState → ℕ → Bool → Type 0
-Says r u taken = (i : ℕ) → i < length r.units → get_or r.units i 0 ≡ u → get_or r.taken i taken ≡ taken
+Says r u taken = (i : ℕ) → i < length r.units → get_or r.units i 0 ≡ u → slice_get r.taken i ≡ Some taken
 
 -- Unit u is taken: every linked input bit of its slaves was read in this cycle, each of its parts came back with the working
 -- counters that the plan predicts, and there is no cause against it.
@@ -221,8 +221,10 @@ pub record IsMissed (t : Contents) {old : WorldState} {events : List Event} {w :
 -- The cycle that is open is closed. Each unit is taken or missed; a bit of a variable that no input is linked to stays, and so
 -- does everything but the inputs, the cycle and the report.
 pub record CloseShows (t : Contents) (old : WorldState) (events : List Event) (w v : WorldState) : Type 0 where
+  -- the number of the cycle that is open
   pub number : ℕ
   pub begun : IsBegun old events w number
+  pub is_open : option_map (λ (c : OpenCycle). c.number) w.master.cycle ≡ Some number
   pub report : ReportState
   pub reported : v.report ≡ Some report
   pub listed : ListsUnits t report.units

@@ -16,7 +16,7 @@ use Rattle.ec_world.specs.declared.event.Event.{Event}
 use Rattle.ec_world.specs.declared.event.Event.TheVariants.{StartNext, Pass, Return, Serve}
 use Rattle.ec_world.specs.World.{WorldState, flight_at, is_up}
 use Rattle.ec_world.specs.Laws.{IsRun}
-use Rattle.ec_world.specs.Whole.{IsNew}
+use Rattle.ec_world.specs.Whole.{IsNew, IsOfMachine}
 
 -- each identity is that of a device of its slave's type
 abbrev pub AreOfTypes : Contents → List Identity → Type 0
@@ -78,6 +78,10 @@ pub record IsToStart (t : Contents) (w : WorldState) : Type 0 where
 -- A new world itself is one.
 abbrev pub NewLaw : Type 0
 NewLaw = (t : Contents) (identities : List Identity) (w : WorldState) → IsNew t identities w → AreOfTypes t identities → IsToStart t w
+
+-- A world that is made of a machine is one: its slaves are the table's, and those are of their types.
+abbrev pub MachineLaw : Type 0
+MachineLaw = (t : Contents) (w : WorldState) → IsOfMachine t w → IsToStart t w
 
 -- ---- where to
 

@@ -139,8 +139,8 @@ pub data Told (old : WorldState) (es : List Event) (new : WorldState) (made : �
   NotYet : is_up new.start ≡ false → ((p : Plain) → Shows new p → ⊥) → Told old es new made flags
   Started : HasStarted old es new made flags → Told old es new made flags
 
--- From a new world of a plan, over every list of events: until the start-up is ready nothing is shown. From then on the
--- world shows the run of the plain machine, from the state that it is ready in.
+-- From a new world of a usable plan that can be started up, over every list of events: until the start-up is ready nothing is
+-- shown. From then on the world shows the run of the plain machine, from the state that it is ready in.
 abbrev pub WholeLaw : Type 0
 WholeLaw =
     (plan : PlanState) (identities : List Identity) → IsUsable plan → AreStartable plan.slaves → length identities ≡ length plan.slaves

@@ -1,7 +1,7 @@
 //! What is promised of a world, and laws of the definitions. Each function does nothing: its contract is the law.
 ghost use Rattle.ec_world.specs.Laws.{RoundTrip, CycleLaw, StepsShow, PlanLaw, RunsShow, RunsJoin};
 ghost use Rattle.ec_world.specs.Whole.{WholeLaw, CompiledLaw};
-ghost use Rattle.ec_world.specs.NewWorld.{NewLaw, TurnLaw};
+ghost use Rattle.ec_world.specs.NewWorld.{NewLaw, MachineLaw, TurnLaw};
 ghost use Rattle.ec_world.specs.AlWords.{WordLaw, OpWordLaw};
 ghost use Rattle.ec_world.specs.Headline.{HeadlineLaw};
 ghost use Rattle.ec_world.specs.RunLaws.{OneOutcomeLaw, OrderLaw, TroubleLaw};
@@ -97,9 +97,9 @@ pub fn runs_join()
     ensures { RunsJoin }
 {}
 
-/// From a new world of a plan, over every list of events: until the start-up is ready nothing is shown, and from then on
-/// the world shows the run of the plain machine. Each slave that doesn't work when it is ready had a fault or a reset since
-/// that start-up began.
+/// From a new world of a usable plan that can be started up (`IsUsable`, `AreStartable`), over every list of events: until the
+/// start-up is ready nothing is shown, and from then on the world shows the run of the plain machine. Each slave that doesn't
+/// work when it is ready had a fault or a reset since that start-up began.
 pub fn whole_runs()
     ensures { WholeLaw }
 {}
@@ -109,9 +109,11 @@ pub fn compiled_runs()
     ensures { CompiledLaw }
 {}
 
-/// A new world of a table that the compiler accepts, with devices of its types, is one from which a start-up may begin.
+/// A new world of a table that the compiler accepts, with devices of its types, is one from which a start-up may begin. So is the
+/// world of a machine, whose slaves are the table's and of its types.
 pub fn new_worlds_may_start()
-    ensures { NewLaw }
+    ensures devices { NewLaw }
+    ensures machine { MachineLaw }
 {}
 
 /// The events of a script's `ready` are turns of a start-up: the frame is sent and passes all slaves, each slave serves once, and

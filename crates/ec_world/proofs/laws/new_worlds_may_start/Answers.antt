@@ -1,5 +1,8 @@
-use Rattle.ec_world.proofs.ComingUp.{new_law}
+use Rattle.ec_world.proofs.ComingUp.{new_law, machine_law}
 use Rattle.ec_world.proofs.laws.new_worlds_may_start.Goals as goal
 
-pub returns : goal.returns
-returns c = new_law
+pub returns-clause-devices : goal.returns-clause-devices
+returns-clause-devices c = new_law
+
+pub returns-clause-machine : goal.returns-clause-machine
+returns-clause-machine c = machine_law
