@@ -24,7 +24,7 @@ const NO_IDENTITY: Identity = Identity {
 /// The frame that the text spells in hex digits of either case, as it comes back from a ring of
 /// that many slaves at power-on without PDOs, in lower-case hex. The text is the payload of a UDP
 /// datagram to port 34980 (0x88A4). Refused are, in this order, a text that isn't hex, more than
-/// 1472 bytes, and what `ec_frame::check` refuses.
+/// 1472 bytes, and what `ec_frame::check` refuses. Where memory ran out the refusal is `Refusal::Memory`.
 pub fn pass_hex(alloc: Global, slaves: usize, text: &str) -> Result<String, Refusal>
     ensures answer { IfOk result (λ answer. IsAnswer slaves text.now (string_bytes answer)) }
     ensures refused { IfErr result (IsPassRefusal text.now) }

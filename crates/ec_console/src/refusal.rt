@@ -119,7 +119,7 @@ impl Refusal {
     }
 }
 
-/// How a run ends in which so many times what was expected wasn't so.
+/// How a run ends in which so many times what was expected wasn't so: by `Refusal::Unmet` with that number, unless it is 0.
 pub fn end_of(unmet: u64) -> Result<(), Refusal>
     ensures { result ≡ ended_by unmet }
 {

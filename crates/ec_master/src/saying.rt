@@ -17,6 +17,10 @@ use std::io::{Read, Write};
 
 /// Does a task as often as it is to be done, prints each time what there is to tell before it is done again, with why it can't be
 /// done or has failed behind it, where reasons are told, and answers how often what it expects isn't so.
+///
+/// # Errors
+///
+/// `Refusal::Memory` where memory ran out, and `Refusal::Output` where the output couldn't be written.
 pub fn print_task<W: Wire, O: Write>(
     alloc: Global,
     table: &Table,

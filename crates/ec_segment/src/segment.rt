@@ -142,7 +142,12 @@ pub fn print_card_segment<H: AllocGlobal + Files + Clock, R: Read, W: Write>(
     )
 }
 
-/// The same with a capture, as of [`capture_segment`].
+/// What [`print_card_segment`] does, with a capture: what the segment receives and sends goes into a file, at the interface `segment`.
+///
+/// # Errors
+///
+/// Those of [`print_card_segment`]; `Refusal::Output` too where the file couldn't be opened, before anything is received, or
+/// couldn't be written to the end.
 #[tactic(auto, using(ec_console::proofs::CaptureLemmas::captured_refused, ec_console::proofs::CaptureLemmas::captured_end))]
 pub fn capture_card_segment<H: AllocGlobal + Files + Clock, R: Read, W: Write>(
     rt: &H,

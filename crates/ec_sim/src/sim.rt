@@ -23,6 +23,10 @@ use std::io::{Read, Write};
 
 /// Does a line as often as it is to be done, prints each time what there is to say before it is done again, and answers how
 /// often what it expects isn't so.
+///
+/// # Errors
+///
+/// `Refusal::Memory` or `Refusal::Output`, which cut the line short, after what was printed until then.
 pub fn print_line<S: Watcher, W: Write>(
     alloc: Global,
     table: &Table,
