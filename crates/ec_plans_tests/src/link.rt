@@ -7,8 +7,8 @@ mod tables;
 
 use self::described::{Told, push_told};
 use self::sizes::links_of_bits;
-use self::tables::{FACES, FACES_IN_FULL, PLANS, SAID, THREE_SLAVES};
-use ec_link::{LinkError, compile};
+use self::tables::{FACES, FACES_IN_FULL, PLANS, SAID, SAID_OF_TEXTS, THREE_SLAVES};
+use ec_link::{LinkError, MachineError, compile};
 use ec_table::{Table, TableError, read_table};
 use std::process::Abort;
 
@@ -96,5 +96,22 @@ fn expect_said(rt: &(impl AllocGlobal + Abort), row: (LinkError, &str)) {
 fn says_what_is_wrong(rt: HostRuntime) {
     for row in &SAID {
         expect_said(&rt, *row);
+    }
+}
+
+/// What is said of an error of a text.
+fn said_of_text(rt: &(impl AllocGlobal + Abort), error: MachineError) -> String {
+    format!(in rt.alloc(); "{error}").expect(rt, "memory")
+}
+
+fn expect_said_of_text(rt: &(impl AllocGlobal + Abort), row: (MachineError, &str)) {
+    let (error, wanted) = row;
+    assert_text(rt, wanted, said_of_text(rt, error).as_str(), wanted);
+}
+
+#[test]
+fn says_what_is_wrong_with_a_text(rt: HostRuntime) {
+    for row in &SAID_OF_TEXTS {
+        expect_said_of_text(&rt, *row);
     }
 }

@@ -1,5 +1,6 @@
 //! Link tables, and what is told of each.
-use ec_link::{LinkError, LinkFault};
+use ec_link::{LinkError, LinkFault, MachineError};
+use ec_table::{Fault, TableError};
 
 /// The table of `examples/three_slaves.toml`, without its comments.
 pub const THREE_SLAVES: &str = ec_examples::BARE_THREE_SLAVES;
@@ -129,5 +130,17 @@ pub const SAID: [(LinkError, &str); 12] = [
     (
         LinkError::Refused(LinkFault::SplitVariable(7)),
         "variable 7: links from two sync units",
+    ),
+];
+
+/// What is said of a text that states no machine: what is wrong with its table, or with the plan of that.
+pub const SAID_OF_TEXTS: [(MachineError, &str); 2] = [
+    (
+        MachineError::Table(TableError::Refused(Fault::Toml)),
+        "the text is not TOML",
+    ),
+    (
+        MachineError::Link(LinkError::Refused(LinkFault::NoEntry(7))),
+        "link 7: the slave assigns no such entry",
     ),
 ];
