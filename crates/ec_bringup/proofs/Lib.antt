@@ -13,9 +13,9 @@ pub mod Resets
 pub mod Alike
 -- a fault of a slave that stands at a stage, and what its application reads and writes
 pub mod Events
--- a firmware step of a slave that stands at a stage
+-- a firmware step of a slave that stands at a stage: the AL request, and the SII read
 pub mod Serves
--- a firmware step of a slave that stands at a stage
+-- a firmware step of a slave that stands at a stage: its mailbox
 pub mod Messages
 -- what befalls a slave keeps what is known of it
 pub mod Keeping

@@ -64,7 +64,8 @@ pub fn finish_recording<T: Copy + Drop, F: Write + Drop>(
     }
 }
 
-/// The same of a command that may have a capture.
+/// How a command that may have a capture ends: as what was through, or with `Refusal::Output` where the capture can't be written to
+/// its end.
 pub fn close_capture<F: Write + Drop>(
     ended: Result<(), Refusal>,
     capture: Capture<F>,

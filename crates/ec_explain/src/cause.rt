@@ -53,7 +53,7 @@ pub fn remarks_on<'a>(alloc: Global, text: &'a str, cause: Cause) -> Result<Rema
     telling.into_remarks(rest)
 }
 
-/// The same as a text: it stands behind the line that tells the refusal.
+/// The remarks on a text with a cause, as one text: it stands behind the line that tells the refusal.
 pub fn explanation(alloc: Global, text: &str, cause: Cause) -> Result<String, AllocError> {
     let remarks = remarks_on(alloc, text, cause)?;
     remarks.told(alloc)

@@ -83,7 +83,8 @@ pub fn print_segment<H: AllocGlobal + Net + Files + Clock, R: Read, W: Write, F:
     )
 }
 
-/// The same with a capture: what the segment receives and sends goes into a file, at the interface `segment`.
+/// What [`print_segment`] does, with a capture: what the segment receives and sends goes into a file, at the
+/// interface `segment`.
 ///
 /// # Errors
 ///
@@ -142,7 +143,8 @@ pub fn print_card_segment<H: AllocGlobal + Files + Clock, R: Read, W: Write>(
     )
 }
 
-/// What [`print_card_segment`] does, with a capture: what the segment receives and sends goes into a file, at the interface `segment`.
+/// What [`print_card_segment`] does, with a capture: what the segment receives and sends goes into a file, at the
+/// interface `segment`.
 ///
 /// # Errors
 ///

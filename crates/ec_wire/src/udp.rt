@@ -67,7 +67,8 @@ impl UdpWire {
         UdpWire::bind_idle(rt, port, MAX_IDLE)
     }
 
-    /// The same, but a receive that got nothing for so many seconds is a fault; with 0 seconds it waits on.
+    /// A segment's wire on a port, where 0 lets the system pick one. It sends to whoever sent the last payload that it
+    /// received. A receive that got nothing for so many seconds is a fault; with 0 seconds it waits on.
     ///
     /// # Errors
     ///

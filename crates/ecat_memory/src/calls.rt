@@ -104,7 +104,7 @@ fn written(alloc: Global, table: &Table, plan: &Plan) -> Answer {
 }
 
 /// The last slave of the plan, just switched on.
-fn switched_on(alloc: Global, plan: &Plan) -> Result<Answer, AllocError> {
+fn new_slave(alloc: Global, plan: &Plan) -> Result<Answer, AllocError> {
     let Some(settings) = plan.slaves().last() else {
         return Ok(Ok(0));
     };
@@ -160,7 +160,7 @@ pub fn attempt(
         Call::ReadTable => Ok(read(alloc)),
         Call::Compile => Ok(compiled(alloc, table)),
         Call::PlanText => Ok(written(alloc, table, plan)),
-        Call::NewSlave => switched_on(alloc, plan),
+        Call::NewSlave => new_slave(alloc, plan),
         Call::NewMaster => Ok(mastered(alloc, plan)),
         Call::NewWorld => Ok(world(alloc, table, plan, identities)),
         Call::ReadScript => Ok(script(alloc, table)),

@@ -1,3 +1,5 @@
+//! Tables as texts, and all that each of them holds.
+
 /// `examples/three_slaves.toml`.
 pub const THREE_SLAVES: &str = ec_examples::THREE_SLAVES;
 

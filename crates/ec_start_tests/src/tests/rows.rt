@@ -1,3 +1,5 @@
+//! What a start-up of three slaves sends, and what comes back, as text.
+
 // The start-up of the three slaves, a line for each step: the frame that is sent, without the zeros at its end; with which data in
 // front its second datagram comes back, or `-`; and with which counter. All in hexadecimal digits.
 pub const STEPS: &str = "\

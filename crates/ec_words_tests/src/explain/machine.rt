@@ -1,3 +1,5 @@
+//! The table of three slaves of which start-ups and cycles fail.
+
 /// A machine of three slaves.
 pub const MACHINE: &str = "\
 version = 2
