@@ -33,6 +33,10 @@ type Wanted<'a> = (u8, &'a str, &'a str);
 
 const PLAN: [&str; 2] = ["ecat", "plan"];
 
+const EXPLAINED: [&str; 3] = ["ecat", "plan", "--explain"];
+
+const HEADER: [&str; 3] = ["ecat", "plan", "--header"];
+
 const SIM: [&str; 2] = ["ecat", "sim"];
 
 const LIVE: [&str; 3] = ["ecat", "sim", "--live"];
@@ -231,7 +235,7 @@ fn joined_by_loops(rt: HostRuntime) {
     }
 }
 
-/// The plan of a table, which begins so, and a start-up and a cycle of it, in a world.
+/// The plan of a table, which begins so, that plan for people and as a header of C, and a start-up and a cycle of it, in a world.
 fn expect_size<H: AllocGlobal + Net + Files + Clock + Abort>(
     rt: &H,
     slaves: u64,
@@ -242,6 +246,10 @@ fn expect_size<H: AllocGlobal + Net + Files + Clock + Abort>(
     let table = table_of_size(rt, slaves, count);
     let input = input_of(rt, table.as_str(), "ready\ncycle\nshow\n");
     expect_run(rt, number, &PLAN, table.as_str(), (0, first, ""));
+    let explained = "Each line is a run of bits ..";
+    expect_run(rt, number, &EXPLAINED, table.as_str(), (0, explained, ""));
+    let header = "#ifndef ECAT_VARIABLES\n..";
+    expect_run(rt, number, &HEADER, table.as_str(), (0, header, ""));
     let printed = "ready\nreport taken missing 0 ..";
     expect_run(rt, number, &SIM, input.as_str(), (0, printed, ""));
 }
@@ -272,7 +280,7 @@ fn expect_length<H: AllocGlobal + Net + Files + Clock + Abort>(rt: &H, len: usiz
 }
 
 #[test]
-fn each_length_of_an_input_has_room(rt: HostRuntime) {
+fn lengths_of_an_input_have_room(rt: HostRuntime) {
     for len in [4096, 4097, 65_536, 400_001, 1_000_000, 1 << 20] {
         expect_length(&rt, len);
     }

@@ -9,15 +9,6 @@ use std::process::Abort;
 /// The table of `examples/three_slaves.toml`, without its comments.
 pub const THREE_SLAVES: &str = ec_examples::BARE_THREE_SLAVES;
 
-/// The slaves of that table, without variables and links.
-const SLAVES: &str = r#"type = [
-  { name = "do4", vendor = 0xABCD, product = 1, revision = 1, out_start = 0x1100, in_start = 0, rxpdo = [ { index = 0x1600, entries = [[0x7000, 1, 4]] } ] },
-  { name = "di4", vendor = 0xABCD, product = 2, revision = 1, out_start = 0, in_start = 0x1100, txpdo = [ { index = 0x1A00, entries = [[0x6000, 1, 4]] } ] },
-  { name = "mix", vendor = 0xABCD, product = 3, revision = 1, mailbox = [0x1000, 128, 0x1080, 128], out_start = 0x1100, in_start = 0x1400, rxpdo = [ { index = 0x1600, entries = [[0x7010, 1, 12]] } ], txpdo = [ { index = 0x1A00, entries = [[0x6010, 1, 16]] } ] },
-]
-slave = [ { name = "s0", type = "do4" }, { name = "s1", type = "di4" }, { name = "s2", type = "mix" } ]
-"#;
-
 /// The machine of a table.
 pub fn machine_of(rt: &(impl AllocGlobal + Abort), text: &str) -> Machine {
     Machine::read(rt.alloc(), text).expect(rt, "a machine")
@@ -28,10 +19,20 @@ pub fn ring_of(rt: &(impl AllocGlobal + Abort), machine: &Machine) -> Ring {
     slaves_of_machine(rt.alloc(), machine).expect(rt, "memory")
 }
 
-/// The table of the three slaves, in which a change `OLD => NEW` is made. A word that isn't there changes nothing.
+/// The table of the three slaves, without variables and links.
+fn slaves_alone() -> &'static str {
+    let whole = ec_examples::SHORT_THREE_SLAVES;
+    whole
+        .split_once("variable = ")
+        .map_or(whole, |(slaves, _)| slaves)
+}
+
+/// The slaves of that table, in which a change `OLD => NEW` is made. A word that isn't there changes nothing.
 fn changed_table(rt: &(impl AllocGlobal + Abort), change: &str) -> String {
     let (old, new) = change.split_once(" => ").unwrap_or((change, change));
-    SLAVES.replace(rt.alloc(), old, new).expect(rt, "memory")
+    slaves_alone()
+        .replace(rt.alloc(), old, new)
+        .expect(rt, "memory")
 }
 
 /// The slaves of a table that was changed so, as they are switched on.
