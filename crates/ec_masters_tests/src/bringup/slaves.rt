@@ -22,9 +22,8 @@ pub fn ring_of(rt: &(impl AllocGlobal + Abort), machine: &Machine) -> Ring {
 /// The table of the three slaves, without variables and links.
 fn slaves_alone() -> &'static str {
     let whole = ec_examples::SHORT_THREE_SLAVES;
-    whole
-        .split_once("variable = ")
-        .map_or(whole, |(slaves, _)| slaves)
+    let (slaves, _) = whole.split_once("variable = ").unwrap_or((whole, ""));
+    slaves
 }
 
 /// The slaves of that table, in which a change `OLD => NEW` is made. A word that isn't there changes nothing.
