@@ -7,7 +7,8 @@ use crate::answer::{Answer, answer_text};
 use crate::control::Control;
 use crate::order::{Order, Task};
 use ec_console::Refusal;
-use ec_outline::{Counted, Printable, Words};
+use ec_explain_start::StartFault;
+use ec_outline::{Printable, Words};
 use ec_script::is_failed;
 use ec_start::StartError;
 use ec_table::{Direction, Table};
@@ -66,7 +67,7 @@ fn cycle_words(alloc: Global, table: &Table, control: &Control<'_>) -> Words {
         None => format!(in alloc; "there was no start-up: `ready` brings the slaves up"),
         Some(Ok(())) => format!(in alloc; "there is no number left for its frames"),
         Some(Err(error)) => {
-            let failed = Failed { table, error };
+            let failed = Failed::new(table, control, error);
             format!(in alloc; "the last start-up failed, {failed}; `ready` makes one more")
         }
     }
@@ -76,31 +77,33 @@ fn cycle_words(alloc: Global, table: &Table, control: &Control<'_>) -> Words {
 fn start_words(alloc: Global, table: &Table, control: &Control<'_>) -> Words {
     match control.outcome() {
         Some(Err(error)) => {
-            let failed = Failed { table, error };
+            let failed = Failed::new(table, control, error);
             format!(in alloc; "{failed}")
         }
         _ => Ok(String::new(alloc)),
     }
 }
 
-/// What a start-up of a table failed by. It is printed as its refusal, as other commands tell it, and what that says.
+/// What a start-up of a table failed by. It is printed as its refusal, as other commands tell it, and what that says in a sentence.
 #[derive(Clone, Copy)]
 struct Failed<'t> {
-    table: &'t Table,
-    error: StartError,
+    refusal: Refusal,
+    fault: StartFault<'t>,
+}
+
+impl<'t> Failed<'t> {
+    fn new(table: &'t Table, control: &Control<'_>, error: StartError) -> Failed<'t> {
+        Failed {
+            refusal: Refusal::Start(error),
+            fault: StartFault::of_plan(table, control.plan(), error),
+        }
+    }
 }
 
 impl fmt::Display for Failed<'_> {
     fn fmt<W: fmt::Write>(&self, f: &mut fmt::Formatter<W>) -> fmt::Result {
-        let Failed { table, error } = *self;
-        let refusal = Refusal::Start(error);
-        match error {
-            StartError::Count { seen } => {
-                let (seen, wanted) = (Counted(usize::from(seen), "slave"), table.slaves().len());
-                write!(f, "{refusal}: {seen} answered, and the table has {wanted}")
-            }
-            _ => write!(f, "{refusal}: {error}"),
-        }
+        let Failed { refusal, fault } = self;
+        write!(f, "{refusal}: {fault}")
     }
 }
 

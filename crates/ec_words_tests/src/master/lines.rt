@@ -41,7 +41,7 @@ fn run_lines(
 /// A wire to the slaves of a machine, whose call of this number fails.
 fn wire_of(rt: &(impl AllocGlobal + Abort), machine: &Machine, fails_at: u64) -> MemoryWire {
     let slaves = slaves_of_machine(rt.alloc(), machine).expect(rt, "memory");
-    MemoryWire::new(rt.alloc(), slaves, 1000, fails_at).expect(rt, "memory")
+    MemoryWire::new(rt.alloc(), slaves, 2000, fails_at).expect(rt, "memory")
 }
 
 /// A master of a machine.
@@ -200,4 +200,91 @@ const REASONED: [Run; 4] = [
 #[test]
 fn lines_tell_why(rt: HostRuntime) {
     expect_runs(&rt, Reasons::Told, &REASONED);
+}
+
+/// Slaves of the table in which OLD became NEW, what the start-up of the three slaves fails by over them, and what stands behind that.
+type Failure<'a> = (&'a str, &'a str, u8, &'a str);
+
+// Each is worked out from the table by hand. The steps of the start-up: 6 for all slaves, 3 station addresses, 6 each for who they
+// are, 2 for the mailboxes of s2, 2 for PREOP of each; so step 35 is the first request to s2, and step 36 awaits its reply.
+const FAILURES: [Failure; 6] = [
+    (
+        ", { name = \"s2\", type = \"mix\" }",
+        "",
+        26,
+        "26 Count 2: 2 slaves answered, and the table has 3",
+    ),
+    (
+        "product = 2, revision = 1",
+        "product = 2, revision = 0x12",
+        27,
+        "27 Identity 1 43981 2 18: slave 1 s1 shows vendor 0x0000ABCD, product 0x00000002, revision 0x00000012; what couldn't be read is 0",
+    ),
+    (
+        "mailbox = [0x1000, 128,",
+        "mailbox = [0x1000, 64,",
+        29,
+        "29 AlError 2 22: slave 2 s2 refused a state, AL status code 0x0016: the sync managers of its mailboxes aren't set as it needs them",
+    ),
+    (
+        "0x1600, entries = [[0x7010",
+        "0x1601, entries = [[0x7010",
+        30,
+        "30 Abort 2 100794368: slave 2 s2 aborted an SDO transfer, code 0x06020000: it has no such object",
+    ),
+    (
+        "mailbox = [0x1000, 128, 0x1080, 128], ",
+        "",
+        31,
+        "31 TooSlow 36: step 36 is for slave 2 s2: a reply is awaited in its mailbox: the upload of 0x1600:0, how many entries the PDO has; it wasn't over after 1000 polls",
+    ),
+    (
+        "[0x7010, 1, 12]",
+        "[0x7010, 1, 11]",
+        38,
+        "38 Mapping 2 5632 1 1880097035: slave 2 s2 has 0x7010010B in its object 0x1600:1",
+    ),
+];
+
+/// The slaves of the three, without variables and links, in which OLD became NEW.
+fn other_slaves(rt: &(impl AllocGlobal + Abort), old: &str, new: &str) -> Machine {
+    let (slaves, _) = ec_examples::SHORT_THREE_SLAVES
+        .split_once("variable = [")
+        .expect(rt, "variables");
+    let text = slaves.replace(rt.alloc(), old, new).expect(rt, "memory");
+    Machine::read(rt.alloc(), text.as_str()).expect(rt, "a good table")
+}
+
+/// Runs `ready` of a machine over other slaves, where reasons are told.
+fn ready_over(rt: &(impl AllocGlobal + Abort), machine: &Machine, slaves: &Machine) -> Vec<u8> {
+    let mut wire = wire_of(rt, slaves, NEVER);
+    let mut control = control_of(rt, machine);
+    let mut output = Vec::new(rt.alloc());
+    let ended = run_lines(
+        rt.alloc(),
+        machine,
+        Reasons::Told,
+        &mut control,
+        &mut wire,
+        "ready\n",
+        &mut output,
+    );
+    assert_eq!(rt; ended, Ok(0));
+    output
+}
+
+/// Compares what is printed of a start-up over other slaves.
+fn expect_failure(rt: &(impl AllocGlobal + Abort), machine: &Machine, failure: &Failure) {
+    let (old, new, number, words) = *failure;
+    let output = ready_over(rt, machine, &other_slaves(rt, old, new));
+    let wanted = format!(in rt.alloc(); "failed {number}\n  {words}\n").expect(rt, "memory");
+    assert_eq!(rt; output.as_slice(), wanted.as_bytes(), "{words}");
+}
+
+#[test]
+fn failed_start_ups_tell_why(rt: HostRuntime) {
+    let machine = Machine::read(rt.alloc(), THREE_SLAVES).expect(&rt, "a good table");
+    for failure in &FAILURES {
+        expect_failure(&rt, &machine, failure);
+    }
 }
