@@ -257,7 +257,8 @@ Exit status:
   3  refused, and standard error says `ecat: NUMBER NAME VALUES`
   4  input, output or a socket is at fault, told in the same form
 
-Refusals with status 3; SLAVE and STEP count from 0, and `failed` of `ecat sim` has these numbers too:
+Refusals with status 3; SLAVE and STEP count from 0, values are decimal, and `failed` of `ecat sim`
+and `ecat master` has these numbers too:
   11 to 25, 44             the table is refused; `ecat plan --help` says what to do
    9 BadMailbox SLAVE      what the slave's mailbox held is no reply to the request: see the
                            mailbox of its type
@@ -296,8 +297,8 @@ TABLE is a link table; docs/TABLES.md says how one is written.
 The slaves' applications show their outputs as their inputs. Standard error has a line with the
 port once the segment listens there. With `--descriptor` it answers Ethernet frames of type 0x88A4
 on the raw socket of a network card, which is open already, as `tools/with_card` leaves one. At the
-end a line `served N refused M` says how many payloads were frames, which were answered, and how
-many were not.
+end, also where no payload came for SECONDS, a line `served N refused M` says how many payloads were
+frames, which were answered, and how many were not.
 
 With `--full` slaves are as usual masters expect them, and show besides: SII categories, DL status,
 and CoE objects 0x1000 to 0x100A and 0x1C00.

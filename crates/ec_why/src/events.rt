@@ -58,7 +58,7 @@ impl Scene<'_, '_> {
         }
         match self.slot_before(&frame) {
             Some(other) => format!(in alloc;
-                "the older frame in slot {other} is in its way: frames don't overtake"
+                "the older frame in slot {other} is in its way: frames don't overtake; `lose {other}` takes it away"
             ),
             None => format!(in alloc; "the frame in slot {slot} can't go on"),
         }

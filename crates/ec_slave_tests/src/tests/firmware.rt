@@ -166,7 +166,8 @@ asks 0200 > 020000000000
 sends 0a0000000013 0020 2f121c00 00000000
 replies > 0a0000000013 0030 60121c00 00000000
 
-# What is no request is dropped without an answer, and isn't counted.
+# What is no request is dropped without an answer, and isn't counted: too short, of another type, and a response; a download
+# by a normal transfer, whose data stand behind the ten bytes; and what asks for the list of objects.
 case dropped_messages
 sends 090000000013 0020 40181001 00000000
 shows 0805 > 00
@@ -175,6 +176,12 @@ sends 0a0000000014 0020 40181001 00000000
 shows 0805 > 00
 shows 080d > 00
 sends 0a0000000013 0030 40181001 00000000
+shows 0805 > 00
+shows 080d > 00
+sends 0e0000000013 0020 21121c01 04000000 00160000
+shows 0805 > 00
+shows 080d > 00
+sends 0a0000000013 0080 01000000 01000000
 shows 0805 > 00
 shows 080d > 00
 sends 0a0000000013 0020 40181001 00000000
