@@ -79,7 +79,8 @@ pub fn steps_show()
     ensures { StepsShow }
 {}
 
-/// The same of every list of events, with the number of events that were made.
+/// From a world that shows a plain state, over every list of events, the world shows the plain machine's run, and as many events
+/// are made.
 #[tactic(auto, using(crate::proofs::StepLaws::runs_show))]
 pub fn runs_show()
     ensures { RunsShow }
@@ -104,7 +105,8 @@ pub fn whole_runs()
     ensures { WholeLaw }
 {}
 
-/// The same of the plan that the link compiler makes of a table.
+/// From a new world of the plan that the link compiler makes of a table, over every list of events, the same holds as of any
+/// usable plan (`whole_runs`).
 pub fn compiled_runs()
     ensures { CompiledLaw }
 {}
