@@ -10,7 +10,7 @@ use self::cycles::write_cycles;
 use self::names::with_names;
 use self::scripts::{new_world, plan_text_of, write_answers};
 use self::seeds::{Seeded, of_seed};
-use self::sizes::{filled_up, table_of_size};
+use self::sizes::{filled_up, repeated, room_for, table_of_size};
 use self::texts::with_number;
 use ec_commands::run_command;
 use ec_link::Machine;
@@ -42,6 +42,19 @@ const SIM: [&str; 2] = ["ecat", "sim"];
 const LIVE: [&str; 3] = ["ecat", "sim", "--live"];
 
 const LOOP: [&str; 4] = ["ecat", "loop", "--cycles", "3"];
+
+const DECODE: [&str; 2] = ["ecat", "decode"];
+
+const ENCODE: [&str; 2] = ["ecat", "encode"];
+
+/// A frame as a line of hex.
+const HEX: &str = "24100005000000000a8000000500000000000000000000000705030030010200000008000300\n";
+
+/// The same frame as text.
+const TEXT: &str = r#"frame 2
+0 NOP index 05 at 0000:0000 counter 0 data 05000000000000000000
+1 BRD index 05 at 0003:0130 counter 3 data 0800
+"#;
 
 /// Runs the program, with applications that show their slaves' outputs as inputs.
 fn run<H: AllocGlobal + Net + Files + Clock>(rt: &H, args: &[&str], input: &str) -> Ended {
@@ -279,9 +292,44 @@ fn expect_length<H: AllocGlobal + Net + Files + Clock + Abort>(rt: &H, len: usiz
     expect_run(rt, len as u64, &PLAN, input.as_str(), (0, FIRST, ""));
 }
 
+/// A table and a script of as many lines as so many bytes have.
+fn script_of_length(rt: &(impl AllocGlobal + Abort), len: usize) -> String {
+    let table = table_of_size(rt, 3, 16);
+    let mut input = input_of(rt, table.as_str(), "ready\ncycle\n");
+    let line = "set o0 1\n";
+    let count = room_for(line, len.saturating_sub(input.len()));
+    let lines = repeated(rt, line, count);
+    input.push_str(lines.as_str()).expect(rt, "memory");
+    input
+}
+
+/// A script so long is run.
+fn expect_script_length<H: AllocGlobal + Net + Files + Clock + Abort>(rt: &H, len: usize) {
+    let input = script_of_length(rt, len);
+    let printed = "ready\nreport taken missing 0 ..";
+    expect_run(rt, len as u64, &SIM, input.as_str(), (0, printed, ""));
+}
+
+/// As many lines or texts as so many bytes have are told each as the other form of the frame.
+fn expect_frames_length<H: AllocGlobal + Net + Files + Clock + Abort>(
+    rt: &H,
+    len: usize,
+    args: &[&str],
+    (form, other): (&str, &str),
+) {
+    let count = room_for(form, len);
+    let input = repeated(rt, form, count);
+    let wanted = repeated(rt, other, count);
+    let ended = (0, wanted.as_str(), "");
+    expect_run(rt, len as u64, args, input.as_str(), ended);
+}
+
 #[test]
 fn lengths_of_an_input_have_room(rt: HostRuntime) {
     for len in [4096, 4097, 65_536, 400_001, 1_000_000, 1 << 20] {
         expect_length(&rt, len);
+        expect_script_length(&rt, len);
+        expect_frames_length(&rt, len, &DECODE, (HEX, TEXT));
+        expect_frames_length(&rt, len, &ENCODE, (TEXT, HEX));
     }
 }

@@ -1,4 +1,4 @@
-//! Tables of every size: with each number of slaves, with many links, and as long as an input may be.
+//! Inputs of every size: tables with each number of slaves, with many links, and texts as long as an input may be.
 use crate::tests::texts::with_number;
 use std::alloc::AllocError;
 use std::process::Abort;
@@ -92,4 +92,14 @@ fn fill_up(text: &mut String, len: usize) -> Result<(), AllocError> {
 pub fn filled_up(rt: &(impl AllocGlobal + Abort), mut text: String, len: usize) -> String {
     fill_up(&mut text, len).expect(rt, "memory");
     text
+}
+
+/// A text so many times.
+pub fn repeated(rt: &(impl AllocGlobal + Abort), text: &str, count: usize) -> String {
+    text.repeat(rt.alloc(), count).expect(rt, "memory")
+}
+
+/// How often a text has room in so many bytes.
+pub fn room_for(text: &str, len: usize) -> usize {
+    len / text.len().max(1)
 }
