@@ -1,7 +1,6 @@
 -- The slaves of a table, as they are switched on, are devices of their types.
-use Rattle.ec_bringup.proofs.Words.{ℕ, zero, suc, ◌<◌, ◌≡◌, Option, Some, None, refl, sym, ◌∙◌, ap, subst, arith, List, [], ◌∷◌, length, get_or, slice_get, option_map, option_and_then, is_some, unwrap_or, false≢true, SlaveKind, plain_kind, device_identity, Identity, SlaveRow, TypeRow, Contents, compile_fault, plan_of, plan_sound, SlavePlan, plan_at, slave_of, IsOfType, IsGenuine, AreGenuine, no_identity, bringup_switched_on, AreIdentities, SlavesOfLaw}
+use Rattle.ec_bringup.proofs.Words.{ℕ, zero, suc, ◌<◌, ◌≡◌, Option, Some, None, refl, sym, ◌∙◌, ap, subst, arith, List, [], ◌∷◌, length, get_or, slice_get, option_map, option_and_then, is_some, unwrap_or, false≢true, SlaveKind, plain_kind, device_identity, Identity, SlaveRow, TypeRow, Contents, plan_of, plan_sound, SlavePlan, plan_at, slave_of, IsOfType, IsGenuine, AreGenuine, no_identity, bringup_switched_on, IdentitiesLaw, TypedSlavesLaw, SlavesOfLaw}
 use Rattle.ec_table.specs.Objects as objects
-use Rattle.ec_table.specs.Sound as table
 use Rattle.ec_bringup.proofs.Genuine.{switched_on}
 
 -- ---- what a table says of a slave
@@ -31,8 +30,7 @@ told t k None x e = absurd (false≢true (ap (λ (o : Option Identity). is_some 
 told t k (Some r) x e = (r, refl, typed t k r.serial (slice_get t.types r.type_place) x e)
 
 -- each identity of a table is that of a device of its slave's type
-pub of-types : (t : Contents) → table.IsSound t → compile_fault t ≡ None → (is : List Identity) → AreIdentities t is
-    → (k : ℕ) → k < length t.slaves → IsOfType (plan_at (plan_of t).slaves k).kind.device (get_or is k no_identity)
+pub of-types : IdentitiesLaw
 of-types t sound free is h k l =
     let of = told t k (slice_get t.slaves k) (get_or is k no_identity) (h.each k l) in
     subst (λ (y : SlaveKind). IsOfType y.device (get_or is k no_identity)) (sym ((plan_sound t sound free).each k of.0 of.1).kind) of.2
@@ -51,15 +49,19 @@ each-on (p ∷ ps) [] e h k l = absurd (omega (arith, e))
 each-on (p ∷ ps) (i ∷ is) e h zero l = switched_on p.kind i (h 0 (omega arith))
 each-on (p ∷ ps) (i ∷ is) e h (suc k) l = each-on ps is (omega (arith, e)) (λ n m. h (suc n) (omega (arith, m))) k (omega (arith, l))
 
-pub slaves_of : SlavesOfLaw
-slaves_of t sound free ss h =
-    let is = h.identities in
+pub with-types : TypedSlavesLaw
+with-types t sound free is e h =
     let plan = plan_sound t sound free in
     let many = plan.as_many in
     let few = plan.few in
-    let same : length is ≡ length (plan_of t).slaves = h.shown.one_each ∙ sym many in
-    subst (AreGenuine (plan_of t).slaves) (sym h.are) (record {
+    let same : length is ≡ length (plan_of t).slaves = e ∙ sym many in
+    record {
       count = count-on (plan_of t).slaves is same;
       few = omega (arith, few, many);
-      each = each-on (plan_of t).slaves is same (λ k l. of-types t sound free is h.shown k (omega (arith, l, many)));
-    })
+      each = each-on (plan_of t).slaves is same (λ k l. h k (omega (arith, l, many)));
+    }
+
+pub slaves_of : SlavesOfLaw
+slaves_of t sound free ss h =
+    let is = h.identities in
+    subst (AreGenuine (plan_of t).slaves) (sym h.are) (with-types t sound free is h.shown.one_each (of-types t sound free is h.shown))

@@ -65,7 +65,7 @@ unfoldable pub use Rattle.ec_start.specs.Running.{begun}
 pub use Rattle.ec_start.proofs.LawLemmas.{taken_plan}
 pub use Rattle.ec_start.proofs.Startable.{startable}
 pub use Rattle.ec_bringup.specs.Instants.{claim_of, Leads, AreAhead, AllMet, IsUnderWay, Instant, Between, UnderWay, Adrift, Over, IsReady, Starts, LaterLaw, TakeLaw, SlaveLaw, IsBetween, IsOver}
-pub use Rattle.ec_bringup.specs.Interface.{Rise, Stays, Climbs, Claim, Talk, Config, Stage, Before, Called, Down, Up, answered, IsOfKind, unviewed, HoldsZeros, IsConfigured, IsAssigned, Claims, IsSilent, Talks, IsInInit, IsIn, StaysIn, Rises, IsUpAt, AreClear, IsDownAt, Reached, IsGone, HadFault, Stands, IsSpelled, Rising, turned, turns, rising, Applied, Rests, Reads, Writes, AreApplied, TurnsTo, AppliedStays, Turns, no_claim, claimed, answered_by, talked_over, asked_all, prepared, is_idle, is_beginning, BeginningLaw, fresh, told, after, IsLow, frame_at, all_passed, all_met, ArePlans, AreDevices, IsUpAndWorks, IsOnItsWay, IsBroughtTo, BringUpRests, RunsOut, BringUpTurns, IsWriting, Arrives, IsOther, MayRepeat, Met, slot_claimed, MayEnd, plan_at, IsReachable, CanReach, end_of, IsIdentity, unplanned, slave_of, AppliedUpLaw, ComesUpLaw, CompiledUpLaw, Works, Shown, Working, Faulted, WasReset, IsStepUp, IsAsked, CompiledPlansLaw, IsNumbered, IsOffered, AreOffered, IsAssignable, IsComplete, carries, Fits, FrameLaw, with_passed, with_start, with_slave, Carried, Starting, no_slave, slave_at, trouble_at, kind_at, AreSlaves, IsDevice, with_begun, AreStartable, Happens, Sends, Passes, Loses, Returns, Strays, Closes, Serves, Puts, Gets, Faults, Resets, Runs, Stops, Steps, Begins, IsTrue, AreTrue, AgainLaw, IsFaulted, IsTop, IsGenuine, SwitchedOnLaw, DevicesLaw, RingLaw, IsUp, StaysStanding, CanTell, CanClimb, IsClimbing, climbing, HasAll, IsSent, IsClear, Untouched, ReadsOn, IsBroadcast, ShowsInit, if_mine, FitsMine, RoundLaw, IsFaultedAt, no_plan, with_sent, with_empty, with_lost, ends_of, HoldsAll, HasFault, StartUpLaw, IsNew, no_identity, switched_on as bringup_switched_on, AreIdentities, IsOfType, AreGenuine, SlavesOfLaw}
+pub use Rattle.ec_bringup.specs.Interface.{Rise, Stays, Climbs, Claim, Talk, Config, Stage, Before, Called, Down, Up, answered, IsOfKind, unviewed, HoldsZeros, IsConfigured, IsAssigned, Claims, IsSilent, Talks, IsInInit, IsIn, StaysIn, Rises, IsUpAt, AreClear, IsDownAt, Reached, IsGone, HadFault, Stands, IsSpelled, Rising, turned, turns, rising, Applied, Rests, Reads, Writes, AreApplied, TurnsTo, AppliedStays, Turns, no_claim, claimed, answered_by, talked_over, asked_all, prepared, is_idle, is_beginning, BeginningLaw, fresh, told, after, IsLow, frame_at, all_passed, all_met, ArePlans, AreDevices, IsUpAndWorks, IsOnItsWay, IsBroughtTo, BringUpRests, RunsOut, BringUpTurns, IsWriting, Arrives, IsOther, MayRepeat, Met, slot_claimed, MayEnd, plan_at, IsReachable, CanReach, end_of, IsIdentity, unplanned, slave_of, AppliedUpLaw, ComesUpLaw, CompiledUpLaw, Works, Shown, Working, Faulted, WasReset, IsStepUp, IsAsked, CompiledPlansLaw, IsNumbered, IsOffered, AreOffered, IsAssignable, IsComplete, carries, Fits, FrameLaw, with_passed, with_start, with_slave, Carried, Starting, no_slave, slave_at, trouble_at, kind_at, AreSlaves, IsDevice, with_begun, AreStartable, Happens, Sends, Passes, Loses, Returns, Strays, Closes, Serves, Puts, Gets, Faults, Resets, Runs, Stops, Steps, Begins, IsTrue, AreTrue, AgainLaw, IsFaulted, IsTop, IsGenuine, SwitchedOnLaw, DevicesLaw, RingLaw, IsUp, StaysStanding, CanTell, CanClimb, IsClimbing, climbing, HasAll, IsSent, IsClear, Untouched, ReadsOn, IsBroadcast, ShowsInit, if_mine, FitsMine, RoundLaw, IsFaultedAt, no_plan, with_sent, with_empty, with_lost, ends_of, HoldsAll, HasFault, StartUpLaw, IsNew, no_identity, switched_on as bringup_switched_on, AreIdentities, IsOfType, AreGenuine, AreOfTypes, IdentitiesLaw, TypedSlavesLaw, SlavesOfLaw}
 pub use Rattle.ec_bringup.specs.Stages.{told_at, FitsOne}
 pub use Rattle.ec_bringup.specs.Keeping.{StandingLaw, GoneLaw, ForOthersLaw}
 pub use Rattle.ec_bringup.specs.Turned.{IsBroughtUp, StandsUpLaw}

@@ -1,5 +1,5 @@
 -- Devices stay devices, whatever happens to them: so a start-up can be begun at any time over slaves that were devices once.
-use Rattle.std.specs.Prelude.{ℕ, ◌<◌, ◌≤◌, ◌≡◌, List, length, set, None, unwrap_or}
+use Rattle.std.specs.Prelude.{ℕ, ◌<◌, ◌≤◌, ◌≡◌, List, length, get_or, set, None, unwrap_or}
 use Rattle.ec_device.specs.declared.slave_type.Device.{Device}
 use Rattle.ec_device.specs.declared.slave_type.Identity.{Identity}
 use Rattle.ec_device.specs.Types.{SlaveKind}
@@ -15,7 +15,7 @@ use Rattle.ec_table.specs.Sound as table
 use Rattle.ec_link.specs.Faults.{compile_fault}
 use Rattle.ec_link.specs.Plan.{plan_of}
 use Rattle.ec_link.specs.declared.settings.SlavePlan.{SlavePlan}
-use Rattle.ec_bringup.specs.SwitchedOn.{AreSlavesOf}
+use Rattle.ec_bringup.specs.SwitchedOn.{no_identity, switched_on, AreIdentities, AreSlavesOf}
 use Rattle.ec_bringup.specs.Standing.{IsOfKind}
 use Rattle.ec_bringup.specs.Undisturbed.{plan_at, slave_of, AreDevices}
 use Rattle.ec_bringup.specs.ComesUp.{IsTrue}
@@ -73,6 +73,22 @@ pub record StayGenuine (ps : List SlavePlan) (ss : List SlaveState) : Type 0 whe
 abbrev pub RingLaw : Type 0
 RingLaw = (ps : List SlavePlan) (ss : List SlaveState) → AreGenuine ps ss → StayGenuine ps ss
 
--- The slaves of a table that `compile` accepts, as they are switched on, are devices of their types.
+-- ---- the slaves of a table
+
+-- each identity is that of a device of its slave's type
+abbrev pub AreOfTypes : Contents → List Identity → Type 0
+AreOfTypes t identities = (k : ℕ) → k < length t.slaves → IsOfType (plan_at (plan_of t).slaves k).kind.device (get_or identities k no_identity)
+
+-- The identities that a table says are so, where `compile` accepts it.
+abbrev pub IdentitiesLaw : Type 0
+IdentitiesLaw = (t : Contents) → table.IsSound t → compile_fault t ≡ None → (identities : List Identity) → AreIdentities t identities → AreOfTypes t identities
+
+-- The slaves that are switched on with such identities are devices of their types.
+abbrev pub TypedSlavesLaw : Type 0
+TypedSlavesLaw =
+    (t : Contents) → table.IsSound t → compile_fault t ≡ None → (identities : List Identity) → length identities ≡ length t.slaves → AreOfTypes t identities
+    → AreGenuine (plan_of t).slaves (switched_on (plan_of t).slaves identities)
+
+-- So are those that show what the table says.
 abbrev pub SlavesOfLaw : Type 0
 SlavesOfLaw = (t : Contents) → table.IsSound t → compile_fault t ≡ None → (ss : List SlaveState) → AreSlavesOf t ss → AreGenuine (plan_of t).slaves ss

@@ -3,7 +3,7 @@ pub use Rattle.ec_bringup.specs.Applied.{Applied, Rests, Reads, Writes, AreAppli
 pub use Rattle.ec_bringup.specs.BringUp.{rising, IsBroughtTo, Rests as BringUpRests, RunsOut, Turns as BringUpTurns}
 pub use Rattle.ec_bringup.specs.ComesUp.{IsUpAndWorks, IsOnItsWay, ComesUpLaw, CompiledUpLaw, CompiledPlansLaw, IsTrue, AreTrue, AgainLaw}
 pub use Rattle.ec_bringup.specs.Complete.{IsReachable, CanReach, IsIdentity, IsNumbered, IsOffered, AreOffered, IsAssignable, IsComplete, carries}
-pub use Rattle.ec_bringup.specs.Devices.{IsGenuine, SwitchedOnLaw, DevicesLaw, RingLaw, IsOfType, AreGenuine, SlavesOfLaw}
+pub use Rattle.ec_bringup.specs.Devices.{IsGenuine, SwitchedOnLaw, DevicesLaw, RingLaw, IsOfType, AreGenuine, AreOfTypes, IdentitiesLaw, TypedSlavesLaw, SlavesOfLaw}
 pub use Rattle.ec_bringup.specs.Frames.{IsWriting, Arrives, IsOther, MayRepeat, Met, MayEnd, Untouched, ReadsOn, IsBroadcast, ShowsInit}
 pub use Rattle.ec_bringup.specs.Keeping.{FrameLaw, StaysStanding}
 pub use Rattle.ec_bringup.specs.Runs.{is_idle, is_beginning, BeginningLaw, Works, Shown, Working, Faulted, WasReset, with_passed, with_start, with_slave, with_begun, AreStartable, Happens, Sends, Passes, Loses, Returns, Strays, Closes, Serves, Puts, Gets, Faults, Resets, Runs, Stops, Steps, Begins, with_sent, with_empty, with_lost, ends_of, HoldsAll, HasFault, StartUpLaw, IsNew, flags_sent}

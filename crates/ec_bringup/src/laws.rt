@@ -3,7 +3,7 @@
 ghost use Rattle.ec_bringup.specs.Keeping.{StandingLaw, GoneLaw, ForOthersLaw, FrameLaw};
 ghost use Rattle.ec_bringup.specs.Runs.{BeginningLaw, StartUpLaw};
 ghost use Rattle.ec_bringup.specs.Undisturbed.{RoundLaw};
-ghost use Rattle.ec_bringup.specs.Devices.{DevicesLaw, RingLaw, SlavesOfLaw, SwitchedOnLaw};
+ghost use Rattle.ec_bringup.specs.Devices.{DevicesLaw, IdentitiesLaw, RingLaw, SlavesOfLaw, SwitchedOnLaw, TypedSlavesLaw};
 ghost use Rattle.ec_bringup.specs.Applied.{AppliedUpLaw};
 ghost use Rattle.ec_bringup.specs.ComesUp.{AgainLaw, ComesUpLaw, CompiledPlansLaw, CompiledUpLaw};
 
@@ -71,10 +71,13 @@ pub fn frame()
     ensures { FrameLaw }
 {}
 
-/// A slave that was just switched on, with the identity of a device of its type, is a genuine device of the type. So the slaves of
-/// a table that `compile` accepts, as they are switched on, are genuine devices of their types.
+/// A slave that was just switched on, with the identity of a device of its type, is a genuine device of the type, and so are the
+/// slaves of a table that `compile` accepts, with such identities. The identities that the table says are those. So its slaves, as
+/// they are switched on, are genuine devices of their types.
 pub fn switched_on_slaves_are_devices()
     ensures one { SwitchedOnLaw }
+    ensures identities { IdentitiesLaw }
+    ensures typed { TypedSlavesLaw }
     ensures of_table { SlavesOfLaw }
 {}
 

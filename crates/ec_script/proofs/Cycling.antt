@@ -17,11 +17,12 @@ use Rattle.ec_world.specs.declared.event.Event.{Event}
 use Rattle.ec_world.specs.declared.event.Event.TheVariants.{StartNext, Set, Begin, Pass, Lose, Return, Close, Serve, AppPut, AppGet, Fault, Reset}
 use Rattle.ec_world.specs.Plain.{filled}
 use Rattle.ec_world.specs.World.{Flight, WorldState, IsStep, awaits, phase_awaits, phase_ready, flights_from, ByStart, Returns, StartReturns, GivesUp, Closes}
+use Rattle.ec_script.specs.declared.line.LineAction.TheVariants as act
 use Rattle.ec_script.specs.declared.said.LineOutput.{LineOutput}
 use Rattle.ec_script.specs.declared.said.LineOutput.TheVariants as said
 use Rattle.ec_script.specs.Events.{cycle_events, newest_slots, slots_sent}
 use Rattle.ec_script.specs.Rounds.{greatest, rounds, rounds_found, slots_with}
-use Rattle.ec_script.specs.Work.{MakesAll, RunsCycle, ends, is_done, said_of}
+use Rattle.ec_script.specs.Work.{Does, MakesAll, RunsCycle, ends, is_done, said_of}
 use Rattle.ec_script.proofs.Goes.{Goes, done_as_made}
 use Rattle.ec_script.proofs.Readying.{to_world, run_of, ready_law, AllOf, all_both, all_passes, on_done, told_done, last_of}
 use Rattle.ec_script.proofs.SlotsSent.{none_with, filled_none, cycle_found}
@@ -31,12 +32,13 @@ use Rattle.ec_link.specs.Plan.{PlanState, plan_of}
 use Rattle.ec_link.proofs.Soundness.{plan_sound}
 use Rattle.ec_start.specs.Scripts.{script}
 use Rattle.ec_world.specs.Undisturbed.{Rests, IsExchanged, round_of, rounds_of, cycle_of}
+use Rattle.ec_world.specs.NewWorld.{IsToStart}
 use Rattle.ec_world.specs.Whole.{IsNew}
-use Rattle.ec_world.proofs.ComingUp.{new_law, new_next}
+use Rattle.ec_world.proofs.ComingUp.{machine_law, new_law, new_next}
 use Rattle.ec_world.proofs.CycleMade.{cycle_made, free_there}
 use Rattle.ec_world.proofs.ScriptLengths.{script_fits}
 use Rattle.ec_world.proofs.Spoiled.{undisturbed_law}
-use Rattle.ec_script.specs.Promised.{IsReadied, CycleLaw, ReadyCycleLaw, TakenTextLaw, taken_unit, taken_units}
+use Rattle.ec_script.specs.Promised.{IsReadied, CycleLaw, MachineCycleLaw, ReadyCycleLaw, TakenTextLaw, taken_unit, taken_units}
 use Rattle.ec_text.specs.ReportText.{taken_text, unit_at, units_text}
 use Rattle.ec_script.proofs.Running.{cycle_goes}
 
@@ -253,8 +255,16 @@ rests t ids old mid n r =
       };
     }
 
-pub ready_cycle_law : ReadyCycleLaw
-ready_cycle_law t ids old mid new first second n d ready cycle =
-    let r = ready_law t old mid first (new_law t ids old n d) ready in
+-- in a new world in which a start-up may begin
+ready_cycle : (t : Contents) (ids : List Identity) (old mid new : WorldState) (first second : LineOutput) → IsNew t ids old → IsToStart t old → Does act.Ready old mid first → Does act.Cycle mid new second
+    → (first ≡ said.Ended) × IsReadied t old mid × (second ≡ said.Report) × IsExchanged t mid new (length (cycle_of t))
+ready_cycle t ids old mid new first second n starts ready cycle =
+    let r = ready_law t old mid first starts ready in
     let c = cycle_law t ids mid new second (rests t ids old mid n r.1) cycle in
     (r.0, r.1, c.0, c.1)
+
+pub ready_cycle_law : ReadyCycleLaw
+ready_cycle_law t ids old mid new first second n d = ready_cycle t ids old mid new first second n (new_law t ids old n d)
+
+pub machine_cycle_law : MachineCycleLaw
+machine_cycle_law t old mid new first second m = ready_cycle t m.identities old mid new first second m.new (machine_law t old m)

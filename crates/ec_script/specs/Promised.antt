@@ -10,7 +10,7 @@ use Rattle.ec_cycle.specs.Closing.{ReportState}
 use Rattle.ec_world.specs.declared.event.Event.{Event}
 use Rattle.ec_world.specs.World.{WorldState}
 use Rattle.ec_world.specs.Laws.{IsRun}
-use Rattle.ec_world.specs.Whole.{IsNew}
+use Rattle.ec_world.specs.Whole.{IsNew, IsOfMachine}
 use Rattle.ec_world.specs.NewWorld.{AreOfTypes, BringUp, IsToStart, IsBroughtUp}
 use Rattle.ec_world.specs.Undisturbed.{Rests, IsExchanged, cycle_of}
 use Rattle.ec_script.specs.declared.line.LineAction.TheVariants.{Ready, Cycle}
@@ -59,4 +59,10 @@ abbrev pub ReadyCycleLaw : Type 0
 ReadyCycleLaw =
     (t : Contents) (identities : List Identity) (old mid new : WorldState) (first second : LineOutput) → IsNew t identities old → AreOfTypes t identities
     → Does Ready old mid first → Does Cycle mid new second
+    → (first ≡ said.Ended) × IsReadied t old mid × (second ≡ said.Report) × IsExchanged t mid new (length (cycle_of t))
+
+-- A world that is made of a machine is so.
+abbrev pub MachineCycleLaw : Type 0
+MachineCycleLaw =
+    (t : Contents) (old mid new : WorldState) (first second : LineOutput) → IsOfMachine t old → Does Ready old mid first → Does Cycle mid new second
     → (first ≡ said.Ended) × IsReadied t old mid × (second ≡ said.Report) × IsExchanged t mid new (length (cycle_of t))

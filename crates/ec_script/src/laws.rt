@@ -1,6 +1,6 @@
 //! Laws of scripts. Each function does nothing: its contract is the law.
 ghost use Rattle.ec_script.specs.Events.{LinesRun, ScriptsRun};
-ghost use Rattle.ec_script.specs.Promised.{CycleLaw, ReadyCycleLaw, ReadyLaw, TakenTextLaw};
+ghost use Rattle.ec_script.specs.Promised.{CycleLaw, MachineCycleLaw, ReadyCycleLaw, ReadyLaw, TakenTextLaw};
 ghost use Rattle.ec_script.specs.Writing.{ActsReadBack};
 
 /// What a line does to a world is a run of the line's events, up to the first that can't be made; it says no exactly where
@@ -31,9 +31,11 @@ pub fn taken_is_printed()
     ensures { TakenTextLaw }
 {}
 
-/// `ready` and then `cycle` on a new world of devices: the start-up ends Ready, and the cycle is taken in every unit.
+/// `ready` and then `cycle` on a new world of devices, as one that is made of a machine is: the start-up ends Ready, and the cycle
+/// is taken in every unit.
 pub fn ready_and_cycle()
-    ensures { ReadyCycleLaw }
+    ensures devices { ReadyCycleLaw }
+    ensures machine { MachineCycleLaw }
 {}
 
 /// The line that is written for an act of a table's script is read as that act.

@@ -1,34 +1,10 @@
--- The slaves of a new world are devices of their types.
-use Rattle.ec_world.proofs.Words.{ℕ, zero, suc, ◌<◌, ◌≡◌, refl, sym, ◌∙◌, ap, arith, List, [], ◌∷◌, length, get_or, None, ◌+◌, ◌⊎◌, true, false, if◌then◌else◌, Option, Some, option_map, option_and_then, unwrap_or, slice_get, subst, inl, inr, ◌++◌, replicate, Identity, SlaveKind, plain_kind, device_identity, SlaveRow, TypeRow, table_kind_at as kind_at, identity_of, AreIdentities, slave_at, SlavePlan, plan_of, PlanState, plan_sound, IsOfType, IsGenuine, AreGenuine, plan_at, bringup_slave_of as slave_of, BringupRising as Rising, turns, genuine-on, stay, no_identity, bringup_switched_on as switched_on, Contents, compile_fault, AreOfTypes, IsTurn, AreTurns, BringUp, IsToStart, IsBroughtUp, NewLaw, MachineLaw, rising_of, append-nil, length-append, SlaveState, plan_usable, MasterState, readied, cycle_limit, StartError, Phase, Idle, Ready, Failed, script, StartState, begun, IsUpAndWorks, AreStartable, are-plans, compiled-up, Event, WorldState, Flight, flight_at, phase_ready, phase_awaits, is_up, awaits, resumed, ready_with, IsRun, IsNew, IsOfMachine, new_world, all_none, none_free, none_some, some_same}
-use Rattle.ec_table.specs.Sound as table
-use Rattle.ec_link.specs.Sound as link
+-- From a new world, and after a failure, a start-up that nothing disturbs ends Ready.
+use Rattle.ec_world.proofs.Words.{ℕ, zero, suc, ◌<◌, ◌≡◌, refl, sym, ◌∙◌, ap, arith, List, [], ◌∷◌, length, get_or, None, ◌+◌, ◌⊎◌, true, false, if◌then◌else◌, Option, subst, inl, inr, ◌++◌, replicate, Identity, SlavePlan, plan_of, PlanState, plan_sound, BringupRising as Rising, turns, stay, of-types, with-types, Contents, IsTurn, AreTurns, BringUp, IsToStart, IsBroughtUp, NewLaw, MachineLaw, rising_of, append-nil, length-append, SlaveState, plan_usable, MasterState, readied, cycle_limit, StartError, Phase, Idle, Ready, Failed, script, StartState, begun, IsUpAndWorks, AreStartable, are-plans, compiled-up, Event, WorldState, Flight, flight_at, phase_ready, phase_awaits, is_up, awaits, resumed, ready_with, IsRun, IsNew, new_world, all_none, none_free}
 use Rattle.ec_world.proofs.ScriptLengths.{script_fits}
 use Rattle.ec_world.proofs.Sized.{run_same}
-use Rattle.ec_world.proofs.Whole.{StillRises, still_rises, new-rises, new-low, on-count}
+use Rattle.ec_world.proofs.Whole.{StillRises, still_rises, new-rises, new-low}
 use Rattle.ec_world.proofs.Turning.{Sending, length-turned}
 use Rattle.ec_world.proofs.Turns.{HasTurned, turns_once}
-
-each-on : (ps : List SlavePlan) (is : List Identity) → length is ≡ length ps → ((k : ℕ) → k < length ps → IsOfType (plan_at ps k).kind.device (get_or is k no_identity))
-    → (k : ℕ) → k < length ps → IsGenuine (plan_at ps k).kind (slave_of (switched_on ps is) k)
-each-on [] is e h k l = absurd (omega (arith, l))
-each-on (p ∷ ps) [] e h k l = absurd (omega (arith, e))
-each-on (p ∷ ps) (i ∷ is) e h zero l = genuine-on p.kind i (h 0 (omega arith))
-each-on (p ∷ ps) (i ∷ is) e h (suc k) l = each-on ps is (omega (arith, e)) (λ n m. h (suc n) (omega (arith, m))) k (omega (arith, l))
-
-pub devices : (t : Contents) (is : List Identity) → table.IsSound t → compile_fault t ≡ None → length is ≡ length t.slaves → AreOfTypes t is
-    → AreGenuine (plan_of t).slaves (switched_on (plan_of t).slaves is)
-devices t is sound free e h =
-    let plan = plan_sound t sound free in
-    let many = plan.as_many in
-    let few = plan.few in
-    let same : length is ≡ length (plan_of t).slaves = e ∙ sym many in
-    record {
-      count = on-count (plan_of t).slaves is same;
-      few = omega (arith, few, many);
-      each = each-on (plan_of t).slaves is same (λ i l. h i (omega (arith, l, many)));
-    }
-
--- ---- a start-up that nothing disturbs ends Ready, in a new world and after a failure
 
 -- ---- turn after turn
 
@@ -160,7 +136,7 @@ risen t w s low =
     let usable = plan_usable t n.sound n.accepted in
     still_rises s.events (plan_of t).slaves (new_world (plan_of t) s.identities) w s.made _ usable planned
     (new-rises (plan_of t) s.identities usable planned (n.one_each ∙ sym ((plan_sound t n.sound n.accepted).as_many))) (new-low (plan_of t) s.identities)
-    (devices t s.identities n.sound n.accepted n.one_each s.devices)
+    (with-types t n.sound n.accepted s.identities n.one_each s.devices)
     (subst (λ (x : WorldState). IsRun x s.events w s.made) n.is s.reached) low
 
 -- what holds where a start-up is to begin
@@ -252,31 +228,5 @@ new_law t identities w n d = record {
 
 -- ---- a world of a machine
 
--- what the slave of a row shows
-abbrev row_shows : Contents → Option SlaveRow → Option Identity
-row_shows t o = option_and_then (λ (r : SlaveRow). option_map (λ (y : TypeRow). device_identity y.device r.serial) (slice_get t.types r.type_place)) o
-
-by_type : (t : Contents) (i serial : ℕ) (o : Option TypeRow) (k : SlaveKind) (x : Identity) → k ≡ unwrap_or (option_map (kind_at t i) o) plain_kind
-    → option_map (λ (y : TypeRow). device_identity y.device serial) o ≡ Some x → IsOfType k.device x
-by_type t i serial None k x kind shown = absurd (none_some x shown)
-by_type t i serial (Some y) k x kind shown =
-    let is : device_identity y.device serial ≡ x = some_same (device_identity y.device serial) x shown in
-    record {
-      vendor = sym (ap (λ (z : Identity). z.vendor) is) ∙ sym (ap (λ (z : SlaveKind). z.device.vendor) kind);
-      product = sym (ap (λ (z : Identity). z.product) is) ∙ sym (ap (λ (z : SlaveKind). z.device.product) kind);
-      revision = sym (ap (λ (z : Identity). z.revision) is) ∙ sym (ap (λ (z : SlaveKind). z.device.revision) kind);
-    }
-
-by_row : (t : Contents) → link.IsSound t (plan_of t) → (i : ℕ) (x : Identity) → identity_of t i ≡ Some x → (o : Option SlaveRow) → slice_get t.slaves i ≡ o → IsOfType (slave_at (plan_of t) i).kind.device x
-by_row t sound i x shown None e = absurd (none_some x (sym (ap (row_shows t) e) ∙ shown))
-by_row t sound i x shown (Some r) e =
-    by_type t i r.serial (slice_get t.types r.type_place) (slave_at (plan_of t) i).kind x
-    ((sound.each i r e).kind ∙ ap (λ (o : Option SlaveRow). unwrap_or (option_map (kind_at t i) (option_and_then (λ (q : SlaveRow). slice_get t.types q.type_place) o)) plain_kind) e)
-    (sym (ap (row_shows t) e) ∙ shown)
-
--- the identities that a table says are those of devices of its types
-are_of_types : (t : Contents) (identities : List Identity) → table.IsSound t → compile_fault t ≡ None → AreIdentities t identities → AreOfTypes t identities
-are_of_types t is sound free shown i l = by_row t (plan_sound t sound free) i (get_or is i no_identity) (shown.each i l) (slice_get t.slaves i) refl
-
 pub machine_law : MachineLaw
-machine_law t w m = new_law t m.identities w m.new (are_of_types t m.identities m.new.sound m.new.accepted m.shown)
+machine_law t w m = new_law t m.identities w m.new (of-types t m.new.sound m.new.accepted m.identities m.shown)

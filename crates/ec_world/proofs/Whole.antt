@@ -6,7 +6,7 @@ use Rattle.ec_world.proofs.StepLaws.{runs_show}
 
 -- ---- a new world
 
-pub on-count : (ps : List SlavePlan) (is : List Identity) → length is ≡ length ps → length (switched_on ps is) ≡ length ps
+on-count : (ps : List SlavePlan) (is : List Identity) → length is ≡ length ps → length (switched_on ps is) ≡ length ps
 on-count [] is e = refl
 on-count (p ∷ ps) [] e = absurd (omega (arith, e))
 on-count (p ∷ ps) (i ∷ is) e = ap (λ (n : ℕ). suc n) (on-count ps is (omega (arith, e)))

@@ -34,8 +34,6 @@ pub use Rattle.ec_slave.proofs.RegisterAccess.{shows_itself, retold_by_place}
 pub use Rattle.ec_slave.proofs.StayWhole.{stay_whole}
 pub use Rattle.ec_slave.proofs.SwitchedOn.{switched_on, on_whole}
 pub use Rattle.ec_ring.specs.Rings.{IsPassedAt, passes_ring}
-pub use Rattle.ec_table.specs.declared.rows.TypeRow.{TypeRow}
-pub use Rattle.ec_table.specs.Objects.{kind_at as table_kind_at, identity_of}
 pub use Rattle.ec_link.specs.declared.image.Variable.{Variable}
 pub use Rattle.ec_link.specs.declared.plan.ExpectedCounters.{ExpectedCounters}
 pub use Rattle.ec_link.specs.declared.plan.ExpectedCounters.TheVariants.{Lrw, Split}
@@ -64,11 +62,11 @@ pub use Rattle.ec_start.proofs.ScriptLengths.{scripts_are_short}
 pub use Rattle.ec_bringup.specs.Instants.{Starts, Between, UnderWay, Adrift, Over, IsReady}
 pub use Rattle.ec_bringup.specs.Interface.{IsOfType, IsGenuine, AreGenuine, plan_at, slave_of as bringup_slave_of, Rising as BringupRising, turns, no_identity, switched_on as bringup_switched_on, IsUpAndWorks, AreStartable, trouble_at, no_plan, is_beginning, end_of, IsOfKind, unviewed, Config, Starting, kind_at, ends_of, HoldsAll, Shown, Carried, flags_sent, with_begun, with_slave as with_slave_at, Sends as SendsNext, Passes as PassesOne, Loses as LosesOne, Returns as ReturnsOne, Strays, Closes as ClosesOne, Serves as BringupServes, Puts as PutsOne, Gets as GetsOne, Faults, Resets, all_passed, all_met, turned, IsRound, AreSlaves}
 pub use Rattle.ec_bringup.specs.Slots.{IsCarried}
-pub use Rattle.ec_bringup.specs.SwitchedOn.{AreIdentities}
 pub use Rattle.ec_bringup.proofs.ComesUp.{compiled-up}
 pub use Rattle.ec_bringup.proofs.CompleteLaws.{are-plans}
 pub use Rattle.ec_bringup.proofs.Decodes.{fmmus-held}
-pub use Rattle.ec_bringup.proofs.Genuine.{switched_on as genuine-on, stay, stays}
+pub use Rattle.ec_bringup.proofs.Genuine.{stay, stays}
+pub use Rattle.ec_bringup.proofs.OfTable.{of-types, with-types}
 pub use Rattle.ec_bringup.proofs.Resets.{power_on_is}
 pub use Rattle.ec_bringup.proofs.Rounds.{round}
 pub use Rattle.ec_bringup.proofs.Theorem.{ready-shown, taken-plan, happens-starts, begun-starts, frame-passes}
@@ -85,7 +83,7 @@ pub use Rattle.ec_world.specs.Headline.{HeadlineShows, Says, IsMade, IsBegun as 
 pub use Rattle.ec_world.specs.Held.{AreFrames, cycle_frames, AreOfPlan, IsAnswered, IsTakenIn, IsHandedIn}
 pub use Rattle.ec_world.specs.Laws.{IsRun, BringsWord, notes_round, SlavesFrom, RoundTrip, word_past, in_op, CycleLaw, StepsShow, RunsShow, RunsJoin, StepShows}
 pub use Rattle.ec_world.specs.Lengths.{IsOfLength}
-pub use Rattle.ec_world.specs.NewWorld.{AreOfTypes, IsTurn, AreTurns, BringUp, IsToStart, IsBroughtUp, NewLaw, MachineLaw, rising_of, IsRest, Passes as NewWorldPasses, Returns as NewWorldReturns, Serves, Ends, servings, TurnLaw}
+pub use Rattle.ec_world.specs.NewWorld.{IsTurn, AreTurns, BringUp, IsToStart, IsBroughtUp, NewLaw, MachineLaw, rising_of, IsRest, Passes as NewWorldPasses, Returns as NewWorldReturns, Serves, Ends, servings, TurnLaw}
 pub use Rattle.ec_world.specs.Plain.{Plain, PlainSlave, Health, Working, Faulted, Reset, plain_slave, no_plain_slave, is_working, failing, restarting, at_slave, is_reset, got_byte, PlainFrame, Cycle, unit_full, step, run, frame_at, filled, new_frames, progress_of, moved, keeping, with_note, met_note, all_progress, is_older, lets_by, may_pass, may_return, Note, Other, Short, Full, is_full, all_full, noted_bit, notes_of_part, taken_bit, inputs_taken, linked_outputs, with_slot, giving, met_slave, passing, losing, taking, setting, beginning, closing, Closed, returning}
 pub use Rattle.ec_world.specs.Promises.{IsBegun, IsClosedAs, IsCounted, FallsShort, QuietLaw, unit_of_slave, is_of_unit, holds_of_unit, still_comes, is_awaited, disturbs, IsNoted, IsMissed, NotBack, FellShort, IsNotedAt, IsQuiet as PromisesIsQuiet, AreLinked, SnapshotsLaw, WorkingLaw, has_outputs_for, IsPublished, OutputsLaw, NotesLaw, InputsLaw, PublishedLaw, TakenLaw, HasNoFrame}
 pub use Rattle.ec_world.specs.Rising.{Rising, SlotsHold, seen_of, IsInSlot}
@@ -94,7 +92,7 @@ pub use Rattle.ec_world.specs.Shows.{Shows, CyclesShow, CycleShows, said, Counte
 pub use Rattle.ec_world.specs.SlaveShows.{IsQuiet, Holds, IsWorking, IsFaulted, IsReset, IsAs, SlaveShows, HoldsData}
 pub use Rattle.ec_world.specs.Slots.{HavePassed, AreInUse, way_behind, AreFreeFrom, HasPassed, HasWay, no_end, HoldsFrame}
 pub use Rattle.ec_world.specs.Undisturbed.{rounds_of, IsAtRest, Rests, round_of, cycle_of, IsSpoiled, LossLaw, EarlyLaw, ShortLaw, IsExchanged, UndisturbedLaw}
-pub use Rattle.ec_world.specs.Whole.{IsNew, IsOfMachine, plain_of, new_world, Told, no_trouble, slot_count, flags_after, flags_of, IsReadyWorld, health_of, plain_slave_of, ShowsZeros, HasStarted, NotYet, Started, WholeLaw, CompiledLaw}
+pub use Rattle.ec_world.specs.Whole.{IsNew, plain_of, new_world, Told, no_trouble, slot_count, flags_after, flags_of, IsReadyWorld, health_of, plain_slave_of, ShowsZeros, HasStarted, NotYet, Started, WholeLaw, CompiledLaw}
 pub use Rattle.ec_world.specs.World.{WorldState, slave_of, no_slave, with_slave, Puts, Gets, is_up, flight_at, flight_progress, IsStep, Flight, phase_ready, phase_awaits, awaits, resumed, ready_with, flights_from, flights_progress, Passes, ByStart, GivesUp, Closes, can_start, StartReturns, Returns, Begins, can_begin, Happens, is_slave, can_happen, Sends}
 pub use Rattle.ec_world.specs.declared.event.Event.{Event}
 pub use Rattle.ec_world.specs.declared.event.Event.TheVariants.{Begin, Close, Pass, Return, Lose, Fault, Reset as ResetSlave, StartNext, Set, Serve, AppPut, AppGet}

@@ -3,24 +3,18 @@ use Rattle.std.specs.Prelude.{ℕ, zero, suc, ◌+◌, ◌<◌, ◌≤◌, ◌�
 use Rattle.ec_device.specs.declared.slave_type.Identity.{Identity}
 use Rattle.ec_table.specs.Contents.{Contents}
 use Rattle.ec_link.specs.Plan.{plan_of}
-use Rattle.ec_link.specs.Meaning.{slave_at}
 use Rattle.ec_start.specs.declared.error.StartError.{StartError}
 use Rattle.ec_start.specs.declared.phase.Phase.TheVariants.{Failed}
 use Rattle.ec_start.specs.Scripts.{script}
 use Rattle.ec_start.specs.Running.{begun, last_number}
-use Rattle.ec_bringup.specs.SwitchedOn.{no_identity}
 use Rattle.ec_bringup.specs.Undisturbed.{Rising}
 use Rattle.ec_bringup.specs.ComesUp.{IsUpAndWorks}
-use Rattle.ec_bringup.specs.Devices.{IsOfType}
+pub use Rattle.ec_bringup.specs.Devices.{AreOfTypes}
 use Rattle.ec_world.specs.declared.event.Event.{Event}
 use Rattle.ec_world.specs.declared.event.Event.TheVariants.{StartNext, Pass, Return, Serve}
 use Rattle.ec_world.specs.World.{WorldState, flight_at, is_up}
 use Rattle.ec_world.specs.Laws.{IsRun}
 use Rattle.ec_world.specs.Whole.{IsNew, IsOfMachine}
-
--- each identity is that of a device of its slave's type
-abbrev pub AreOfTypes : Contents → List Identity → Type 0
-AreOfTypes t identities = (i : ℕ) → i < length t.slaves → IsOfType (slave_at (plan_of t) i).kind.device (get_or identities i no_identity)
 
 -- ---- a frame that nothing disturbs
 
