@@ -74,7 +74,7 @@ impl Machine {
     ///
     /// # Errors
     ///
-    /// The table's first fault, as `compile` tells it, or `LinkError::Memory`.
+    /// The table's first fault, as `compile` tells it, or `LinkError::Memory`. The table is lost then.
     pub fn new(alloc: Global, table: Table) -> Result<Machine, LinkError>
         ensures machine { IfOk result (λ m. m ≡ table) }
         ensures accepted { OnOk result (compile_fault table ≡ None) }

@@ -16,9 +16,8 @@ pub mod InOrder
 pub mod Meets
 -- the parts of a type as the reader finds them, each with its ranges, beside the limits of a slave's type
 pub mod Ranges
--- what was read is sound
+-- what was read is sound: values and rows, and the whole
 pub mod SoundReads
--- what was read is sound
 pub mod SoundRows
 -- how many entries and bits a slave's objects have
 pub mod ObjectLemmas
@@ -26,11 +25,9 @@ pub mod ObjectLemmas
 pub mod Shown
 -- each fault of an element carries the element's place
 pub mod Placed
--- a sound table, written out, is read
+-- a sound table, written out, is read: values, rows, and the whole
 pub mod Written
--- a sound table, written out, is read
 pub mod WrittenRows
--- a sound table, written out, is read
 pub mod WrittenWhole
 -- a section, element by element
 pub mod ElementByElement

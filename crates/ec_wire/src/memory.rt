@@ -44,7 +44,7 @@ impl MemoryWire {
     ///
     /// # Errors
     ///
-    /// `AllocError` where memory was refused.
+    /// `AllocError` where there is no memory. The slaves are lost then.
     pub fn new(
         alloc: Global,
         ring: Ring,

@@ -44,7 +44,7 @@ impl OwnMaster {
     ///
     /// # Errors
     ///
-    /// `AllocError` where memory was refused.
+    /// `AllocError` where there is no memory. The plan is lost then: who needs it again compiles its table once more.
     pub fn new(alloc: Global, plan: Plan) -> Result<OwnMaster, AllocError>
         requires { IsUsable plan }
         ensures { IfOk result (λ m. m ≡ new_master plan) }
