@@ -5,12 +5,14 @@ mod cycles;
 mod fakes;
 mod machines;
 mod rounds;
+mod sizes;
 mod startups;
 mod tables;
 mod trials;
 
 use self::calls::{expect_calls, expect_memory};
 use self::machines::assert_same;
+use self::sizes::expect_size;
 use self::tables::{FULL_TABLE, THREE_SLAVES};
 use self::trials::expect_trials;
 use ec_cycle::CycleError;
@@ -32,6 +34,15 @@ fn three_slaves(rt: HostRuntime) {
 #[test]
 fn many_slaves(rt: HostRuntime) {
     expect_trials(&rt, FULL_TABLE, "faults of many");
+}
+
+// There is memory for a wire to each number of slaves, with room for one payload and for thousands.
+#[test]
+fn wires_of_all_sizes(rt: HostRuntime) {
+    for slaves in 1..=64 {
+        expect_size(&rt, slaves, 1);
+        expect_size(&rt, slaves, usize::from(slaves) * 100);
+    }
 }
 
 // A payload past the room is a fault, and so is a receive where nothing is on its way. The wire has room for one payload, and no

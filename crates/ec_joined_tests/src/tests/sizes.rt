@@ -79,6 +79,24 @@ pub fn table_of_size(rt: &(impl AllocGlobal + Abort), slaves: u64, count: u64) -
     text
 }
 
+/// A link that no table may have, and one that no slave of these has an entry for.
+pub const BAD_LINKS: [&str; 2] = [
+    "[[link]]\nvar = \"o0\"\nslave = \"s0\"\nindex = 0x7000\nsubb = 1\n",
+    "[[link]]\nvar = \"o0\"\nslave = \"s0\"\nindex = 0x7000\nsub = 2\n",
+];
+
+/// A table of so many slaves, each bit of which is linked, so many bits a link, and behind them another link.
+pub fn table_with_link(
+    rt: &(impl AllocGlobal + Abort),
+    slaves: u64,
+    count: u64,
+    link: &str,
+) -> String {
+    let mut table = table_of_size(rt, slaves, count);
+    table.push_str(link).expect(rt, "memory");
+    table
+}
+
 /// Adds a comment to a text, so that it is so many bytes long; none where it has more.
 fn fill_up(text: &mut String, len: usize) -> Result<(), AllocError> {
     text.push_str("#")?;

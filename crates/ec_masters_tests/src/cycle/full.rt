@@ -1,8 +1,12 @@
 //! Cycles whose frames are as long as a frame can be: 1470 bytes behind the header, 1472 in all.
 use crate::cycle::steps::Step::{Begins, Closes, Keeps, Next, Ready, Sends, Sets};
 use crate::cycle::steps::expect_steps;
+use ec_cycle::OwnMaster;
 use ec_link::ExpectedCounters::{Lrw, Split};
+use ec_link::compile;
+use ec_table::read_table;
 use std::alloc::{AllocError, Global};
+use std::process::Abort;
 use std::test::Fail;
 
 /// One variable is the last byte of the sixth slave, one is the bit of the seventh.
@@ -168,7 +172,16 @@ fn push_variables(text: &mut String, count: usize) -> Result<(), AllocError> {
     Ok(())
 }
 
-// There is memory for a master of each number of slaves, each with as many outputs as a slave may have.
+/// There is memory for a master that owns the plan of this table, whose inputs have so many bytes.
+fn expect_own(rt: &(impl AllocGlobal + Abort), text: &str, bytes: usize) {
+    let table = read_table(rt.alloc(), text).expect(rt, "a table");
+    let plan = compile(rt.alloc(), &table).expect(rt, "a plan");
+    let master = OwnMaster::new(rt.alloc(), plan).expect(rt, "memory");
+    assert_eq!(rt; master.inputs().len(), bytes);
+}
+
+// There is memory for a master of each number of slaves, each with as many outputs as a slave may have; whether it owns its plan
+// or not.
 #[test]
 fn masters_of_all_sizes(rt: HostRuntime) -> Result<(), Fail> {
     let slaves = [2048; 64];
@@ -176,6 +189,7 @@ fn masters_of_all_sizes(rt: HostRuntime) -> Result<(), Fail> {
         let mut table = table_of(rt.alloc(), &slaves[..count], true, "")?;
         push_variables(&mut table, count)?;
         expect_steps(&rt, table.as_str(), &[Next(0)])?;
+        expect_own(&rt, table.as_str(), 8 * count);
     }
     Ok(())
 }
