@@ -18,7 +18,7 @@ use Rattle.ec_commands.specs.Explaining.{MayTell, is_explained}
 use Rattle.ec_loop.specs.Looping.{RunsLoop}
 use Rattle.ec_commands.specs.Passing.{RunsPass}
 use Rattle.ec_commands.specs.Planning.{RunsPlan, form_of}
-use Rattle.ec_console.specs.Printing.{IsTold, Shows}
+use Rattle.ec_console.specs.Printing.{FaultState, IsTold, Shows}
 use Rattle.ec_console.specs.Refusals.{line_of, status_of}
 use Rattle.ec_console.specs.Capturing.{EndsWith}
 use Rattle.ec_live.specs.Living.{RunsLive}
@@ -37,21 +37,30 @@ pub record Stream : Type 0 where
   pub old : Option (List ℕ)
   pub new : Option (List ℕ)
 
+-- what the fault stream is before and after
+pub record Telling : Type 0 where
+  pub old : FaultState
+  pub new : FaultState
+
+-- nothing is printed
+abbrev pub IsBlank : Stream → Type 0
+IsBlank output = output.new ≡ output.old
+
 -- nothing is told of a command while it runs
-abbrev pub IsQuiet : Stream → Type 0
+abbrev pub IsQuiet : Telling → Type 0
 IsQuiet told = told.new ≡ told.old
 
 -- `ecat segment` on a port; or on the card whose socket has a descriptor, where one is given, and nothing is told
-abbrev pub RunsSegmentOn : (descriptor : Option ℕ) → (frames port : ℕ) → SlaveForm → (given : Option (List ℕ)) → (output told : Stream) → Result Unit Refusal → Type 0
+abbrev pub RunsSegmentOn : (descriptor : Option ℕ) → (frames port : ℕ) → SlaveForm → (given : Option (List ℕ)) → (output : Stream) → (told : Telling) → Result Unit Refusal → Type 0
 RunsSegmentOn None frames port form given output told ended = RunsSegment frames port form given output.old output.new told.old told.new ended
 RunsSegmentOn (Some descriptor) frames port form given output told ended = RunsCardSegment frames form given output.old output.new ended × IsQuiet told
 
 -- nothing is printed or told
-abbrev pub IsStill : (output told : Stream) → Type 0
-IsStill output told = IsQuiet output × IsQuiet told
+abbrev pub IsStill : Stream → Telling → Type 0
+IsStill output told = IsBlank output × IsQuiet told
 
 -- and with a capture, if its file is named
-abbrev pub RunsSegmentAt : (descriptor : Option ℕ) → (frames port : ℕ) → SlaveForm → (file : Option (List ℕ)) → (given : Option (List ℕ)) → (output told : Stream) → Result Unit Refusal → Type 0
+abbrev pub RunsSegmentAt : (descriptor : Option ℕ) → (frames port : ℕ) → SlaveForm → (file : Option (List ℕ)) → (given : Option (List ℕ)) → (output : Stream) → (told : Telling) → Result Unit Refusal → Type 0
 RunsSegmentAt descriptor frames port form file given output told ended =
     EndsWith file (RunsSegmentOn descriptor frames port form given output told) (IsStill output told) ended
 
@@ -62,10 +71,10 @@ RunsLines true explained given output ended = RunsLive (reasons_of explained) gi
 
 -- `ecat master`, which tells why lines can't be done, where reasons are told, with a capture if its file is named
 abbrev pub RunsMasterWith : Reasons → (file : Option (List ℕ)) → (given : Option (List ℕ)) → (output : Stream) → Result Unit Refusal → Type 0
-RunsMasterWith reasons file given output ended = EndsWith file (λ ended. RunsMaster reasons given output.old output.new ended) (IsQuiet output) ended
+RunsMasterWith reasons file given output ended = EndsWith file (λ ended. RunsMaster reasons given output.old output.new ended) (IsBlank output) ended
 
 -- what a command does with the output, and what is told of it while it runs, by what the input gives, where that is known
-abbrev pub Runs : Command → (given : Option (List ℕ)) → (output told : Stream) → Result Unit Refusal → Type 0
+abbrev pub Runs : Command → (given : Option (List ℕ)) → (output : Stream) → (told : Telling) → Result Unit Refusal → Type 0
 Runs (PassOf slaves text) given output told ended = RunsPass slaves text output.old output.new ended × IsQuiet told
 Runs (PlanOf header explained) given output told ended = RunsPlan (form_of header explained) given output.old output.new ended × IsQuiet told
 Runs (DecodeOf table explained) given output told ended = RunsDecodeWith table (names_of explained) given output.old output.new ended × IsQuiet told
@@ -90,19 +99,19 @@ LeavesAlone (SegmentOf frames port descriptor full idle capture explained) input
 LeavesAlone (MasterOf to descriptor patience capture explained) input_old input_new app_old app_new = app_new ≡ app_old
 
 -- the exit status of a run, and what is told of it: a refusal's line
-abbrev pub Tells : Stream → ℕ → Result Unit Refusal → Type 0
+abbrev pub Tells : Telling → ℕ → Result Unit Refusal → Type 0
 Tells faults status (Ok done) = (status ≡ 0) × (faults.new ≡ faults.old)
 Tells faults status (Err refusal) = (status ≡ status_of refusal) × IsTold (line_of refusal) faults.old faults.new
 
 -- the same of a run that may explain a refusal: what is told begins with its line, and behind that there is more
-abbrev pub TellsWith : List ℕ → Stream → ℕ → Result Unit Refusal → Type 0
+abbrev pub TellsWith : List ℕ → Telling → ℕ → Result Unit Refusal → Type 0
 TellsWith more faults status (Ok done) = (status ≡ 0) × (faults.new ≡ faults.old)
 TellsWith more faults status (Err refusal) = (status ≡ status_of refusal) × IsTold (line_of refusal ++ more) faults.old faults.new
 
 -- how a run ends that was asked for a command, or that has to tell something in place of one
-abbrev pub Ends : Result Request Notice → (given : Option (List ℕ)) → (output faults : Stream) → ℕ → Type 0
+abbrev pub Ends : Result Request Notice → (given : Option (List ℕ)) → (output : Stream) → (faults : Telling) → ℕ → Type 0
 Ends (Ok request) given output faults status =
-    (ended : Result Unit Refusal) × (noted : Option (List ℕ)) × (more : List ℕ) × Runs (command_of request) given output (record { old = faults.old; new = noted }) ended
+    (ended : Result Unit Refusal) × (noted : FaultState) × (more : List ℕ) × Runs (command_of request) given output (record { old = faults.old; new = noted }) ended
     × MayTell (is_explained (command_of request)) more × TellsWith more (record { old = noted; new = faults.new }) status ended
 Ends (Err notice.Memory) given output faults status = (output.new ≡ output.old) × Tells faults status (Err Memory)
 Ends (Err (notice.Help text)) given output faults status = (ended : Result Unit Refusal) × Shows (string_bytes text) output.old output.new ended × Tells faults status ended
@@ -138,14 +147,14 @@ abbrev pub given_words : IntoIter (String Global) Global → List (List ℕ)
 given_words given = map string_bytes (into_iter_items given)
 
 -- what is told of arguments that can't be read, by the error that the system gave: that memory ran out, or that one isn't text
-abbrev pub TellsUnread : Error → (faults : Stream) → ℕ → Type 0
+abbrev pub TellsUnread : Error → (faults : Telling) → ℕ → Type 0
 TellsUnread error faults status =
     ((error_kind error ≡ OutOfMemory) × Tells faults status (Err Memory))
     ⊎ ((error_kind error ≢ OutOfMemory) × (status ≡ 2) × IsTold not_text faults.old faults.new)
 
 -- how a run ends to which the system gave these arguments: as with them; or, where memory runs out before they are read or
 -- they can't be read, with nothing read or printed, and what is told in its place
-abbrev pub EndsGiven : {R : Type 0} → Result (IntoIter (String Global) Global) Error → (known : Option (List ℕ)) → (input_old input_new : R) → (output faults : Stream) → ℕ → Type 0
+abbrev pub EndsGiven : {R : Type 0} → Result (IntoIter (String Global) Global) Error → (known : Option (List ℕ)) → (input_old input_new : R) → (output : Stream) → (faults : Telling) → ℕ → Type 0
 EndsGiven (Ok given) known input_old input_new output faults status =
     ((read : Result Request Notice) × Reads (given_words given) read × Ends read known output faults status × EndsUnread read input_old input_new)
     ⊎ ((input_new ≡ input_old) × (output.new ≡ output.old) × Tells faults status (Err Memory))

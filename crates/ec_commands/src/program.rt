@@ -4,7 +4,7 @@ ghost use Rattle.std.specs.Vec.Iter.{into_iter_items};
 ghost use Rattle.ec_commands.specs.Running.{EndsGiven, TellsUnread};
 
 use crate::run::run_command;
-use ec_console::{Refusal, tell_and_end, tell_text};
+use ec_console::{FaultStream, Refusal};
 use ec_wire::Echo;
 use std::alloc::{AllocError, Global};
 use std::env::Args;
@@ -20,16 +20,16 @@ const NOT_TEXT: &str = "error: an argument of the command line isn't text\n";
 /// Runs the program `ecat` on the arguments that `std::env::args` gives, as `run_command` does, and
 /// answers its exit status. Slaves that it simulates show their outputs as their inputs. Where an
 /// argument isn't text the status is 2, as for others that ask for no command.
-pub fn run_program<H: AllocGlobal + Net + Files + Clock, R: Read, W: Write, F: Write>(
+pub fn run_program<H: AllocGlobal + Net + Files + Clock, R: Read, W: Write, F: Write + Drop>(
     rt: &H,
     given: io::Result<Args>,
     input: &mut R,
     output: &mut W,
-    faults: &mut F,
+    faults: &mut FaultStream<F>,
 ) -> u8
     ensures ends { EndsGiven given (R.remaining input.old) input.old input.new
         (record { old = W.contents output.old; new = W.contents output.new })
-        (record { old = F.contents faults.old; new = F.contents faults.new }) result }
+        (record { old = faults.old; new = faults.new }) result }
     ensures status { Contains (0 ∷ 2 ∷ 3 ∷ 4 ∷ 5 ∷ []) result }
     ensures unprinted { result ≡ 2 → output.new ≡ output.old }
 {
@@ -39,20 +39,20 @@ pub fn run_program<H: AllocGlobal + Net + Files + Clock, R: Read, W: Write, F: W
     };
     match collected(rt.alloc(), given) {
         Ok(args) => run_command(rt, args.as_slice(), input, output, faults, &mut Echo),
-        Err(_) => tell_and_end(&Refusal::Memory, faults),
+        Err(_) => faults.tell_and_end(&Refusal::Memory),
     }
 }
 
 /// Tells that the arguments can't be read, by the system's error, and answers the exit status.
-fn tell_unread<F: Write>(error: &io::Error, faults: &mut F) -> u8
+fn tell_unread<F: Write + Drop>(error: &io::Error, faults: &mut FaultStream<F>) -> u8
     ensures tells { TellsUnread error.now
-        (record { old = F.contents faults.old; new = F.contents faults.new }) result }
+        (record { old = faults.old; new = faults.new }) result }
     ensures status { Contains (2 ∷ 3 ∷ []) result }
 {
     if error.kind() == ErrorKind::OutOfMemory {
-        return tell_and_end(&Refusal::Memory, faults);
+        return faults.tell_and_end(&Refusal::Memory);
     }
-    tell_text(NOT_TEXT.as_bytes(), faults);
+    faults.tell_text(NOT_TEXT.as_bytes());
     2
 }
 

@@ -12,7 +12,7 @@ use crate::pass::print_pass;
 use crate::plan::{PlanForm, print_plan};
 use ec_annotate::Names;
 use ec_args::{Notice, Request, read_args};
-use ec_console::{Explanation, Refusal, print_text, tell_and_end, tell_explained, tell_text};
+use ec_console::{Explanation, FaultStream, Refusal, print_text};
 use ec_live::print_live;
 use ec_loop::{capture_loop, print_loop};
 use ec_master::{Connection, capture_master, print_master};
@@ -48,12 +48,18 @@ struct SegmentPlace {
 /// for one, and a fault in writing it changes nothing.
 ///
 /// Simulated slaves take their inputs from `app`, and a command that reads a text reads `input`.
-pub fn run_command<H: AllocGlobal + Net + Files + Clock, S: AsStr, R: Read, W: Write, F: Write>(
+pub fn run_command<
+    H: AllocGlobal + Net + Files + Clock,
+    S: AsStr,
+    R: Read,
+    W: Write,
+    F: Write + Drop,
+>(
     rt: &H,
     args: &[S],
     input: &mut R,
     output: &mut W,
-    faults: &mut F,
+    faults: &mut FaultStream<F>,
     app: &mut dyn App,
 ) -> u8
     // What `clap`'s specification finds in the arguments decides how the run ends, and what it
@@ -61,7 +67,7 @@ pub fn run_command<H: AllocGlobal + Net + Files + Clock, S: AsStr, R: Read, W: W
     ensures ends { (read : Result RequestValue NoticeValue) × Reads (map S.text args.now) read
         × Ends read (R.remaining input.old)
         (record { old = W.contents output.old; new = W.contents output.new })
-        (record { old = F.contents faults.old; new = F.contents faults.new }) result
+        (record { old = faults.old; new = faults.new }) result
         × EndsAlone read input.old input.new app.old app.new }
     ensures status { Contains (0 ∷ 2 ∷ 3 ∷ 4 ∷ 5 ∷ []) result }
     ensures unprinted { result ≡ 2 → output.new ≡ output.old }
@@ -71,17 +77,17 @@ pub fn run_command<H: AllocGlobal + Net + Files + Clock, S: AsStr, R: Read, W: W
 
 /// Ends a run whose arguments were read: runs the command, or tells what there is to tell in its
 /// place, and answers the exit status.
-fn end_run<H: AllocGlobal + Net + Files + Clock, R: Read, W: Write, F: Write>(
+fn end_run<H: AllocGlobal + Net + Files + Clock, R: Read, W: Write, F: Write + Drop>(
     rt: &H,
     read: Result<Request<'_>, Notice>,
     input: &mut R,
     output: &mut W,
-    faults: &mut F,
+    faults: &mut FaultStream<F>,
     app: &mut dyn App,
 ) -> u8
     ensures ends { Ends read.entry (R.remaining input.old)
         (record { old = W.contents output.old; new = W.contents output.new })
-        (record { old = F.contents faults.old; new = F.contents faults.new }) result }
+        (record { old = faults.old; new = faults.new }) result }
     ensures alone { EndsAlone read.entry input.old input.new app.old app.new }
     ensures status { Contains (0 ∷ 2 ∷ 3 ∷ 4 ∷ 5 ∷ []) result }
     ensures unprinted { result ≡ 2 → output.new ≡ output.old }
@@ -96,7 +102,7 @@ fn end_run<H: AllocGlobal + Net + Files + Clock, R: Read, W: Write, F: Write>(
         Err(Notice::Memory) => exit_status(Err(Refusal::Memory), faults),
         Err(Notice::Help(text)) => exit_status(print_text(text.as_bytes(), output), faults),
         Err(Notice::Usage(text)) => {
-            tell_text(text.as_bytes(), faults);
+            faults.tell_text(text.as_bytes());
             2
         }
     }
@@ -112,24 +118,28 @@ fn explain_fault(alloc: Global, ended: &Result<(), Refusal>, behind: &mut Explan
 }
 
 /// The exit status of a run, a refusal of which is told with more behind its line.
-fn explained_status<F: Write>(ended: Result<(), Refusal>, more: &[u8], faults: &mut F) -> u8
-    ensures { TellsWith more.now (record { old = F.contents faults.old; new = F.contents faults.new })
+fn explained_status<F: Write + Drop>(
+    ended: Result<(), Refusal>,
+    more: &[u8],
+    faults: &mut FaultStream<F>,
+) -> u8
+    ensures { TellsWith more.now (record { old = faults.old; new = faults.new })
         result ended }
 {
     match ended {
         Ok(()) => 0,
-        Err(refusal) => tell_explained(&refusal, more, faults),
+        Err(refusal) => faults.tell_explained(&refusal, more),
     }
 }
 
 /// The exit status of a run. A refusal is told; a fault in telling it changes nothing.
-fn exit_status<F: Write>(ended: Result<(), Refusal>, faults: &mut F) -> u8
-    ensures { Tells (record { old = F.contents faults.old; new = F.contents faults.new })
+fn exit_status<F: Write + Drop>(ended: Result<(), Refusal>, faults: &mut FaultStream<F>) -> u8
+    ensures { Tells (record { old = faults.old; new = faults.new })
         result ended }
 {
     match ended {
         Ok(()) => 0,
-        Err(refusal) => tell_and_end(&refusal, faults),
+        Err(refusal) => faults.tell_and_end(&refusal),
     }
 }
 
@@ -149,18 +159,18 @@ fn is_explained(request: &Request<'_>) -> bool
 
 /// Runs one command. The application and sockets are for the commands that simulate slaves or serve
 /// them; the fault stream is for what is told of a command while it runs.
-fn run_request<H: AllocGlobal + Net + Files + Clock, R: Read, W: Write, F: Write>(
+fn run_request<H: AllocGlobal + Net + Files + Clock, R: Read, W: Write, F: Write + Drop>(
     rt: &H,
     request: Request<'_>,
     input: &mut R,
     output: &mut W,
-    faults: &mut F,
+    faults: &mut FaultStream<F>,
     app: &mut dyn App,
     behind: &mut Explanation,
 ) -> Result<(), Refusal>
     ensures runs { Runs (command_of request.entry) (R.remaining input.old)
         (record { old = W.contents output.old; new = W.contents output.new })
-        (record { old = F.contents faults.old; new = F.contents faults.new }) result }
+        (record { old = faults.old; new = faults.new }) result }
     ensures alone { LeavesAlone (command_of request.entry) input.old input.new app.old app.new }
     ensures explains { IsLeft behind.old behind.new }
 {
@@ -204,19 +214,19 @@ fn run_request<H: AllocGlobal + Net + Files + Clock, R: Read, W: Write, F: Write
 }
 
 /// Runs a command that is one end of a wire, with the other end in another process.
-fn run_connected<H: AllocGlobal + Net + Files + Clock, R: Read, W: Write, F: Write>(
+fn run_connected<H: AllocGlobal + Net + Files + Clock, R: Read, W: Write, F: Write + Drop>(
     rt: &H,
     request: Request<'_>,
     input: &mut R,
     output: &mut W,
-    faults: &mut F,
+    faults: &mut FaultStream<F>,
     app: &mut dyn App,
     behind: &mut Explanation,
 ) -> Result<(), Refusal>
     requires { Connects (command_of request) }
     ensures runs { Runs (command_of request.entry) (R.remaining input.old)
         (record { old = W.contents output.old; new = W.contents output.new })
-        (record { old = F.contents faults.old; new = F.contents faults.new }) result }
+        (record { old = faults.old; new = faults.new }) result }
     ensures alone { LeavesAlone (command_of request.entry) input.old input.new app.old app.new }
     ensures explains { IsLeft behind.old behind.new }
 {
@@ -280,20 +290,20 @@ fn run_master<H: AllocGlobal + Net + Files + Clock, R: Read, W: Write>(
 }
 
 /// Runs `ecat segment`, on a port or a card, with a capture or without.
-fn run_segment<H: AllocGlobal + Net + Files + Clock, R: Read, W: Write, F: Write>(
+fn run_segment<H: AllocGlobal + Net + Files + Clock, R: Read, W: Write, F: Write + Drop>(
     rt: &H,
     frames: u32,
     place: SegmentPlace,
     capture: Option<&str>,
     input: &mut R,
     output: &mut W,
-    faults: &mut F,
+    faults: &mut FaultStream<F>,
     app: &mut dyn App,
     behind: &mut Explanation,
 ) -> Result<(), Refusal>
     ensures runs { RunsSegmentAt place.descriptor frames place.port place.form (option_map (λ file. file.now) capture.entry)
         (R.remaining input.old) (record { old = W.contents output.old; new = W.contents output.new })
-        (record { old = F.contents faults.old; new = F.contents faults.new }) result }
+        (record { old = faults.old; new = faults.new }) result }
     ensures explains { IsLeft behind.old behind.new }
 {
     let (port, form, idle) = (place.port, place.form, place.idle);

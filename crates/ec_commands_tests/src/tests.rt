@@ -7,7 +7,7 @@ mod serials;
 mod streams;
 
 use self::streams::{Sink, Source, sink_of, source_of};
-use ec_commands::{App, UdpWire, print_text, read_text, run_command};
+use ec_commands::{App, FaultStream, UdpWire, print_text, read_text, run_command};
 use ec_examples::THREE_SLAVES;
 use std::fs::Files;
 use std::net::Net;
@@ -41,6 +41,14 @@ fn fault_writes(wrong: &str) -> u32 {
     }
 }
 
+/// Whether a write to it is refused.
+fn refuses(wrong: &str) -> bool {
+    matches!(
+        wrong,
+        "full faults" | "faults of one write" | "stuck faults"
+    )
+}
+
 /// The input of a run.
 fn input_of<'a>(wrong: &str, text: &'a str) -> Source<'a> {
     let mut source = source_of(text);
@@ -66,16 +74,19 @@ fn is_as(seen: &[u8], wanted: &str) -> bool {
     }
 }
 
-/// Compares how a run ended: its exit status, what it printed and told, and that a stream that isn't handed on was to be, once.
-fn expect_ended(rt: &impl Abort, run: &Run, status: u8, output: &Sink, faults: &Sink) {
+/// Compares how a run ended: its exit status, what it printed and told, that a stream that isn't handed on was to be, once, and
+/// whether a write to the fault stream was refused.
+fn expect_ended(rt: &impl Abort, run: &Run, status: u8, output: &Sink, faults: FaultStream<Sink>) {
     let (wrong, args, _, wanted, printed, told) = *run;
+    let is_refused = faults.is_refused();
+    let faults = faults.into_stream();
     let stuck = u32::from(output.is_stuck) + u32::from(faults.is_stuck);
     let refused = output.refused.saturating_add(faults.refused);
     let is_printed = is_as(output.taken.as_slice(), printed);
     let is_told = is_as(faults.taken.as_slice(), told);
     assert_eq!(rt;
-        (status, refused, is_printed, is_told),
-        (wanted, stuck, true, true),
+        (status, refused, is_printed, is_told, is_refused),
+        (wanted, stuck, true, true, refuses(wrong)),
         "{wrong}: {args}"
     );
 }
@@ -84,9 +95,10 @@ fn expect_ended(rt: &impl Abort, run: &Run, status: u8, output: &Sink, faults: &
 fn expect_args<H: AllocGlobal + Net + Files + Clock + Abort>(rt: &H, args: &[&str], run: &Run) {
     let mut input = input_of(run.0, run.2);
     let mut output = sink_of(rt.alloc(), output_writes(run.0), run.0 == "stuck output");
-    let mut faults = sink_of(rt.alloc(), fault_writes(run.0), run.0 == "stuck faults");
+    let sink = sink_of(rt.alloc(), fault_writes(run.0), run.0 == "stuck faults");
+    let mut faults = FaultStream::new(sink);
     let status = run_args(rt, args, &mut input, &mut output, &mut faults);
-    expect_ended(rt, run, status, &output, &faults);
+    expect_ended(rt, run, status, &output, faults);
 }
 
 /// Runs the program. It promises nothing, so what calls it is quickly checked.
@@ -95,7 +107,7 @@ fn run_args<H: AllocGlobal + Net + Files + Clock>(
     args: &[&str],
     input: &mut Source<'_>,
     output: &mut Sink,
-    faults: &mut Sink,
+    faults: &mut FaultStream<Sink>,
 ) -> u8 {
     run_command(rt, args, input, output, faults, &mut Idle)
 }

@@ -1,8 +1,8 @@
 -- Streams that grow in steps.
-use Rattle.std.proofs.Common.{◌≡◌, ◌∙◌, ℕ, zero, suc, ◌+◌, ◌-◌, ◌≤◌, List, [], ◌∷◌, ◌++◌, length, take, drop, Option, None, Some, refl, sym, ap, subst, append_assoc, zero-add, arith, Result, Ok, Err, IfErr, OnOk, OnErr}
+use Rattle.std.proofs.Common.{◌≡◌, ◌∙◌, inl, inr, ℕ, zero, suc, ◌+◌, ◌-◌, ◌≤◌, List, [], ◌∷◌, ◌++◌, length, take, drop, Option, None, Some, refl, sym, ap, subst, append_assoc, zero-add, arith, Result, Ok, Err, IfErr, OnOk, OnErr}
 use Rattle.std.specs.Io.KnownBytes.{Appends, Keeps}
 use Rattle.std.proofs.lemmas.List.{append-nil}
-use Rattle.ec_console.specs.Printing.{AppendsPart, IsTold, Shows}
+use Rattle.ec_console.specs.Printing.{AppendsPart, FaultState, IsTold, IsToldInPart, IsToldWhole, Shows}
 use Rattle.ec_console.specs.declared.refusal.Refusal.{Refusal}
 use Rattle.ec_console.specs.declared.refusal.Refusal.TheVariants.{Output}
 
@@ -78,14 +78,6 @@ pub shown : (r : Result Unit Refusal) (old new : Option (List ℕ)) (text : List
 shown (Ok done) old new text all part fault = all
 shown (Err refusal) old new text all part fault = (fault, part)
 
--- what it leaves is told, whatever came of it
-pub told : (r : Result Unit Refusal) (old new : Option (List ℕ)) (text : List ℕ) → OnOk r (Appends old new text) → OnErr r (AppendsPart old new text)
-    → IfErr r (λ e. e ≡ Output) → IsTold text old new
-told r old new text all part fault = record { ended = r; shows = shown r old new text all part fault }
-
-pub told_by : (r : Result Unit Refusal) (old new : Option (List ℕ)) (text : List ℕ) → Shows text old new r → IsTold text old new
-told_by r old new text shows = record { ended = r; shows = shows }
-
 pub if_err : {T E P : Type 0} (r : Result T E) → P → OnErr r P
 if_err (Ok x) p = tt
 if_err (Err e) p = p
@@ -98,10 +90,10 @@ part_of_both (suc n) (x ∷ xs) more =
     let rest = part_of_both n xs more in
     (suc rest.0, ap (λ l. x ∷ l) rest.1)
 
-pub told_first : (old new : Option (List ℕ)) (text more : List ℕ) (refusal : Refusal) → Shows text old new (Err refusal) → IsTold (text ++ more) old new
-told_first old new text more refusal shows =
-    let part = part_of_both shows.1.0 text more in
-    record { ended = Err refusal; shows = (shows.0, (part.0, subst (Appends old new) (sym part.1) shows.1.1)) }
+pub part_of_more : (old new : FaultState) (text more : List ℕ) → IsToldInPart text old new → IsTold (text ++ more) old new
+part_of_more old new text more cut =
+    let part = part_of_both cut.part.0 text more in
+    inr (record { refused = cut.refused; part = (part.0, subst (Appends old.holds new.holds) (sym part.1) cut.part.1) })
 
 -- and where all of it is told, so is a first part of what is behind it
 part_behind : (text more : List ℕ) (n : ℕ) → text ++ take n more ≡ take (length text + n) (text ++ more)
@@ -110,11 +102,12 @@ part_behind (x ∷ xs) more n =
     let e : suc (length xs) + n ≡ suc (length xs + n) = omega arith in
     rw e (ap (λ l. x ∷ l) (part_behind xs more n))
 
-more_shown : (r : Result Unit Refusal) (old mid new : Option (List ℕ)) (text more : List ℕ) → Appends old mid text → Shows more mid new r → Shows (text ++ more) old new r
-more_shown (Ok done) old mid new text more first then = appends_more old mid new text more first then
-more_shown (Err refusal) old mid new text more first then =
-    let both : Appends old new (text ++ take then.1.0 more) = appends_more old mid new text (take then.1.0 more) first then.1.1 in
-    (then.0, (length text + then.1.0, subst (Appends old new) (part_behind text more then.1.0) both))
-
-pub told_both : (old mid new : Option (List ℕ)) (text more : List ℕ) → Appends old mid text → IsTold more mid new → IsTold (text ++ more) old new
-told_both old mid new text more first then = record { ended = then.ended; shows = more_shown then.ended old mid new text more first then.shows }
+pub told_both : (old mid new : FaultState) (text more : List ℕ) → IsToldWhole text old mid → IsTold more mid new → IsTold (text ++ more) old new
+told_both old mid new text more first (inl then) = inl (record {
+  bytes = appends_more old.holds mid.holds new.holds text more first.bytes then.bytes;
+  refused = then.refused ∙ first.refused;
+})
+told_both old mid new text more first (inr then) =
+    let count : ℕ = then.part.0 in
+    let both : Appends old.holds new.holds (text ++ take count more) = appends_more old.holds mid.holds new.holds text (take count more) first.bytes then.part.1 in
+    inr (record { refused = then.refused; part = (length text + count, subst (Appends old.holds new.holds) (part_behind text more count) both) })

@@ -1,5 +1,5 @@
--- What a command leaves on the output.
-use Rattle.std.specs.Prelude.{◌≡◌, ◌⊎◌, ℕ, List, take, Option, Result, Ok, Err}
+-- What a command leaves on the output, and what is told on the fault stream.
+use Rattle.std.specs.Prelude.{◌≡◌, ◌⊎◌, ℕ, Bool, true, List, take, Option, Result, Ok, Err}
 use Rattle.std.specs.Io.KnownBytes.{Appends}
 use Rattle.ec_console.specs.declared.refusal.Refusal.{Refusal}
 use Rattle.ec_console.specs.declared.refusal.Refusal.TheVariants.{Output}
@@ -13,14 +13,30 @@ abbrev pub Shows : List ℕ → Option (List ℕ) → Option (List ℕ) → Resu
 Shows text old new (Ok done) = Appends old new text
 Shows text old new (Err refusal) = (refusal ≡ Output) × AppendsPart old new text
 
--- a text is told, all of it unless a write was refused; whether one was changes nothing else
-pub record IsTold (text : List ℕ) (old new : Option (List ℕ)) : Type 0 where
-  pub ended : Result Unit Refusal
-  pub shows : Shows text old new ended
-
 -- a command that prints its answer as a whole: it is printed; or a write was refused, and a first part of it is printed;
 -- or the command is refused, and nothing is printed
 abbrev pub Prints : (List ℕ → Type 0) → (Refusal → Type 0) → Option (List ℕ) → Option (List ℕ) → Result Unit Refusal → Type 0
 Prints Answers Refuses old new (Ok done) = (text : List ℕ) × Answers text × Appends old new text
 Prints Answers Refuses old new (Err refusal) =
     (Refuses refusal × (new ≡ old)) ⊎ ((refusal ≡ Output) × ((text : List ℕ) × Answers text × AppendsPart old new text))
+
+-- ---- the fault stream
+
+-- what a fault stream holds, where that is known, and whether a write to it was ever refused
+pub record FaultState : Type 0 where
+  pub holds : Option (List ℕ)
+  pub is_refused : Bool
+
+-- all of a text stands on it once more, and no write was refused
+pub record IsToldWhole (text : List ℕ) (old new : FaultState) : Type 0 where
+  pub bytes : Appends old.holds new.holds text
+  pub refused : new.is_refused ≡ old.is_refused
+
+-- a write was refused, and a first part of the text stands there
+pub record IsToldInPart (text : List ℕ) (old new : FaultState) : Type 0 where
+  pub refused : new.is_refused ≡ true
+  pub part : AppendsPart old.holds new.holds text
+
+-- A text is told: all of it, unless a write was refused. Whether one was changes nothing else.
+abbrev pub IsTold : (text : List ℕ) → (old new : FaultState) → Type 0
+IsTold text old new = IsToldWhole text old new ⊎ IsToldInPart text old new

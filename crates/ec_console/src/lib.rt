@@ -5,6 +5,7 @@
 
 mod captures;
 mod explain;
+mod faults;
 mod input;
 mod machine;
 mod printing;
@@ -14,7 +15,8 @@ pub use crate::captures::{
     Capture, Recording, close_capture, finish_recording, open_capture, open_segment,
 };
 pub use crate::explain::Explanation;
+pub use crate::faults::FaultStream;
 pub use crate::input::read_text;
 pub use crate::machine::read_machine;
-pub use crate::printing::{print_text, tell, tell_and_end, tell_explained, tell_text};
+pub use crate::printing::print_text;
 pub use crate::refusal::{Refusal, end_of};

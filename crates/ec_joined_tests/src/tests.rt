@@ -10,9 +10,9 @@ use self::cycles::write_cycles;
 use self::names::with_names;
 use self::scripts::{new_world, plan_text_of, write_answers};
 use self::seeds::{Seeded, of_seed};
-use self::sizes::{filled_up, repeated, room_for, table_of_size};
+use self::sizes::{BAD_LINKS, filled_up, repeated, room_for, table_of_size, table_with_link};
 use self::texts::with_number;
-use ec_commands::run_command;
+use ec_commands::{FaultStream, run_command};
 use ec_link::Machine;
 use ec_wire::Echo;
 use std::fs::Files;
@@ -60,12 +60,12 @@ const TEXT: &str = r#"frame 2
 fn run<H: AllocGlobal + Net + Files + Clock>(rt: &H, args: &[&str], input: &str) -> Ended {
     let mut input = input.as_bytes();
     let mut printed: Vec<u8> = Vec::new(rt.alloc());
-    let mut told: Vec<u8> = Vec::new(rt.alloc());
-    let status = run_command(rt, args, &mut input, &mut printed, &mut told, &mut Echo);
+    let mut faults: FaultStream<Vec<u8>> = FaultStream::new(Vec::new(rt.alloc()));
+    let status = run_command(rt, args, &mut input, &mut printed, &mut faults, &mut Echo);
     Ended {
         status,
         printed,
-        told,
+        told: faults.into_stream(),
     }
 }
 
@@ -267,6 +267,46 @@ fn expect_size<H: AllocGlobal + Net + Files + Clock + Abort>(
     expect_run(rt, number, &SIM, input.as_str(), (0, printed, ""));
 }
 
+/// Whether what a run told begins so, and has these words.
+fn is_told(ended: &Ended, first: &str, words: &str) -> bool {
+    match str::from_utf8(ended.told.as_slice()) {
+        Ok(told) => told.starts_with(first) && told.contains(words),
+        Err(_) => false,
+    }
+}
+
+/// A table of so many slaves with this link behind all others is refused by this line, and that is explained in these words.
+fn expect_explained<H: AllocGlobal + Net + Files + Clock + Abort>(
+    rt: &H,
+    slaves: u64,
+    count: u64,
+    link: &str,
+    (line, words): (&str, &str),
+) {
+    let table = table_with_link(rt, slaves, count, link);
+    let links = slaves.saturating_mul(2).saturating_mul(16 / count.max(1));
+    let line = with_number(rt, line, "#", links);
+    let ended = run(rt, &EXPLAINED, table.as_str());
+    let is_told = is_told(&ended, line.as_str(), words);
+    assert_eq!(rt;
+        (slaves, count, ended.status, is_told),
+        (slaves, count, 3, true)
+    );
+}
+
+/// Refusals of a table and of its plan are explained, whatever the size.
+fn expect_explanations<H: AllocGlobal + Net + Files + Clock + Abort>(
+    rt: &H,
+    slaves: u64,
+    count: u64,
+) {
+    let key = ("ecat: 12 BadKey 4 #\n", "`subb` is no key of a link");
+    let entry = ("ecat: 17 NoEntry #\n", "slave s0 has no output 0x7000:2");
+    let [bad_key, no_entry] = BAD_LINKS;
+    expect_explained(rt, slaves, count, bad_key, key);
+    expect_explained(rt, slaves, count, no_entry, entry);
+}
+
 /// How the plan of a table of size begins, if it has slaves.
 const FIRST: &str = "slave 0 part 0 out 16 in 16\n..";
 
@@ -276,6 +316,7 @@ fn each_number_of_slaves_has_room(rt: HostRuntime) {
     expect_size(&rt, 0, 16, "part 0 ..");
     for slaves in 1..=64 {
         expect_size(&rt, slaves, 16, FIRST);
+        expect_explanations(&rt, slaves, 16);
     }
 }
 
@@ -283,6 +324,7 @@ fn each_number_of_slaves_has_room(rt: HostRuntime) {
 fn each_number_of_links_has_room(rt: HostRuntime) {
     for bits in [1, 2, 4, 8] {
         expect_size(&rt, 64, bits, FIRST);
+        expect_explanations(&rt, 64, bits);
     }
 }
 

@@ -40,7 +40,7 @@ use Rattle.ec_console.specs.declared.refusal.Refusal.TheVariants as refusal
 use Rattle.ec_loop.specs.Looping.{AreRun, CanCycle, EndsEarly, EndsUnwritten, IsCycleRefusal, IsNeverRun, IsRunEnd, IsSoFar, IsStartRefusal, IsUnbound, IsUp, Loops, LoopsText, RunsCycles, cycles_text, output_put, outputs_put, ports_line, ready_line, with_outputs}
 use Rattle.ec_loop.specs.Stages.{IsCut, LoopsOnSockets}
 use Rattle.ec_console.specs.Given.{IsTableRefusal}
-use Rattle.ec_console.specs.Printing.{AppendsPart, IsTold}
+use Rattle.ec_console.specs.Printing.{AppendsPart, FaultState, IsTold}
 use Rattle.ec_console.proofs.PrintLemmas.{appends_more, appends_nothing}
 
 -- ---- start-ups
@@ -484,7 +484,7 @@ loop_started r cycles t p first before between after old new plan up runs = inl 
 -- ---- over sockets
 
 -- a refusal before anything is told, also where a call passes it on
-pub never_run : (r : Result Unit Refusal) (x : Refusal) (Refuses : Refusal → Type 0) (known quiet : Option (List ℕ)) → IsErrAnd r (λ e. e ≡ x) → Refuses x → IsNeverRun Refuses known known quiet quiet r
+pub never_run : (r : Result Unit Refusal) (x : Refusal) (Refuses : Refusal → Type 0) (known : Option (List ℕ)) (quiet : FaultState) → IsErrAnd r (λ e. e ≡ x) → Refuses x → IsNeverRun Refuses known known quiet quiet r
 never_run (Ok done) x Refuses known quiet is h = absurd is
 never_run (Err e) x Refuses known quiet is h = (e, refl, subst Refuses (sym is) h, refl, refl)
 
@@ -504,10 +504,10 @@ ports_spelled b0 b1 b2 b3 b4 b5 one two end m s master segment e0 e1 e2 e3 e4 e5
     e5 ∙ (ap (λ (x : List ℕ). x ++ end) fourth_part ∙ (append_assoc ((one ++ decimal master) ++ two) (decimal segment) end
     ∙ (append_assoc (one ++ decimal master) two (decimal segment ++ end) ∙ append_assoc one (decimal master) (two ++ (decimal segment ++ end)))))
 
-pub no_wire : (r : Result Unit Refusal) (x : Refusal) (cycles : ℕ) (t : Contents) (known quiet : Option (List ℕ)) → IsErrAnd r (λ e. e ≡ x) → IsUnbound x → LoopsOnSockets cycles t known known quiet quiet r
+pub no_wire : (r : Result Unit Refusal) (x : Refusal) (cycles : ℕ) (t : Contents) (known : Option (List ℕ)) (quiet : FaultState) → IsErrAnd r (λ e. e ≡ x) → IsUnbound x → LoopsOnSockets cycles t known known quiet quiet r
 no_wire r x cycles t known quiet is h = inr (never_run r x IsUnbound known quiet is h)
 
-pub looped_between : (r : Result Unit Refusal) (cycles : ℕ) (t : Contents) (slaves : List SlaveState) (sockets : Ports) (ports : ℕ × ℕ) (before after : ℕ) (old new quiet told : Option (List ℕ))
+pub looped_between : (r : Result Unit Refusal) (cycles : ℕ) (t : Contents) (slaves : List SlaveState) (sockets : Ports) (ports : ℕ × ℕ) (before after : ℕ) (old new : Option (List ℕ)) (quiet told : FaultState)
     → AreSlavesOf t slaves → ports ≡ (sockets.master, sockets.segment) → IsTold (ports_line ports.0 ports.1) quiet told → Loops cycles t (silent before) (silent after) old new r
     → LoopsOnSockets cycles t old new quiet told r
 looped_between r cycles t slaves sockets ports before after old new quiet told are same line runs = inl (record {
@@ -520,13 +520,13 @@ looped_between r cycles t slaves sockets ports before after old new quiet told a
   runs = runs;
 })
 
-pub looped : (cycles : ℕ) (text : List ℕ) (t : Contents) (old new quiet told : Option (List ℕ)) (r : Result Unit Refusal) → StatesMachine text t
+pub looped : (cycles : ℕ) (text : List ℕ) (t : Contents) (old new : Option (List ℕ)) (quiet told : FaultState) (r : Result Unit Refusal) → StatesMachine text t
     → LoopsOnSockets cycles t old new quiet told r → LoopsText cycles text old new quiet told r
 looped cycles text t old new quiet told r states (inl loops) = inl (t, states, loops)
 looped cycles text t old new quiet told r states (inr (x, is, why, kept, mute)) = inr (x, is, inr why, kept, mute)
 
 -- a text that states none
-pub unstated : (r : Result Unit Refusal) (x : Refusal) (cycles : ℕ) (text : List ℕ) (known quiet : Option (List ℕ)) → IsErrAnd r (λ e. e ≡ x) → IsTableRefusal text x → LoopsText cycles text known known quiet quiet r
+pub unstated : (r : Result Unit Refusal) (x : Refusal) (cycles : ℕ) (text : List ℕ) (known : Option (List ℕ)) (quiet : FaultState) → IsErrAnd r (λ e. e ≡ x) → IsTableRefusal text x → LoopsText cycles text known known quiet quiet r
 unstated r x cycles text known quiet is why = inr (never_run r x (λ refusal. IsTableRefusal text refusal ⊎ IsUnbound refusal) known quiet is (inl why))
 
 -- cycles over a wire whose payloads are noted are cycles over the wire

@@ -27,7 +27,7 @@ use Rattle.ec_text.specs.ReportText.{report_text}
 use Rattle.ec_console.specs.declared.refusal.Refusal.{Refusal}
 use Rattle.ec_console.specs.declared.refusal.Refusal.TheVariants.{Memory, Start, Run, Socket, Output}
 use Rattle.ec_console.specs.Given.{GivesText, IsInputRefusal, IsTableRefusal}
-use Rattle.ec_console.specs.Printing.{AppendsPart, IsTold}
+use Rattle.ec_console.specs.Printing.{AppendsPart, FaultState, IsTold}
 
 -- ---- lines
 
@@ -159,7 +159,7 @@ ports_line master segment = codes "ecat: loop between 127.0.0.1:" ++ (decimal ma
 
 -- Two sockets of this process, with the table's slaves at one of them, just switched on: the ports are told, and then the
 -- cycles run over them. Sockets tell no payload, so what they carried is any.
-pub record LoopsBetween (cycles : ℕ) (t : Contents) (old new quiet told : Option (List ℕ)) (ended : Result Unit Refusal) : Type 0 where
+pub record LoopsBetween (cycles : ℕ) (t : Contents) (old new : Option (List ℕ)) (quiet told : FaultState) (ended : Result Unit Refusal) : Type 0 where
   pub slaves : List SlaveState
   pub are : AreSlavesOf t slaves
   pub ports : Ports
@@ -170,7 +170,7 @@ pub record LoopsBetween (cycles : ℕ) (t : Contents) (old new quiet told : Opti
   pub runs : Loops cycles t (silent before) (silent after) old new ended
 
 -- it is refused, and nothing is printed or told
-abbrev pub IsNeverRun : (Refusal → Type 0) → (old new quiet told : Option (List ℕ)) → Result Unit Refusal → Type 0
+abbrev pub IsNeverRun : (Refusal → Type 0) → (old new : Option (List ℕ)) → (quiet told : FaultState) → Result Unit Refusal → Type 0
 IsNeverRun Refuses old new quiet told ended = (refusal : Refusal) × (ended ≡ Err refusal) × Refuses refusal × (new ≡ old) × (told ≡ quiet)
 
 -- no memory for the slaves, or no sockets
@@ -178,13 +178,13 @@ abbrev pub IsUnbound : Refusal → Type 0
 IsUnbound refusal = (refusal ≡ Memory) ⊎ (refusal ≡ Socket)
 
 -- cycles of the table that a text states; or it is refused, or there are no sockets
-abbrev pub LoopsText : ℕ → List ℕ → (old new quiet told : Option (List ℕ)) → Result Unit Refusal → Type 0
+abbrev pub LoopsText : ℕ → List ℕ → (old new : Option (List ℕ)) → (quiet told : FaultState) → Result Unit Refusal → Type 0
 LoopsText cycles text old new quiet told ended =
     ((t : Contents) × StatesMachine text t × LoopsBetween cycles t old new quiet told ended)
     ⊎ IsNeverRun (λ refusal. IsTableRefusal text refusal ⊎ IsUnbound refusal) old new quiet told ended
 
 -- the same of what the input gives; or the input is refused
-abbrev pub RunsLoop : ℕ → Option (List ℕ) → (old new quiet told : Option (List ℕ)) → Result Unit Refusal → Type 0
+abbrev pub RunsLoop : ℕ → Option (List ℕ) → (old new : Option (List ℕ)) → (quiet told : FaultState) → Result Unit Refusal → Type 0
 RunsLoop cycles known old new quiet told ended =
     ((text : List ℕ) × GivesText known text × LoopsText cycles text old new quiet told ended)
     ⊎ IsNeverRun (IsInputRefusal known) old new quiet told ended

@@ -4,6 +4,7 @@ use Rattle.ec_table.specs.Contents.{Contents}
 use Rattle.ec_cycle.specs.Master.{MasterState}
 use Rattle.ec_wire.specs.Wires.{WireState}
 use Rattle.ec_console.specs.declared.refusal.Refusal.{Refusal}
+use Rattle.ec_console.specs.Printing.{FaultState}
 use Rattle.ec_loop.specs.Looping.{EndsEarly, EndsUnwritten, IsNeverRun, IsSoFar, IsUnbound, LoopsBetween}
 
 -- the cycles of a master are cut short
@@ -11,5 +12,5 @@ abbrev pub IsCut : ℕ → Contents → MasterState → (before after : WireStat
 IsCut cycles t first before after old new refusal = EndsEarly cycles t first before after old new refusal ⊎ EndsUnwritten (IsSoFar cycles t first before after) old new refusal
 
 -- the cycles of a table; or there is no memory for its slaves, or no sockets
-abbrev pub LoopsOnSockets : ℕ → Contents → (old new quiet told : Option (List ℕ)) → Result Unit Refusal → Type 0
+abbrev pub LoopsOnSockets : ℕ → Contents → (old new : Option (List ℕ)) → (quiet told : FaultState) → Result Unit Refusal → Type 0
 LoopsOnSockets cycles t old new quiet told ended = LoopsBetween cycles t old new quiet told ended ⊎ IsNeverRun IsUnbound old new quiet told ended

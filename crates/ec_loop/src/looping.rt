@@ -20,8 +20,8 @@ ghost use Rattle.ec_loop.specs.Stages.{IsCut, LoopsOnSockets};
 use arrayvec::ArrayString;
 use ec_bringup::slaves_of_machine;
 use ec_console::{
-    Capture, Explanation, Refusal, close_capture, open_capture, print_text, read_machine,
-    read_text, tell_text,
+    Capture, Explanation, FaultStream, Refusal, close_capture, open_capture, print_text,
+    read_machine, read_text,
 };
 use ec_cycle::{Master, Report};
 use ec_link::{Machine, Plan, Variable};
@@ -74,17 +74,17 @@ pub fn run_loop<W: Wire, O: Write>(
 ///
 /// The refusal of the input or of its table, `Refusal::Memory` where memory ran out, `Refusal::Socket` where there are no such
 /// sockets, and what [`run_loop`] ends by.
-pub fn print_loop<H: AllocGlobal + Net + Files + Clock, R: Read, W: Write, F: Write>(
+pub fn print_loop<H: AllocGlobal + Net + Files + Clock, R: Read, W: Write, F: Write + Drop>(
     rt: &H,
     cycles: u16,
     input: &mut R,
     output: &mut W,
-    faults: &mut F,
+    faults: &mut FaultStream<F>,
     app: &mut dyn App,
     behind: &mut Explanation,
 ) -> Result<(), Refusal>
     ensures runs { RunsLoop cycles (R.remaining input.old) (W.contents output.old) (W.contents output.new)
-        (F.contents faults.old) (F.contents faults.new) result }
+        faults.old faults.new result }
     ensures explains { IsLeft behind.old behind.new }
 {
     loop_input(rt, cycles, &mut None, input, output, faults, app, behind)
@@ -97,18 +97,18 @@ pub fn print_loop<H: AllocGlobal + Net + Files + Clock, R: Read, W: Write, F: Wr
 /// Those of [`print_loop`]; `Refusal::Output` too where the file couldn't be opened, before anything is sent, or couldn't be
 /// written to the end.
 #[tactic(auto, using(ec_console::proofs::CaptureLemmas::captured_refused, ec_console::proofs::CaptureLemmas::captured_end))]
-pub fn capture_loop<H: AllocGlobal + Net + Files + Clock, R: Read, W: Write, F: Write>(
+pub fn capture_loop<H: AllocGlobal + Net + Files + Clock, R: Read, W: Write, F: Write + Drop>(
     rt: &H,
     cycles: u16,
     file: &str,
     input: &mut R,
     output: &mut W,
-    faults: &mut F,
+    faults: &mut FaultStream<F>,
     app: &mut dyn App,
     behind: &mut Explanation,
 ) -> Result<(), Refusal>
     ensures runs { EndsCaptured (λ ended. RunsLoop cycles (R.remaining input.old) (W.contents output.old)
-        (W.contents output.new) (F.contents faults.old) (F.contents faults.new) ended)
+        (W.contents output.new) faults.old faults.new ended)
         ((output.new ≡ output.old) × (faults.new ≡ faults.old)) result }
     ensures explains { IsLeft behind.old behind.new }
 {
@@ -264,18 +264,18 @@ fn cut_to(number: u64, bits: u8) -> u64
 
 /// Runs cycles of the table that the input states, as [`print_loop`] does, and notes what the master sends and receives in a
 /// capture, if there is one. A refusal is explained, where that is wanted.
-fn loop_input<H: AllocGlobal + Net + Files + Clock, R: Read, W: Write, F: Write>(
+fn loop_input<H: AllocGlobal + Net + Files + Clock, R: Read, W: Write, F: Write + Drop>(
     rt: &H,
     cycles: u16,
     capture: &mut Capture<H::File>,
     input: &mut R,
     output: &mut W,
-    faults: &mut F,
+    faults: &mut FaultStream<F>,
     app: &mut dyn App,
     behind: &mut Explanation,
 ) -> Result<(), Refusal>
     ensures runs { RunsLoop cycles (R.remaining input.old) (W.contents output.old) (W.contents output.new)
-        (F.contents faults.old) (F.contents faults.new) result }
+        faults.old faults.new result }
     ensures explains { IsLeft behind.old behind.new }
 {
     let text = read_text(rt.alloc(), input)?;
@@ -287,17 +287,17 @@ fn loop_input<H: AllocGlobal + Net + Files + Clock, R: Read, W: Write, F: Write>
 }
 
 /// Runs cycles of the machine that a text states, over two sockets.
-fn loop_text<H: AllocGlobal + Net + Files + Clock, W: Write, F: Write>(
+fn loop_text<H: AllocGlobal + Net + Files + Clock, W: Write, F: Write + Drop>(
     rt: &H,
     cycles: u16,
     capture: &mut Capture<H::File>,
     text: &str,
     output: &mut W,
-    faults: &mut F,
+    faults: &mut FaultStream<F>,
     app: &mut dyn App,
 ) -> Result<(), Refusal>
     ensures { LoopsText cycles text.now (W.contents output.old) (W.contents output.new)
-        (F.contents faults.old) (F.contents faults.new) result }
+        faults.old faults.new result }
 {
     let machine = read_machine(rt.alloc(), text)?;
     loop_machine(rt, &machine, cycles, capture, output, faults, app)
@@ -305,17 +305,17 @@ fn loop_text<H: AllocGlobal + Net + Files + Clock, W: Write, F: Write>(
 
 /// Runs cycles of a machine over two sockets.
 #[tactic(auto, using(crate::proofs::LoopLemmas::no_wire, crate::proofs::LoopLemmas::looped_between))]
-fn loop_machine<H: AllocGlobal + Net + Files + Clock, W: Write, F: Write>(
+fn loop_machine<H: AllocGlobal + Net + Files + Clock, W: Write, F: Write + Drop>(
     rt: &H,
     machine: &Machine,
     cycles: u16,
     capture: &mut Capture<H::File>,
     output: &mut W,
-    faults: &mut F,
+    faults: &mut FaultStream<F>,
     app: &mut dyn App,
 ) -> Result<(), Refusal>
     ensures { LoopsOnSockets cycles machine.now (W.contents output.old) (W.contents output.new)
-        (F.contents faults.old) (F.contents faults.new) result }
+        faults.old faults.new result }
 {
     let ends = loop_ends(rt, machine)?;
     tell_ports(ends.1.ports(), faults);
@@ -355,11 +355,11 @@ fn run_tapped<H: AllocGlobal + Files + Clock, W: Wire + Drop, O: Write>(
 }
 
 /// Tells between which ports a loop runs. A fault in telling it changes nothing.
-fn tell_ports<F: Write>(ports: (u16, u16), faults: &mut F)
-    ensures { IsTold (ports_line ports.0 ports.1) (F.contents faults.old) (F.contents faults.new) }
+fn tell_ports<F: Write + Drop>(ports: (u16, u16), faults: &mut FaultStream<F>)
+    ensures { IsTold (ports_line ports.0 ports.1) faults.old faults.new }
 {
     let line = between(ports);
-    tell_text(line.as_bytes(), faults);
+    faults.tell_text(line.as_bytes());
 }
 
 /// The line that says between which ports a loop runs.
@@ -387,18 +387,18 @@ fn loop_ends<H: AllocGlobal + Net>(rt: &H, machine: &Machine) -> Result<(Ring, S
 
 /// Runs cycles of the table that the input states, as [`print_loop`] does, with a capture that is open, which is then written
 /// to the end.
-fn loop_captured<H: AllocGlobal + Net + Files + Clock, R: Read, W: Write, F: Write>(
+fn loop_captured<H: AllocGlobal + Net + Files + Clock, R: Read, W: Write, F: Write + Drop>(
     rt: &H,
     cycles: u16,
     capture: Capture<H::File>,
     input: &mut R,
     output: &mut W,
-    faults: &mut F,
+    faults: &mut FaultStream<F>,
     app: &mut dyn App,
     behind: &mut Explanation,
 ) -> Result<(), Refusal>
     ensures runs { (ended : Result Unit RefusalValue) × RunsLoop cycles (R.remaining input.old) (W.contents output.old)
-        (W.contents output.new) (F.contents faults.old) (F.contents faults.new) ended × Finishes ended result }
+        (W.contents output.new) faults.old faults.new ended × Finishes ended result }
     ensures explains { IsLeft behind.old behind.new }
 {
     let mut capture = capture;

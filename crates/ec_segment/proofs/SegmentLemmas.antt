@@ -10,7 +10,7 @@ use Rattle.ec_wire.proofs.Serving.{all_treated_by}
 use Rattle.ec_console.specs.declared.refusal.Refusal.{Refusal}
 use Rattle.ec_console.specs.declared.refusal.Refusal.TheVariants as refusal
 use Rattle.ec_console.specs.Given.{GivesText, IsLinkRefusal, IsTableRefusal}
-use Rattle.ec_console.specs.Printing.{IsTold, Shows}
+use Rattle.ec_console.specs.Printing.{FaultState, IsTold, Shows}
 use Rattle.ec_table.specs.Contents.{Contents}
 use Rattle.ec_link.specs.Faults.{Fails as LinkFails, compile_fault}
 use Rattle.ec_link.proofs.FacesShown.{faces}
@@ -126,18 +126,18 @@ serves-any (Err (refusal.Unmet n)) frames shows first last before after old new 
 
 -- ---- the whole
 
-pub segment_refused : (r : Result Unit Refusal) (x : Refusal) (frames port : ℕ) (form : SlaveForm) (known old quiet : Option (List ℕ)) → IsErrAnd r (λ e. e ≡ x) → RefusesSegment known x
+pub segment_refused : (r : Result Unit Refusal) (x : Refusal) (frames port : ℕ) (form : SlaveForm) (known old : Option (List ℕ)) (quiet : FaultState) → IsErrAnd r (λ e. e ≡ x) → RefusesSegment known x
     → RunsSegment frames port form known old old quiet quiet r
 segment_refused (Ok done) x frames port form known old quiet is h = absurd is
 segment_refused (Err e) x frames port form known old quiet is h = inr (e, refl, subst (RefusesSegment known) (sym is) h, refl, refl)
 
 -- it is refused after a call that told nothing
-pub segment_unbound : (r : Result Unit Refusal) (x : Refusal) (frames port : ℕ) (form : SlaveForm) (known old quiet told : Option (List ℕ)) → IsErrAnd r (λ e. e ≡ x) → RefusesSegment known x
+pub segment_unbound : (r : Result Unit Refusal) (x : Refusal) (frames port : ℕ) (form : SlaveForm) (known old : Option (List ℕ)) (quiet told : FaultState) → IsErrAnd r (λ e. e ≡ x) → RefusesSegment known x
     → told ≡ quiet → RunsSegment frames port form known old old quiet told r
 segment_unbound (Ok done) x frames port form known old quiet told is h same = absurd is
 segment_unbound (Err e) x frames port form known old quiet told is h same = inr (e, refl, subst (RefusesSegment known) (sym is) h, refl, same)
 
-pub segment_served : (r : Result Unit Refusal) (frames port : ℕ) (form : SlaveForm) (opened closed : SocketState) (known old new quiet told : Option (List ℕ)) (shows : List ℕ → List ℕ → Type 0) (first last : List SlaveState)
+pub segment_served : (r : Result Unit Refusal) (frames port : ℕ) (form : SlaveForm) (opened closed : SocketState) (known old new : Option (List ℕ)) (quiet told : FaultState) (shows : List ℕ → List ℕ → Type 0) (first last : List SlaveState)
     → GivesSlaves form known first → IsOpened port opened → IsTold (listening_line opened.port) quiet told
     → ServesSegment frames shows first last (silent opened.failed) (silent closed.failed) old new r → RunsSegment frames port form known old new quiet told r
 segment_served r frames port form opened closed known old new quiet told shows first last slaves socket line serves = inl (record {

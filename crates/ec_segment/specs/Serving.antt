@@ -12,7 +12,7 @@ use Rattle.ec_wire.specs.Segments.{HasServed, WasCutOff}
 use Rattle.ec_console.specs.declared.refusal.Refusal.{Refusal}
 use Rattle.ec_console.specs.declared.refusal.Refusal.TheVariants.{Output, Socket}
 use Rattle.ec_console.specs.Given.{GivesText, RefusesTable}
-use Rattle.ec_console.specs.Printing.{AppendsPart, IsTold}
+use Rattle.ec_console.specs.Printing.{AppendsPart, FaultState, IsTold}
 use Rattle.ec_segment.specs.declared.form.SlaveForm.{SlaveForm}
 use Rattle.ec_segment.specs.declared.form.SlaveForm.TheVariants.{Full, Plain}
 
@@ -75,7 +75,7 @@ any_inputs outputs inputs = Unit {0}
 
 -- A socket on this port, and at it the slaves of the table that the input states, in a form, just switched on: it is told that they
 -- listen there, and then they are served. A socket tells no payload, so what it carried is any.
-pub record ListensOn (frames port : ℕ) (form : SlaveForm) (known old new quiet told : Option (List ℕ)) (ended : Result Unit Refusal) : Type 0 where
+pub record ListensOn (frames port : ℕ) (form : SlaveForm) (known old new : Option (List ℕ)) (quiet told : FaultState) (ended : Result Unit Refusal) : Type 0 where
   pub opened : SocketState
   pub closed : SocketState
   pub first : List SlaveState
@@ -89,8 +89,8 @@ pub record ListensOn (frames port : ℕ) (form : SlaveForm) (known old new quiet
 abbrev pub RefusesSegment : Option (List ℕ) → Refusal → Type 0
 RefusesSegment known refusal = RefusesTable known refusal ⊎ (refusal ≡ Socket)
 
--- how it ends, by what the input gives, and what the output and the fault stream hold before and after
-abbrev pub RunsSegment : (frames port : ℕ) → SlaveForm → (known old new quiet told : Option (List ℕ)) → Result Unit Refusal → Type 0
+-- how it ends, by what the input gives, and what the output holds and the fault stream is before and after
+abbrev pub RunsSegment : (frames port : ℕ) → SlaveForm → (known old new : Option (List ℕ)) → (quiet told : FaultState) → Result Unit Refusal → Type 0
 RunsSegment frames port form known old new quiet told ended =
     ListensOn frames port form known old new quiet told ended
     ⊎ ((refusal : Refusal) × (ended ≡ Err refusal) × RefusesSegment known refusal × (new ≡ old) × (told ≡ quiet))

@@ -13,7 +13,7 @@ use crate::machine::slaves_of_input;
 use arrayvec::ArrayString;
 use ec_card::{CardWire, Patience, Sender};
 use ec_console::{
-    Capture, Explanation, Refusal, close_capture, open_capture, print_text, tell_text,
+    Capture, Explanation, FaultStream, Refusal, close_capture, open_capture, print_text,
 };
 use ec_ring::Ring;
 use ec_tap::{CapturedWire, Side};
@@ -62,7 +62,7 @@ pub fn print_served_segment<W: Wire, O: Write>(
 ///
 /// The refusal of the input or of its table, `Refusal::Socket` where there is no such socket, and what
 /// [`print_served_segment`] ends by.
-pub fn print_segment<H: AllocGlobal + Net + Files + Clock, R: Read, W: Write, F: Write>(
+pub fn print_segment<H: AllocGlobal + Net + Files + Clock, R: Read, W: Write, F: Write + Drop>(
     rt: &H,
     frames: u32,
     port: u16,
@@ -70,12 +70,12 @@ pub fn print_segment<H: AllocGlobal + Net + Files + Clock, R: Read, W: Write, F:
     idle: u32,
     input: &mut R,
     output: &mut W,
-    faults: &mut F,
+    faults: &mut FaultStream<F>,
     app: &mut dyn App,
     behind: &mut Explanation,
 ) -> Result<(), Refusal>
     ensures runs { RunsSegment frames port form (R.remaining input.old) (W.contents output.old) (W.contents output.new)
-        (F.contents faults.old) (F.contents faults.new) result }
+        faults.old faults.new result }
     ensures explains { IsLeft behind.old behind.new }
 {
     serve_port(
@@ -91,7 +91,7 @@ pub fn print_segment<H: AllocGlobal + Net + Files + Clock, R: Read, W: Write, F:
 /// Those of [`print_segment`]; `Refusal::Output` too where the file couldn't be opened, before anything is received, or
 /// couldn't be written to the end.
 #[tactic(auto, using(ec_console::proofs::CaptureLemmas::captured_refused, ec_console::proofs::CaptureLemmas::captured_end))]
-pub fn capture_segment<H: AllocGlobal + Net + Files + Clock, R: Read, W: Write, F: Write>(
+pub fn capture_segment<H: AllocGlobal + Net + Files + Clock, R: Read, W: Write, F: Write + Drop>(
     rt: &H,
     frames: u32,
     port: u16,
@@ -100,12 +100,12 @@ pub fn capture_segment<H: AllocGlobal + Net + Files + Clock, R: Read, W: Write, 
     file: &str,
     input: &mut R,
     output: &mut W,
-    faults: &mut F,
+    faults: &mut FaultStream<F>,
     app: &mut dyn App,
     behind: &mut Explanation,
 ) -> Result<(), Refusal>
     ensures runs { EndsCaptured (λ ended. RunsSegment frames port form (R.remaining input.old) (W.contents output.old)
-        (W.contents output.new) (F.contents faults.old) (F.contents faults.new) ended)
+        (W.contents output.new) faults.old faults.new ended)
         ((output.new ≡ output.old) × (faults.new ≡ faults.old)) result }
     ensures explains { IsLeft behind.old behind.new }
 {
@@ -183,21 +183,21 @@ fn print_served<W: Write>(counts: Served, output: &mut W) -> Result<(), Refusal>
 }
 
 /// Tells where a segment listens. A fault in telling it changes nothing.
-fn tell_listening<F: Write>(port: u16, faults: &mut F)
-    ensures { IsTold (listening_line port) (F.contents faults.old) (F.contents faults.new) }
+fn tell_listening<F: Write + Drop>(port: u16, faults: &mut FaultStream<F>)
+    ensures { IsTold (listening_line port) faults.old faults.new }
 {
     let line = listening(port);
-    tell_text(line.as_bytes(), faults);
+    faults.tell_text(line.as_bytes());
 }
 
 /// A segment's socket on a port, of which it is told where it listens.
-fn listen<H: Net, F: Write>(
+fn listen<H: Net, F: Write + Drop>(
     rt: &H,
     port: u16,
     idle: u32,
-    faults: &mut F,
+    faults: &mut FaultStream<F>,
 ) -> Result<UdpWire, SocketFault>
-    ensures opened { IfOk result (λ w. IsOpened port w × IsTold (listening_line w.port) (F.contents faults.old) (F.contents faults.new)) }
+    ensures opened { IfOk result (λ w. IsOpened port w × IsTold (listening_line w.port) faults.old faults.new) }
     ensures refused { IfErr result (λ fault. faults.new ≡ faults.old) }
 {
     let wire = UdpWire::bind_idle(rt, port, idle)?;
@@ -231,7 +231,7 @@ fn listening(port: u16) -> ArrayString<LINE_SIZE>
 
 /// Answers payloads on a port, as [`print_segment`] does, and notes them in a capture, if there is one.
 #[tactic(auto, using(crate::proofs::SegmentLemmas::segment_refused, crate::proofs::SegmentLemmas::segment_served))]
-fn serve_port<H: AllocGlobal + Net + Files + Clock, R: Read, W: Write, F: Write>(
+fn serve_port<H: AllocGlobal + Net + Files + Clock, R: Read, W: Write, F: Write + Drop>(
     rt: &H,
     frames: u32,
     port: u16,
@@ -240,12 +240,12 @@ fn serve_port<H: AllocGlobal + Net + Files + Clock, R: Read, W: Write, F: Write>
     capture: &mut Capture<H::File>,
     input: &mut R,
     output: &mut W,
-    faults: &mut F,
+    faults: &mut FaultStream<F>,
     app: &mut dyn App,
     behind: &mut Explanation,
 ) -> Result<(), Refusal>
     ensures runs { RunsSegment frames port form (R.remaining input.old) (W.contents output.old) (W.contents output.new)
-        (F.contents faults.old) (F.contents faults.new) result }
+        faults.old faults.new result }
     ensures explains { IsLeft behind.old behind.new }
 {
     let mut slaves = slaves_of_input(rt.alloc(), input, form, behind)?;
@@ -286,7 +286,7 @@ fn serve_tapped<H: AllocGlobal + Files + Clock, W: Wire + Drop, O: Write>(
 }
 
 /// Answers payloads on a port, as [`print_segment`] does, with a capture that is open, which is then written to the end.
-fn port_captured<H: AllocGlobal + Net + Files + Clock, R: Read, W: Write, F: Write>(
+fn port_captured<H: AllocGlobal + Net + Files + Clock, R: Read, W: Write, F: Write + Drop>(
     rt: &H,
     frames: u32,
     port: u16,
@@ -295,12 +295,12 @@ fn port_captured<H: AllocGlobal + Net + Files + Clock, R: Read, W: Write, F: Wri
     capture: Capture<H::File>,
     input: &mut R,
     output: &mut W,
-    faults: &mut F,
+    faults: &mut FaultStream<F>,
     app: &mut dyn App,
     behind: &mut Explanation,
 ) -> Result<(), Refusal>
     ensures runs { (ended : Result Unit RefusalValue) × RunsSegment frames port form (R.remaining input.old) (W.contents output.old)
-        (W.contents output.new) (F.contents faults.old) (F.contents faults.new) ended × Finishes ended result }
+        (W.contents output.new) faults.old faults.new ended × Finishes ended result }
     ensures explains { IsLeft behind.old behind.new }
 {
     let mut capture = capture;

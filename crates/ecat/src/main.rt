@@ -2,11 +2,12 @@
 //! `ec_commands`'s, over the arguments, the streams and the memory of the system.
 #![tactic(auto)]
 
-use ec_commands::run_program;
+use ec_commands::{FaultStream, run_program};
 use std::env;
 use std::process::ExitCode;
 
 fn main(rt: HostRuntime) -> ExitCode {
-    let (mut input, mut output, mut faults) = (rt.stdin(), rt.stdout(), rt.stderr());
+    let (mut input, mut output) = (rt.stdin(), rt.stdout());
+    let mut faults = FaultStream::new(rt.stderr());
     ExitCode::from(run_program(&rt, env::args(&rt), &mut input, &mut output, &mut faults))
 }

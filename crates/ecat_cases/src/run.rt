@@ -1,5 +1,5 @@
 //! Runs of the program over memory.
-use ec_commands::{App, run_command};
+use ec_commands::{App, FaultStream, run_command};
 use std::fs::Files;
 use std::net::Net;
 use std::time::Clock;
@@ -38,11 +38,11 @@ pub fn run_in_memory<H: AllocGlobal + Net + Files + Clock>(
 ) -> Ended {
     let mut input = input;
     let mut printed: Vec<u8> = Vec::new(rt.alloc());
-    let mut told: Vec<u8> = Vec::new(rt.alloc());
-    let status = run_command(rt, args, &mut input, &mut printed, &mut told, slaves);
+    let mut faults: FaultStream<Vec<u8>> = FaultStream::new(Vec::new(rt.alloc()));
+    let status = run_command(rt, args, &mut input, &mut printed, &mut faults, slaves);
     Ended {
         status,
         printed,
-        told,
+        told: faults.into_stream(),
     }
 }

@@ -2,7 +2,7 @@
 
 use crate::tests::streams::{Sink, sink_of, source_of};
 use crate::tests::{Run, expect_ended};
-use ec_commands::run_program;
+use ec_commands::{FaultStream, run_program};
 use std::env;
 use std::env::{Env, FillError};
 use std::fs::Files;
@@ -42,7 +42,7 @@ fn run_called<H: AllocGlobal + Net + Files + Clock>(
     rt: &H,
     args: &[&[u8]],
     output: &mut Sink,
-    faults: &mut Sink,
+    faults: &mut FaultStream<Sink>,
 ) -> u8 {
     let system = (Called { args }, rt.alloc());
     run_program(rt, env::args(&system), &mut source_of(""), output, faults)
@@ -51,9 +51,9 @@ fn run_called<H: AllocGlobal + Net + Files + Clock>(
 /// Runs the program on these arguments, and compares how it ends.
 fn expect_program<H: AllocGlobal + Net + Files + Clock + Abort>(rt: &H, args: &[&[u8]], run: &Run) {
     let mut output = sink_of(rt.alloc(), u32::MAX, false);
-    let mut faults = sink_of(rt.alloc(), u32::MAX, false);
+    let mut faults = FaultStream::new(sink_of(rt.alloc(), u32::MAX, false));
     let status = run_called(rt, args, &mut output, &mut faults);
-    expect_ended(rt, run, status, &output, &faults);
+    expect_ended(rt, run, status, &output, faults);
 }
 
 /// What is told of an argument that isn't text.

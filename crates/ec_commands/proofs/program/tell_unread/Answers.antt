@@ -7,9 +7,8 @@ use Rattle.ec_commands.proofs.program.tell_unread.Goals as goal
 
 pub returns-clause-tells : goal.returns-clause-tells
 returns-clause-tells g c =
-    let known = g.F.Write.contents in
     inr (
       λ is. let bad : false ≡ true = c.if-eq.ensures ∙ ap (λ kind. sameb the_type kind OutOfMemory) (c.kind.ensures ∙ is) in cc,
       refl,
-      subst (λ text. IsTold text (known c.args.faults.now) (known c.tell_text.new.faults)) c.as_bytes.ensures.value c.tell_text.ensures,
+      subst (λ text. IsTold text c.args.faults.now c.tell_text.new.self) c.as_bytes.ensures.value c.tell_text.ensures,
     )

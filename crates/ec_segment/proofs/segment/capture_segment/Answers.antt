@@ -6,5 +6,5 @@ use Rattle.ec_segment.proofs.segment.capture_segment.Goals as goal
 pub returns-clause-runs : goal.returns-clause-runs
 returns-clause-runs g c =
     captured_end
-    (λ ended. RunsSegment c.args.frames c.args.port c.args.form (g.R.Read.remaining c.args.input.now) (g.W.Write.contents c.args.output.now) (g.W.Write.contents c.port_captured.new.output) (g.F.Write.contents c.args.faults.now) (g.F.Write.contents c.port_captured.new.faults) ended)
+    (λ ended. RunsSegment c.args.frames c.args.port c.args.form (g.R.Read.remaining c.args.input.now) (g.W.Write.contents c.args.output.now) (g.W.Write.contents c.port_captured.new.output) c.args.faults.now c.port_captured.new.faults ended)
     ((c.port_captured.new.output ≡ c.args.output.now) × (c.port_captured.new.faults ≡ c.args.faults.now)) c.port_captured.ensures.runs.0 c.port_captured.result c.port_captured.ensures.runs.2 c.port_captured.ensures.runs.1

@@ -1,9 +1,9 @@
-use Rattle.std.proofs.Common.{ap, inr, refl}
+use Rattle.std.proofs.Common.{inr, refl}
 use Rattle.ec_segment.proofs.SegmentLemmas.{segment_unbound, segment_served}
 use Rattle.ec_segment.proofs.segment.serve_port.Goals as goal
 
 pub returns-in_err-wire-clause-runs : goal.returns-in_err-wire-clause-runs
-returns-in_err-wire-clause-runs g c = segment_unbound _ _ _ _ _ _ _ _ _ c.from_residual-in_err-wire.ensures.1 (inr refl) (ap g.F.Write.contents c.in_err-wire.ensures.refused)
+returns-in_err-wire-clause-runs g c = segment_unbound _ _ _ _ _ _ _ _ _ c.from_residual-in_err-wire.ensures.1 (inr refl) c.in_err-wire.ensures.refused
 
 pub returns-clause-runs : goal.returns-clause-runs
 returns-clause-runs g c =

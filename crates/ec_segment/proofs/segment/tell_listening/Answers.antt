@@ -4,4 +4,4 @@ use Rattle.ec_segment.proofs.segment.tell_listening.Goals as goal
 
 pub returns : goal.returns
 returns g c =
-    subst (λ (text : List ℕ). IsTold text (g.F.Write.contents c.args.faults.now) (g.F.Write.contents c.tell_text.new.faults)) (c.as_bytes.ensures.value ∙ (c.deref.ensures.0 ∙ c.listening-line.ensures)) c.tell_text.ensures
+    subst (λ (text : List ℕ). IsTold text c.args.faults.now c.tell_text.new.self) (c.as_bytes.ensures.value ∙ (c.deref.ensures.0 ∙ c.listening-line.ensures)) c.tell_text.ensures
