@@ -66,13 +66,7 @@ part_after old mid new text k n first within bound then =
 pub whole_part : (old new : Option (List ℕ)) (text : List ℕ) → Appends old new text → AppendsPart old new text
 whole_part old new text whole = (length text, subst (Appends old new) (sym (take-all text)) whole)
 
--- and so a first part stands there, whatever came of the write
-pub some_part : (r : Result Unit Refusal) (old new : Option (List ℕ)) (text : List ℕ) → OnOk r (Appends old new text) → OnErr r (AppendsPart old new text)
-    → AppendsPart old new text
-some_part (Ok done) old new text all part = whole_part old new text all
-some_part (Err refusal) old new text all part = part
-
--- what a write says of it, as one fact, and back
+-- what a write says of it, as one fact
 pub shown : (r : Result Unit Refusal) (old new : Option (List ℕ)) (text : List ℕ) → OnOk r (Appends old new text) → OnErr r (AppendsPart old new text)
     → IfErr r (λ e. e ≡ Output) → Shows text old new r
 shown (Ok done) old new text all part fault = all

@@ -27,12 +27,12 @@ pub record FaultState : Type 0 where
   pub holds : Option (List ℕ)
   pub is_refused : Bool
 
--- all of a text stands on it once more, and no write was refused
+-- all of a text stands once behind what it held, and no further write was refused
 pub record IsToldWhole (text : List ℕ) (old new : FaultState) : Type 0 where
   pub bytes : Appends old.holds new.holds text
   pub refused : new.is_refused ≡ old.is_refused
 
--- a write was refused, and a first part of the text stands there
+-- a write was refused, and a first part of the text stands behind what it held
 pub record IsToldInPart (text : List ℕ) (old new : FaultState) : Type 0 where
   pub refused : new.is_refused ≡ true
   pub part : AppendsPart old.holds new.holds text
