@@ -7,7 +7,9 @@ use Rattle.ec_console.specs.declared.refusal.Refusal.{Refusal}
 use Rattle.ec_console.specs.Refusals.{number_of, status_of}
 use Rattle.ec_console.specs.declared.refusal.Refusal.TheVariants.{Memory}
 use Rattle.ec_console.specs.Capturing.{EndsCaptured}
-use Rattle.ec_commands.specs.Running.{Ends, EndsAlone, EndsGiven, EndsUnread, Stream, Telling, Tells, TellsWith, given_words}
+use Rattle.ec_console.specs.Given.{Given}
+use Rattle.ec_console.specs.Printing.{OutputState}
+use Rattle.ec_commands.specs.Running.{Ends, EndsAlone, EndsGiven, EndsUnread, Stream, Tells, TellsWith, given_words}
 use Rattle.ec_args.specs.Requests.{Reads}
 use Rattle.ec_args.specs.declared.request.Notice.{Notice}
 use Rattle.ec_args.specs.declared.request.Request.{Request}
@@ -22,11 +24,11 @@ three_to_five false false = (2, omega arith, refl)
 pub status_known : (refusal : Refusal) → Contains {X = ℕ} (0 ∷ 2 ∷ 3 ∷ 4 ∷ 5 ∷ []) (status_of refusal)
 status_known refusal = let n = number_of refusal in three_to_five (n == 37 || (n == 41 || (n == 42 || n == 43))) (n == 45)
 
-pub tells_known : (faults : Telling) (status : ℕ) (ended : Result Unit Refusal) → Tells faults status ended → Contains {X = ℕ} (0 ∷ 2 ∷ 3 ∷ 4 ∷ 5 ∷ []) status
+pub tells_known : (faults : Stream) (status : ℕ) (ended : Result Unit Refusal) → Tells faults status ended → Contains {X = ℕ} (0 ∷ 2 ∷ 3 ∷ 4 ∷ 5 ∷ []) status
 tells_known faults status (Ok done) told = subst (Contains {X = ℕ} (0 ∷ 2 ∷ 3 ∷ 4 ∷ 5 ∷ [])) (sym told.0) (0, omega arith, refl)
 tells_known faults status (Err refusal) told = subst (Contains {X = ℕ} (0 ∷ 2 ∷ 3 ∷ 4 ∷ 5 ∷ [])) (sym told.0) (status_known refusal)
 
-pub tells_with_known : (more : List ℕ) (faults : Telling) (status : ℕ) (ended : Result Unit Refusal) → TellsWith more faults status ended → Contains {X = ℕ} (0 ∷ 2 ∷ 3 ∷ 4 ∷ 5 ∷ []) status
+pub tells_with_known : (more : List ℕ) (faults : Stream) (status : ℕ) (ended : Result Unit Refusal) → TellsWith more faults status ended → Contains {X = ℕ} (0 ∷ 2 ∷ 3 ∷ 4 ∷ 5 ∷ []) status
 tells_with_known more faults status (Ok done) told = subst (Contains {X = ℕ} (0 ∷ 2 ∷ 3 ∷ 4 ∷ 5 ∷ [])) (sym told.0) (0, omega arith, refl)
 tells_with_known more faults status (Err refusal) told = subst (Contains {X = ℕ} (0 ∷ 2 ∷ 3 ∷ 4 ∷ 5 ∷ [])) (sym told.0) (status_known refusal)
 
@@ -44,7 +46,7 @@ ends_unread (Err told) old new app_old app_new alone = alone.0
 
 -- a run on the arguments that were given, as texts
 pub given_ends : {R A : Type 0} (given : Result (IntoIter (String Global) Global) Error) (words : IntoIter (String Global) Global) (texts : List (List ℕ))
-    (known : Option (List ℕ)) (old new : R) (app_old app_new : A) (output : Stream) (faults : Telling) (status : ℕ) → given ≡ Ok words → texts ≡ given_words words
+    (known : Given) (old new : R) (app_old app_new : A) (output : Stream) (faults : Stream) (status : ℕ) → given ≡ Ok words → texts ≡ given_words words
     → ((read : Result Request Notice) × Reads texts read × Ends read known output faults status × EndsAlone read old new app_old app_new)
     → EndsGiven given known old new output faults status
 given_ends given words texts known old new app_old app_new output faults status is same run =
@@ -52,8 +54,8 @@ given_ends given words texts known old new app_old app_new output faults status 
     (inl (run.0, subst (λ ts. Reads ts run.0) same run.1, run.2, ends_unread run.0 old new app_old app_new run.3))
 
 -- and one for which memory ran out before
-pub given_lost : {R : Type 0} (given : Result (IntoIter (String Global) Global) Error) (words : IntoIter (String Global) Global) (known : Option (List ℕ)) (input : R)
-    (output : Option (List ℕ)) (faults : Telling) (status : ℕ) → given ≡ Ok words → Tells faults status (Err Memory)
+pub given_lost : {R : Type 0} (given : Result (IntoIter (String Global) Global) Error) (words : IntoIter (String Global) Global) (known : Given) (input : R)
+    (output : OutputState) (faults : Stream) (status : ℕ) → given ≡ Ok words → Tells faults status (Err Memory)
     → EndsGiven given known input input (record { old = output; new = output }) faults status
 given_lost given words known input output faults status is told =
     subst (λ g. EndsGiven g known input input (record { old = output; new = output }) faults status) (sym is) (inr (refl, refl, told))

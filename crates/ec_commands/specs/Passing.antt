@@ -9,7 +9,7 @@ use Rattle.ec_frame.specs.declared.error.FrameError.{FrameError}
 use Rattle.ec_frame.specs.declared.error.FrameError.TheVariants.{TooLong}
 use Rattle.ec_slave.specs.State.{SlaveState, power_on}
 use Rattle.ec_ring.specs.Rings.{passes_ring}
-use Rattle.ec_console.specs.Printing.{Prints}
+use Rattle.ec_console.specs.Printing.{OutputState, Prints}
 use Rattle.ec_console.specs.declared.refusal.Refusal.{Refusal}
 use Rattle.ec_console.specs.declared.refusal.Refusal.TheVariants.{Memory, Frame, BadHex}
 
@@ -64,6 +64,6 @@ IsPassRefusal text _ = ⊥
 abbrev pub AnswersPass : ℕ → List ℕ → List ℕ → Type 0
 AnswersPass slaves text printed = (answer : List ℕ) × IsAnswer slaves text answer × (printed ≡ answer ++ 10 ∷ [])
 
--- how it ends, by what the writer holds before and after
-abbrev pub RunsPass : ℕ → List ℕ → Option (List ℕ) → Option (List ℕ) → Result Unit Refusal → Type 0
+-- how it ends, by what the output is before and after
+abbrev pub RunsPass : ℕ → List ℕ → (old new : OutputState) → Result Unit Refusal → Type 0
 RunsPass slaves text = Prints (AnswersPass slaves text) (IsPassRefusal text)

@@ -1,13 +1,13 @@
 -- What `ecat plan` answers (this project's profile).
-use Rattle.std.specs.Prelude.{◌≡◌, ℕ, List, Bool, true, false, Option, Result}
+use Rattle.std.specs.Prelude.{◌≡◌, ℕ, List, Bool, true, false, Result}
 use Rattle.ec_table.specs.Contents.{Contents}
 use Rattle.ec_link.specs.Machine.{StatesMachine}
 use Rattle.ec_link.specs.Plan.{plan_of}
 use Rattle.ec_text.specs.HeaderText.{header_text}
 use Rattle.ec_text.specs.PlanText.{plan_text}
 use Rattle.ec_console.specs.declared.refusal.Refusal.{Refusal}
-use Rattle.ec_console.specs.Given.{GivesText, RefusesTable}
-use Rattle.ec_console.specs.Printing.{Prints}
+use Rattle.ec_console.specs.Given.{Given, GivesText, RefusesTable}
+use Rattle.ec_console.specs.Printing.{OutputState, Prints}
 use Rattle.ec_commands.specs.declared.plan.PlanForm.{PlanForm}
 use Rattle.ec_commands.specs.declared.plan.PlanForm.TheVariants.{Fixed, Explained, Header}
 
@@ -29,9 +29,9 @@ IsPlanAnswer form text answer =
     (table : Contents) × StatesMachine text table × IsShown form table answer
 
 -- what `ecat plan` prints, by what the input gives
-abbrev pub AnswersPlan : PlanForm → Option (List ℕ) → List ℕ → Type 0
-AnswersPlan form known printed = (text : List ℕ) × GivesText known text × IsPlanAnswer form text printed
+abbrev pub AnswersPlan : PlanForm → Given → List ℕ → Type 0
+AnswersPlan form given printed = (text : List ℕ) × GivesText given text × IsPlanAnswer form text printed
 
--- how it ends, by what the writer holds before and after
-abbrev pub RunsPlan : PlanForm → Option (List ℕ) → Option (List ℕ) → Option (List ℕ) → Result Unit Refusal → Type 0
-RunsPlan form known = Prints (AnswersPlan form known) (RefusesTable known)
+-- how it ends, by what the output is before and after
+abbrev pub RunsPlan : PlanForm → Given → (old new : OutputState) → Result Unit Refusal → Type 0
+RunsPlan form given = Prints (AnswersPlan form given) (RefusesTable given)

@@ -1,5 +1,5 @@
 -- How a run of `ecat` ends, whatever it was asked for (this project's profile).
-use Rattle.std.specs.Prelude.{◌≡◌, ◌≢◌, ◌⊎◌, ℕ, Bool, true, false, List, [], ◌∷◌, ◌++◌, map, Option, None, Some, Result, Ok, Err, codes}
+use Rattle.std.specs.Prelude.{◌≡◌, ◌≢◌, ◌⊎◌, ℕ, Bool, true, false, List, [], ◌∷◌, ◌++◌, is_some, map, Option, None, Some, Result, Ok, Err, codes}
 use Rattle.std.specs.IoError.{error_kind}
 use Rattle.std.specs.Vec.Iter.{into_iter_items}
 use Rattle.std.specs.declared.alloc.Global.{Global}
@@ -18,7 +18,8 @@ use Rattle.ec_commands.specs.Explaining.{MayTell, is_explained}
 use Rattle.ec_loop.specs.Looping.{RunsLoop}
 use Rattle.ec_commands.specs.Passing.{RunsPass}
 use Rattle.ec_commands.specs.Planning.{RunsPlan, form_of}
-use Rattle.ec_console.specs.Printing.{FaultState, IsTold, Shows}
+use Rattle.ec_console.specs.Given.{Given}
+use Rattle.ec_console.specs.Printing.{IsTold, OutputState, Shows}
 use Rattle.ec_console.specs.Refusals.{line_of, status_of}
 use Rattle.ec_console.specs.Capturing.{EndsWith}
 use Rattle.ec_live.specs.Living.{RunsLive}
@@ -32,54 +33,50 @@ use Rattle.ec_sim.specs.Simulating.{RunsSim}
 use Rattle.ec_why.specs.declared.wanted.Reasons.{Reasons}
 use Rattle.ec_why.specs.Reasons.{reasons_of}
 
--- what a stream holds before and after, where it is known
+-- what the output, or the fault stream, is before and after
 pub record Stream : Type 0 where
-  pub old : Option (List ℕ)
-  pub new : Option (List ℕ)
-
--- what the fault stream is before and after
-pub record Telling : Type 0 where
-  pub old : FaultState
-  pub new : FaultState
+  pub old : OutputState
+  pub new : OutputState
 
 -- nothing is printed
 abbrev pub IsBlank : Stream → Type 0
 IsBlank output = output.new ≡ output.old
 
 -- nothing is told of a command while it runs
-abbrev pub IsQuiet : Telling → Type 0
+abbrev pub IsQuiet : Stream → Type 0
 IsQuiet told = told.new ≡ told.old
 
 -- `ecat segment` on a port; or on the card whose socket has a descriptor, where one is given, and nothing is told
-abbrev pub RunsSegmentOn : (descriptor : Option ℕ) → (frames port : ℕ) → SlaveForm → (given : Option (List ℕ)) → (output : Stream) → (told : Telling) → Result Unit Refusal → Type 0
+abbrev pub RunsSegmentOn : (descriptor : Option ℕ) → (frames port : ℕ) → SlaveForm → (given : Given) → (output told : Stream) → Result Unit Refusal → Type 0
 RunsSegmentOn None frames port form given output told ended = RunsSegment frames port form given output.old output.new told.old told.new ended
 RunsSegmentOn (Some descriptor) frames port form given output told ended = RunsCardSegment frames form given output.old output.new ended × IsQuiet told
 
 -- nothing is printed or told
-abbrev pub IsStill : Stream → Telling → Type 0
+abbrev pub IsStill : Stream → Stream → Type 0
 IsStill output told = IsBlank output × IsQuiet told
 
 -- and with a capture, if its file is named
-abbrev pub RunsSegmentAt : (descriptor : Option ℕ) → (frames port : ℕ) → SlaveForm → (file : Option (List ℕ)) → (given : Option (List ℕ)) → (output : Stream) → (told : Telling) → Result Unit Refusal → Type 0
+abbrev pub RunsSegmentAt : (descriptor : Option ℕ) → (frames port : ℕ) → SlaveForm → (file : Option (List ℕ)) → (given : Given) → (output told : Stream) → Result Unit Refusal → Type 0
 RunsSegmentAt descriptor frames port form file given output told ended =
     EndsWith file (RunsSegmentOn descriptor frames port form given output told) (IsStill output told) ended
 
--- `ecat sim`, whose lines are run as a script, or as they come, and which tells why they say `no`, where it explains
-abbrev pub RunsLines : (live explained : Bool) → (given : Option (List ℕ)) → (output : Stream) → Result Unit Refusal → Type 0
-RunsLines false explained given output ended = RunsSim (reasons_of explained) given output.old output.new ended
-RunsLines true explained given output ended = RunsLive (reasons_of explained) given output.old output.new ended
+-- `ecat sim`, whose lines are run as a script, or as they come, with a capture if its file is named, and which tells why they say
+-- `no`, where it explains
+abbrev pub RunsLines : (live : Bool) → (file : Option (List ℕ)) → (explained : Bool) → (given : Given) → (output : Stream) → Result Unit Refusal → Type 0
+RunsLines false file explained given output ended = RunsSim (reasons_of explained) (is_some file) given output.old output.new ended
+RunsLines true file explained given output ended = RunsLive (reasons_of explained) (is_some file) given output.old output.new ended
 
 -- `ecat master`, which tells why lines can't be done, where reasons are told, with a capture if its file is named
-abbrev pub RunsMasterWith : Reasons → (file : Option (List ℕ)) → (given : Option (List ℕ)) → (output : Stream) → Result Unit Refusal → Type 0
+abbrev pub RunsMasterWith : Reasons → (file : Option (List ℕ)) → (given : Given) → (output : Stream) → Result Unit Refusal → Type 0
 RunsMasterWith reasons file given output ended = EndsWith file (λ ended. RunsMaster reasons given output.old output.new ended) (IsBlank output) ended
 
 -- what a command does with the output, and what is told of it while it runs, by what the input gives, where that is known
-abbrev pub Runs : Command → (given : Option (List ℕ)) → (output : Stream) → (told : Telling) → Result Unit Refusal → Type 0
+abbrev pub Runs : Command → (given : Given) → (output told : Stream) → Result Unit Refusal → Type 0
 Runs (PassOf slaves text) given output told ended = RunsPass slaves text output.old output.new ended × IsQuiet told
 Runs (PlanOf header explained) given output told ended = RunsPlan (form_of header explained) given output.old output.new ended × IsQuiet told
 Runs (DecodeOf table explained) given output told ended = RunsDecodeWith table (names_of explained) given output.old output.new ended × IsQuiet told
 Runs EncodeOf given output told ended = RunsEncode given output.old output.new ended × IsQuiet told
-Runs (SimOf live capture explained) given output told ended = RunsLines live explained given output ended × IsQuiet told
+Runs (SimOf live capture explained) given output told ended = RunsLines live capture explained given output ended × IsQuiet told
 Runs (LoopOf cycles capture explained) given output told ended =
     EndsWith capture (λ ended. RunsLoop cycles given output.old output.new told.old told.new ended) (IsStill output told) ended
 Runs (SegmentOf frames port descriptor full idle capture explained) given output told ended =
@@ -99,19 +96,19 @@ LeavesAlone (SegmentOf frames port descriptor full idle capture explained) input
 LeavesAlone (MasterOf to descriptor patience capture explained) input_old input_new app_old app_new = app_new ≡ app_old
 
 -- the exit status of a run, and what is told of it: a refusal's line
-abbrev pub Tells : Telling → ℕ → Result Unit Refusal → Type 0
+abbrev pub Tells : Stream → ℕ → Result Unit Refusal → Type 0
 Tells faults status (Ok done) = (status ≡ 0) × (faults.new ≡ faults.old)
 Tells faults status (Err refusal) = (status ≡ status_of refusal) × IsTold (line_of refusal) faults.old faults.new
 
 -- the same of a run that may explain a refusal: what is told begins with its line, and behind that there is more
-abbrev pub TellsWith : List ℕ → Telling → ℕ → Result Unit Refusal → Type 0
+abbrev pub TellsWith : List ℕ → Stream → ℕ → Result Unit Refusal → Type 0
 TellsWith more faults status (Ok done) = (status ≡ 0) × (faults.new ≡ faults.old)
 TellsWith more faults status (Err refusal) = (status ≡ status_of refusal) × IsTold (line_of refusal ++ more) faults.old faults.new
 
 -- how a run ends that was asked for a command, or that has to tell something in place of one
-abbrev pub Ends : Result Request Notice → (given : Option (List ℕ)) → (output : Stream) → (faults : Telling) → ℕ → Type 0
+abbrev pub Ends : Result Request Notice → (given : Given) → (output faults : Stream) → ℕ → Type 0
 Ends (Ok request) given output faults status =
-    (ended : Result Unit Refusal) × (noted : FaultState) × (more : List ℕ) × Runs (command_of request) given output (record { old = faults.old; new = noted }) ended
+    (ended : Result Unit Refusal) × (noted : OutputState) × (more : List ℕ) × Runs (command_of request) given output (record { old = faults.old; new = noted }) ended
     × MayTell (is_explained (command_of request)) more × TellsWith more (record { old = noted; new = faults.new }) status ended
 Ends (Err notice.Memory) given output faults status = (output.new ≡ output.old) × Tells faults status (Err Memory)
 Ends (Err (notice.Help text)) given output faults status = (ended : Result Unit Refusal) × Shows (string_bytes text) output.old output.new ended × Tells faults status ended
@@ -147,14 +144,14 @@ abbrev pub given_words : IntoIter (String Global) Global → List (List ℕ)
 given_words given = map string_bytes (into_iter_items given)
 
 -- what is told of arguments that can't be read, by the error that the system gave: that memory ran out, or that one isn't text
-abbrev pub TellsUnread : Error → (faults : Telling) → ℕ → Type 0
+abbrev pub TellsUnread : Error → (faults : Stream) → ℕ → Type 0
 TellsUnread error faults status =
     ((error_kind error ≡ OutOfMemory) × Tells faults status (Err Memory))
     ⊎ ((error_kind error ≢ OutOfMemory) × (status ≡ 2) × IsTold not_text faults.old faults.new)
 
 -- how a run ends to which the system gave these arguments: as with them; or, where memory runs out before they are read or
 -- they can't be read, with nothing read or printed, and what is told in its place
-abbrev pub EndsGiven : {R : Type 0} → Result (IntoIter (String Global) Global) Error → (known : Option (List ℕ)) → (input_old input_new : R) → (output : Stream) → (faults : Telling) → ℕ → Type 0
+abbrev pub EndsGiven : {R : Type 0} → Result (IntoIter (String Global) Global) Error → (known : Given) → (input_old input_new : R) → (output faults : Stream) → ℕ → Type 0
 EndsGiven (Ok given) known input_old input_new output faults status =
     ((read : Result Request Notice) × Reads (given_words given) read × Ends read known output faults status × EndsUnread read input_old input_new)
     ⊎ ((input_new ≡ input_old) × (output.new ≡ output.old) × Tells faults status (Err Memory))

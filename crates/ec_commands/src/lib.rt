@@ -12,7 +12,7 @@ pub use crate::plan::{PlanForm, print_plan, show_plan};
 pub use crate::program::run_program;
 pub use crate::run::run_command;
 pub use ec_bringup::{bring_up, identities_of};
-pub use ec_console::{Explanation, FaultStream, Refusal, print_text, read_text};
+pub use ec_console::{Explanation, InputStream, OutputStream, Refusal, print_text, read_text};
 pub use ec_live::print_live;
 pub use ec_loop::{capture_loop, print_loop, run_loop};
 pub use ec_script::{Line, LineAction, ScriptError, read_script, run_line};

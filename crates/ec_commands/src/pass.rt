@@ -3,7 +3,7 @@ ghost use Rattle.std.specs.Prelude.{◌≡◌, IfOk, IfErr, replicate};
 ghost use Rattle.std.specs.String.{string_bytes};
 ghost use Rattle.ec_commands.specs.Passing.{IsAnswer, IsPassRefusal, RunsPass, SpellsPayload, plain_slave};
 
-use ec_console::{Refusal, print_text};
+use ec_console::{OutputStream, Refusal, print_text};
 use ec_device::{Identity, SlaveType};
 use ec_frame::FrameError;
 use ec_frame::field::MAX_FRAME_LEN;
@@ -41,13 +41,13 @@ pub fn pass_hex(alloc: Global, slaves: usize, text: &str) -> Result<String, Refu
 /// # Errors
 ///
 /// What [`pass_hex`] refuses, `Refusal::Memory` where memory ran out, and `Refusal::Output` where a write was refused.
-pub fn print_pass<W: Write>(
+pub fn print_pass<W: Write + Drop>(
     alloc: Global,
     slaves: usize,
     text: &str,
-    output: &mut W,
+    output: &mut OutputStream<W>,
 ) -> Result<(), Refusal>
-    ensures { RunsPass slaves text.now (W.contents output.old) (W.contents output.new) result }
+    ensures { RunsPass slaves text.now output.old output.new result }
 {
     let mut answer = pass_hex(alloc, slaves, text)?;
     answer.push('\n')?;

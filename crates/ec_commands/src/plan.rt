@@ -3,9 +3,11 @@ ghost use Rattle.std.specs.Prelude.{◌≡◌, IfErr, IfOk};
 ghost use Rattle.std.specs.String.{string_bytes};
 ghost use Rattle.ec_console.specs.Explaining.{IsLeft};
 ghost use Rattle.ec_commands.specs.Planning.{IsPlanAnswer, IsShown, RunsPlan, form_of};
-ghost use Rattle.ec_console.specs.Given.{IsTableRefusal};
+ghost use Rattle.ec_console.specs.Given.{IsTableRefusal, given_by};
 
-use ec_console::{Explanation, Refusal, print_text, read_machine, read_text};
+use ec_console::{
+    Explanation, InputStream, OutputStream, Refusal, print_text, read_machine, read_text,
+};
 use ec_link::Machine;
 use ec_plan_table::explain_text;
 use ec_text::{header_text, plan_text};
@@ -56,15 +58,15 @@ pub fn show_plan(alloc: Global, form: PlanForm, text: &str) -> Result<String, Re
 ///
 /// `Refusal::Input` where the input couldn't be read, isn't text or is too long; those of [`show_plan`]; and `Refusal::Output`
 /// where a write was refused.
-pub fn print_plan<R: Read, W: Write>(
+pub fn print_plan<R: Read + Drop, W: Write + Drop>(
     alloc: Global,
     form: PlanForm,
-    input: &mut R,
-    output: &mut W,
+    input: &mut InputStream<R>,
+    output: &mut OutputStream<W>,
     behind: &mut Explanation,
 ) -> Result<(), Refusal>
-    ensures runs { RunsPlan form (R.remaining input.old) (W.contents output.old)
-        (W.contents output.new) result }
+    ensures runs { RunsPlan form (given_by R.remaining input.old input.new) output.old
+        output.new result }
     ensures explains { IsLeft behind.old behind.new }
 {
     let text = read_text(alloc, input)?;

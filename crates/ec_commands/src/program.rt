@@ -2,9 +2,10 @@
 ghost use Rattle.std.specs.Prelude.{◌≡◌, ◌∷◌, [], Contains, IfOk};
 ghost use Rattle.std.specs.Vec.Iter.{into_iter_items};
 ghost use Rattle.ec_commands.specs.Running.{EndsGiven, TellsUnread};
+ghost use Rattle.ec_console.specs.Given.{given_by};
 
 use crate::run::run_command;
-use ec_console::{FaultStream, Refusal};
+use ec_console::{InputStream, OutputStream, Refusal};
 use ec_wire::Echo;
 use std::alloc::{AllocError, Global};
 use std::env::Args;
@@ -20,15 +21,20 @@ const NOT_TEXT: &str = "error: an argument of the command line isn't text\n";
 /// Runs the program `ecat` on the arguments that `std::env::args` gives, as `run_command` does, and
 /// answers its exit status. Slaves that it simulates show their outputs as their inputs. Where an
 /// argument isn't text the status is 2, as for others that ask for no command.
-pub fn run_program<H: AllocGlobal + Net + Files + Clock, R: Read, W: Write, F: Write + Drop>(
+pub fn run_program<
+    H: AllocGlobal + Net + Files + Clock,
+    R: Read + Drop,
+    W: Write + Drop,
+    F: Write + Drop,
+>(
     rt: &H,
     given: io::Result<Args>,
-    input: &mut R,
-    output: &mut W,
-    faults: &mut FaultStream<F>,
+    input: &mut InputStream<R>,
+    output: &mut OutputStream<W>,
+    faults: &mut OutputStream<F>,
 ) -> u8
-    ensures ends { EndsGiven given (R.remaining input.old) input.old input.new
-        (record { old = W.contents output.old; new = W.contents output.new })
+    ensures ends { EndsGiven given (given_by R.remaining input.old input.new) input.old input.new
+        (record { old = output.old; new = output.new })
         (record { old = faults.old; new = faults.new }) result }
     ensures status { Contains (0 ∷ 2 ∷ 3 ∷ 4 ∷ 5 ∷ []) result }
     ensures unprinted { result ≡ 2 → output.new ≡ output.old }
@@ -44,7 +50,7 @@ pub fn run_program<H: AllocGlobal + Net + Files + Clock, R: Read, W: Write, F: W
 }
 
 /// Tells that the arguments can't be read, by the system's error, and answers the exit status.
-fn tell_unread<F: Write + Drop>(error: &io::Error, faults: &mut FaultStream<F>) -> u8
+fn tell_unread<F: Write + Drop>(error: &io::Error, faults: &mut OutputStream<F>) -> u8
     ensures tells { TellsUnread error.now
         (record { old = faults.old; new = faults.new }) result }
     ensures status { Contains (2 ∷ 3 ∷ []) result }

@@ -7,12 +7,13 @@ ghost use Rattle.ec_console.specs.Explaining.{IsLeft};
 ghost use Rattle.ec_commands.specs.Connecting.{Connects};
 ghost use Rattle.ec_commands.specs.Explaining.{is_explained};
 ghost use Rattle.ec_commands.specs.Running.{Ends, EndsAlone, LeavesAlone, Runs, RunsMasterWith, RunsSegmentAt, Tells, TellsWith};
+ghost use Rattle.ec_console.specs.Given.{given_by};
 
 use crate::pass::print_pass;
 use crate::plan::{PlanForm, print_plan};
 use ec_annotate::Names;
 use ec_args::{Notice, Request, read_args};
-use ec_console::{Explanation, FaultStream, Refusal, print_text};
+use ec_console::{Explanation, InputStream, OutputStream, Refusal, print_text};
 use ec_live::print_live;
 use ec_loop::{capture_loop, print_loop};
 use ec_master::{Connection, capture_master, print_master};
@@ -51,22 +52,22 @@ struct SegmentPlace {
 pub fn run_command<
     H: AllocGlobal + Net + Files + Clock,
     S: AsStr,
-    R: Read,
-    W: Write,
+    R: Read + Drop,
+    W: Write + Drop,
     F: Write + Drop,
 >(
     rt: &H,
     args: &[S],
-    input: &mut R,
-    output: &mut W,
-    faults: &mut FaultStream<F>,
+    input: &mut InputStream<R>,
+    output: &mut OutputStream<W>,
+    faults: &mut OutputStream<F>,
     app: &mut dyn App,
 ) -> u8
     // What `clap`'s specification finds in the arguments decides how the run ends, and what it
     // leaves alone.
     ensures ends { (read : Result RequestValue NoticeValue) × Reads (map S.text args.now) read
-        × Ends read (R.remaining input.old)
-        (record { old = W.contents output.old; new = W.contents output.new })
+        × Ends read (given_by R.remaining input.old input.new)
+        (record { old = output.old; new = output.new })
         (record { old = faults.old; new = faults.new }) result
         × EndsAlone read input.old input.new app.old app.new }
     ensures status { Contains (0 ∷ 2 ∷ 3 ∷ 4 ∷ 5 ∷ []) result }
@@ -77,16 +78,16 @@ pub fn run_command<
 
 /// Ends a run whose arguments were read: runs the command, or tells what there is to tell in its
 /// place, and answers the exit status.
-fn end_run<H: AllocGlobal + Net + Files + Clock, R: Read, W: Write, F: Write + Drop>(
+fn end_run<H: AllocGlobal + Net + Files + Clock, R: Read + Drop, W: Write + Drop, F: Write + Drop>(
     rt: &H,
     read: Result<Request<'_>, Notice>,
-    input: &mut R,
-    output: &mut W,
-    faults: &mut FaultStream<F>,
+    input: &mut InputStream<R>,
+    output: &mut OutputStream<W>,
+    faults: &mut OutputStream<F>,
     app: &mut dyn App,
 ) -> u8
-    ensures ends { Ends read.entry (R.remaining input.old)
-        (record { old = W.contents output.old; new = W.contents output.new })
+    ensures ends { Ends read.entry (given_by R.remaining input.old input.new)
+        (record { old = output.old; new = output.new })
         (record { old = faults.old; new = faults.new }) result }
     ensures alone { EndsAlone read.entry input.old input.new app.old app.new }
     ensures status { Contains (0 ∷ 2 ∷ 3 ∷ 4 ∷ 5 ∷ []) result }
@@ -121,7 +122,7 @@ fn explain_fault(alloc: Global, ended: &Result<(), Refusal>, behind: &mut Explan
 fn explained_status<F: Write + Drop>(
     ended: Result<(), Refusal>,
     more: &[u8],
-    faults: &mut FaultStream<F>,
+    faults: &mut OutputStream<F>,
 ) -> u8
     ensures { TellsWith more.now (record { old = faults.old; new = faults.new })
         result ended }
@@ -133,7 +134,7 @@ fn explained_status<F: Write + Drop>(
 }
 
 /// The exit status of a run. A refusal is told; a fault in telling it changes nothing.
-fn exit_status<F: Write + Drop>(ended: Result<(), Refusal>, faults: &mut FaultStream<F>) -> u8
+fn exit_status<F: Write + Drop>(ended: Result<(), Refusal>, faults: &mut OutputStream<F>) -> u8
     ensures { Tells (record { old = faults.old; new = faults.new })
         result ended }
 {
@@ -159,17 +160,22 @@ fn is_explained(request: &Request<'_>) -> bool
 
 /// Runs one command. The application and sockets are for the commands that simulate slaves or serve
 /// them; the fault stream is for what is told of a command while it runs.
-fn run_request<H: AllocGlobal + Net + Files + Clock, R: Read, W: Write, F: Write + Drop>(
+fn run_request<
+    H: AllocGlobal + Net + Files + Clock,
+    R: Read + Drop,
+    W: Write + Drop,
+    F: Write + Drop,
+>(
     rt: &H,
     request: Request<'_>,
-    input: &mut R,
-    output: &mut W,
-    faults: &mut FaultStream<F>,
+    input: &mut InputStream<R>,
+    output: &mut OutputStream<W>,
+    faults: &mut OutputStream<F>,
     app: &mut dyn App,
     behind: &mut Explanation,
 ) -> Result<(), Refusal>
-    ensures runs { Runs (command_of request.entry) (R.remaining input.old)
-        (record { old = W.contents output.old; new = W.contents output.new })
+    ensures runs { Runs (command_of request.entry) (given_by R.remaining input.old input.new)
+        (record { old = output.old; new = output.new })
         (record { old = faults.old; new = faults.new }) result }
     ensures alone { LeavesAlone (command_of request.entry) input.old input.new app.old app.new }
     ensures explains { IsLeft behind.old behind.new }
@@ -214,18 +220,23 @@ fn run_request<H: AllocGlobal + Net + Files + Clock, R: Read, W: Write, F: Write
 }
 
 /// Runs a command that is one end of a wire, with the other end in another process.
-fn run_connected<H: AllocGlobal + Net + Files + Clock, R: Read, W: Write, F: Write + Drop>(
+fn run_connected<
+    H: AllocGlobal + Net + Files + Clock,
+    R: Read + Drop,
+    W: Write + Drop,
+    F: Write + Drop,
+>(
     rt: &H,
     request: Request<'_>,
-    input: &mut R,
-    output: &mut W,
-    faults: &mut FaultStream<F>,
+    input: &mut InputStream<R>,
+    output: &mut OutputStream<W>,
+    faults: &mut OutputStream<F>,
     app: &mut dyn App,
     behind: &mut Explanation,
 ) -> Result<(), Refusal>
     requires { Connects (command_of request) }
-    ensures runs { Runs (command_of request.entry) (R.remaining input.old)
-        (record { old = W.contents output.old; new = W.contents output.new })
+    ensures runs { Runs (command_of request.entry) (given_by R.remaining input.old input.new)
+        (record { old = output.old; new = output.new })
         (record { old = faults.old; new = faults.new }) result }
     ensures alone { LeavesAlone (command_of request.entry) input.old input.new app.old app.new }
     ensures explains { IsLeft behind.old behind.new }
@@ -270,17 +281,17 @@ fn run_connected<H: AllocGlobal + Net + Files + Clock, R: Read, W: Write, F: Wri
 }
 
 /// Runs `ecat master`, with a capture or without.
-fn run_master<H: AllocGlobal + Net + Files + Clock, R: Read, W: Write>(
+fn run_master<H: AllocGlobal + Net + Files + Clock, R: Read + Drop, W: Write + Drop>(
     rt: &H,
     reasons: Reasons,
     way: Connection<'_>,
     capture: Option<&str>,
-    input: &mut R,
-    output: &mut W,
+    input: &mut InputStream<R>,
+    output: &mut OutputStream<W>,
     behind: &mut Explanation,
 ) -> Result<(), Refusal>
-    ensures runs { RunsMasterWith reasons (option_map (λ file. file.now) capture.entry) (R.remaining input.old)
-        (record { old = W.contents output.old; new = W.contents output.new }) result }
+    ensures runs { RunsMasterWith reasons (option_map (λ file. file.now) capture.entry) (given_by R.remaining input.old input.new)
+        (record { old = output.old; new = output.new }) result }
     ensures explains { IsLeft behind.old behind.new }
 {
     match capture {
@@ -290,19 +301,24 @@ fn run_master<H: AllocGlobal + Net + Files + Clock, R: Read, W: Write>(
 }
 
 /// Runs `ecat segment`, on a port or a card, with a capture or without.
-fn run_segment<H: AllocGlobal + Net + Files + Clock, R: Read, W: Write, F: Write + Drop>(
+fn run_segment<
+    H: AllocGlobal + Net + Files + Clock,
+    R: Read + Drop,
+    W: Write + Drop,
+    F: Write + Drop,
+>(
     rt: &H,
     frames: u32,
     place: SegmentPlace,
     capture: Option<&str>,
-    input: &mut R,
-    output: &mut W,
-    faults: &mut FaultStream<F>,
+    input: &mut InputStream<R>,
+    output: &mut OutputStream<W>,
+    faults: &mut OutputStream<F>,
     app: &mut dyn App,
     behind: &mut Explanation,
 ) -> Result<(), Refusal>
     ensures runs { RunsSegmentAt place.descriptor frames place.port place.form (option_map (λ file. file.now) capture.entry)
-        (R.remaining input.old) (record { old = W.contents output.old; new = W.contents output.new })
+        (given_by R.remaining input.old input.new) (record { old = output.old; new = output.new })
         (record { old = faults.old; new = faults.new }) result }
     ensures explains { IsLeft behind.old behind.new }
 {

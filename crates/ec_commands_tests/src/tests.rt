@@ -7,7 +7,7 @@ mod serials;
 mod streams;
 
 use self::streams::{Sink, Source, sink_of, source_of};
-use ec_commands::{App, FaultStream, UdpWire, print_text, read_text, run_command};
+use ec_commands::{App, InputStream, OutputStream, UdpWire, print_text, read_text, run_command};
 use ec_examples::THREE_SLAVES;
 use std::fs::Files;
 use std::net::Net;
@@ -41,11 +41,15 @@ fn fault_writes(wrong: &str) -> u32 {
     }
 }
 
-/// Whether a write to it is refused.
-fn refuses(wrong: &str) -> bool {
-    matches!(
-        wrong,
-        "full faults" | "faults of one write" | "stuck faults"
+/// Whether a read of the input is refused, and a write to the output and to the fault stream, or handing on what it took.
+fn refuses(wrong: &str) -> (bool, bool, bool) {
+    (
+        wrong == "failing input",
+        matches!(wrong, "full output" | "stuck output"),
+        matches!(
+            wrong,
+            "full faults" | "faults of one write" | "stuck faults"
+        ),
     )
 }
 
@@ -74,12 +78,25 @@ fn is_as(seen: &[u8], wanted: &str) -> bool {
     }
 }
 
+/// What became of a run's output and fault stream, and whether a read of its input was refused.
+#[derive(Drop)]
+struct RunStreams {
+    is_unread: bool,
+    output: OutputStream<Sink>,
+    faults: OutputStream<Sink>,
+}
+
 /// Compares how a run ended: its exit status, what it printed and told, that a stream that isn't handed on was to be, once, and
-/// whether a write to the fault stream was refused.
-fn expect_ended(rt: &impl Abort, run: &Run, status: u8, output: &Sink, faults: FaultStream<Sink>) {
+/// whether a read of its input and a write to its streams were refused.
+fn expect_ended(rt: &impl Abort, run: &Run, status: u8, streams: RunStreams) {
     let (wrong, args, _, wanted, printed, told) = *run;
-    let is_refused = faults.is_refused();
-    let faults = faults.into_stream();
+    let RunStreams {
+        is_unread,
+        output,
+        faults,
+    } = streams;
+    let is_refused = (is_unread, output.is_refused(), faults.is_refused());
+    let (output, faults) = (output.into_stream(), faults.into_stream());
     let stuck = u32::from(output.is_stuck) + u32::from(faults.is_stuck);
     let refused = output.refused.saturating_add(faults.refused);
     let is_printed = is_as(output.taken.as_slice(), printed);
@@ -93,21 +110,28 @@ fn expect_ended(rt: &impl Abort, run: &Run, status: u8, output: &Sink, faults: F
 
 /// Runs the program, with an application that does nothing, and compares how that ends.
 fn expect_args<H: AllocGlobal + Net + Files + Clock + Abort>(rt: &H, args: &[&str], run: &Run) {
-    let mut input = input_of(run.0, run.2);
-    let mut output = sink_of(rt.alloc(), output_writes(run.0), run.0 == "stuck output");
+    let mut input = InputStream::new(input_of(run.0, run.2));
+    let sink = sink_of(rt.alloc(), output_writes(run.0), run.0 == "stuck output");
+    let mut output = OutputStream::new(sink);
     let sink = sink_of(rt.alloc(), fault_writes(run.0), run.0 == "stuck faults");
-    let mut faults = FaultStream::new(sink);
+    let mut faults = OutputStream::new(sink);
     let status = run_args(rt, args, &mut input, &mut output, &mut faults);
-    expect_ended(rt, run, status, &output, faults);
+    let is_unread = input.is_refused();
+    let streams = RunStreams {
+        is_unread,
+        output,
+        faults,
+    };
+    expect_ended(rt, run, status, streams);
 }
 
 /// Runs the program. It promises nothing, so what calls it is quickly checked.
 fn run_args<H: AllocGlobal + Net + Files + Clock>(
     rt: &H,
     args: &[&str],
-    input: &mut Source<'_>,
-    output: &mut Sink,
-    faults: &mut FaultStream<Sink>,
+    input: &mut InputStream<Source<'_>>,
+    output: &mut OutputStream<Sink>,
+    faults: &mut OutputStream<Sink>,
 ) -> u8 {
     run_command(rt, args, input, output, faults, &mut Idle)
 }
@@ -288,24 +312,25 @@ fn expect_text(rt: &impl Abort, seen: &[u8], wanted: &str) {
 /// A writer takes one byte at a time, and is interrupted before each.
 #[test]
 fn writes_on_past_short_writes_and_interruptions(rt: HostRuntime) {
-    let mut output = sink_of(rt.alloc(), u32::MAX, false);
-    output.at_a_time = 1;
-    output.halts = true;
+    let mut sink = sink_of(rt.alloc(), u32::MAX, false);
+    sink.at_a_time = 1;
+    sink.halts = true;
+    let mut output = OutputStream::new(sink);
     print_text(b"ecat", &mut output).expect(&rt, "a text");
-    expect_text(&rt, output.taken.as_slice(), "ecat");
+    expect_text(&rt, output.into_stream().taken.as_slice(), "ecat");
 }
 
 /// The text of an input. What that is told by is no matter of those that call this.
-fn text_of(rt: &(impl AllocGlobal + Abort), input: &mut Source<'_>) -> String {
+fn text_of(rt: &(impl AllocGlobal + Abort), input: &mut InputStream<Source<'_>>) -> String {
     read_text(rt.alloc(), input).expect(rt, "a text")
 }
 
 /// A reader gives one byte at a time, and is interrupted before each.
 #[test]
 fn reads_on_past_interruptions(rt: HostRuntime) {
-    let mut input = source_of("version = 2");
-    input.at_a_time = 1;
-    input.halts = true;
-    let text = text_of(&rt, &mut input);
+    let mut source = source_of("version = 2");
+    source.at_a_time = 1;
+    source.halts = true;
+    let text = text_of(&rt, &mut InputStream::new(source));
     expect_text(&rt, text.as_str().as_bytes(), "version = 2");
 }

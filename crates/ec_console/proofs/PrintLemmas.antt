@@ -1,8 +1,13 @@
 -- Streams that grow in steps.
-use Rattle.std.proofs.Common.{◌≡◌, ◌∙◌, inl, inr, ℕ, zero, suc, ◌+◌, ◌-◌, ◌≤◌, List, [], ◌∷◌, ◌++◌, length, take, drop, Option, None, Some, refl, sym, ap, subst, append_assoc, zero-add, arith, Result, Ok, Err, IfErr, OnOk, OnErr}
+use Rattle.std.proofs.Common.{◌≡◌, ◌∙◌, inl, inr, ℕ, zero, suc, ◌+◌, ◌-◌, ◌≤◌, List, [], ◌∷◌, ◌++◌, length, take, drop, Option, None, Some, refl, sym, ap, subst, append_assoc, zero-add, arith, Result, Ok, Err, IfErr, OnOk, OnErr, Bool, true, false, not, ◌||◌}
 use Rattle.std.specs.Io.KnownBytes.{Appends, Keeps}
 use Rattle.std.proofs.lemmas.List.{append-nil}
-use Rattle.ec_console.specs.Printing.{AppendsPart, FaultState, IsTold, IsToldInPart, IsToldWhole, Shows}
+use denote.Enum.Bare.{sameb}
+use Rattle.std.specs.contracts.io.ErrorKind.{the_type}
+use Rattle.std.specs.declared.io.ErrorKind.{ErrorKind}
+use Rattle.std.specs.declared.io.ErrorKind.TheVariants.{Interrupted}
+use Rattle.ec_console.specs.Laws.{TextsLaw}
+use Rattle.ec_console.specs.Printing.{is_refusal, IsCutOff, IsPartPrinted, IsPrinted, IsTold, OutputState, Shows}
 use Rattle.ec_console.specs.declared.refusal.Refusal.{Refusal}
 use Rattle.ec_console.specs.declared.refusal.Refusal.TheVariants.{Output}
 
@@ -62,12 +67,66 @@ part_after old mid new text k n first within bound then =
       omega (arith, below, length-rest k text within),
     )
 
+-- ---- whether a write was refused
+
+pub not_refused : (before now said : Bool) → now ≡ before || said → said ≡ false → now ≡ before
+not_refused true now said is none = is
+not_refused false now said is none = is ∙ none
+
+pub now_refused : (before now said : Bool) → now ≡ before || said → said ≡ true → now ≡ true
+now_refused true now said is one = is
+now_refused false now said is one = is ∙ one
+
+-- an error is a refusal, but for an interruption
+pub interrupted_only : (kind : ErrorKind) → false ≡ not (sameb the_type kind Interrupted) → is_refusal kind ≡ false
+interrupted_only Interrupted h = refl
+interrupted_only _ h = let bad : false ≡ true = h in cc
+
+pub refused_else : (kind : ErrorKind) → true ≡ not (sameb the_type kind Interrupted) → is_refusal kind ≡ true
+refused_else Interrupted h = let bad : true ≡ false = h in cc
+refused_else _ h = refl
+
+-- ---- texts on an output
+
+printed_nothing : (old : OutputState) → IsPrinted old old []
+printed_nothing old = record { bytes = appends_nothing old.holds; refused = refl; flushed = λ is. is }
+
+printed_more : (old mid new : OutputState) (a b : List ℕ) → IsPrinted old mid a → IsPrinted mid new b → IsPrinted old new (a ++ b)
+printed_more old mid new a b first then = record {
+  bytes = appends_more old.holds mid.holds new.holds a b first.bytes then.bytes;
+  refused = then.refused ∙ first.refused;
+  flushed = λ is. then.flushed (first.flushed is);
+}
+
 -- the whole of a text is a first part of it
-pub whole_part : (old new : Option (List ℕ)) (text : List ℕ) → Appends old new text → AppendsPart old new text
-whole_part old new text whole = (length text, subst (Appends old new) (sym (take-all text)) whole)
+pub whole_part : (old new : OutputState) (text : List ℕ) → Appends old.holds new.holds text → IsPartPrinted old new text
+whole_part old new text whole = (length text, subst (Appends old.holds new.holds) (sym (take-all text)) whole)
+
+-- and what is behind a text that is printed is behind it in both
+part_behind : (text more : List ℕ) (n : ℕ) → text ++ take n more ≡ take (length text + n) (text ++ more)
+part_behind [] more n = ap (λ k. take k more) (sym (zero-add n))
+part_behind (x ∷ xs) more n =
+    let e : suc (length xs) + n ≡ suc (length xs + n) = omega arith in
+    rw e (ap (λ l. x ∷ l) (part_behind xs more n))
+
+part_more : (old mid new : OutputState) (text more : List ℕ) → IsPrinted old mid text → IsPartPrinted mid new more → IsPartPrinted old new (text ++ more)
+part_more old mid new text more first (count, then) =
+    (length text + count, subst (Appends old.holds new.holds) (part_behind text more count) (appends_more old.holds mid.holds new.holds text (take count more) first.bytes then))
+
+cut_more : (old mid new : OutputState) (text more : List ℕ) → IsPrinted old mid text → IsCutOff mid new more → IsCutOff old new (text ++ more)
+cut_more old mid new text more first then = record { refused = then.refused; part = part_more old mid new text more first then.part }
+
+pub texts : TextsLaw
+texts = record {
+  none = printed_nothing;
+  both = printed_more;
+  cut = cut_more;
+  part = part_more;
+  whole = λ old new text all. whole_part old new text all.bytes;
+}
 
 -- what a write says of it, as one fact
-pub shown : (r : Result Unit Refusal) (old new : Option (List ℕ)) (text : List ℕ) → OnOk r (Appends old new text) → OnErr r (AppendsPart old new text)
+pub shown : (r : Result Unit Refusal) (old new : OutputState) (text : List ℕ) → OnOk r (IsPrinted old new text) → OnErr r (IsCutOff old new text)
     → IfErr r (λ e. e ≡ Output) → Shows text old new r
 shown (Ok done) old new text all part fault = all
 shown (Err refusal) old new text all part fault = (fault, part)
@@ -84,24 +143,12 @@ part_of_both (suc n) (x ∷ xs) more =
     let rest = part_of_both n xs more in
     (suc rest.0, ap (λ l. x ∷ l) rest.1)
 
-pub part_of_more : (old new : FaultState) (text more : List ℕ) → IsToldInPart text old new → IsTold (text ++ more) old new
+pub part_of_more : (old new : OutputState) (text more : List ℕ) → IsCutOff old new text → IsTold (text ++ more) old new
 part_of_more old new text more cut =
     let part = part_of_both cut.part.0 text more in
     inr (record { refused = cut.refused; part = (part.0, subst (Appends old.holds new.holds) (sym part.1) cut.part.1) })
 
--- and where all of it is told, so is a first part of what is behind it
-part_behind : (text more : List ℕ) (n : ℕ) → text ++ take n more ≡ take (length text + n) (text ++ more)
-part_behind [] more n = ap (λ k. take k more) (sym (zero-add n))
-part_behind (x ∷ xs) more n =
-    let e : suc (length xs) + n ≡ suc (length xs + n) = omega arith in
-    rw e (ap (λ l. x ∷ l) (part_behind xs more n))
-
-pub told_both : (old mid new : FaultState) (text more : List ℕ) → IsToldWhole text old mid → IsTold more mid new → IsTold (text ++ more) old new
-told_both old mid new text more first (inl then) = inl (record {
-  bytes = appends_more old.holds mid.holds new.holds text more first.bytes then.bytes;
-  refused = then.refused ∙ first.refused;
-})
-told_both old mid new text more first (inr then) =
-    let count : ℕ = then.part.0 in
-    let both : Appends old.holds new.holds (text ++ take count more) = appends_more old.holds mid.holds new.holds text (take count more) first.bytes then.part.1 in
-    inr (record { refused = then.refused; part = (length text + count, subst (Appends old.holds new.holds) (part_behind text more count) both) })
+-- and where all of it is told, what becomes of the rest becomes of both
+pub told_both : (old mid new : OutputState) (text more : List ℕ) → IsPrinted old mid text → IsTold more mid new → IsTold (text ++ more) old new
+told_both old mid new text more first (inl then) = inl (printed_more old mid new text more first then)
+told_both old mid new text more first (inr then) = inr (cut_more old mid new text more first then)

@@ -1,7 +1,12 @@
 -- What a capture adds to a command (this project's profile). Nothing can be known of a file but that it was refused.
-use Rattle.std.specs.Prelude.{◌≡◌, ◌⊎◌, ℕ, List, Option, None, Some, Result, Ok, Err}
+use Rattle.std.specs.Prelude.{◌≡◌, ◌⊎◌, ℕ, Bool, true, List, Option, None, Some, Result, Ok, Err}
 use Rattle.ec_console.specs.declared.refusal.Refusal.{Refusal}
 use Rattle.ec_console.specs.declared.refusal.Refusal.TheVariants.{Memory, Output}
+use Rattle.ec_console.specs.Printing.{OutputState}
+
+-- what was to be written isn't: a write to the output was refused; or there is a capture, whose file may refuse it
+abbrev pub IsUnwritten : (captured : Bool) → OutputState → Type 0
+IsUnwritten captured output = (output.is_refused ≡ true) ⊎ (captured ≡ true)
 
 -- its file can't be opened or begun, or there is no memory for it
 abbrev pub IsUnopened : Refusal → Type 0

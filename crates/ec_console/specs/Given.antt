@@ -1,9 +1,7 @@
 -- What the input gives, and by what it, or the link table that it states, is refused (this project's profile).
-use Rattle.std.specs.Prelude.{◌≡◌, ◌≢◌, ◌⊎◌, ℕ, ◌<◌, ◌^◌, List, length, Option, Ok, IfSome}
-use Rattle.std.specs.IoError.{error_kind}
+use Rattle.std.specs.Prelude.{◌≡◌, ◌⊎◌, ℕ, ◌<◌, ◌^◌, List, length, Option, Ok, IfSome, Bool, true}
 use Rattle.std.specs.Str.{IsUtf8}
-use Rattle.std.specs.declared.io.Error.{Error}
-use Rattle.std.specs.declared.io.ErrorKind.TheVariants.{Interrupted}
+use Rattle.ec_lines.specs.Inputs.{InputState}
 use Rattle.ec_lines.specs.declared.error.LinesError.{LinesError}
 use Rattle.ec_lines.specs.declared.error.LinesError.TheVariants as lines
 use Rattle.ec_table.specs.Contents.{Contents}
@@ -15,30 +13,35 @@ use Rattle.ec_link.specs.Faults.{Fails as LinkFails, compile_fault}
 use Rattle.ec_console.specs.declared.refusal.Refusal.{Refusal}
 use Rattle.ec_console.specs.declared.refusal.Refusal.TheVariants.{Memory, Input, Table, Link}
 
--- the text is all that an input gives, where that is known
-abbrev pub GivesText : Option (List ℕ) → List ℕ → Type 0
-GivesText known text = IfSome known (λ bytes. text ≡ bytes)
+-- What a run has of an input: the bytes that it gives from its beginning on, where they are known, and whether a read of it was
+-- refused by its end.
+pub record Given : Type 0 where
+  pub bytes : Option (List ℕ)
+  pub is_refused : Bool
 
--- A read was refused, and not for an interruption, after which it is made again. Which error it gave is not for a clause to
--- say: what a reader refuses is in no model of it.
-abbrev pub IsReadRefused : Type 0
-IsReadRefused = (error : Error) × (error_kind error ≢ Interrupted)
+-- by what a reader gives, and what the input is before and after
+abbrev pub given_by : {R : Type 0} → (remaining : R → Option (List ℕ)) → (old new : InputState R) → Given
+given_by remaining old new = record { bytes = remaining old.stream; is_refused = new.is_refused }
+
+-- the text is all that an input gives, where that is known
+abbrev pub GivesText : Given → List ℕ → Type 0
+GivesText given text = IfSome given.bytes (λ bytes. text ≡ bytes)
 
 -- what a read that is refused is told as; memory may run out at any time
-abbrev pub IsReadRefusal : Refusal → Type 0
-IsReadRefusal Memory = Unit {0}
-IsReadRefusal Input = IsReadRefused
-IsReadRefusal _ = ⊥
+abbrev pub IsReadRefusal : (is_refused : Bool) → Refusal → Type 0
+IsReadRefusal is_refused Memory = Unit {0}
+IsReadRefusal is_refused Input = is_refused ≡ true
+IsReadRefusal is_refused _ = ⊥
 
 -- bytes that are no input: over 2^20, or no text in UTF-8
 abbrev pub IsNoInput : List ℕ → Type 0
 IsNoInput bytes = (2 ^ 20 < length bytes) ⊎ (IsUtf8 bytes → ⊥)
 
--- a read of the input was refused; or what it gives, where that is known, is no input
-abbrev pub IsInputRefusal : Option (List ℕ) → Refusal → Type 0
-IsInputRefusal known Memory = Unit {0}
-IsInputRefusal known Input = IsReadRefused ⊎ IfSome known IsNoInput
-IsInputRefusal known _ = ⊥
+-- a read of the input was refused; or what it gives, where that is known, is no input; memory may run out at any time
+abbrev pub IsInputRefusal : Given → Refusal → Type 0
+IsInputRefusal given Memory = Unit {0}
+IsInputRefusal given Input = (given.is_refused ≡ true) ⊎ IfSome given.bytes IsNoInput
+IsInputRefusal given _ = ⊥
 
 -- the first fault of a table that was read
 abbrev pub IsLinkRefusal : Contents → Refusal → Type 0
@@ -59,8 +62,8 @@ machine_refusal (machine.Table error) = Table error
 machine_refusal (machine.Link error) = Link error
 
 -- by what a command is refused that reads a link table: a fault of the input, or of the table that it states
-abbrev pub RefusesTable : Option (List ℕ) → Refusal → Type 0
-RefusesTable known refusal = IsInputRefusal known refusal ⊎ ((text : List ℕ) × GivesText known text × IsTableRefusal text refusal)
+abbrev pub RefusesTable : Given → Refusal → Type 0
+RefusesTable given refusal = IsInputRefusal given refusal ⊎ ((text : List ℕ) × GivesText given text × IsTableRefusal text refusal)
 
 -- what a line, or the text before a line `%%`, is refused by
 abbrev pub lines_refusal : LinesError → Refusal

@@ -6,3 +6,5 @@ pub mod Printing
 pub mod Unmet
 pub mod Explaining
 pub mod Capturing
+-- Laws: what the definitions say together.
+pub mod Laws

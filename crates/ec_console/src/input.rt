@@ -1,9 +1,10 @@
 //! Reading a whole text, up to a limit.
-ghost use Rattle.std.specs.Prelude.{◌≡◌, ◌≤◌, ◌+◌, ◌^◌, IfErr, IfOk, IfSome, length, take};
+ghost use Rattle.std.specs.Prelude.{◌≡◌, ◌≤◌, ◌^◌, ◌+◌, IfErr, IfOk, IfSome, OnOk, length, take};
 ghost use Rattle.std.specs.String.{string_bytes};
-ghost use Rattle.ec_console.specs.Given.{GivesText, IsInputRefusal, IsNoInput, IsReadRefusal};
+ghost use Rattle.ec_console.specs.Given.{GivesText, IsInputRefusal, IsNoInput, IsReadRefusal, given_by};
 
 use crate::Refusal;
+use ec_lines::InputStream;
 use std::alloc::Global;
 use std::io::{ErrorKind, Read};
 
@@ -12,10 +13,14 @@ const MAX_INPUT: usize = 1 << 20;
 
 /// All that `input` gives, as text. `Refusal::Input` is told where a read is refused, where it gives
 /// more than 2^20 bytes, and where they are no text in UTF-8. An interrupted read is made again.
-pub fn read_text<R: Read>(alloc: Global, input: &mut R) -> Result<String, Refusal>
-    ensures whole { IfOk result (λ text. GivesText (R.remaining input.old) (string_bytes text)) }
+pub fn read_text<R: Read + Drop>(
+    alloc: Global,
+    input: &mut InputStream<R>,
+) -> Result<String, Refusal>
+    ensures whole { IfOk result (λ text. GivesText (given_by R.remaining input.old input.new) (string_bytes text)) }
     ensures short { IfOk result (λ text. length (string_bytes text) ≤ 2 ^ 20) }
-    ensures refused { IfErr result (IsInputRefusal (R.remaining input.old)) }
+    ensures refused { IfErr result (IsInputRefusal (given_by R.remaining input.old input.new)) }
+    ensures kept { OnOk result (input.new.is_refused ≡ input.old.is_refused) }
 {
     let bytes = read_bytes(alloc, input)?;
     text_of(bytes)
@@ -34,15 +39,20 @@ fn text_of(bytes: Vec<u8>) -> Result<String, Refusal>
 }
 
 /// What `input` gives, up to one byte more than an input may have. An interrupted read is made again.
-fn read_bytes<R: Read>(alloc: Global, input: &mut R) -> Result<Vec<u8>, Refusal>
+fn read_bytes<R: Read + Drop>(alloc: Global, input: &mut InputStream<R>) -> Result<Vec<u8>, Refusal>
     ensures known { IfOk result (λ bytes.
-        IfSome (R.remaining input.old) (λ all. bytes.items ≡ take (2 ^ 20 + 1) all)) }
-    ensures refused { IfErr result IsReadRefusal }
+        IfSome (R.remaining input.old.stream) (λ all. bytes.items ≡ take (2 ^ 20 + 1) all)) }
+    ensures refused { IfErr result (IsReadRefusal input.new.is_refused) }
+    ensures kept { OnOk result (input.new.is_refused ≡ input.old.is_refused) }
 {
     let mut bytes = Vec::new(alloc);
-    match input.take(MAX_INPUT as u64 + 1).read_to_end(&mut bytes) {
+    match input.read_first(MAX_INPUT as u64 + 1, &mut bytes) {
         Ok(_) => Ok(bytes),
-        Err(error) if error.kind() == ErrorKind::OutOfMemory => Err(Refusal::Memory),
-        Err(_) => Err(Refusal::Input),
+        Err(error) => {
+            if error.kind() == ErrorKind::OutOfMemory {
+                return Err(Refusal::Memory);
+            }
+            Err(Refusal::Input)
+        }
     }
 }

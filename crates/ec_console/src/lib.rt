@@ -5,18 +5,21 @@
 
 mod captures;
 mod explain;
-mod faults;
 mod input;
+pub mod laws;
 mod machine;
+mod output;
 mod printing;
 mod refusal;
+mod telling;
 
 pub use crate::captures::{
     Capture, Recording, close_capture, finish_recording, open_capture, open_segment,
 };
 pub use crate::explain::Explanation;
-pub use crate::faults::FaultStream;
 pub use crate::input::read_text;
 pub use crate::machine::read_machine;
+pub use crate::output::OutputStream;
 pub use crate::printing::print_text;
 pub use crate::refusal::{Refusal, end_of};
+pub use ec_lines::InputStream;

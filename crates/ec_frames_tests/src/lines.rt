@@ -1,6 +1,6 @@
 //! What is taken of an input that is interrupted or fails, what is wrong with a text, and what is left behind it. What lines and
 //! texts are otherwise is shown by cases of `ecat sim --live` (`ecat_cases/data/lives.cases`).
-use ec_lines::{LinesError, MAX_BYTES, NextLine, take_line, take_text};
+use ec_lines::{InputStream, LinesError, MAX_BYTES, NextLine, take_line, take_text};
 use std::io;
 use std::io::{ErrorKind, Read};
 use std::process::Abort;
@@ -23,16 +23,25 @@ fn words_of(taken: &Result<NextLine, LinesError>) -> &str {
 }
 
 /// Takes a line, and compares it.
-fn expect_line(rt: &(impl AllocGlobal + Abort), input: &mut Halting<'_>, line: &str) {
+fn expect_line(rt: &(impl AllocGlobal + Abort), input: &mut InputStream<Halting<'_>>, line: &str) {
     let taken = take_line(rt.alloc(), input);
     assert_eq!(rt; words_of(&taken), line);
 }
 
 /// Takes lines, and compares each.
-fn expect_lines(rt: &(impl AllocGlobal + Abort), input: &mut Halting<'_>, lines: &[&str]) {
+fn expect_lines(
+    rt: &(impl AllocGlobal + Abort),
+    input: &mut InputStream<Halting<'_>>,
+    lines: &[&str],
+) {
     for line in lines {
         expect_line(rt, input, line);
     }
+}
+
+/// Whether a read of an input was refused.
+fn expect_refused(rt: &impl Abort, input: &InputStream<Halting<'_>>, is_refused: bool) {
+    assert_eq!(rt; input.is_refused(), is_refused);
 }
 
 /// What was taken as a text.
@@ -44,9 +53,9 @@ fn text_of(taken: &Result<String, LinesError>) -> Result<&str, LinesError> {
 }
 
 /// Takes a text, and compares it.
-fn expect_text<H: AllocGlobal + Abort, R: Read>(
+fn expect_text<H: AllocGlobal + Abort, R: Read + Drop>(
     rt: &H,
-    input: &mut R,
+    input: &mut InputStream<R>,
     text: Result<&str, LinesError>,
 ) {
     let taken = take_text(rt.alloc(), input);
@@ -81,25 +90,40 @@ impl<'a> Read for Halting<'a> {
 
 #[test]
 fn an_interrupted_read_is_made_again(rt: HostRuntime) {
-    let mut input = Halting {
+    let mut input = InputStream::new(Halting {
         bytes: b"a\nb",
         is_interrupted: false,
         fault: None,
-    };
+    });
     expect_lines(&rt, &mut input, &["a", "b", END, END]);
+    expect_refused(&rt, &input, false);
 }
 
 /// A read that is refused ends the line, the text and what comes behind them.
 #[test]
 fn a_refused_read_is_told(rt: HostRuntime) {
-    let mut input = Halting {
+    let mut input = InputStream::new(Halting {
         bytes: b"a\n%%\nb\nc",
         is_interrupted: false,
         fault: Some(ErrorKind::Other),
-    };
+    });
     expect_text(&rt, &mut input, Ok("a\n"));
     expect_lines(&rt, &mut input, &["b", UNREAD, UNREAD]);
     expect_text(&rt, &mut input, Err(LinesError::Unread));
+    expect_refused(&rt, &input, true);
+}
+
+/// A read for which memory runs out is no refusal of it.
+#[test]
+fn memory_that_a_read_lacks_is_told(rt: HostRuntime) {
+    let mut input = InputStream::new(Halting {
+        bytes: b"a\nb",
+        is_interrupted: false,
+        fault: Some(ErrorKind::OutOfMemory),
+    });
+    expect_lines(&rt, &mut input, &["a", "(another error)"]);
+    expect_text(&rt, &mut input, Err(LinesError::Memory));
+    expect_refused(&rt, &input, false);
 }
 
 /// An input, the text that is taken of it, and what is left.
@@ -118,9 +142,9 @@ const TAKEN: [Taken; 3] = [
 
 /// Takes a text, and compares it and what is left.
 fn expect_taken(rt: &(impl AllocGlobal + Abort), row: &Taken) {
-    let mut input = row.0;
+    let mut input = InputStream::new(row.0);
     expect_text(rt, &mut input, row.1);
-    assert_eq!(rt; input, row.2);
+    assert_eq!(rt; input.into_stream(), row.2);
 }
 
 #[test]
@@ -134,9 +158,17 @@ fn takes_texts(rt: HostRuntime) {
 #[test]
 fn takes_no_longer_texts(rt: HostRuntime) -> Result<(), Fail> {
     let line = "a".repeat(rt.alloc(), MAX_BYTES + 1)?;
-    expect_text(&rt, &mut line.as_bytes(), Err(LinesError::TooLong));
+    expect_text(
+        &rt,
+        &mut InputStream::new(line.as_bytes()),
+        Err(LinesError::TooLong),
+    );
     let lines = "aaaaaaa\n".repeat(rt.alloc(), MAX_BYTES / 8 + 1)?;
-    expect_text(&rt, &mut lines.as_bytes(), Err(LinesError::TooLong));
+    expect_text(
+        &rt,
+        &mut InputStream::new(lines.as_bytes()),
+        Err(LinesError::TooLong),
+    );
     Ok(())
 }
 

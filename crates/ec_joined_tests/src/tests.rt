@@ -12,7 +12,7 @@ use self::scripts::{new_world, plan_text_of, write_answers};
 use self::seeds::{Seeded, of_seed};
 use self::sizes::{BAD_LINKS, filled_up, repeated, room_for, table_of_size, table_with_link};
 use self::texts::with_number;
-use ec_commands::{FaultStream, run_command};
+use ec_commands::{InputStream, OutputStream, run_command};
 use ec_link::Machine;
 use ec_wire::Echo;
 use std::fs::Files;
@@ -58,13 +58,13 @@ const TEXT: &str = r#"frame 2
 
 /// Runs the program, with applications that show their slaves' outputs as inputs.
 fn run<H: AllocGlobal + Net + Files + Clock>(rt: &H, args: &[&str], input: &str) -> Ended {
-    let mut input = input.as_bytes();
-    let mut printed: Vec<u8> = Vec::new(rt.alloc());
-    let mut faults: FaultStream<Vec<u8>> = FaultStream::new(Vec::new(rt.alloc()));
-    let status = run_command(rt, args, &mut input, &mut printed, &mut faults, &mut Echo);
+    let mut input = InputStream::new(input.as_bytes());
+    let mut output: OutputStream<Vec<u8>> = OutputStream::new(Vec::new(rt.alloc()));
+    let mut faults: OutputStream<Vec<u8>> = OutputStream::new(Vec::new(rt.alloc()));
+    let status = run_command(rt, args, &mut input, &mut output, &mut faults, &mut Echo);
     Ended {
         status,
-        printed,
+        printed: output.into_stream(),
         told: faults.into_stream(),
     }
 }

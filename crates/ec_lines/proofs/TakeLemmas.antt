@@ -1,5 +1,5 @@
 -- Lines that are taken from an input, one after another.
-use Rattle.std.proofs.Common.{◌≡◌, ◌≢◌, ◌∙◌, ◌⊎◌, inl, inr, ℕ, zero, suc, ◌+◌, ◌<◌, All, List, [], ◌∷◌, ◌++◌, length, take, nat_lt, Bool, true, false, Option, None, Some, refl, sym, ap, subst, append_assoc, append-nil, arith, if◌then◌else◌, get_or, ◌≤◌, Result, Ok, Err, OnErr}
+use Rattle.std.proofs.Common.{◌≡◌, ◌≢◌, ◌∙◌, ◌⊎◌, inl, inr, ℕ, zero, suc, ◌<◌, All, List, [], ◌∷◌, ◌++◌, length, take, nat_lt, Bool, true, false, Option, None, Some, refl, sym, ap, subst, append_assoc, append-nil, arith, if◌then◌else◌, get_or, ◌≤◌, Result, Ok, Err, OnErr}
 use Rattle.std.specs.Io.KnownBytes.{Consumes, IsAtEnd, Keeps}
 use Rattle.std.proofs.lemmas.Bool.Decides.{nat_tests}
 use Rattle.std.proofs.lemmas.List.Elements.{All-nil, All-cons}

@@ -11,6 +11,11 @@ use Rattle.ec_lines.specs.declared.lines.NextLine.{NextLine}
 use Rattle.ec_lines.specs.declared.lines.NextLine.TheVariants as taken
 use Rattle.ec_lines.specs.declared.error.LinesError.{LinesError}
 use Rattle.ec_lines.specs.declared.error.LinesError.TheVariants.{Memory, Unread, TooLong, NoText}
+use denote.Enum.Bare.{sameb}
+use Rattle.std.specs.contracts.io.ErrorKind.{the_type}
+use Rattle.std.specs.declared.io.ErrorKind.{ErrorKind}
+use Rattle.std.specs.declared.io.ErrorKind.TheVariants.{Interrupted, OutOfMemory}
+use Rattle.ec_lines.specs.Inputs.{is_refusal}
 use Rattle.ec_lines.specs.Kept.{IsAddFault, RefusesLines, TakesKept, is_last}
 use Rattle.ec_lines.specs.Taking.{IsReadFault, IsTaken, RefusesText, TakesLine, TakesPart, TakesText, TakesUndivided, is_divider, is_text, is_text_line, without_end}
 use Rattle.ec_lines.proofs.TakeLemmas.{part_then, text_ends, undivided_more}
@@ -115,11 +120,25 @@ pub err_of : {T : Type 0} (r : Result T LinesError) (e : LinesError) (P : LinesE
 err_of (Ok x) e P h p = tt
 err_of (Err f) e P h p = subst P (sym h) p
 
-pub read_refused : (old mid new : Option (List ℕ)) (text : List ℕ) (e : LinesError) → TakesUndivided old mid text → IsReadFault e → TakesPart mid new → RefusesLines old new e
-read_refused old mid new text Memory h fault part = part_then old mid new text h part
-read_refused old mid new text Unread h fault part = part_then old mid new text h part
-read_refused old mid new text TooLong h fault part = absurd fault
-read_refused old mid new text NoText h fault part = absurd fault
+-- ---- whether a read was refused
+
+pub interrupted_only : (kind : ErrorKind) → true ≡ sameb the_type kind Interrupted → is_refusal kind ≡ false
+interrupted_only Interrupted h = refl
+interrupted_only OutOfMemory h = refl
+interrupted_only _ h = let bad : true ≡ false = h in cc
+
+pub not_refused : (before now said : Bool) → now ≡ before || said → said ≡ false → now ≡ before
+not_refused true now said is none = is
+not_refused false now said is none = is ∙ none
+
+-- ---- what refuses a text
+
+pub read_refused : (is_refused : Bool) (old mid new : Option (List ℕ)) (text : List ℕ) (e : LinesError) → TakesUndivided old mid text → IsReadFault is_refused e → TakesPart mid new
+    → RefusesLines is_refused old new e
+read_refused is_refused old mid new text Memory h fault part = part_then old mid new text h part
+read_refused is_refused old mid new text Unread h fault part = (part_then old mid new text h part, fault)
+read_refused is_refused old mid new text TooLong h fault part = absurd fault
+read_refused is_refused old mid new text NoText h fault part = absurd fault
 
 not_last : (line : List ℕ) (r : Bool) → r ≡ is_last line → r ≡ false → (0 < length line) × (is_divider line ≡ false)
 not_last line r is none = parts (length line == 0) (is_divider line) refl (sym is ∙ none)
@@ -175,12 +194,12 @@ line_divides_not kept line is none = of (is_divider line) refl
         let whole : kept ≡ line = is ∙ short_whole 1048579 line fits in
         sym h ∙ subst (λ (l : List ℕ). is_divider l ≡ false) whole none
 
-pub add_refused : (old mid new : Option (List ℕ)) (text kept : List ℕ) (r : Bool) (e : LinesError) → TakesUndivided old mid text → TakesKept mid new 1048579 kept → r ≡ is_last kept → r ≡ false
-    → IsAddFault text kept e → RefusesLines old new e
-add_refused old mid new text kept r Memory h (line, taken, whole) is none fault = part_then old mid new text h (line, taken.taken)
-add_refused old mid new text kept r Unread h taken is none fault = absurd fault
-add_refused old mid new text kept r NoText h taken is none fault = absurd fault
-add_refused old mid new text kept r TooLong h (line, taken, whole) is none fault =
+pub add_refused : (is_refused : Bool) (old mid new : Option (List ℕ)) (text kept : List ℕ) (r : Bool) (e : LinesError) → TakesUndivided old mid text → TakesKept mid new 1048579 kept → r ≡ is_last kept → r ≡ false
+    → IsAddFault text kept e → RefusesLines is_refused old new e
+add_refused is_refused old mid new text kept r Memory h (line, taken, whole) is none fault = part_then old mid new text h (line, taken.taken)
+add_refused is_refused old mid new text kept r Unread h taken is none fault = absurd fault
+add_refused is_refused old mid new text kept r NoText h taken is none fault = absurd fault
+add_refused is_refused old mid new text kept r TooLong h (line, taken, whole) is none fault =
     let parts = not_last kept r is none in
     let short : length kept ≤ length line = omega (arith, take_length 1048579 line, ap length whole) in (
       text ++ line,
@@ -198,13 +217,13 @@ pub text_is_short : (r : Result (String Global) LinesError) (bytes : List ℕ) �
 text_is_short (Ok t) bytes short same = subst (λ (l : List ℕ). length l ≤ 2 ^ 20) (sym same) short
 text_is_short (Err e) bytes short same = tt
 
-pub text_is_refused : (r : Result (String Global) LinesError) (old new : Option (List ℕ)) (bytes : List ℕ) → TakesText old new bytes → IfErr r (λ e. (e ≡ NoText) × (IsUtf8 bytes → ⊥))
-    → IfErr r (RefusesText old new)
-text_is_refused (Ok t) old new bytes h none = tt
-text_is_refused (Err e) old new bytes h (is, none) = subst (RefusesText old new) (sym is) (bytes, h, none)
+pub text_is_refused : (r : Result (String Global) LinesError) (is_refused : Bool) (old new : Option (List ℕ)) (bytes : List ℕ) → TakesText old new bytes → IfErr r (λ e. (e ≡ NoText) × (IsUtf8 bytes → ⊥))
+    → IfErr r (RefusesText is_refused old new)
+text_is_refused (Ok t) is_refused old new bytes h none = tt
+text_is_refused (Err e) is_refused old new bytes h (is, none) = subst (RefusesText is_refused old new) (sym is) (bytes, h, none)
 
-pub lines_refused : (old new : Option (List ℕ)) (e : LinesError) → RefusesLines old new e → RefusesText old new e
-lines_refused old new Memory h = h
-lines_refused old new Unread h = h
-lines_refused old new TooLong h = h
-lines_refused old new NoText h = absurd h
+pub lines_refused : (is_refused : Bool) (old new : Option (List ℕ)) (e : LinesError) → RefusesLines is_refused old new e → RefusesText is_refused old new e
+lines_refused is_refused old new Memory h = h
+lines_refused is_refused old new Unread h = h
+lines_refused is_refused old new TooLong h = h
+lines_refused is_refused old new NoText h = absurd h

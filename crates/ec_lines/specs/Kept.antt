@@ -1,5 +1,5 @@
 -- What private code keeps of a line that may be very long; none of it is needed to read what is taken.
-use Rattle.std.specs.Prelude.{◌≡◌, ℕ, ◌<◌, ◌^◌, ◌==◌, ◌||◌, Bool, List, [], ◌∷◌, ◌++◌, length, nat_lt, take, Option, if◌then◌else◌}
+use Rattle.std.specs.Prelude.{◌≡◌, ℕ, ◌<◌, ◌^◌, ◌==◌, ◌||◌, Bool, true, List, [], ◌∷◌, ◌++◌, length, nat_lt, take, Option, if◌then◌else◌}
 use Rattle.ec_lines.specs.declared.error.LinesError.{LinesError}
 use Rattle.ec_lines.specs.declared.error.LinesError.TheVariants.{Memory, Unread, TooLong}
 use Rattle.ec_lines.specs.Taking.{TakesLine, TakesPart, TakesUndivided, is_divider}
@@ -23,8 +23,8 @@ IsAddFault text line TooLong = 2 ^ 20 < length (text ++ line)
 IsAddFault text line _ = ⊥
 
 -- what the bytes of a text are refused by
-abbrev pub RefusesLines : Option (List ℕ) → Option (List ℕ) → LinesError → Type 0
-RefusesLines old new Memory = TakesPart old new
-RefusesLines old new Unread = TakesPart old new
-RefusesLines old new TooLong = (text : List ℕ) × TakesUndivided old new text × (2 ^ 20 < length text)
-RefusesLines old new _ = ⊥
+abbrev pub RefusesLines : (is_refused : Bool) → (old new : Option (List ℕ)) → LinesError → Type 0
+RefusesLines is_refused old new Memory = TakesPart old new
+RefusesLines is_refused old new Unread = TakesPart old new × (is_refused ≡ true)
+RefusesLines is_refused old new TooLong = (text : List ℕ) × TakesUndivided old new text × (2 ^ 20 < length text)
+RefusesLines is_refused old new _ = ⊥

@@ -1,5 +1,5 @@
 -- The lines that an input gives, and the text before a line `%%` (choices of this project).
-use Rattle.std.specs.Prelude.{◌≡◌, ◌≢◌, ◌⊎◌, ℕ, ◌+◌, ◌-◌, ◌^◌, ◌<◌, ◌==◌, ◌&&◌, ◌||◌, nat_le, All, List, [], ◌∷◌, ◌++◌, length, take, slice_index, Bool, true, false, if◌then◌else◌, Option, string_bytes}
+use Rattle.std.specs.Prelude.{◌≡◌, ◌≢◌, ◌⊎◌, ℕ, ◌-◌, ◌^◌, ◌<◌, ◌==◌, ◌&&◌, ◌||◌, nat_le, All, List, [], ◌∷◌, ◌++◌, length, take, slice_index, Bool, true, false, if◌then◌else◌, Option, string_bytes}
 use Rattle.std.specs.Io.KnownBytes.{Consumes, IsAtEnd}
 use Rattle.std.specs.Str.{IsUtf8, bytes_eq, is_utf8}
 use Rattle.std.specs.Str.Lines.{strip_carriage_return}
@@ -71,15 +71,15 @@ pub record TakesText (old new : Option (List ℕ)) (text : List ℕ) : Type 0 wh
 abbrev pub TakesPart : Option (List ℕ) → Option (List ℕ) → Type 0
 TakesPart old new = (part : List ℕ) × Consumes old new part
 
--- what a line is refused by
-abbrev pub IsReadFault : LinesError → Type 0
-IsReadFault Memory = Unit {0}
-IsReadFault Unread = Unit {0}
-IsReadFault _ = ⊥
+-- what a line is refused by: memory may run out at any time, and a read was refused
+abbrev pub IsReadFault : (is_refused : Bool) → LinesError → Type 0
+IsReadFault is_refused Memory = Unit {0}
+IsReadFault is_refused Unread = is_refused ≡ true
+IsReadFault is_refused _ = ⊥
 
--- what a text is refused by: its first lines have too many bytes, or all of it is no text
-abbrev pub RefusesText : Option (List ℕ) → Option (List ℕ) → LinesError → Type 0
-RefusesText old new Memory = TakesPart old new
-RefusesText old new Unread = TakesPart old new
-RefusesText old new TooLong = (text : List ℕ) × TakesUndivided old new text × (2 ^ 20 < length text)
-RefusesText old new NoText = (text : List ℕ) × TakesText old new text × (IsUtf8 text → ⊥)
+-- what a text is refused by: a read was refused, its first lines have too many bytes, or all of it is no text
+abbrev pub RefusesText : (is_refused : Bool) → (old new : Option (List ℕ)) → LinesError → Type 0
+RefusesText is_refused old new Memory = TakesPart old new
+RefusesText is_refused old new Unread = TakesPart old new × (is_refused ≡ true)
+RefusesText is_refused old new TooLong = (text : List ℕ) × TakesUndivided old new text × (2 ^ 20 < length text)
+RefusesText is_refused old new NoText = (text : List ℕ) × TakesText old new text × (IsUtf8 text → ⊥)

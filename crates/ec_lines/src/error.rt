@@ -1,6 +1,7 @@
 //! Why an input gives no line, or no text.
 
 use std::alloc::{AllocError, AllocFailed};
+use std::io::{self, ErrorKind};
 use thiserror::Error;
 
 /// Why an input gives no line, or no text before a line `%%`.
@@ -18,6 +19,22 @@ pub enum LinesError {
     /// The bytes are no text in UTF-8.
     #[error("the bytes are no text")]
     NoText,
+}
+
+impl LinesError {
+    ghost use Rattle.std.specs.Prelude.{◌≡◌};
+    ghost use Rattle.std.specs.IoError.{error_kind};
+    ghost use Rattle.ec_lines.specs.Inputs.{read_fault};
+
+    /// Why an input gives nothing, of which a read gave this error and wasn't interrupted.
+    pub(crate) fn of_read(error: &io::Error) -> LinesError
+        ensures { result ≡ read_fault (error_kind error.now) }
+    {
+        match error.kind() {
+            ErrorKind::OutOfMemory => LinesError::Memory,
+            _ => LinesError::Unread,
+        }
+    }
 }
 
 impl From<AllocError> for LinesError {

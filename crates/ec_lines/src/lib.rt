@@ -2,7 +2,9 @@
 #![tactic(auto)]
 
 mod error;
+mod input;
 mod lines;
 
 pub use crate::error::LinesError;
+pub use crate::input::InputStream;
 pub use crate::lines::{MAX_BYTES, NextLine, take_line, take_text};

@@ -5,6 +5,7 @@ ghost use Rattle.ec_lines.specs.Kept.{IsAddFault, RefusesLines, TakesKept, is_la
 ghost use Rattle.ec_lines.specs.Taking.{IsReadFault, IsTaken, RefusesText, TakesPart, TakesLine, TakesText, is_divider, without_end};
 
 use crate::LinesError;
+use crate::input::InputStream;
 use std::alloc::{AllocError, Global};
 use std::io::{ErrorKind, Read};
 
@@ -31,11 +32,15 @@ pub enum NextLine {
 /// # Errors
 ///
 /// `LinesError::Unread` where a read is refused, and `Memory`; some bytes of the line may be taken by then.
-pub fn take_line<R: Read>(alloc: Global, input: &mut R) -> Result<NextLine, LinesError>
+pub fn take_line<R: Read + Drop>(
+    alloc: Global,
+    input: &mut InputStream<R>,
+) -> Result<NextLine, LinesError>
     ensures taken { IfOk result (λ taken. (line : List ℕ)
-        × TakesLine (R.remaining input.old) (R.remaining input.new) line × IsTaken line taken) }
-    ensures refused { IfErr result IsReadFault }
-    ensures left { OnErr result (TakesPart (R.remaining input.old) (R.remaining input.new)) }
+        × TakesLine (R.remaining input.old.stream) (R.remaining input.new.stream) line × IsTaken line taken) }
+    ensures refused { IfErr result (IsReadFault input.new.is_refused) }
+    ensures kept { OnOk result (input.new.is_refused ≡ input.old.is_refused) }
+    ensures left { OnErr result (TakesPart (R.remaining input.old.stream) (R.remaining input.new.stream)) }
 {
     let line = take_bytes(alloc, input, MAX_KEPT)?;
     Ok(taken_of(alloc, &line)?)
@@ -48,11 +53,15 @@ pub fn take_line<R: Read>(alloc: Global, input: &mut R) -> Result<NextLine, Line
 ///
 /// `LinesError::TooLong` where the text has more than 2^20 bytes, as soon as they are taken; `NoText` where it isn't UTF-8;
 /// `Unread` where a read is refused, and `Memory`.
-pub fn take_text<R: Read>(alloc: Global, input: &mut R) -> Result<String, LinesError>
+pub fn take_text<R: Read + Drop>(
+    alloc: Global,
+    input: &mut InputStream<R>,
+) -> Result<String, LinesError>
     ensures taken { IfOk result (λ text.
-        TakesText (R.remaining input.old) (R.remaining input.new) (string_bytes text)) }
+        TakesText (R.remaining input.old.stream) (R.remaining input.new.stream) (string_bytes text)) }
     ensures short { IfOk result (λ text. length (string_bytes text) ≤ 2 ^ 20) }
-    ensures refused { IfErr result (RefusesText (R.remaining input.old) (R.remaining input.new)) }
+    ensures refused { IfErr result (RefusesText input.new.is_refused (R.remaining input.old.stream) (R.remaining input.new.stream)) }
+    ensures kept { OnOk result (input.new.is_refused ≡ input.old.is_refused) }
 {
     let bytes = take_lines(alloc, input)?;
     text_of(bytes)
@@ -87,11 +96,16 @@ fn without_end(line: &[u8]) -> &[u8]
 
 /// Takes bytes of an input up to the end of a line, or all that are left, and answers the first of them, at most so many. An
 /// interrupted read is made again.
-fn take_bytes<R: Read>(alloc: Global, input: &mut R, most: usize) -> Result<Vec<u8>, LinesError>
+fn take_bytes<R: Read + Drop>(
+    alloc: Global,
+    input: &mut InputStream<R>,
+    most: usize,
+) -> Result<Vec<u8>, LinesError>
     ensures taken { IfOk result (λ kept.
-        TakesKept (R.remaining input.old) (R.remaining input.new) most kept.items) }
-    ensures refused { IfErr result IsReadFault }
-    ensures left { OnErr result (TakesPart (R.remaining input.old) (R.remaining input.new)) }
+        TakesKept (R.remaining input.old.stream) (R.remaining input.new.stream) most kept.items) }
+    ensures refused { IfErr result (IsReadFault input.new.is_refused) }
+    ensures kept { OnOk result (input.new.is_refused ≡ input.old.is_refused) }
+    ensures left { OnErr result (TakesPart (R.remaining input.old.stream) (R.remaining input.new.stream)) }
 {
     let mut line = Vec::new(alloc);
     let mut byte = [0];
@@ -105,9 +119,10 @@ fn take_bytes<R: Read>(alloc: Global, input: &mut R, most: usize) -> Result<Vec<
                 }
             }
             Err(error) if error.kind() == ErrorKind::Interrupted => {}
-            Err(_) => return Err(LinesError::Unread),
+            Err(error) => return Err(LinesError::of_read(&error)),
         }
     }
+    input.give_up();
     Err(LinesError::Unread)
 }
 
@@ -131,11 +146,15 @@ fn text_of(bytes: Vec<u8>) -> Result<String, LinesError>
 }
 
 /// Takes the lines before a line `%%`, and that line; or all that are left.
-fn take_lines<R: Read>(alloc: Global, input: &mut R) -> Result<Vec<u8>, LinesError>
+fn take_lines<R: Read + Drop>(
+    alloc: Global,
+    input: &mut InputStream<R>,
+) -> Result<Vec<u8>, LinesError>
     ensures taken { IfOk result (λ text.
-        TakesText (R.remaining input.old) (R.remaining input.new) text.items) }
+        TakesText (R.remaining input.old.stream) (R.remaining input.new.stream) text.items) }
     ensures short { IfOk result (λ text. length text.items ≤ 2 ^ 20) }
-    ensures refused { IfErr result (RefusesLines (R.remaining input.old) (R.remaining input.new)) }
+    ensures refused { IfErr result (RefusesLines input.new.is_refused (R.remaining input.old.stream) (R.remaining input.new.stream)) }
+    ensures kept { OnOk result (input.new.is_refused ≡ input.old.is_refused) }
 {
     let mut text = Vec::new(alloc);
     for _ in 0..u64::MAX {
@@ -145,6 +164,7 @@ fn take_lines<R: Read>(alloc: Global, input: &mut R) -> Result<Vec<u8>, LinesErr
         }
         add_line(&mut text, &line)?;
     }
+    input.give_up();
     Err(LinesError::Unread)
 }
 

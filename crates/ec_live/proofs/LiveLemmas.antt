@@ -1,6 +1,5 @@
 -- Lines that are taken from an input and run as they come.
 use Rattle.std.proofs.Common.{◌≡◌, ◌∙◌, inl, inr, ℕ, ◌+◌, ◌-◌, ◌^◌, ◌<◌, ◌==◌, List, [], ◌∷◌, ◌++◌, length, min, Bool, true, false, Option, refl, sym, ap, subst, append_assoc, append-nil, length-append, arith, if◌then◌else◌, Result, Ok, Err, IfErr, IfOk, OnErr}
-use Rattle.std.specs.Io.KnownBytes.{Appends}
 use Rattle.std.proofs.lemmas.Bool.Decides.{nat_tests}
 use Rattle.ec_table.specs.Contents.{Contents}
 use Rattle.ec_world.specs.Whole.{IsOfMachine}
@@ -10,19 +9,23 @@ use Rattle.ec_script.specs.declared.read.Reading.TheVariants as reading
 use Rattle.ec_why.specs.declared.wanted.Reasons.{Reasons}
 use Rattle.ec_console.specs.Capturing.{IsUnopened}
 use Rattle.ec_console.specs.declared.refusal.Refusal.{Refusal}
-use Rattle.ec_console.specs.declared.refusal.Refusal.TheVariants.{Unmet}
-use Rattle.ec_console.specs.Given.{lines_refusal}
+use Rattle.ec_console.specs.declared.refusal.Refusal.TheVariants as refusal
+use Rattle.ec_console.specs.declared.refusal.Refusal.TheVariants.{Memory, Output, Input, Unmet}
+use Rattle.ec_console.specs.Printing.{IsCutOff, IsPartPrinted, IsPrinted, OutputState}
+use Rattle.ec_sim.specs.Simulating.{IsLate}
+use Rattle.ec_console.specs.Given.{Given, lines_refusal}
 use Rattle.std.specs.Result.{IsErrAnd}
 use Rattle.ec_live.specs.Living.{IsLiveLate, LiveSays, RunsLive, RunsLiveTable, LivesOn, LivesOut, LivesPart, SaysPart, SaysReading, live_reading}
 use Rattle.ec_live.specs.Stages.{taken_reading}
 use Rattle.ec_lines.specs.declared.lines.NextLine.{NextLine}
 use Rattle.ec_lines.specs.declared.lines.NextLine.TheVariants as taken
 use Rattle.ec_lines.specs.declared.error.LinesError.{LinesError}
-use Rattle.ec_lines.specs.Taking.{IsTaken, RefusesText, TakesLine}
+use Rattle.ec_lines.specs.declared.error.LinesError.TheVariants as lines
+use Rattle.ec_lines.specs.Taking.{IsReadFault, IsTaken, RefusesText, TakesLine}
 use Rattle.ec_lines.proofs.TakeLemmas.{takes_push}
 use Rattle.ec_script.specs.Scripts.{reading_of}
 use Rattle.ec_console.specs.Unmet.{counted, ended_by}
-use Rattle.ec_console.proofs.PrintLemmas.{appends_more, appends_nothing}
+use Rattle.ec_console.proofs.PrintLemmas.{texts}
 
 -- ---- what is taken as a line
 
@@ -59,37 +62,37 @@ lives_push reasons t w now new k n (l ∷ ls) line p q a b is (first, text, more
       omega arith,
     )
 
-pub none_lived : (reasons : Reasons) (t : Contents) (w : WorldState) (given old : Option (List ℕ)) → LivesOn reasons t w given given 0 w 0 old old
-none_lived reasons t w given old = record { lines = []; long = refl; printed = []; taken = refl; says = (refl, refl, refl); appends = appends_nothing old }
+pub none_lived : (reasons : Reasons) (t : Contents) (w : WorldState) (given : Option (List ℕ)) (old : OutputState) → LivesOn reasons t w given given 0 w 0 old old
+none_lived reasons t w given old = record { lines = []; long = refl; printed = []; taken = refl; says = (refl, refl, refl); appends = texts.none old }
 
-pub lived_more : (reasons : Reasons) (t : Contents) (w now new : WorldState) (given left after : Option (List ℕ)) (n : ℕ) (line text : List ℕ) (a b : ℕ) (old half whole : Option (List ℕ)) → LivesOn reasons t w given left n now a old half
-    → TakesLine left after line → 0 < length line → SaysReading reasons t now (n + 1) (live_reading t (n + 1) line) new text b → Appends half whole text → LivesOn reasons t w given after (n + 1) new (a + b) old whole
+pub lived_more : (reasons : Reasons) (t : Contents) (w now new : WorldState) (given left after : Option (List ℕ)) (n : ℕ) (line text : List ℕ) (a b : ℕ) (old half whole : OutputState) → LivesOn reasons t w given left n now a old half
+    → TakesLine left after line → 0 < length line → SaysReading reasons t now (n + 1) (live_reading t (n + 1) line) new text b → IsPrinted half whole text → LivesOn reasons t w given after (n + 1) new (a + b) old whole
 lived_more reasons t w now new given left after n line text a b old half whole h next some says appends = record {
   lines = h.lines ++ (line ∷ []);
   long = let l : length h.lines ≡ n = h.long in length-append h.lines (line ∷ []) ∙ omega arith;
   printed = h.printed ++ text;
   taken = takes_push given left after h.lines line h.taken next some;
   says = lives_push reasons t w now new 1 (n + 1) h.lines line h.printed text a b (let l : length h.lines ≡ n = h.long in omega arith) h.says says;
-  appends = appends_more old half whole h.printed text h.appends appends;
+  appends = texts.both old half whole h.printed text h.appends appends;
 }
 
 -- ---- the run
 
 -- so far, with the count that the code has
-pub record AreLived (reasons : Reasons) (t : Contents) (w : WorldState) (given left : Option (List ℕ)) (place : ℕ) (now : WorldState) (count : ℕ) (old new : Option (List ℕ)) : Type 0 where
+pub record AreLived (reasons : Reasons) (t : Contents) (w : WorldState) (given left : Option (List ℕ)) (place : ℕ) (now : WorldState) (count : ℕ) (old new : OutputState) : Type 0 where
   pub unmet : ℕ
   pub counts : count ≡ counted unmet
   pub so_far : LivesOn reasons t w given left place now unmet old new
 
-pub none_run_live : (reasons : Reasons) (t : Contents) (w : WorldState) (given old : Option (List ℕ)) → AreLived reasons t w given given 0 w 0 old old
+pub none_run_live : (reasons : Reasons) (t : Contents) (w : WorldState) (given : Option (List ℕ)) (old : OutputState) → AreLived reasons t w given given 0 w 0 old old
 none_run_live reasons t w given old = record { unmet = 0; counts = refl; so_far = none_lived reasons t w given old }
 
 sum_of : (a b c d : ℕ) → c ≡ counted a → d ≡ counted b → min (c + d) (2 ^ 64 - 1) ≡ counted (a + b)
 sum_of a b c d h g = omega arith
 
-pub lived_on : (reasons : Reasons) (t : Contents) (w now new : WorldState) (given left after : Option (List ℕ)) (place : ℕ) (line : List ℕ) (count more total : ℕ) (old half whole : Option (List ℕ)) → AreLived reasons t w given left place now count old half
+pub lived_on : (reasons : Reasons) (t : Contents) (w now new : WorldState) (given left after : Option (List ℕ)) (place : ℕ) (line : List ℕ) (count more total : ℕ) (old half whole : OutputState) → AreLived reasons t w given left place now count old half
     → TakesLine left after line → 0 < length line
-    → (unmet : ℕ) × (more ≡ counted unmet) × (text : List ℕ) × SaysReading reasons t now (place + 1) (live_reading t (place + 1) line) new text unmet × Appends half whole text
+    → (unmet : ℕ) × (more ≡ counted unmet) × (text : List ℕ) × SaysReading reasons t now (place + 1) (live_reading t (place + 1) line) new text unmet × IsPrinted half whole text
     → total ≡ min (count + more) (2 ^ 64 - 1) → AreLived reasons t w given after (place + 1) new total old whole
 lived_on reasons t w now new given left after place line count more total old half whole h next some (unmet, counts, text, says, appends) is = record {
   unmet = h.unmet + unmet;
@@ -97,9 +100,9 @@ lived_on reasons t w now new given left after place line count more total old ha
   so_far = lived_more reasons t w now new given left after place line text h.unmet unmet old half whole h.so_far next some says appends;
 }
 
-pub lived_next : (reasons : Reasons) (t : Contents) (w now new : WorldState) (given left after : Option (List ℕ)) (place : ℕ) (x : NextLine) (r : Reading) (count more total : ℕ) (old half whole : Option (List ℕ))
+pub lived_next : (reasons : Reasons) (t : Contents) (w now new : WorldState) (given left after : Option (List ℕ)) (place : ℕ) (x : NextLine) (r : Reading) (count more total : ℕ) (old half whole : OutputState)
     → AreLived reasons t w given left place now count old half → (line : List ℕ) × TakesLine left after line × IsTaken line x → (x ≡ taken.End → ⊥) → r ≡ taken_reading t (place + 1) x
-    → (unmet : ℕ) × (more ≡ counted unmet) × (text : List ℕ) × SaysReading reasons t now (place + 1) r new text unmet × Appends half whole text
+    → (unmet : ℕ) × (more ≡ counted unmet) × (text : List ℕ) × SaysReading reasons t now (place + 1) r new text unmet × IsPrinted half whole text
     → total ≡ min (count + more) (2 ^ 64 - 1) → AreLived reasons t w given after (place + 1) new total old whole
 lived_next reasons t w now new given left after place x r count more total old half whole h (line, takes, is) other read (unmet, counts, text, says, appends) sum =
     let some = some_taken line x is other in
@@ -107,17 +110,17 @@ lived_next reasons t w now new given left after place x r count more total old h
     lived_on reasons t w now new given left after place line count more total old half whole h takes some
     (unmet, counts, text, subst (λ (s : Reading). SaysReading reasons t now (place + 1) s new text unmet) reading_is says, appends) sum
 
-pub lived_out : (reasons : Reasons) (t : Contents) (w now : WorldState) (given left gone : Option (List ℕ)) (place count : ℕ) (line : List ℕ) (old new : Option (List ℕ)) → AreLived reasons t w given left place now count old new
+pub lived_out : (reasons : Reasons) (t : Contents) (w now : WorldState) (given left gone : Option (List ℕ)) (place count : ℕ) (line : List ℕ) (old new : OutputState) → AreLived reasons t w given left place now count old new
     → TakesLine left gone line → line ≡ [] → (unmet : ℕ) × (count ≡ counted unmet) × LivesOut reasons t w given unmet old new
 lived_out reasons t w now given left gone place count line old new h end none =
     (h.unmet, h.counts, record { left = left; gone = gone; count = place; last = now; so_far = h.so_far; end = subst (TakesLine left gone) none end })
 
-pub lived_part : (reasons : Reasons) (t : Contents) (w now : WorldState) (given left : Option (List ℕ)) (place count : ℕ) (r : Reading) (old half new : Option (List ℕ)) → AreLived reasons t w given left place now count old half
+pub lived_part : (reasons : Reasons) (t : Contents) (w now : WorldState) (given left : Option (List ℕ)) (place count : ℕ) (r : Reading) (old half new : OutputState) → AreLived reasons t w given left place now count old half
     → SaysPart reasons t now (place + 1) r half new → LivesPart reasons t w given old new
 lived_part reasons t w now given left place count r old half new h part =
     record { left = left; count = place; now = now; unmet = h.unmet; half = half; so_far = h.so_far; reading = r; next = part }
 
-pub lived_stop : (reasons : Reasons) (t : Contents) (w now : WorldState) (given left : Option (List ℕ)) (place count : ℕ) (old new : Option (List ℕ)) → AreLived reasons t w given left place now count old new → LivesPart reasons t w given old new
+pub lived_stop : (reasons : Reasons) (t : Contents) (w now : WorldState) (given left : Option (List ℕ)) (place count : ℕ) (old new : OutputState) → AreLived reasons t w given left place now count old new → LivesPart reasons t w given old new
 lived_stop reasons t w now given left place count old new h = lived_part reasons t w now given left place count reading.Empty old new new h refl
 
 -- all lines that there were, by what they expected
@@ -130,52 +133,107 @@ counted_some count unmet is some = let more : 0 < count = grind (arith, nat_test
 zero_of : (count : ℕ) → (count == 0) ≡ true → count ≡ 0
 zero_of count is = grind (arith, nat_tests)
 
-ran : (b : Bool) (given old new : Option (List ℕ)) (reasons : Reasons) (t : Contents) (w : WorldState) (count unmet : ℕ) → (count == 0) ≡ b → IsOfMachine t w → count ≡ counted unmet → LivesOut reasons t w given unmet old new
-    → RunsLiveTable reasons t given old new (if b then Ok tt else Err (Unmet count))
-ran true given old new reasons t w count unmet is begins counts all =
+ran : (b : Bool) (given : Given) (old new : OutputState) (reasons : Reasons) (captured : Bool) (t : Contents) (w : WorldState) (count unmet : ℕ) → (count == 0) ≡ b → IsOfMachine t w → count ≡ counted unmet → LivesOut reasons t w given.bytes unmet old new
+    → RunsLiveTable reasons captured t given old new (if b then Ok tt else Err (Unmet count))
+ran true given old new reasons captured t w count unmet is begins counts all =
     let none : unmet ≡ 0 = counted_none count unmet counts (zero_of count is) in
-    (w, begins, subst (λ (n : ℕ). LivesOut reasons t w given n old new) none all)
-ran false given old new reasons t w count unmet is begins counts all = inr (inr (unmet, counted_some count unmet counts is, ap Unmet counts, (w, begins, all)))
+    (w, begins, subst (λ (n : ℕ). LivesOut reasons t w given.bytes n old new) none all)
+ran false given old new reasons captured t w count unmet is begins counts all = inr (inr (unmet, counted_some count unmet counts is, ap Unmet counts, (w, begins, all)))
 
-pub lives_ran : (r : Result Unit Refusal) (given old new : Option (List ℕ)) (reasons : Reasons) (t u : Contents) (w : WorldState) (count : ℕ) → u ≡ t → r ≡ ended_by count → IsOfMachine t w
-    → (unmet : ℕ) × (count ≡ counted unmet) × LivesOut reasons u w given unmet old new → RunsLiveTable reasons t given old new r
-lives_ran r given old new reasons t u w count same is begins (unmet, counts, all) =
-    let of_it : LivesOut reasons t w given unmet old new = subst (λ (x : Contents). LivesOut reasons x w given unmet old new) same all in
-    subst (RunsLiveTable reasons t given old new) (sym is) (ran (count == 0) given old new reasons t w count unmet refl begins counts of_it)
+pub lives_ran : (r : Result Unit Refusal) (given : Given) (old new : OutputState) (reasons : Reasons) (captured : Bool) (t u : Contents) (w : WorldState) (count : ℕ) → u ≡ t → r ≡ ended_by count → IsOfMachine t w
+    → (unmet : ℕ) × (count ≡ counted unmet) × LivesOut reasons u w given.bytes unmet old new → RunsLiveTable reasons captured t given old new r
+lives_ran r given old new reasons captured t u w count same is begins (unmet, counts, all) =
+    let of_it : LivesOut reasons t w given.bytes unmet old new = subst (λ (x : Contents). LivesOut reasons x w given.bytes unmet old new) same all in
+    subst (RunsLiveTable reasons captured t given old new) (sym is) (ran (count == 0) given old new reasons captured t w count unmet refl begins counts of_it)
 
 -- and lines that are cut short
-pub lives_cut : {T : Type 0} (r : Result Unit Refusal) (printed : Result T Refusal) (e : Refusal) (given old new : Option (List ℕ)) (reasons : Reasons) (t u : Contents) (w : WorldState) → u ≡ t → IsOfMachine t w
-    → printed ≡ Err e → OnErr printed (LivesPart reasons u w given old new) → IfErr printed IsLiveLate → IsErrAnd r (λ x. x ≡ e) → RunsLiveTable reasons t given old new r
-lives_cut (Ok done) printed e given old new reasons t u w table begins is some late same = absurd same
-lives_cut {T} (Err x) printed e given old new reasons t u w table begins is some late same =
-    let of_table : LivesPart reasons u w given old new = subst (λ (p : Result T Refusal). OnErr p (LivesPart reasons u w given old new)) is some in
-    let part : LivesPart reasons t w given old new = subst (λ (y : Contents). LivesPart reasons y w given old new) table of_table in
-    let is_late : IsLiveLate e = subst (λ (p : Result T Refusal). IfErr p IsLiveLate) is late in
-    inr (inl (subst IsLiveLate (sym same) is_late, w, begins, part))
+pub lives_cut : {T : Type 0} (r : Result Unit Refusal) (printed : Result T Refusal) (e : Refusal) (given : Given) (old new : OutputState) (reasons : Reasons) (captured : Bool) (t u : Contents) (w : WorldState) → u ≡ t → IsOfMachine t w
+    → printed ≡ Err e → OnErr printed (LivesPart reasons u w given.bytes old new) → IfErr printed (IsLiveLate captured given.is_refused new) → IsErrAnd r (λ x. x ≡ e) → RunsLiveTable reasons captured t given old new r
+lives_cut (Ok done) printed e given old new reasons captured t u w table begins is some late same = absurd same
+lives_cut {T} (Err x) printed e given old new reasons captured t u w table begins is some late same =
+    let of_table : LivesPart reasons u w given.bytes old new = subst (λ (p : Result T Refusal). OnErr p (LivesPart reasons u w given.bytes old new)) is some in
+    let part : LivesPart reasons t w given.bytes old new = subst (λ (y : Contents). LivesPart reasons y w given.bytes old new) table of_table in
+    let is_late : IsLiveLate captured given.is_refused new e = subst (λ (p : Result T Refusal). IfErr p (IsLiveLate captured given.is_refused new)) is late in
+    inr (inl (subst (IsLiveLate captured given.is_refused new) (sym same) is_late, w, begins, part))
 
 -- a text that can't be taken
-pub untaken : (reasons : Reasons) (r : Result Unit Refusal) (given mid known : Option (List ℕ)) (error : LinesError) → IsErrAnd r (λ refusal. refusal ≡ lines_refusal error) → RefusesText given mid error
-    → RunsLive reasons given known known r
-untaken reasons (Ok done) given mid known error is h = absurd is
-untaken reasons (Err refusal) given mid known error is h = inr (refusal, refl, refl, inr (mid, error, h, is))
+pub untaken : (reasons : Reasons) (captured : Bool) (r : Result Unit Refusal) (given : Given) (mid : Option (List ℕ)) (known : OutputState) (error : LinesError) → IsErrAnd r (λ refusal. refusal ≡ lines_refusal error) → RefusesText given.is_refused given.bytes mid error
+    → RunsLive reasons captured given known known r
+untaken reasons captured (Ok done) given mid known error is h = absurd is
+untaken reasons captured (Err refusal) given mid known error is h = inr (refusal, refl, refl, inr (mid, error, h, is))
 
 -- ---- a capture
 
-pub none_part : (reasons : Reasons) (t : Contents) (w : WorldState) (given old : Option (List ℕ)) → LivesPart reasons t w given old old
+pub none_part : (reasons : Reasons) (t : Contents) (w : WorldState) (given : Option (List ℕ)) (old : OutputState) → LivesPart reasons t w given old old
 none_part reasons t w given old =
     record { left = given; count = 0; now = w; unmet = 0; half = old; so_far = none_lived reasons t w given old; reading = reading.Empty; next = refl }
 
 -- all that is printed is a first part of it
-pub out_part : (reasons : Reasons) (t : Contents) (w : WorldState) (given : Option (List ℕ)) (unmet : ℕ) (old new : Option (List ℕ)) → LivesOut reasons t w given unmet old new → LivesPart reasons t w given old new
+pub out_part : (reasons : Reasons) (t : Contents) (w : WorldState) (given : Option (List ℕ)) (unmet : ℕ) (old new : OutputState) → LivesOut reasons t w given unmet old new → LivesPart reasons t w given old new
 out_part reasons t w given unmet old new h =
     record { left = h.left; count = h.count; now = h.last; unmet = unmet; half = new; so_far = h.so_far; reading = reading.Empty; next = refl }
 
-pub counted_out_part : (r : Result ℕ Refusal) (reasons : Reasons) (t : Contents) (w : WorldState) (given : Option (List ℕ)) (old new : Option (List ℕ))
+pub counted_out_part : (r : Result ℕ Refusal) (reasons : Reasons) (t : Contents) (w : WorldState) (given : Option (List ℕ)) (old new : OutputState)
     → IfOk r (λ count. (unmet : ℕ) × (count ≡ counted unmet) × LivesOut reasons t w given unmet old new) → IfOk r (λ count. LivesPart reasons t w given old new)
 counted_out_part (Ok count) reasons t w given old new (unmet, is, all) = out_part reasons t w given unmet old new all
 counted_out_part (Err e) reasons t w given old new all = tt
 
 -- a capture that can't be opened cuts the lines short
-pub unopened_late : (x : Refusal) → IsUnopened x → IsLiveLate x
-unopened_late x (inl is) = subst IsLiveLate (sym is) tt
-unopened_late x (inr is) = subst IsLiveLate (sym is) tt
+pub unopened_late : (is_unread : Bool) (output : OutputState) (x : Refusal) → IsUnopened x → IsLiveLate true is_unread output x
+unopened_late is_unread output x (inl is) = subst (IsLiveLate true is_unread output) (sym is) (inr refl)
+unopened_late is_unread output x (inr is) = subst (IsLiveLate true is_unread output) (sym is) tt
+
+-- what ends a run without one ends a run with one
+pub late_captured : {T : Type 0} (r : Result T Refusal) (is_unread : Bool) (output : OutputState) → IfErr r (IsLiveLate false is_unread output) → IfErr r (IsLiveLate true is_unread output)
+late_captured (Ok x) is_unread output late = tt
+late_captured (Err Memory) is_unread output late = tt
+late_captured (Err Input) is_unread output late = late
+late_captured (Err Output) is_unread output (inl refused) = inl refused
+late_captured (Err Output) is_unread output (inr none) = inr refl
+late_captured (Err (refusal.Frame e)) is_unread output late = absurd late
+late_captured (Err (refusal.Table e)) is_unread output late = absurd late
+late_captured (Err (refusal.Link e)) is_unread output late = absurd late
+late_captured (Err (refusal.Start e)) is_unread output late = absurd late
+late_captured (Err (refusal.Run e)) is_unread output late = absurd late
+late_captured (Err refusal.Socket) is_unread output late = absurd late
+late_captured (Err (refusal.Script e)) is_unread output late = absurd late
+late_captured (Err refusal.BadHex) is_unread output late = absurd late
+late_captured (Err (refusal.Unmet n)) is_unread output late = absurd late
+
+-- ---- what ends a run of lines
+
+-- what ends a line
+pub said_late : (is_unread : Bool) (output : OutputState) (x : Refusal) → IsLate false output x → IsLiveLate false is_unread output x
+said_late is_unread output Memory late = tt
+said_late is_unread output Output late = late
+said_late is_unread output Input late = absurd late
+said_late is_unread output (refusal.Frame e) late = absurd late
+said_late is_unread output (refusal.Table e) late = absurd late
+said_late is_unread output (refusal.Link e) late = absurd late
+said_late is_unread output (refusal.Start e) late = absurd late
+said_late is_unread output (refusal.Run e) late = absurd late
+said_late is_unread output refusal.Socket late = absurd late
+said_late is_unread output (refusal.Script e) late = absurd late
+said_late is_unread output refusal.BadHex late = absurd late
+said_late is_unread output (refusal.Unmet n) late = absurd late
+
+-- a line that can't be taken
+pub unread_late : (is_unread : Bool) (output : OutputState) (error : LinesError) → IsReadFault is_unread error → IsLiveLate false is_unread output (lines_refusal error)
+unread_late is_unread output lines.Memory fault = tt
+unread_late is_unread output lines.Unread fault = fault
+unread_late is_unread output lines.TooLong fault = absurd fault
+unread_late is_unread output lines.NoText fault = absurd fault
+
+-- a line that can't be printed
+pub write_late : (r : Result Unit Refusal) (old new : OutputState) (text : List ℕ) → OnErr r (IsCutOff old new text) → IfErr r (λ x. x ≡ Output) → IfErr r (IsLate false new)
+write_late (Ok done) old new text cut is = tt
+write_late (Err x) old new text cut is = subst (IsLate false new) (sym is) (inl cut.refused)
+
+pub cut_part : (r : Result Unit Refusal) (old new : OutputState) (text : List ℕ) → OnErr r (IsCutOff old new text) → OnErr r (IsPartPrinted old new text)
+cut_part (Ok done) old new text cut = tt
+cut_part (Err x) old new text cut = cut.part
+
+-- a line that stands for nothing
+pub says_nothing : (reasons : Reasons) (t : Contents) (w : WorldState) (n : ℕ) (r : Reading) (old : OutputState) → r ≡ reading.Empty
+    → (unmet : ℕ) × (0 ≡ counted unmet) × (printed : List ℕ) × SaysReading reasons t w n r w printed unmet × IsPrinted old old printed
+says_nothing reasons t w n r old is = (0, refl, [], subst (λ (x : Reading). SaysReading reasons t w n x w [] 0) (sym is) (refl, refl, refl), texts.none old)

@@ -1,7 +1,6 @@
 -- What `ecat sim --live` answers (this project's profile).
-use Rattle.std.specs.Prelude.{◌≡◌, ◌⊎◌, ℕ, ◌+◌, List, [], ◌∷◌, ◌++◌, length, replicate, if◌then◌else◌, Option, Result, Ok, Err, codes}
+use Rattle.std.specs.Prelude.{◌≡◌, ◌⊎◌, ℕ, ◌+◌, List, [], ◌∷◌, ◌++◌, length, replicate, if◌then◌else◌, Bool, true, Option, Result, Ok, Err, codes}
 use Rattle.std.specs.Fmt.{decimal}
-use Rattle.std.specs.Io.KnownBytes.{Appends}
 use Rattle.ec_lines.specs.declared.error.LinesError.{LinesError}
 use Rattle.ec_lines.specs.Taking.{RefusesText, TakesLine, TakesLines, TakesText, is_text_line, without_end}
 use Rattle.ec_table.specs.Contents.{Contents}
@@ -15,8 +14,9 @@ use Rattle.ec_script.specs.Scripts.{reading_of}
 use Rattle.ec_why.specs.declared.wanted.Reasons.{Reasons}
 use Rattle.ec_console.specs.declared.refusal.Refusal.{Refusal}
 use Rattle.ec_console.specs.declared.refusal.Refusal.TheVariants.{Memory, Output, Input}
-use Rattle.ec_console.specs.Given.{IsTableRefusal, lines_refusal}
-use Rattle.ec_console.specs.Printing.{AppendsPart}
+use Rattle.ec_console.specs.Given.{Given, IsTableRefusal, lines_refusal}
+use Rattle.ec_console.specs.Printing.{IsPartPrinted, IsPrinted, OutputState}
+use Rattle.ec_console.specs.Capturing.{IsUnwritten}
 use Rattle.ec_sim.specs.Simulating.{PrintsPart, Says}
 use Rattle.ec_console.specs.Unmet.{EndsUnmet}
 
@@ -41,16 +41,16 @@ LiveSays reasons t w n (line ∷ lines) new printed unmet = (mid : WorldState) �
 -- ---- a run
 
 -- so far: lines were taken from the input, and what they say is printed
-pub record LivesOn (reasons : Reasons) (t : Contents) (w : WorldState) (given left : Option (List ℕ)) (count : ℕ) (now : WorldState) (unmet : ℕ) (old new : Option (List ℕ)) : Type 0 where
+pub record LivesOn (reasons : Reasons) (t : Contents) (w : WorldState) (given left : Option (List ℕ)) (count : ℕ) (now : WorldState) (unmet : ℕ) (old new : OutputState) : Type 0 where
   pub lines : List (List ℕ)
   pub long : length lines ≡ count
   pub printed : List ℕ
   pub taken : TakesLines given left lines
   pub says : LiveSays reasons t w 1 lines now printed unmet
-  pub appends : Appends old new printed
+  pub appends : IsPrinted old new printed
 
 -- all lines that there are
-pub record LivesOut (reasons : Reasons) (t : Contents) (w : WorldState) (given : Option (List ℕ)) (unmet : ℕ) (old new : Option (List ℕ)) : Type 0 where
+pub record LivesOut (reasons : Reasons) (t : Contents) (w : WorldState) (given : Option (List ℕ)) (unmet : ℕ) (old new : OutputState) : Type 0 where
   pub left : Option (List ℕ)
   pub gone : Option (List ℕ)
   pub count : ℕ
@@ -59,41 +59,43 @@ pub record LivesOut (reasons : Reasons) (t : Contents) (w : WorldState) (given :
   pub end : TakesLine left gone []
 
 -- a first part is printed of what a line says
-abbrev pub SaysPart : Reasons → Contents → WorldState → ℕ → Reading → (old new : Option (List ℕ)) → Type 0
+abbrev pub SaysPart : Reasons → Contents → WorldState → ℕ → Reading → (old new : OutputState) → Type 0
 SaysPart reasons t w n reading.Empty old new = new ≡ old
-SaysPart reasons t w n reading.Bad old new = AppendsPart old new (codes "bad " ++ decimal n ++ newline)
+SaysPart reasons t w n reading.Bad old new = IsPartPrinted old new (codes "bad " ++ decimal n ++ newline)
 SaysPart reasons t w n (reading.Line line) old new = PrintsPart reasons t w (replicate line.times line) old new
 
 -- what some first lines say is printed, and maybe a first part of what the next one says
-pub record LivesPart (reasons : Reasons) (t : Contents) (w : WorldState) (given old new : Option (List ℕ)) : Type 0 where
+pub record LivesPart (reasons : Reasons) (t : Contents) (w : WorldState) (given : Option (List ℕ)) (old new : OutputState) : Type 0 where
   pub left : Option (List ℕ)
   pub count : ℕ
   pub now : WorldState
   pub unmet : ℕ
-  pub half : Option (List ℕ)
+  pub half : OutputState
   pub so_far : LivesOn reasons t w given left count now unmet old half
   pub reading : Reading
   pub next : SaysPart reasons t now (count + 1) reading half new
 
--- what can end a run of lines that come
-abbrev pub IsLiveLate : Refusal → Type 0
-IsLiveLate Memory = Unit {0}
-IsLiveLate Output = Unit {0}
-IsLiveLate Input = Unit {0}
-IsLiveLate _ = ⊥
+-- what can end a run of lines that come, by whether there is a capture, whether a read was refused, and what the output is then;
+-- memory may run out at any time
+abbrev pub IsLiveLate : (captured is_unread : Bool) → OutputState → Refusal → Type 0
+IsLiveLate captured is_unread output Memory = Unit {0}
+IsLiveLate captured is_unread output Output = IsUnwritten captured output
+IsLiveLate captured is_unread output Input = is_unread ≡ true
+IsLiveLate captured is_unread output _ = ⊥
 
 -- the lines run over slaves of the table that are switched on
-abbrev pub RunsLiveTable : Reasons → Contents → (given old new : Option (List ℕ)) → Result Unit Refusal → Type 0
-RunsLiveTable reasons t given old new (Ok done) = (w : WorldState) × IsOfMachine t w × LivesOut reasons t w given 0 old new
-RunsLiveTable reasons t given old new (Err refusal) =
+abbrev pub RunsLiveTable : Reasons → (captured : Bool) → Contents → (given : Given) → (old new : OutputState) → Result Unit Refusal → Type 0
+RunsLiveTable reasons captured t given old new (Ok done) = (w : WorldState) × IsOfMachine t w × LivesOut reasons t w given.bytes 0 old new
+RunsLiveTable reasons captured t given old new (Err refusal) =
     ((refusal ≡ Memory) × (new ≡ old))
-    ⊎ ((IsLiveLate refusal × (w : WorldState) × IsOfMachine t w × LivesPart reasons t w given old new)
-    ⊎ EndsUnmet refusal (λ unmet. (w : WorldState) × IsOfMachine t w × LivesOut reasons t w given unmet old new))
+    ⊎ ((IsLiveLate captured given.is_refused new refusal × (w : WorldState) × IsOfMachine t w × LivesPart reasons t w given.bytes old new)
+    ⊎ EndsUnmet refusal (λ unmet. (w : WorldState) × IsOfMachine t w × LivesOut reasons t w given.bytes unmet old new))
 
 -- the input begins with a table that is accepted; or with one that is refused, or can't be taken, and nothing is printed
-abbrev pub RunsLive : Reasons → (given old new : Option (List ℕ)) → Result Unit Refusal → Type 0
-RunsLive reasons given old new ended =
-    ((mid : Option (List ℕ)) × (table : List ℕ) × TakesText given mid table × (t : Contents) × StatesMachine table t × RunsLiveTable reasons t mid old new ended)
+abbrev pub RunsLive : Reasons → (captured : Bool) → (given : Given) → (old new : OutputState) → Result Unit Refusal → Type 0
+RunsLive reasons captured given old new ended =
+    ((mid : Option (List ℕ)) × (table : List ℕ) × TakesText given.bytes mid table × (t : Contents) × StatesMachine table t
+    × RunsLiveTable reasons captured t (record given { bytes = mid }) old new ended)
     ⊎ ((refusal : Refusal) × (ended ≡ Err refusal) × (new ≡ old)
-    × (((mid : Option (List ℕ)) × (table : List ℕ) × TakesText given mid table × IsTableRefusal table refusal)
-    ⊎ ((mid : Option (List ℕ)) × (error : LinesError) × RefusesText given mid error × (refusal ≡ lines_refusal error))))
+    × (((mid : Option (List ℕ)) × (table : List ℕ) × TakesText given.bytes mid table × IsTableRefusal table refusal)
+    ⊎ ((mid : Option (List ℕ)) × (error : LinesError) × RefusesText given.is_refused given.bytes mid error × (refusal ≡ lines_refusal error))))

@@ -1,19 +1,19 @@
 //! `ecat sim --live`: a link table on the input, and behind its line `%%` the lines of a script, each run as it comes.
 
-ghost use Rattle.std.specs.Prelude.{◌≡◌, ◌++◌, ℕ, List, IfOk, IfErr, OnOk, OnErr, codes};
+ghost use Rattle.std.specs.Prelude.{◌≡◌, ◌++◌, ℕ, List, IfOk, IfErr, OnOk, OnErr, codes, false, is_some, option_map, true};
 ghost use Rattle.std.specs.Fmt.{decimal};
-ghost use Rattle.std.specs.Io.KnownBytes.{Appends};
 ghost use Rattle.ec_text.specs.PlanText.{newline};
 ghost use Rattle.ec_live.specs.Living.{IsLiveLate, LivesOut, LivesPart, RunsLive, RunsLiveTable, SaysPart, SaysReading};
 ghost use Rattle.ec_console.specs.Explaining.{IsLeft};
-ghost use Rattle.ec_console.specs.Printing.{AppendsPart};
+ghost use Rattle.ec_console.specs.Given.{given_by};
+ghost use Rattle.ec_console.specs.Printing.{IsPartPrinted, IsPrinted};
 ghost use Rattle.ec_sim.specs.Simulating.{IsLate};
 ghost use Rattle.ec_console.specs.Unmet.{counted};
 ghost use Rattle.ec_live.specs.Stages.{RunsLiveText, taken_reading};
 
 use ec_console::{
-    Explanation, Recording, Refusal, end_of, finish_recording, open_segment, print_text,
-    read_machine,
+    Explanation, InputStream, OutputStream, Recording, Refusal, end_of, finish_recording,
+    open_segment, print_text, read_machine,
 };
 use ec_lines::{NextLine, take_line, take_text};
 use ec_link::Machine;
@@ -36,15 +36,15 @@ use std::io::{Read, Write};
 ///
 /// The refusal of the table; `Refusal::Unmet` where what a line expected wasn't so; `Refusal::Input`, `Output` and `Memory`
 /// where a read, a write or memory was refused, after what was printed until then.
-pub fn print_live<H: AllocGlobal + Files, R: Read, W: Write>(
+pub fn print_live<H: AllocGlobal + Files, R: Read + Drop, W: Write + Drop>(
     rt: &H,
     reasons: Reasons,
     file: Option<&str>,
-    input: &mut R,
-    output: &mut W,
+    input: &mut InputStream<R>,
+    output: &mut OutputStream<W>,
     behind: &mut Explanation,
 ) -> Result<(), Refusal>
-    ensures runs { RunsLive reasons (R.remaining input.old) (W.contents output.old) (W.contents output.new)
+    ensures runs { RunsLive reasons (is_some (option_map (λ x. x.now) file.entry)) (given_by R.remaining input.old input.new) output.old output.new
         result }
     ensures explains { IsLeft behind.old behind.new }
 {
@@ -57,32 +57,32 @@ pub fn print_live<H: AllocGlobal + Files, R: Read, W: Write>(
 }
 
 /// Runs the lines that an input gives over a new segment of the machine that a text states.
-fn run_live_text<H: AllocGlobal + Files, R: Read, W: Write>(
+fn run_live_text<H: AllocGlobal + Files, R: Read + Drop, W: Write + Drop>(
     rt: &H,
     file: Option<&str>,
     text: &str,
     reasons: Reasons,
-    input: &mut R,
-    output: &mut W,
+    input: &mut InputStream<R>,
+    output: &mut OutputStream<W>,
 ) -> Result<(), Refusal>
-    ensures { RunsLiveText reasons text.now (R.remaining input.old) (W.contents output.old)
-        (W.contents output.new) result }
+    ensures { RunsLiveText reasons (is_some (option_map (λ x. x.now) file.entry)) text.now (given_by R.remaining input.old input.new) output.old
+        output.new result }
 {
     let machine = read_machine(rt.alloc(), text)?;
     run_live_machine(rt, file, &machine, reasons, input, output)
 }
 
 /// Runs the lines that an input gives over a new segment of a machine.
-fn run_live_machine<H: AllocGlobal + Files, R: Read, W: Write>(
+fn run_live_machine<H: AllocGlobal + Files, R: Read + Drop, W: Write + Drop>(
     rt: &H,
     file: Option<&str>,
     machine: &Machine,
     reasons: Reasons,
-    input: &mut R,
-    output: &mut W,
+    input: &mut InputStream<R>,
+    output: &mut OutputStream<W>,
 ) -> Result<(), Refusal>
-    ensures { RunsLiveTable reasons machine.now (R.remaining input.old) (W.contents output.old)
-        (W.contents output.new) result }
+    ensures { RunsLiveTable reasons (is_some (option_map (λ x. x.now) file.entry)) machine.now (given_by R.remaining input.old input.new) output.old
+        output.new result }
 {
     let table = machine.table();
     let mut world = World::of_machine(rt.alloc(), machine)?;
@@ -93,21 +93,21 @@ fn run_live_machine<H: AllocGlobal + Files, R: Read, W: Write>(
 /// Runs the lines that an input gives as `print_live_lines` does; the frames of the world go into a capture, if a file is
 /// named.
 #[tactic(auto, using(crate::proofs::LiveLemmas::none_part, crate::proofs::LiveLemmas::unopened_late))]
-fn print_live_watched<H: AllocGlobal + Files, R: Read, W: Write>(
+fn print_live_watched<H: AllocGlobal + Files, R: Read + Drop, W: Write + Drop>(
     rt: &H,
     table: &Table,
     reasons: Reasons,
     world: &mut World<'_>,
     file: Option<&str>,
-    input: &mut R,
-    output: &mut W,
+    input: &mut InputStream<R>,
+    output: &mut OutputStream<W>,
 ) -> Result<u64, Refusal>
     ensures all { IfOk result (λ count. (unmet : ℕ) × (count ≡ counted unmet)
-        × LivesOut reasons table.now world.old (R.remaining input.old) unmet
-        (W.contents output.old) (W.contents output.new)) }
-    ensures part { OnErr result (LivesPart reasons table.now world.old (R.remaining input.old)
-        (W.contents output.old) (W.contents output.new)) }
-    ensures late { IfErr result IsLiveLate }
+        × LivesOut reasons table.now world.old (R.remaining input.old.stream) unmet
+        output.old output.new) }
+    ensures part { OnErr result (LivesPart reasons table.now world.old (R.remaining input.old.stream)
+        output.old output.new) }
+    ensures late { IfErr result (IsLiveLate (is_some (option_map (λ x. x.now) file.entry)) input.new.is_refused output.new) }
 {
     let Some(file) = file else {
         return print_live_lines(
@@ -126,21 +126,21 @@ fn print_live_watched<H: AllocGlobal + Files, R: Read, W: Write>(
 
 /// Runs the lines that an input gives as `print_live_lines` does; the frames of the world go into a capture that is open, which
 /// is then written to the end.
-fn print_live_captured<F: Write + Drop, R: Read, W: Write>(
+fn print_live_captured<F: Write + Drop, R: Read + Drop, W: Write + Drop>(
     alloc: Global,
     table: &Table,
     reasons: Reasons,
     world: &mut World<'_>,
     recording: Recording<F>,
-    input: &mut R,
-    output: &mut W,
+    input: &mut InputStream<R>,
+    output: &mut OutputStream<W>,
 ) -> Result<u64, Refusal>
     ensures all { IfOk result (λ count. (unmet : ℕ) × (count ≡ counted unmet)
-        × LivesOut reasons table.now world.old (R.remaining input.old) unmet
-        (W.contents output.old) (W.contents output.new)) }
-    ensures part { OnErr result (LivesPart reasons table.now world.old (R.remaining input.old)
-        (W.contents output.old) (W.contents output.new)) }
-    ensures late { IfErr result IsLiveLate }
+        × LivesOut reasons table.now world.old (R.remaining input.old.stream) unmet
+        output.old output.new) }
+    ensures part { OnErr result (LivesPart reasons table.now world.old (R.remaining input.old.stream)
+        output.old output.new) }
+    ensures late { IfErr result (IsLiveLate true input.new.is_refused output.new) }
 {
     let mut watch = Watch::new(recording);
     let ended = print_live_lines(alloc, table, reasons, world, &mut watch, input, output);
@@ -149,21 +149,22 @@ fn print_live_captured<F: Write + Drop, R: Read, W: Write>(
 
 /// Runs the lines that an input gives over a world of a table, and prints of each what there is to say before the next one is
 /// read, and answers how often what they expect isn't so.
-fn print_live_lines<S: Watcher, R: Read, W: Write>(
+#[tactic(auto, using(crate::proofs::LiveLemmas::said_late, crate::proofs::LiveLemmas::unread_late))]
+fn print_live_lines<S: Watcher, R: Read + Drop, W: Write + Drop>(
     alloc: Global,
     table: &Table,
     reasons: Reasons,
     world: &mut World<'_>,
     watcher: &mut S,
-    input: &mut R,
-    output: &mut W,
+    input: &mut InputStream<R>,
+    output: &mut OutputStream<W>,
 ) -> Result<u64, Refusal>
     ensures all { IfOk result (λ count. (unmet : ℕ) × (count ≡ counted unmet)
-        × LivesOut reasons table.now world.old (R.remaining input.old) unmet
-        (W.contents output.old) (W.contents output.new)) }
-    ensures part { OnErr result (LivesPart reasons table.now world.old (R.remaining input.old)
-        (W.contents output.old) (W.contents output.new)) }
-    ensures late { IfErr result IsLiveLate }
+        × LivesOut reasons table.now world.old (R.remaining input.old.stream) unmet
+        output.old output.new) }
+    ensures part { OnErr result (LivesPart reasons table.now world.old (R.remaining input.old.stream)
+        output.old output.new) }
+    ensures late { IfErr result (IsLiveLate false input.new.is_refused output.new) }
 {
     let mut unmet: u64 = 0;
     for place in 0..usize::MAX {
@@ -178,11 +179,12 @@ fn print_live_lines<S: Watcher, R: Read, W: Write>(
         )?;
         unmet = unmet.saturating_add(count);
     }
-    Err(Refusal::Input)
+    // There is no number for a further line.
+    Err(Refusal::Memory)
 }
 
 /// Runs a line over a world of a table and prints what there is to say, and answers how often what it expects isn't so.
-fn print_reading<S: Watcher, W: Write>(
+fn print_reading<S: Watcher, W: Write + Drop>(
     alloc: Global,
     table: &Table,
     reasons: Reasons,
@@ -190,14 +192,14 @@ fn print_reading<S: Watcher, W: Write>(
     watcher: &mut S,
     number: usize,
     reading: Reading,
-    output: &mut W,
+    output: &mut OutputStream<W>,
 ) -> Result<u64, Refusal>
     ensures all { IfOk result (λ count. (unmet : ℕ) × (count ≡ counted unmet) × (printed : List ℕ)
         × SaysReading reasons table.now world.old number reading world.new printed unmet
-        × Appends (W.contents output.old) (W.contents output.new) printed) }
+        × IsPrinted output.old output.new printed) }
     ensures part { OnErr result (SaysPart reasons table.now world.old number reading
-        (W.contents output.old) (W.contents output.new)) }
-    ensures late { IfErr result IsLate }
+        output.old output.new) }
+    ensures late { IfErr result (IsLate false output.new) }
 {
     match reading {
         Reading::Empty => Ok(0),
@@ -210,12 +212,17 @@ fn print_reading<S: Watcher, W: Write>(
 }
 
 /// Prints that the line of a number is bad.
-fn print_bad<W: Write>(alloc: Global, number: usize, output: &mut W) -> Result<(), Refusal>
-    ensures all { OnOk result (Appends (W.contents output.old) (W.contents output.new)
+#[tactic(auto, using(crate::proofs::LiveLemmas::write_late, crate::proofs::LiveLemmas::cut_part))]
+fn print_bad<W: Write + Drop>(
+    alloc: Global,
+    number: usize,
+    output: &mut OutputStream<W>,
+) -> Result<(), Refusal>
+    ensures all { OnOk result (IsPrinted output.old output.new
         (codes "bad " ++ decimal number ++ newline)) }
-    ensures part { OnErr result (AppendsPart (W.contents output.old) (W.contents output.new)
+    ensures part { OnErr result (IsPartPrinted output.old output.new
         (codes "bad " ++ decimal number ++ newline)) }
-    ensures late { IfErr result IsLate }
+    ensures late { IfErr result (IsLate false output.new) }
 {
     let text = format!(in alloc; "bad {number}\n")?;
     print_text(text.as_bytes(), output)

@@ -7,7 +7,6 @@ use Rattle.std.proofs.lemmas.Nat.{pow_pos}
 use Rattle.std.specs.Result.{IsErrAnd}
 use Rattle.std.specs.Fmt.{decimal}
 use Rattle.std.specs.List.{flat_map}
-use Rattle.std.specs.Io.KnownBytes.{Appends}
 use Rattle.std.proofs.lemmas.List.Concat.{flat_map-append}
 use Rattle.ec_frame.specs.Frame.{Payload}
 use Rattle.ec_table.specs.Contents.{Contents}
@@ -40,8 +39,8 @@ use Rattle.ec_console.specs.declared.refusal.Refusal.TheVariants as refusal
 use Rattle.ec_loop.specs.Looping.{AreRun, CanCycle, EndsEarly, EndsUnwritten, IsCycleRefusal, IsNeverRun, IsRunEnd, IsSoFar, IsStartRefusal, IsUnbound, IsUp, Loops, LoopsText, RunsCycles, cycles_text, output_put, outputs_put, ports_line, ready_line, with_outputs}
 use Rattle.ec_loop.specs.Stages.{IsCut, LoopsOnSockets}
 use Rattle.ec_console.specs.Given.{IsTableRefusal}
-use Rattle.ec_console.specs.Printing.{AppendsPart, FaultState, IsTold}
-use Rattle.ec_console.proofs.PrintLemmas.{appends_more, appends_nothing}
+use Rattle.ec_console.specs.Printing.{IsCutOff, IsPrinted, IsTold, OutputState}
+use Rattle.ec_console.proofs.PrintLemmas.{texts}
 
 -- ---- start-ups
 
@@ -311,11 +310,11 @@ report_lost r x m before after report last is named run = if_cycle r x m before 
 -- ---- what is printed
 
 -- the reports so far
-pub record ArePrinted (t : Contents) (first : MasterState) (before : WireState) (last : MasterState) (after : WireState) (old new : Option (List ℕ)) (i : ℕ) : Type 0 where
+pub record ArePrinted (t : Contents) (first : MasterState) (before : WireState) (last : MasterState) (after : WireState) (old new : OutputState) (i : ℕ) : Type 0 where
   pub reports : List ReportState
   pub run : AreRun first before 1 reports last after
   pub count : length reports ≡ i
-  pub printed : Appends old new (cycles_text t reports)
+  pub printed : IsPrinted old new (cycles_text t reports)
 
 length-snoc : (rs : List ReportState) (r : ReportState) → length (rs ++ r ∷ []) ≡ length rs + 1
 length-snoc [] r = omega arith
@@ -344,55 +343,46 @@ run-snoc m mid last w x v number n [] r h is one =
 run-snoc m mid last w x v number n (s ∷ rs) r h is one = (h.0, h.1, h.2, run-snoc h.0 mid last h.1 x v (number + 1) n rs r h.3 (omega (arith, is)) one)
 
 -- the same of what stands behind the first line
-pub record AreReported (t : Contents) (first : MasterState) (before : WireState) (last : MasterState) (after : WireState) (mid new : Option (List ℕ)) (i : ℕ) : Type 0 where
+pub record AreReported (t : Contents) (first : MasterState) (before : WireState) (last : MasterState) (after : WireState) (mid new : OutputState) (i : ℕ) : Type 0 where
   pub reports : List ReportState
   pub run : AreRun first before 1 reports last after
   pub count : length reports ≡ i
-  pub printed : Appends mid new (flat_map (report_text t.version (plan_of t).parts) reports)
+  pub printed : IsPrinted mid new (flat_map (report_text t.version (plan_of t).parts) reports)
 
-pub none_reported : (t : Contents) (m : MasterState) (w : WireState) (mid : Option (List ℕ)) → AreReported t m w m w mid mid 0
-none_reported t m w mid = record { reports = []; run = (refl, refl); count = refl; printed = appends_nothing mid }
+pub none_reported : (t : Contents) (m : MasterState) (w : WireState) (mid : OutputState) → AreReported t m w m w mid mid 0
+none_reported t m w mid = record { reports = []; run = (refl, refl); count = refl; printed = texts.none mid }
 
-pub one_reported : (t : Contents) (first last later : MasterState) (before after next : WireState) (mid new newer : Option (List ℕ)) (i : ℕ) (line : List ℕ) (r : ReportState)
+pub one_reported : (t : Contents) (first last later : MasterState) (before after next : WireState) (mid new newer : OutputState) (i : ℕ) (line : List ℕ) (r : ReportState)
     → AreReported t first before last after mid new i → IsRun (with_outputs last (i + 1)) after next (Ok r) later
-    → line ≡ report_text t.version (plan_of t).parts r → Appends new newer line → AreReported t first before later next mid newer (i + 1)
+    → line ≡ report_text t.version (plan_of t).parts r → IsPrinted new newer line → AreReported t first before later next mid newer (i + 1)
 one_reported t first last later before after next mid new newer i line r h one is more =
     let count = h.count in
     record {
       reports = h.reports ++ r ∷ [];
       run = run-snoc first last later before after next 1 (i + 1) h.reports r h.run (omega (arith, count)) one;
       count = length-snoc h.reports r ∙ ap (λ (n : ℕ). n + 1) h.count;
-      printed = subst (Appends mid newer) (sym (flat-snoc t h.reports r))
-          (subst (λ (x : List ℕ). Appends mid newer (flat_map (report_text t.version (plan_of t).parts) h.reports ++ x)) is (appends_more mid new newer _ line h.printed more));
+      printed = subst (IsPrinted mid newer) (sym (flat-snoc t h.reports r))
+          (subst (λ (x : List ℕ). IsPrinted mid newer (flat_map (report_text t.version (plan_of t).parts) h.reports ++ x)) is (texts.both mid new newer _ line h.printed more));
     }
 
-pub since_ready : (t : Contents) (first last : MasterState) (before after : WireState) (old mid new : Option (List ℕ)) (i : ℕ) → Appends old mid ready_line
+pub since_ready : (t : Contents) (first last : MasterState) (before after : WireState) (old mid new : OutputState) (i : ℕ) → IsPrinted old mid ready_line
     → AreReported t first before last after mid new i → ArePrinted t first before last after old new i
 since_ready t first last before after old mid new i line h = record {
   reports = h.reports;
   run = h.run;
   count = h.count;
-  printed = appends_more old mid new ready_line _ line h.printed;
+  printed = texts.both old mid new ready_line _ line h.printed;
 }
-
-take-behind : (before text : List ℕ) (k : ℕ) → take (length before + k) (before ++ text) ≡ before ++ take k text
-take-behind [] text k = let e : 0 + k ≡ k = omega arith in rw e refl
-take-behind (x ∷ xs) text k = let e : length (x ∷ xs) + k ≡ suc (length xs + k) = omega arith in rw e (ap (λ rest. x ∷ rest) (take-behind xs text k))
-
--- a first part of a text behind one that is printed
-pub part_behind : (old mid new : Option (List ℕ)) (before text : List ℕ) → Appends old mid before → AppendsPart mid new text → AppendsPart old new (before ++ text)
-part_behind old mid new before text h (k, part) =
-    (length before + k, subst (Appends old new) (sym (take-behind before text k)) (appends_more old mid new before (take k text) h part))
 
 -- ---- how it is cut short
 
-cut-passed : (r : Result Unit Refusal) (x : Refusal) (cycles : ℕ) (t : Contents) (first : MasterState) (before after : WireState) (old new : Option (List ℕ)) → IsErrAnd r (λ e. e ≡ x)
+cut-passed : (r : Result Unit Refusal) (x : Refusal) (cycles : ℕ) (t : Contents) (first : MasterState) (before after : WireState) (old new : OutputState) → IsErrAnd r (λ e. e ≡ x)
     → IsCut cycles t first before after old new x → IfErr r (IsCut cycles t first before after old new)
 cut-passed (Ok done) x cycles t first before after old new is h = tt
 cut-passed (Err e) x cycles t first before after old new is h = subst (IsCut cycles t first before after old new) (sym is) h
 
 -- no further cycle ends, and whole lines stand there
-pub cut_between : (r : Result Unit Refusal) (x : Refusal) (cycles : ℕ) (t : Contents) (first last : MasterState) (before between after : WireState) (old new : Option (List ℕ)) (i : ℕ) → IsErrAnd r (λ e. e ≡ x)
+pub cut_between : (r : Result Unit Refusal) (x : Refusal) (cycles : ℕ) (t : Contents) (first last : MasterState) (before between after : WireState) (old new : OutputState) (i : ℕ) → IsErrAnd r (λ e. e ≡ x)
     → IsCycleRefusal (with_outputs last (i + 1)) between after x → ArePrinted t first before last between old new i → i < cycles → IfErr r (IsCut cycles t first before after old new)
 cut_between r x cycles t first last before between after old new i is h p lt =
     let count = p.count in
@@ -408,22 +398,22 @@ cut_between r x cycles t first last before between after old new i is h p lt =
     }))
 
 -- a write is refused
-cut-writing : (r : Result Unit Refusal) (x : Refusal) (cycles : ℕ) (t : Contents) (first last : MasterState) (before after : WireState) (old new : Option (List ℕ)) (reports : List ReportState)
-    → AreRun first before 1 reports last after → IsErrAnd r (λ e. e ≡ x) → x ≡ refusal.Output → length reports ≤ cycles → AppendsPart old new (cycles_text t reports)
+cut-writing : (r : Result Unit Refusal) (x : Refusal) (cycles : ℕ) (t : Contents) (first last : MasterState) (before after : WireState) (old new : OutputState) (reports : List ReportState)
+    → AreRun first before 1 reports last after → IsErrAnd r (λ e. e ≡ x) → x ≡ refusal.Output → length reports ≤ cycles → IsCutOff old new (cycles_text t reports)
     → IfErr r (IsCut cycles t first before after old new)
 cut-writing r x cycles t first last before after old new reports run is out few part =
     cut-passed r x cycles t first before after old new is
-    (inr (record { output = out; text = cycles_text t reports; lines = (reports, last, run, few, refl); part = part }))
+    (inr (record { output = out; text = cycles_text t reports; lines = (reports, last, run, few, refl); cut = part }))
 
-pub cut_ready : (r : Result Unit Refusal) (x : Refusal) (cycles : ℕ) (t : Contents) (m : MasterState) (w : WireState) (old new : Option (List ℕ)) → IsErrAnd r (λ e. e ≡ x) → x ≡ refusal.Output
-    → AppendsPart old new ready_line → IfErr r (IsCut cycles t m w w old new)
+pub cut_ready : (r : Result Unit Refusal) (x : Refusal) (cycles : ℕ) (t : Contents) (m : MasterState) (w : WireState) (old new : OutputState) → IsErrAnd r (λ e. e ≡ x) → x ≡ refusal.Output
+    → IsCutOff old new ready_line → IfErr r (IsCut cycles t m w w old new)
 cut_ready r x cycles t m w old new is out part =
-    cut-writing r x cycles t m m w w old new [] (refl, refl) is out (omega arith) (subst (AppendsPart old new) (sym (append-nil ready_line)) part)
+    cut-writing r x cycles t m m w w old new [] (refl, refl) is out (omega arith) (subst (IsCutOff old new) (sym (append-nil ready_line)) part)
 
-pub cut_report : (r : Result Unit Refusal) (x : Refusal) (cycles : ℕ) (t : Contents) (first last later : MasterState) (before after next : WireState) (old mid new newer : Option (List ℕ)) (i : ℕ)
+pub cut_report : (r : Result Unit Refusal) (x : Refusal) (cycles : ℕ) (t : Contents) (first last later : MasterState) (before after next : WireState) (old mid new newer : OutputState) (i : ℕ)
     (line : List ℕ) (report : ReportState) → IsErrAnd r (λ e. e ≡ x)
-    → x ≡ refusal.Output → Appends old mid ready_line → AreReported t first before last after mid new i → IsRun (with_outputs last (i + 1)) after next (Ok report) later → i < cycles
-    → line ≡ report_text t.version (plan_of t).parts report → AppendsPart new newer line
+    → x ≡ refusal.Output → IsPrinted old mid ready_line → AreReported t first before last after mid new i → IsRun (with_outputs last (i + 1)) after next (Ok report) later → i < cycles
+    → line ≡ report_text t.version (plan_of t).parts report → IsCutOff new newer line
     → IfErr r (IsCut cycles t first before next old newer)
 unfolding since_ready
 cut_report r x cycles t first last later before after next old mid new newer i line report is out ready h one lt same part =
@@ -431,60 +421,60 @@ cut_report r x cycles t first last later before after next old mid new newer i l
     let count = h.count in
     let run = run-snoc first last later before after next 1 (i + 1) h.reports report h.run (omega (arith, count)) one in
     let few : length (h.reports ++ report ∷ []) ≤ cycles = let e = length-snoc h.reports report in omega (arith, lt, e, count) in
-    let behind : AppendsPart old newer (cycles_text t h.reports ++ line) = part_behind old new newer _ line p.printed part in
+    let behind : IsCutOff old newer (cycles_text t h.reports ++ line) = texts.cut old new newer _ line p.printed part in
     cut-writing r x cycles t first later before next old newer (h.reports ++ report ∷ []) run is out few
-    (subst (AppendsPart old newer) (ap (λ (y : List ℕ). cycles_text t h.reports ++ y) same ∙ sym (text-snoc t h.reports report)) behind)
+    (subst (IsCutOff old newer) (ap (λ (y : List ℕ). cycles_text t h.reports ++ y) same ∙ sym (text-snoc t h.reports report)) behind)
 
 -- ---- the whole
 
 -- cycles that are cut short
-pub cycles_cut : (r : Result Unit Refusal) (x : Refusal) (cycles : ℕ) (t : Contents) (first : MasterState) (before after : WireState) (old new : Option (List ℕ)) → IsErrAnd r (λ e. e ≡ x)
+pub cycles_cut : (r : Result Unit Refusal) (x : Refusal) (cycles : ℕ) (t : Contents) (first : MasterState) (before after : WireState) (old new : OutputState) → IsErrAnd r (λ e. e ≡ x)
     → IsCut cycles t first before after old new x → RunsCycles cycles t first before after old new r
 cycles_cut (Ok done) x cycles t first before after old new is h = absurd is
 cycles_cut (Err e) x cycles t first before after old new is (inl h) = inl (subst (EndsEarly cycles t first before after old new) (sym is) h)
 cycles_cut (Err e) x cycles t first before after old new is (inr h) = inr (inr (inl (subst (EndsUnwritten (IsSoFar cycles t first before after) old new) (sym is) h)))
 
 -- memory for the input variables is refused
-pub cycles_unshown : (r : Result Unit Refusal) (x : Refusal) (cycles : ℕ) (t : Contents) (first last : MasterState) (before after : WireState) (old new : Option (List ℕ)) (reports : List ReportState)
-    → AreRun first before 1 reports last after → IsErrAnd r (λ e. e ≡ x) → x ≡ refusal.Memory → length reports ≡ cycles → Appends old new (cycles_text t reports)
+pub cycles_unshown : (r : Result Unit Refusal) (x : Refusal) (cycles : ℕ) (t : Contents) (first last : MasterState) (before after : WireState) (old new : OutputState) (reports : List ReportState)
+    → AreRun first before 1 reports last after → IsErrAnd r (λ e. e ≡ x) → x ≡ refusal.Memory → length reports ≡ cycles → IsPrinted old new (cycles_text t reports)
     → RunsCycles cycles t first before after old new r
 cycles_unshown (Ok done) x cycles t first last before after old new reports run is memory count printed = absurd is
 cycles_unshown (Err e) x cycles t first last before after old new reports run is memory count printed =
     inr (inl (record { reports = reports; last = last; run = run; all = count; memory = is ∙ memory; printed = printed }))
 
-pub cycles_shown : (r : Result Unit Refusal) (cycles : ℕ) (t : Contents) (first last : MasterState) (before after : WireState) (old mid new : Option (List ℕ)) (reports : List ReportState) (lines : List ℕ)
+pub cycles_shown : (r : Result Unit Refusal) (cycles : ℕ) (t : Contents) (first last : MasterState) (before after : WireState) (old mid new : OutputState) (reports : List ReportState) (lines : List ℕ)
     → AreRun first before 1 reports last after → length reports ≡ cycles
-    → Appends old mid (cycles_text t reports) → lines ≡ inputs_text (shown last) t → OnOk r (Appends mid new lines) → OnErr r (AppendsPart mid new lines) → IfErr r (λ x. x ≡ refusal.Output)
+    → IsPrinted old mid (cycles_text t reports) → lines ≡ inputs_text (shown last) t → OnOk r (IsPrinted mid new lines) → OnErr r (IsCutOff mid new lines) → IfErr r (λ x. x ≡ refusal.Output)
     → RunsCycles cycles t first before after old new r
 cycles_shown (Ok done) cycles t first last before after old mid new reports lines run count printed is all part fault = (
   cycles_text t reports ++ inputs_text (shown last) t,
   (reports, last, run, count, refl),
-  subst (λ (x : List ℕ). Appends old new (cycles_text t reports ++ x)) is (appends_more old mid new _ lines printed all),
+  subst (λ (x : List ℕ). IsPrinted old new (cycles_text t reports ++ x)) is (texts.both old mid new _ lines printed all),
 )
 cycles_shown (Err e) cycles t first last before after old mid new reports lines run count printed is all part fault =
     inr (inr (inr (record {
       output = fault;
       text = cycles_text t reports ++ inputs_text (shown last) t;
       lines = (reports, last, run, count, refl);
-      part = subst (λ (x : List ℕ). AppendsPart old new (cycles_text t reports ++ x)) is (part_behind old mid new _ lines printed part);
+      cut = subst (λ (x : List ℕ). IsCutOff old new (cycles_text t reports ++ x)) is (texts.cut old mid new _ lines printed part);
     })))
 
 -- slaves that don't come up
-pub loop_unstarted : (r : Result Unit Refusal) (x : Refusal) (cycles : ℕ) (t : Contents) (p : PlanState) (before after : WireState) (known : Option (List ℕ)) → IsErrAnd r (λ e. e ≡ x) → p ≡ plan_of t
+pub loop_unstarted : (r : Result Unit Refusal) (x : Refusal) (cycles : ℕ) (t : Contents) (p : PlanState) (before after : WireState) (known : OutputState) → IsErrAnd r (λ e. e ≡ x) → p ≡ plan_of t
     → IsStartRefusal p before after x → Loops cycles t before after known known r
 loop_unstarted (Ok done) x cycles t p before after known is plan h = absurd is
 loop_unstarted (Err e) x cycles t p before after known is plan h =
     inr (e, refl, subst (IsStartRefusal (plan_of t) before after) (sym is) (subst (λ (q : PlanState). IsStartRefusal q before after x) plan h), refl)
 
 -- and slaves that do
-pub loop_started : (r : Result Unit Refusal) (cycles : ℕ) (t : Contents) (p : PlanState) (first : MasterState) (before between after : WireState) (old new : Option (List ℕ)) → p ≡ plan_of t
+pub loop_started : (r : Result Unit Refusal) (cycles : ℕ) (t : Contents) (p : PlanState) (first : MasterState) (before between after : WireState) (old new : OutputState) → p ≡ plan_of t
     → IsUp p before between first → RunsCycles cycles t first between after old new r → Loops cycles t before after old new r
 loop_started r cycles t p first before between after old new plan up runs = inl (first, between, subst (λ (q : PlanState). IsUp q before between first) plan up, runs)
 
 -- ---- over sockets
 
 -- a refusal before anything is told, also where a call passes it on
-pub never_run : (r : Result Unit Refusal) (x : Refusal) (Refuses : Refusal → Type 0) (known : Option (List ℕ)) (quiet : FaultState) → IsErrAnd r (λ e. e ≡ x) → Refuses x → IsNeverRun Refuses known known quiet quiet r
+pub never_run : (r : Result Unit Refusal) (x : Refusal) (Refuses : Refusal → Type 0) (known quiet : OutputState) → IsErrAnd r (λ e. e ≡ x) → Refuses x → IsNeverRun Refuses known known quiet quiet r
 never_run (Ok done) x Refuses known quiet is h = absurd is
 never_run (Err e) x Refuses known quiet is h = (e, refl, subst Refuses (sym is) h, refl, refl)
 
@@ -504,10 +494,10 @@ ports_spelled b0 b1 b2 b3 b4 b5 one two end m s master segment e0 e1 e2 e3 e4 e5
     e5 ∙ (ap (λ (x : List ℕ). x ++ end) fourth_part ∙ (append_assoc ((one ++ decimal master) ++ two) (decimal segment) end
     ∙ (append_assoc (one ++ decimal master) two (decimal segment ++ end) ∙ append_assoc one (decimal master) (two ++ (decimal segment ++ end)))))
 
-pub no_wire : (r : Result Unit Refusal) (x : Refusal) (cycles : ℕ) (t : Contents) (known : Option (List ℕ)) (quiet : FaultState) → IsErrAnd r (λ e. e ≡ x) → IsUnbound x → LoopsOnSockets cycles t known known quiet quiet r
+pub no_wire : (r : Result Unit Refusal) (x : Refusal) (cycles : ℕ) (t : Contents) (known quiet : OutputState) → IsErrAnd r (λ e. e ≡ x) → IsUnbound x → LoopsOnSockets cycles t known known quiet quiet r
 no_wire r x cycles t known quiet is h = inr (never_run r x IsUnbound known quiet is h)
 
-pub looped_between : (r : Result Unit Refusal) (cycles : ℕ) (t : Contents) (slaves : List SlaveState) (sockets : Ports) (ports : ℕ × ℕ) (before after : ℕ) (old new : Option (List ℕ)) (quiet told : FaultState)
+pub looped_between : (r : Result Unit Refusal) (cycles : ℕ) (t : Contents) (slaves : List SlaveState) (sockets : Ports) (ports : ℕ × ℕ) (before after : ℕ) (old new quiet told : OutputState)
     → AreSlavesOf t slaves → ports ≡ (sockets.master, sockets.segment) → IsTold (ports_line ports.0 ports.1) quiet told → Loops cycles t (silent before) (silent after) old new r
     → LoopsOnSockets cycles t old new quiet told r
 looped_between r cycles t slaves sockets ports before after old new quiet told are same line runs = inl (record {
@@ -520,17 +510,17 @@ looped_between r cycles t slaves sockets ports before after old new quiet told a
   runs = runs;
 })
 
-pub looped : (cycles : ℕ) (text : List ℕ) (t : Contents) (old new : Option (List ℕ)) (quiet told : FaultState) (r : Result Unit Refusal) → StatesMachine text t
+pub looped : (cycles : ℕ) (text : List ℕ) (t : Contents) (old new quiet told : OutputState) (r : Result Unit Refusal) → StatesMachine text t
     → LoopsOnSockets cycles t old new quiet told r → LoopsText cycles text old new quiet told r
 looped cycles text t old new quiet told r states (inl loops) = inl (t, states, loops)
 looped cycles text t old new quiet told r states (inr (x, is, why, kept, mute)) = inr (x, is, inr why, kept, mute)
 
 -- a text that states none
-pub unstated : (r : Result Unit Refusal) (x : Refusal) (cycles : ℕ) (text : List ℕ) (known : Option (List ℕ)) (quiet : FaultState) → IsErrAnd r (λ e. e ≡ x) → IsTableRefusal text x → LoopsText cycles text known known quiet quiet r
+pub unstated : (r : Result Unit Refusal) (x : Refusal) (cycles : ℕ) (text : List ℕ) (known quiet : OutputState) → IsErrAnd r (λ e. e ≡ x) → IsTableRefusal text x → LoopsText cycles text known known quiet quiet r
 unstated r x cycles text known quiet is why = inr (never_run r x (λ refusal. IsTableRefusal text refusal ⊎ IsUnbound refusal) known quiet is (inl why))
 
 -- cycles over a wire whose payloads are noted are cycles over the wire
-pub tapped_loops : {W : Type 0} (state : W → WireState) (cycles : ℕ) (t : Contents) (first began after : WireState) (last : W) (old new : Option (List ℕ)) (r : Result Unit Refusal)
+pub tapped_loops : {W : Type 0} (state : W → WireState) (cycles : ℕ) (t : Contents) (first began after : WireState) (last : W) (old new : OutputState) (r : Result Unit Refusal)
     → began ≡ first → state last ≡ after → Loops cycles t began after old new r → (x : W) × Loops cycles t first (state x) old new r
 tapped_loops state cycles t first began after last old new r same is loops =
     (last, subst (λ (w : WireState). Loops cycles t first w old new r) (sym is) (subst (λ (w : WireState). Loops cycles t w after old new r) same loops))

@@ -1,8 +1,7 @@
 -- What `ecat loop` prints (this project's profile).
-use Rattle.std.specs.Prelude.{◌≡◌, ◌⊎◌, ◌≤◌, ◌<◌, ◌+◌, ◌%◌, ◌^◌, ℕ, List, [], ◌∷◌, ◌++◌, length, true, if◌then◌else◌, Option, None, Some, Result, Ok, Err, codes}
+use Rattle.std.specs.Prelude.{◌≡◌, ◌⊎◌, ◌≤◌, ◌<◌, ◌+◌, ◌%◌, ◌^◌, ℕ, List, [], ◌∷◌, ◌++◌, length, true, if◌then◌else◌, None, Some, Result, Ok, Err, codes}
 use Rattle.std.specs.Fmt.{decimal}
 use Rattle.std.specs.List.{flat_map}
-use Rattle.std.specs.Io.KnownBytes.{Appends}
 use Rattle.ec_table.specs.Contents.{Contents}
 use Rattle.ec_link.specs.Machine.{StatesMachine}
 use Rattle.ec_link.specs.declared.image.Variable.{Variable}
@@ -26,8 +25,8 @@ use Rattle.ec_text.specs.InputText.{inputs_text, shown}
 use Rattle.ec_text.specs.ReportText.{report_text}
 use Rattle.ec_console.specs.declared.refusal.Refusal.{Refusal}
 use Rattle.ec_console.specs.declared.refusal.Refusal.TheVariants.{Memory, Start, Run, Socket, Output}
-use Rattle.ec_console.specs.Given.{GivesText, IsInputRefusal, IsTableRefusal}
-use Rattle.ec_console.specs.Printing.{AppendsPart, FaultState, IsTold}
+use Rattle.ec_console.specs.Given.{Given, GivesText, IsInputRefusal, IsTableRefusal}
+use Rattle.ec_console.specs.Printing.{IsCutOff, IsPrinted, IsTold, OutputState}
 
 -- ---- lines
 
@@ -109,35 +108,35 @@ IsCycleRefusal m before after (Run error) = IsRunEnd m before after error
 IsCycleRefusal m before after _ = ⊥
 
 -- the lines of fewer cycles than all are printed, and the next one is kept back
-pub record EndsEarly (cycles : ℕ) (t : Contents) (first : MasterState) (before after : WireState) (old new : Option (List ℕ)) (refusal : Refusal) : Type 0 where
+pub record EndsEarly (cycles : ℕ) (t : Contents) (first : MasterState) (before after : WireState) (old new : OutputState) (refusal : Refusal) : Type 0 where
   pub reports : List ReportState
   pub last : MasterState
   pub between : WireState
   pub run : AreRun first before 1 reports last between
   pub few : length reports < cycles
   pub next : IsCycleRefusal (with_outputs last (length reports + 1)) between after refusal
-  pub printed : Appends old new (cycles_text t reports)
+  pub printed : IsPrinted old new (cycles_text t reports)
 
 -- the lines of all cycles are printed, and there is no memory for those of the input variables
-pub record EndsUnshown (cycles : ℕ) (t : Contents) (first : MasterState) (before after : WireState) (old new : Option (List ℕ)) (refusal : Refusal) : Type 0 where
+pub record EndsUnshown (cycles : ℕ) (t : Contents) (first : MasterState) (before after : WireState) (old new : OutputState) (refusal : Refusal) : Type 0 where
   pub reports : List ReportState
   pub last : MasterState
   pub run : AreRun first before 1 reports last after
   pub all : length reports ≡ cycles
   pub memory : refusal ≡ Memory
-  pub printed : Appends old new (cycles_text t reports)
+  pub printed : IsPrinted old new (cycles_text t reports)
 
 -- a write is refused, and what is printed is a first part of these lines
-pub record EndsUnwritten (Lines : List ℕ → Type 0) (old new : Option (List ℕ)) (refusal : Refusal) : Type 0 where
+pub record EndsUnwritten (Lines : List ℕ → Type 0) (old new : OutputState) (refusal : Refusal) : Type 0 where
   pub output : refusal ≡ Output
   pub text : List ℕ
   pub lines : Lines text
-  pub part : AppendsPart old new text
+  pub cut : IsCutOff old new text
 
 -- The cycles of a master whose slaves are up, by what the wire is and the writer holds before and after: all is printed; or
 -- the lines until then.
-abbrev pub RunsCycles : ℕ → Contents → MasterState → (before after : WireState) → (old new : Option (List ℕ)) → Result Unit Refusal → Type 0
-RunsCycles cycles t first before after old new (Ok done) = (text : List ℕ) × IsWhole cycles t first before after text × Appends old new text
+abbrev pub RunsCycles : ℕ → Contents → MasterState → (before after : WireState) → (old new : OutputState) → Result Unit Refusal → Type 0
+RunsCycles cycles t first before after old new (Ok done) = (text : List ℕ) × IsWhole cycles t first before after text × IsPrinted old new text
 RunsCycles cycles t first before after old new (Err refusal) =
     EndsEarly cycles t first before after old new refusal
     ⊎ (EndsUnshown cycles t first before after old new refusal
@@ -146,7 +145,7 @@ RunsCycles cycles t first before after old new (Err refusal) =
 
 -- The cycles of a table over a wire: its slaves are brought up and the cycles run; or they don't come up, and nothing is
 -- printed.
-abbrev pub Loops : ℕ → Contents → (before after : WireState) → (old new : Option (List ℕ)) → Result Unit Refusal → Type 0
+abbrev pub Loops : ℕ → Contents → (before after : WireState) → (old new : OutputState) → Result Unit Refusal → Type 0
 Loops cycles t before after old new ended =
     ((first : MasterState) × (between : WireState) × IsUp (plan_of t) before between first × RunsCycles cycles t first between after old new ended)
     ⊎ ((refusal : Refusal) × (ended ≡ Err refusal) × IsStartRefusal (plan_of t) before after refusal × (new ≡ old))
@@ -159,7 +158,7 @@ ports_line master segment = codes "ecat: loop between 127.0.0.1:" ++ (decimal ma
 
 -- Two sockets of this process, with the table's slaves at one of them, just switched on: the ports are told, and then the
 -- cycles run over them. Sockets tell no payload, so what they carried is any.
-pub record LoopsBetween (cycles : ℕ) (t : Contents) (old new : Option (List ℕ)) (quiet told : FaultState) (ended : Result Unit Refusal) : Type 0 where
+pub record LoopsBetween (cycles : ℕ) (t : Contents) (old new quiet told : OutputState) (ended : Result Unit Refusal) : Type 0 where
   pub slaves : List SlaveState
   pub are : AreSlavesOf t slaves
   pub ports : Ports
@@ -170,7 +169,7 @@ pub record LoopsBetween (cycles : ℕ) (t : Contents) (old new : Option (List �
   pub runs : Loops cycles t (silent before) (silent after) old new ended
 
 -- it is refused, and nothing is printed or told
-abbrev pub IsNeverRun : (Refusal → Type 0) → (old new : Option (List ℕ)) → (quiet told : FaultState) → Result Unit Refusal → Type 0
+abbrev pub IsNeverRun : (Refusal → Type 0) → (old new : OutputState) → (quiet told : OutputState) → Result Unit Refusal → Type 0
 IsNeverRun Refuses old new quiet told ended = (refusal : Refusal) × (ended ≡ Err refusal) × Refuses refusal × (new ≡ old) × (told ≡ quiet)
 
 -- no memory for the slaves, or no sockets
@@ -178,13 +177,13 @@ abbrev pub IsUnbound : Refusal → Type 0
 IsUnbound refusal = (refusal ≡ Memory) ⊎ (refusal ≡ Socket)
 
 -- cycles of the table that a text states; or it is refused, or there are no sockets
-abbrev pub LoopsText : ℕ → List ℕ → (old new : Option (List ℕ)) → (quiet told : FaultState) → Result Unit Refusal → Type 0
+abbrev pub LoopsText : ℕ → List ℕ → (old new : OutputState) → (quiet told : OutputState) → Result Unit Refusal → Type 0
 LoopsText cycles text old new quiet told ended =
     ((t : Contents) × StatesMachine text t × LoopsBetween cycles t old new quiet told ended)
     ⊎ IsNeverRun (λ refusal. IsTableRefusal text refusal ⊎ IsUnbound refusal) old new quiet told ended
 
 -- the same of what the input gives; or the input is refused
-abbrev pub RunsLoop : ℕ → Option (List ℕ) → (old new : Option (List ℕ)) → (quiet told : FaultState) → Result Unit Refusal → Type 0
-RunsLoop cycles known old new quiet told ended =
-    ((text : List ℕ) × GivesText known text × LoopsText cycles text old new quiet told ended)
-    ⊎ IsNeverRun (IsInputRefusal known) old new quiet told ended
+abbrev pub RunsLoop : ℕ → (given : Given) → (old new : OutputState) → (quiet told : OutputState) → Result Unit Refusal → Type 0
+RunsLoop cycles given old new quiet told ended =
+    ((text : List ℕ) × GivesText given text × LoopsText cycles text old new quiet told ended)
+    ⊎ IsNeverRun (IsInputRefusal given) old new quiet told ended

@@ -1,6 +1,5 @@
 //! `ecat loop`: cycles of a link table over two sockets of this process.
 ghost use Rattle.std.specs.Prelude.{◌≡◌, ◌≤◌, ◌<◌, ◌%◌, ◌^◌, List, [], All, None, Some, Ok, Result, IfErr, IfOk, OnOk, length, slice_get};
-ghost use Rattle.std.specs.Io.KnownBytes.{Appends};
 ghost use Rattle.std.specs.String.{string_bytes};
 ghost use Rattle.ec_link.specs.Plan.{plan_of};
 ghost use Rattle.ec_start.specs.Planned.{HasFewAssigned};
@@ -14,14 +13,15 @@ ghost use Rattle.ec_console.specs.Capturing.{EndsCaptured, Finishes};
 ghost use Rattle.ec_console.specs.declared.refusal.Refusal.{Refusal as RefusalValue};
 ghost use Rattle.ec_console.specs.Explaining.{IsLeft};
 ghost use Rattle.ec_loop.specs.Looping.{AreRun, CanCycle, IsCycleRefusal, IsRunEnd, IsStartRefusal, IsUnbound, IsUp, Loops, LoopsText, RunsCycles, RunsLoop, cycles_text, output_put, ports_line, with_outputs};
-ghost use Rattle.ec_console.specs.Printing.{IsTold};
+ghost use Rattle.ec_console.specs.Printing.{IsPrinted, IsTold};
 ghost use Rattle.ec_loop.specs.Stages.{IsCut, LoopsOnSockets};
+ghost use Rattle.ec_console.specs.Given.{given_by};
 
 use arrayvec::ArrayString;
 use ec_bringup::slaves_of_machine;
 use ec_console::{
-    Capture, Explanation, FaultStream, Refusal, close_capture, open_capture, print_text,
-    read_machine, read_text,
+    Capture, Explanation, InputStream, OutputStream, Refusal, close_capture, open_capture,
+    print_text, read_machine, read_text,
 };
 use ec_cycle::{Master, Report};
 use ec_link::{Machine, Plan, Variable};
@@ -50,15 +50,15 @@ const LINE_SIZE: usize = 96;
 ///
 /// `Refusal::Memory` where memory ran out, the start-up's refusal where it failed, the run's where a cycle could not be
 /// run, and `Refusal::Output` where the output could not be written.
-pub fn run_loop<W: Wire, O: Write>(
+pub fn run_loop<W: Wire, O: Write + Drop>(
     alloc: Global,
     machine: &Machine,
     wire: &mut W,
     cycles: u16,
-    output: &mut O,
+    output: &mut OutputStream<O>,
 ) -> Result<(), Refusal>
     ensures { Loops cycles machine.now (W.state wire.old) (W.state wire.new)
-        (O.contents output.old) (O.contents output.new) result }
+        output.old output.new result }
 {
     let mut master = started(alloc, machine, wire)?;
     run_started(alloc, machine, &mut master, wire, cycles, output)
@@ -74,16 +74,21 @@ pub fn run_loop<W: Wire, O: Write>(
 ///
 /// The refusal of the input or of its table, `Refusal::Memory` where memory ran out, `Refusal::Socket` where there are no such
 /// sockets, and what [`run_loop`] ends by.
-pub fn print_loop<H: AllocGlobal + Net + Files + Clock, R: Read, W: Write, F: Write + Drop>(
+pub fn print_loop<
+    H: AllocGlobal + Net + Files + Clock,
+    R: Read + Drop,
+    W: Write + Drop,
+    F: Write + Drop,
+>(
     rt: &H,
     cycles: u16,
-    input: &mut R,
-    output: &mut W,
-    faults: &mut FaultStream<F>,
+    input: &mut InputStream<R>,
+    output: &mut OutputStream<W>,
+    faults: &mut OutputStream<F>,
     app: &mut dyn App,
     behind: &mut Explanation,
 ) -> Result<(), Refusal>
-    ensures runs { RunsLoop cycles (R.remaining input.old) (W.contents output.old) (W.contents output.new)
+    ensures runs { RunsLoop cycles (given_by R.remaining input.old input.new) output.old output.new
         faults.old faults.new result }
     ensures explains { IsLeft behind.old behind.new }
 {
@@ -97,18 +102,23 @@ pub fn print_loop<H: AllocGlobal + Net + Files + Clock, R: Read, W: Write, F: Wr
 /// Those of [`print_loop`]; `Refusal::Output` too where the file couldn't be opened, before anything is sent, or couldn't be
 /// written to the end.
 #[tactic(auto, using(ec_console::proofs::CaptureLemmas::captured_refused, ec_console::proofs::CaptureLemmas::captured_end))]
-pub fn capture_loop<H: AllocGlobal + Net + Files + Clock, R: Read, W: Write, F: Write + Drop>(
+pub fn capture_loop<
+    H: AllocGlobal + Net + Files + Clock,
+    R: Read + Drop,
+    W: Write + Drop,
+    F: Write + Drop,
+>(
     rt: &H,
     cycles: u16,
     file: &str,
-    input: &mut R,
-    output: &mut W,
-    faults: &mut FaultStream<F>,
+    input: &mut InputStream<R>,
+    output: &mut OutputStream<W>,
+    faults: &mut OutputStream<F>,
     app: &mut dyn App,
     behind: &mut Explanation,
 ) -> Result<(), Refusal>
-    ensures runs { EndsCaptured (λ ended. RunsLoop cycles (R.remaining input.old) (W.contents output.old)
-        (W.contents output.new) faults.old faults.new ended)
+    ensures runs { EndsCaptured (λ ended. RunsLoop cycles (given_by R.remaining input.old input.new) output.old
+        output.new faults.old faults.new ended)
         ((output.new ≡ output.old) × (faults.new ≡ faults.old)) result }
     ensures explains { IsLeft behind.old behind.new }
 {
@@ -117,17 +127,17 @@ pub fn capture_loop<H: AllocGlobal + Net + Files + Clock, R: Read, W: Write, F: 
 }
 
 /// Runs so many cycles with a master whose slaves are up, and prints what `run_loop` does.
-fn run_started<W: Wire, O: Write>(
+fn run_started<W: Wire, O: Write + Drop>(
     alloc: Global,
     machine: &Machine,
     master: &mut Master<'_>,
     wire: &mut W,
     cycles: u16,
-    output: &mut O,
+    output: &mut OutputStream<O>,
 ) -> Result<(), Refusal>
     requires ready { CanCycle (plan_of machine.now) master.old }
     ensures { RunsCycles cycles machine.now master.old (W.state wire.old) (W.state wire.new)
-        (O.contents output.old) (O.contents output.new) result }
+        output.old output.new result }
 {
     print_cycles(alloc, machine, master, wire, cycles, output)?;
     let lines = input_lines(alloc, machine.table(), master)?;
@@ -135,20 +145,20 @@ fn run_started<W: Wire, O: Write>(
 }
 
 /// Prints that the slaves are up, and runs so many cycles, each of whose reports is printed before the next begins.
-fn print_cycles<W: Wire, O: Write>(
+fn print_cycles<W: Wire, O: Write + Drop>(
     alloc: Global,
     machine: &Machine,
     master: &mut Master<'_>,
     wire: &mut W,
     cycles: u16,
-    output: &mut O,
+    output: &mut OutputStream<O>,
 ) -> Result<(), Refusal>
     requires ready { CanCycle (plan_of machine.now) master.old }
     ensures all { OnOk result ((reports : List ReportState)
         × AreRun master.old (W.state wire.old) 1 reports master.new (W.state wire.new) × (length reports ≡ cycles)
-        × Appends (O.contents output.old) (O.contents output.new) (cycles_text machine.now reports)) }
+        × IsPrinted output.old output.new (cycles_text machine.now reports)) }
     ensures part { IfErr result (IsCut cycles machine.now master.old (W.state wire.old) (W.state wire.new)
-        (O.contents output.old) (O.contents output.new)) }
+        output.old output.new) }
 {
     print_text(READY.as_bytes(), output)?;
     for cycle in 0..cycles {
@@ -264,17 +274,22 @@ fn cut_to(number: u64, bits: u8) -> u64
 
 /// Runs cycles of the table that the input states, as [`print_loop`] does, and notes what the master sends and receives in a
 /// capture, if there is one. A refusal is explained, where that is wanted.
-fn loop_input<H: AllocGlobal + Net + Files + Clock, R: Read, W: Write, F: Write + Drop>(
+fn loop_input<
+    H: AllocGlobal + Net + Files + Clock,
+    R: Read + Drop,
+    W: Write + Drop,
+    F: Write + Drop,
+>(
     rt: &H,
     cycles: u16,
     capture: &mut Capture<H::File>,
-    input: &mut R,
-    output: &mut W,
-    faults: &mut FaultStream<F>,
+    input: &mut InputStream<R>,
+    output: &mut OutputStream<W>,
+    faults: &mut OutputStream<F>,
     app: &mut dyn App,
     behind: &mut Explanation,
 ) -> Result<(), Refusal>
-    ensures runs { RunsLoop cycles (R.remaining input.old) (W.contents output.old) (W.contents output.new)
+    ensures runs { RunsLoop cycles (given_by R.remaining input.old input.new) output.old output.new
         faults.old faults.new result }
     ensures explains { IsLeft behind.old behind.new }
 {
@@ -287,16 +302,16 @@ fn loop_input<H: AllocGlobal + Net + Files + Clock, R: Read, W: Write, F: Write 
 }
 
 /// Runs cycles of the machine that a text states, over two sockets.
-fn loop_text<H: AllocGlobal + Net + Files + Clock, W: Write, F: Write + Drop>(
+fn loop_text<H: AllocGlobal + Net + Files + Clock, W: Write + Drop, F: Write + Drop>(
     rt: &H,
     cycles: u16,
     capture: &mut Capture<H::File>,
     text: &str,
-    output: &mut W,
-    faults: &mut FaultStream<F>,
+    output: &mut OutputStream<W>,
+    faults: &mut OutputStream<F>,
     app: &mut dyn App,
 ) -> Result<(), Refusal>
-    ensures { LoopsText cycles text.now (W.contents output.old) (W.contents output.new)
+    ensures { LoopsText cycles text.now output.old output.new
         faults.old faults.new result }
 {
     let machine = read_machine(rt.alloc(), text)?;
@@ -305,16 +320,16 @@ fn loop_text<H: AllocGlobal + Net + Files + Clock, W: Write, F: Write + Drop>(
 
 /// Runs cycles of a machine over two sockets.
 #[tactic(auto, using(crate::proofs::LoopLemmas::no_wire, crate::proofs::LoopLemmas::looped_between))]
-fn loop_machine<H: AllocGlobal + Net + Files + Clock, W: Write, F: Write + Drop>(
+fn loop_machine<H: AllocGlobal + Net + Files + Clock, W: Write + Drop, F: Write + Drop>(
     rt: &H,
     machine: &Machine,
     cycles: u16,
     capture: &mut Capture<H::File>,
-    output: &mut W,
-    faults: &mut FaultStream<F>,
+    output: &mut OutputStream<W>,
+    faults: &mut OutputStream<F>,
     app: &mut dyn App,
 ) -> Result<(), Refusal>
-    ensures { LoopsOnSockets cycles machine.now (W.contents output.old) (W.contents output.new)
+    ensures { LoopsOnSockets cycles machine.now output.old output.new
         faults.old faults.new result }
 {
     let ends = loop_ends(rt, machine)?;
@@ -326,18 +341,18 @@ fn loop_machine<H: AllocGlobal + Net + Files + Clock, W: Write, F: Write + Drop>
 /// Runs cycles of a machine over a wire that has carried nothing yet, and notes what it carries in a capture, if there
 /// is one.
 #[tactic(auto, using(crate::proofs::LoopLemmas::tapped_loops))]
-fn run_tapped<H: AllocGlobal + Files + Clock, W: Wire + Drop, O: Write>(
+fn run_tapped<H: AllocGlobal + Files + Clock, W: Wire + Drop, O: Write + Drop>(
     rt: &H,
     machine: &Machine,
     wire: W,
     cycles: u16,
     capture: &mut Capture<H::File>,
-    output: &mut O,
+    output: &mut OutputStream<O>,
 ) -> Result<(), Refusal>
     requires sent { Tells (W.state wire).sent [] }
     requires received { Tells (W.state wire).received [] }
     ensures { (last : W) × Loops cycles machine.now (W.state wire) (W.state last)
-        (O.contents output.old) (O.contents output.new) result }
+        output.old output.new result }
 {
     match capture.take() {
         None => {
@@ -355,7 +370,7 @@ fn run_tapped<H: AllocGlobal + Files + Clock, W: Wire + Drop, O: Write>(
 }
 
 /// Tells between which ports a loop runs. A fault in telling it changes nothing.
-fn tell_ports<F: Write + Drop>(ports: (u16, u16), faults: &mut FaultStream<F>)
+fn tell_ports<F: Write + Drop>(ports: (u16, u16), faults: &mut OutputStream<F>)
     ensures { IsTold (ports_line ports.0 ports.1) faults.old faults.new }
 {
     let line = between(ports);
@@ -387,18 +402,23 @@ fn loop_ends<H: AllocGlobal + Net>(rt: &H, machine: &Machine) -> Result<(Ring, S
 
 /// Runs cycles of the table that the input states, as [`print_loop`] does, with a capture that is open, which is then written
 /// to the end.
-fn loop_captured<H: AllocGlobal + Net + Files + Clock, R: Read, W: Write, F: Write + Drop>(
+fn loop_captured<
+    H: AllocGlobal + Net + Files + Clock,
+    R: Read + Drop,
+    W: Write + Drop,
+    F: Write + Drop,
+>(
     rt: &H,
     cycles: u16,
     capture: Capture<H::File>,
-    input: &mut R,
-    output: &mut W,
-    faults: &mut FaultStream<F>,
+    input: &mut InputStream<R>,
+    output: &mut OutputStream<W>,
+    faults: &mut OutputStream<F>,
     app: &mut dyn App,
     behind: &mut Explanation,
 ) -> Result<(), Refusal>
-    ensures runs { (ended : Result Unit RefusalValue) × RunsLoop cycles (R.remaining input.old) (W.contents output.old)
-        (W.contents output.new) faults.old faults.new ended × Finishes ended result }
+    ensures runs { (ended : Result Unit RefusalValue) × RunsLoop cycles (given_by R.remaining input.old input.new) output.old
+        output.new faults.old faults.new ended × Finishes ended result }
     ensures explains { IsLeft behind.old behind.new }
 {
     let mut capture = capture;

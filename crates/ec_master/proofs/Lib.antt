@@ -8,3 +8,5 @@ mod Reasoned
 mod SayingLemmas
 -- the first `report` of a text
 mod Shown
+-- what ends a run of lines, by what ended one of them
+pub mod Late

@@ -10,7 +10,8 @@ use Rattle.ec_console.specs.Unmet.{EndsUnmet}
 use Rattle.ec_why.specs.declared.wanted.Reasons.{Reasons}
 use Rattle.ec_console.specs.declared.refusal.Refusal.{Refusal}
 use Rattle.ec_console.specs.declared.refusal.Refusal.TheVariants.{Memory, Socket}
-use Rattle.ec_console.specs.Given.{IsTableRefusal, lines_refusal}
+use Rattle.ec_console.specs.Given.{Given, IsTableRefusal, lines_refusal}
+use Rattle.ec_console.specs.Printing.{OutputState}
 use Rattle.ec_master.specs.Controls.{new_control}
 use Rattle.ec_master.specs.Saying.{IsLate, Moment, ObeysAll, ObeysSome}
 
@@ -19,40 +20,40 @@ abbrev pub begun_over : Contents → WireState → Moment
 begun_over t w = record { control = new_control (plan_of t); wire = w }
 
 -- a run over a wire up to the end of the input, in which so many times what is expected isn't so
-pub record RunsToEnd (reasons : Reasons) (t : Contents) (before after : WireState) (unmet : ℕ) (input old new : Option (List ℕ)) : Type 0 where
+pub record RunsToEnd (reasons : Reasons) (t : Contents) (before after : WireState) (unmet : ℕ) (input : Given) (old new : OutputState) : Type 0 where
   pub last : Moment
   pub wire : last.wire ≡ after
-  pub obeys : ObeysAll reasons t (begun_over t before) last unmet input old new
+  pub obeys : ObeysAll reasons t (begun_over t before) last unmet input.bytes old new
 
 -- The lines of an input over a wire: all are done, and what they expect is so; or it isn't, so many times; or they are cut short,
 -- and what was printed until then stays; or memory is refused before the first line.
-abbrev pub RunsOver : Reasons → Contents → (before after : WireState) → (input old new : Option (List ℕ)) → Result Unit Refusal → Type 0
+abbrev pub RunsOver : Reasons → Contents → (before after : WireState) → (input : Given) → (old new : OutputState) → Result Unit Refusal → Type 0
 RunsOver reasons t before after input old new (Ok done) = RunsToEnd reasons t before after 0 input old new
 RunsOver reasons t before after input old new (Err refusal) =
     ((refusal ≡ Memory) × (new ≡ old))
-    ⊎ ((IsLate refusal × ObeysSome reasons t (begun_over t before) input old new)
+    ⊎ ((IsLate input.is_refused new refusal × ObeysSome reasons t (begun_over t before) input.bytes old new)
     ⊎ EndsUnmet refusal (λ unmet. RunsToEnd reasons t before after unmet input old new))
 
 -- over a socket or a card that was just opened, which tells no payload
-abbrev pub RunsOnWire : Reasons → Contents → (input old new : Option (List ℕ)) → Result Unit Refusal → Type 0
+abbrev pub RunsOnWire : Reasons → Contents → (input : Given) → (old new : OutputState) → Result Unit Refusal → Type 0
 RunsOnWire reasons t input old new ended = (after : WireState) × RunsOver reasons t (silent 0) after input old new ended
 
 -- it is refused, and nothing is printed
-abbrev pub IsNeverRun : (Refusal → Type 0) → (old new : Option (List ℕ)) → Result Unit Refusal → Type 0
+abbrev pub IsNeverRun : (Refusal → Type 0) → (old new : OutputState) → Result Unit Refusal → Type 0
 IsNeverRun Refuses old new ended = (refusal : Refusal) × (ended ≡ Err refusal) × Refuses refusal × (new ≡ old)
 
 -- a text states a machine, and lines behind it are done; or it is refused, or there is no such socket
-abbrev pub RunsText : Reasons → List ℕ → (input old new : Option (List ℕ)) → Result Unit Refusal → Type 0
+abbrev pub RunsText : Reasons → List ℕ → (input : Given) → (old new : OutputState) → Result Unit Refusal → Type 0
 RunsText reasons text input old new ended =
     ((t : Contents) × StatesMachine text t × RunsOnWire reasons t input old new ended)
     ⊎ IsNeverRun (λ refusal. IsTableRefusal text refusal ⊎ (refusal ≡ Socket)) old new ended
 
 -- no text stands before a line `%%`
-abbrev pub IsTextRefusal : Option (List ℕ) → Refusal → Type 0
-IsTextRefusal input refusal = (error : LinesError) × (left : Option (List ℕ)) × RefusesText input left error × (refusal ≡ lines_refusal error)
+abbrev pub IsTextRefusal : Given → Refusal → Type 0
+IsTextRefusal input refusal = (error : LinesError) × (left : Option (List ℕ)) × RefusesText input.is_refused input.bytes left error × (refusal ≡ lines_refusal error)
 
 -- the same of what an input gives up to a line `%%`, and of the lines behind that
-abbrev pub RunsMaster : Reasons → (input old new : Option (List ℕ)) → Result Unit Refusal → Type 0
+abbrev pub RunsMaster : Reasons → (input : Given) → (old new : OutputState) → Result Unit Refusal → Type 0
 RunsMaster reasons input old new ended =
-    ((text : List ℕ) × (rest : Option (List ℕ)) × TakesText input rest text × RunsText reasons text rest old new ended)
+    ((text : List ℕ) × (rest : Option (List ℕ)) × TakesText input.bytes rest text × RunsText reasons text (record input { bytes = rest }) old new ended)
     ⊎ IsNeverRun (IsTextRefusal input) old new ended

@@ -1,13 +1,12 @@
 -- What the lines of an input do with a master over a wire, one after another, and what they print (this project's profile).
-use Rattle.std.specs.Prelude.{◌≡◌, ℕ, ◌+◌, List, [], ◌∷◌, ◌++◌, replicate, take, if◌then◌else◌, Option, None, Some}
-use Rattle.std.specs.Io.KnownBytes.{Appends}
+use Rattle.std.specs.Prelude.{◌≡◌, ℕ, ◌+◌, List, [], ◌∷◌, ◌++◌, replicate, take, if◌then◌else◌, Bool, true, Option, None, Some}
 use Rattle.ec_table.specs.Contents.{Contents}
 use Rattle.ec_wire.specs.Wires.{WireState}
 use Rattle.ec_lines.specs.Taking.{TakesLine, TakesLines, is_text_line, without_end}
 use Rattle.ec_why.specs.declared.wanted.Reasons.{Reasons}
 use Rattle.ec_console.specs.declared.refusal.Refusal.{Refusal}
 use Rattle.ec_console.specs.declared.refusal.Refusal.TheVariants.{Memory, Output, Input}
-use Rattle.ec_console.specs.Printing.{AppendsPart}
+use Rattle.ec_console.specs.Printing.{IsPartPrinted, IsPrinted, OutputState}
 use Rattle.ec_master.specs.declared.answer.Answer.{Answer}
 use Rattle.ec_master.specs.declared.order.Task.{Task}
 use Rattle.ec_master.specs.State.{ControlState}
@@ -67,36 +66,36 @@ Says reasons t w (task ∷ tasks) new printed unmet = (mid : Moment) × (text : 
     × SaysTask reasons t w task mid text one × Says reasons t mid tasks new more rest × (printed ≡ text ++ more) × (unmet ≡ one + rest)
 
 -- these tasks are done and printed
-pub record PrintsAll (reasons : Reasons) (t : Contents) (w : Moment) (tasks : List Task) (last : Moment) (unmet : ℕ) (old new : Option (List ℕ)) : Type 0 where
+pub record PrintsAll (reasons : Reasons) (t : Contents) (w : Moment) (tasks : List Task) (last : Moment) (unmet : ℕ) (old new : OutputState) : Type 0 where
   pub printed : List ℕ
   pub says : Says reasons t w tasks last printed unmet
-  pub appends : Appends old new printed
+  pub appends : IsPrinted old new printed
 
 -- a first part is printed of what some first of these tasks say
-pub record PrintsPart (reasons : Reasons) (t : Contents) (w : Moment) (tasks : List Task) (old new : Option (List ℕ)) : Type 0 where
+pub record PrintsPart (reasons : Reasons) (t : Contents) (w : Moment) (tasks : List Task) (old new : OutputState) : Type 0 where
   pub count : ℕ
   pub last : Moment
   pub printed : List ℕ
   pub unmet : ℕ
   pub says : Says reasons t w (take count tasks) last printed unmet
-  pub appends : AppendsPart old new printed
+  pub appends : IsPartPrinted old new printed
 
 -- Lines are taken from an input up to its end, and done one after another as they come; each is printed before the next is taken.
-pub record ObeysAll (reasons : Reasons) (t : Contents) (w : Moment) (last : Moment) (unmet : ℕ) (input old new : Option (List ℕ)) : Type 0 where
+pub record ObeysAll (reasons : Reasons) (t : Contents) (w : Moment) (last : Moment) (unmet : ℕ) (input : Option (List ℕ)) (old new : OutputState) : Type 0 where
   pub lines : List (List ℕ)
   pub taken : TakesToEnd input lines
   pub printed : PrintsAll reasons t w (done_from t 1 lines) last unmet old new
 
 -- The same until memory ran out, a read was refused or a write was.
-pub record ObeysSome (reasons : Reasons) (t : Contents) (w : Moment) (input old new : Option (List ℕ)) : Type 0 where
+pub record ObeysSome (reasons : Reasons) (t : Contents) (w : Moment) (input : Option (List ℕ)) (old new : OutputState) : Type 0 where
   pub lines : List (List ℕ)
   pub left : Option (List ℕ)
   pub taken : TakesLines input left lines
   pub printed : PrintsPart reasons t w (done_from t 1 lines) old new
 
--- what can end it so
-abbrev pub IsLate : Refusal → Type 0
-IsLate Memory = Unit {0}
-IsLate Output = Unit {0}
-IsLate Input = Unit {0}
-IsLate _ = ⊥
+-- what can end it so, by whether a read was refused and what the output is then; memory may run out at any time
+abbrev pub IsLate : (is_unread : Bool) → OutputState → Refusal → Type 0
+IsLate is_unread output Memory = Unit {0}
+IsLate is_unread output Output = output.is_refused ≡ true
+IsLate is_unread output Input = is_unread ≡ true
+IsLate is_unread output _ = ⊥

@@ -6,12 +6,14 @@ ghost use Rattle.ec_console.specs.declared.refusal.Refusal.{Refusal as RefusalVa
 ghost use Rattle.ec_console.specs.Explaining.{IsLeft};
 ghost use Rattle.ec_master.specs.Mastering.{RunsMaster, RunsOver, RunsText};
 ghost use Rattle.ec_master.specs.Stages.{RunsMachine};
+ghost use Rattle.ec_console.specs.Given.{given_by};
 
 use crate::control::Control;
 use crate::saying::print_lines;
 use ec_card::{CardWire, Patience, Sender};
 use ec_console::{
-    Capture, Explanation, Refusal, close_capture, end_of, open_capture, read_machine,
+    Capture, Explanation, InputStream, OutputStream, Refusal, close_capture, end_of, open_capture,
+    read_machine,
 };
 use ec_lines::take_text;
 use ec_link::Machine;
@@ -39,16 +41,16 @@ pub struct Connection<'a> {
 /// # Errors
 ///
 /// Those of [`print_lines`], and `Refusal::Unmet` where what lines expect isn't so.
-pub fn run_master<W: Wire, R: Read, O: Write>(
+pub fn run_master<W: Wire, R: Read + Drop, O: Write + Drop>(
     alloc: Global,
     machine: &Machine,
     reasons: Reasons,
     wire: &mut W,
-    input: &mut R,
-    output: &mut O,
+    input: &mut InputStream<R>,
+    output: &mut OutputStream<O>,
 ) -> Result<(), Refusal>
-    ensures { RunsOver reasons machine.now (W.state wire.old) (W.state wire.new) (R.remaining input.old)
-        (O.contents output.old) (O.contents output.new) result }
+    ensures { RunsOver reasons machine.now (W.state wire.old) (W.state wire.new) (given_by R.remaining input.old input.new)
+        output.old output.new result }
 {
     let table = machine.table();
     let mut control = Control::new(alloc, machine)?;
@@ -65,15 +67,15 @@ pub fn run_master<W: Wire, R: Read, O: Write>(
 /// The refusal of the table; `Refusal::Socket` where there is no such socket, also where `to` is no address with a port; what
 /// cuts the lines short, `Refusal::Memory`, `Refusal::Input` or `Refusal::Output`; and `Refusal::Unmet` where what lines expect
 /// isn't so.
-pub fn print_master<H: AllocGlobal + Net + Files + Clock, R: Read, O: Write>(
+pub fn print_master<H: AllocGlobal + Net + Files + Clock, R: Read + Drop, O: Write + Drop>(
     rt: &H,
     reasons: Reasons,
     way: Connection<'_>,
-    input: &mut R,
-    output: &mut O,
+    input: &mut InputStream<R>,
+    output: &mut OutputStream<O>,
     behind: &mut Explanation,
 ) -> Result<(), Refusal>
-    ensures runs { RunsMaster reasons (R.remaining input.old) (O.contents output.old) (O.contents output.new) result }
+    ensures runs { RunsMaster reasons (given_by R.remaining input.old input.new) output.old output.new result }
     ensures explains { IsLeft behind.old behind.new }
 {
     run_input(rt, reasons, way, &mut None, input, output, behind)
@@ -86,17 +88,17 @@ pub fn print_master<H: AllocGlobal + Net + Files + Clock, R: Read, O: Write>(
 /// Those of [`print_master`]; `Refusal::Output` too where the file couldn't be opened, before anything is read or sent, or
 /// couldn't be written to the end.
 #[tactic(auto, using(ec_console::proofs::CaptureLemmas::captured_refused, ec_console::proofs::CaptureLemmas::captured_end))]
-pub fn capture_master<H: AllocGlobal + Net + Files + Clock, R: Read, O: Write>(
+pub fn capture_master<H: AllocGlobal + Net + Files + Clock, R: Read + Drop, O: Write + Drop>(
     rt: &H,
     reasons: Reasons,
     way: Connection<'_>,
     file: &str,
-    input: &mut R,
-    output: &mut O,
+    input: &mut InputStream<R>,
+    output: &mut OutputStream<O>,
     behind: &mut Explanation,
 ) -> Result<(), Refusal>
-    ensures runs { EndsCaptured (λ ended. RunsMaster reasons (R.remaining input.old) (O.contents output.old)
-        (O.contents output.new) ended) (output.new ≡ output.old) result }
+    ensures runs { EndsCaptured (λ ended. RunsMaster reasons (given_by R.remaining input.old input.new) output.old
+        output.new ended) (output.new ≡ output.old) result }
     ensures explains { IsLeft behind.old behind.new }
 {
     let capture = open_capture(rt, file, "master")?;
@@ -105,16 +107,16 @@ pub fn capture_master<H: AllocGlobal + Net + Files + Clock, R: Read, O: Write>(
 
 /// Does the lines of an input behind its table, as [`print_master`] does, and notes what the master sends and receives in a
 /// capture, if there is one. A refusal of the table is explained, where that is wanted.
-fn run_input<H: AllocGlobal + Net + Files + Clock, R: Read, O: Write>(
+fn run_input<H: AllocGlobal + Net + Files + Clock, R: Read + Drop, O: Write + Drop>(
     rt: &H,
     reasons: Reasons,
     way: Connection<'_>,
     capture: &mut Capture<H::File>,
-    input: &mut R,
-    output: &mut O,
+    input: &mut InputStream<R>,
+    output: &mut OutputStream<O>,
     behind: &mut Explanation,
 ) -> Result<(), Refusal>
-    ensures runs { RunsMaster reasons (R.remaining input.old) (O.contents output.old) (O.contents output.new) result }
+    ensures runs { RunsMaster reasons (given_by R.remaining input.old input.new) output.old output.new result }
     ensures explains { IsLeft behind.old behind.new }
 {
     let text = take_text(rt.alloc(), input)?;
@@ -126,32 +128,32 @@ fn run_input<H: AllocGlobal + Net + Files + Clock, R: Read, O: Write>(
 }
 
 /// Does the lines of an input with a new master of the machine that a text states.
-fn run_text<H: AllocGlobal + Net + Files + Clock, R: Read, O: Write>(
+fn run_text<H: AllocGlobal + Net + Files + Clock, R: Read + Drop, O: Write + Drop>(
     rt: &H,
     text: &str,
     reasons: Reasons,
     way: Connection<'_>,
     capture: &mut Capture<H::File>,
-    input: &mut R,
-    output: &mut O,
+    input: &mut InputStream<R>,
+    output: &mut OutputStream<O>,
 ) -> Result<(), Refusal>
-    ensures { RunsText reasons text.now (R.remaining input.old) (O.contents output.old) (O.contents output.new) result }
+    ensures { RunsText reasons text.now (given_by R.remaining input.old input.new) output.old output.new result }
 {
     let machine = read_machine(rt.alloc(), text)?;
     run_machine(rt, &machine, reasons, way, capture, input, output)
 }
 
 /// Does the lines of an input with a new master of a machine.
-fn run_machine<H: AllocGlobal + Net + Files + Clock, R: Read, O: Write>(
+fn run_machine<H: AllocGlobal + Net + Files + Clock, R: Read + Drop, O: Write + Drop>(
     rt: &H,
     machine: &Machine,
     reasons: Reasons,
     way: Connection<'_>,
     capture: &mut Capture<H::File>,
-    input: &mut R,
-    output: &mut O,
+    input: &mut InputStream<R>,
+    output: &mut OutputStream<O>,
 ) -> Result<(), Refusal>
-    ensures { RunsMachine reasons machine.now (R.remaining input.old) (O.contents output.old) (O.contents output.new) result }
+    ensures { RunsMachine reasons machine.now (given_by R.remaining input.old input.new) output.old output.new result }
 {
     match way.descriptor {
         None => {
@@ -183,19 +185,19 @@ fn connect<R: Net>(rt: &R, way: Connection<'_>) -> Result<UdpWire, SocketFault>
 
 /// Does the lines of an input with a new master of a machine over a wire that has carried nothing yet, and notes what it
 /// carries in a capture, if there is one.
-fn run_tapped<H: AllocGlobal + Files + Clock, W: Wire + Drop, R: Read, O: Write>(
+fn run_tapped<H: AllocGlobal + Files + Clock, W: Wire + Drop, R: Read + Drop, O: Write + Drop>(
     rt: &H,
     machine: &Machine,
     reasons: Reasons,
     wire: W,
     capture: &mut Capture<H::File>,
-    input: &mut R,
-    output: &mut O,
+    input: &mut InputStream<R>,
+    output: &mut OutputStream<O>,
 ) -> Result<(), Refusal>
     requires sent { Tells (W.state wire).sent [] }
     requires received { Tells (W.state wire).received [] }
-    ensures { (last : W) × RunsOver reasons machine.now (W.state wire) (W.state last) (R.remaining input.old)
-        (O.contents output.old) (O.contents output.new) result }
+    ensures { (last : W) × RunsOver reasons machine.now (W.state wire) (W.state last) (given_by R.remaining input.old input.new)
+        output.old output.new result }
 {
     match capture.take() {
         None => {
@@ -214,17 +216,17 @@ fn run_tapped<H: AllocGlobal + Files + Clock, W: Wire + Drop, R: Read, O: Write>
 
 /// Does the lines of an input behind its table, as [`print_master`] does, with a capture that is open, which is then written to
 /// the end.
-fn run_captured<H: AllocGlobal + Net + Files + Clock, R: Read, O: Write>(
+fn run_captured<H: AllocGlobal + Net + Files + Clock, R: Read + Drop, O: Write + Drop>(
     rt: &H,
     reasons: Reasons,
     way: Connection<'_>,
     capture: Capture<H::File>,
-    input: &mut R,
-    output: &mut O,
+    input: &mut InputStream<R>,
+    output: &mut OutputStream<O>,
     behind: &mut Explanation,
 ) -> Result<(), Refusal>
-    ensures runs { (ended : Result Unit RefusalValue) × RunsMaster reasons (R.remaining input.old) (O.contents output.old)
-        (O.contents output.new) ended × Finishes ended result }
+    ensures runs { (ended : Result Unit RefusalValue) × RunsMaster reasons (given_by R.remaining input.old input.new) output.old
+        output.new ended × Finishes ended result }
     ensures explains { IsLeft behind.old behind.new }
 {
     let mut capture = capture;

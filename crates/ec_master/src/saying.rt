@@ -1,13 +1,13 @@
 //! The lines of an input, each done and printed as it comes.
-ghost use Rattle.std.specs.Prelude.{◌≡◌, ◌∷◌, [], ℕ, IfErr, IfOk, OnErr, Option, if◌then◌else◌, replicate};
+ghost use Rattle.std.specs.Prelude.{◌≡◌, ◌∷◌, [], ℕ, IfErr, IfOk, OnErr, Option, false, if◌then◌else◌, replicate};
 ghost use Rattle.ec_console.specs.Unmet.{counted};
-ghost use Rattle.ec_master.specs.Held.{IsNext};
+ghost use Rattle.ec_master.specs.Held.{IsNext, IsUntaken};
 ghost use Rattle.ec_master.specs.Saying.{IsLate, ObeysAll, ObeysSome, PrintsAll, PrintsPart, repeated};
 
 use crate::control::Control;
 use crate::order::{Order, Task, read_task};
 use crate::why::told_text;
-use ec_console::{Refusal, print_text};
+use ec_console::{InputStream, OutputStream, Refusal, print_text};
 use ec_lines::{NextLine, take_line};
 use ec_table::Table;
 use ec_why::Reasons;
@@ -21,21 +21,21 @@ use std::io::{Read, Write};
 /// # Errors
 ///
 /// `Refusal::Memory` where memory ran out, and `Refusal::Output` where the output couldn't be written.
-pub fn print_task<W: Wire, O: Write>(
+pub fn print_task<W: Wire, O: Write + Drop>(
     alloc: Global,
     table: &Table,
     reasons: Reasons,
     control: &mut Control<'_>,
     wire: &mut W,
     task: Task,
-    output: &mut O,
+    output: &mut OutputStream<O>,
 ) -> Result<u64, Refusal>
     ensures all { IfOk result (λ count. (unmet : ℕ) × (count ≡ counted unmet)
         × PrintsAll reasons table.now (record { control = control.old; wire = W.state wire.old }) (replicate task.times task)
-        (record { control = control.new; wire = W.state wire.new }) unmet (O.contents output.old) (O.contents output.new)) }
+        (record { control = control.new; wire = W.state wire.new }) unmet output.old output.new) }
     ensures part { OnErr result (PrintsPart reasons table.now (record { control = control.old; wire = W.state wire.old })
-        (replicate task.times task) (O.contents output.old) (O.contents output.new)) }
-    ensures late { IfErr result IsLate }
+        (replicate task.times task) output.old output.new) }
+    ensures late { IfErr result (IsLate false output.new) }
 {
     let mut unmet: u64 = 0;
     for _ in 0..task.times {
@@ -54,22 +54,23 @@ pub fn print_task<W: Wire, O: Write>(
 ///
 /// `Refusal::Memory` where memory ran out, `Refusal::Input` where a line couldn't be read, and `Refusal::Output` where the
 /// output couldn't be written.
-pub fn print_lines<W: Wire, R: Read, O: Write>(
+#[tactic(auto, using(crate::proofs::Late::task_late, crate::proofs::Late::untaken_late))]
+pub fn print_lines<W: Wire, R: Read + Drop, O: Write + Drop>(
     alloc: Global,
     table: &Table,
     reasons: Reasons,
     control: &mut Control<'_>,
     wire: &mut W,
-    input: &mut R,
-    output: &mut O,
+    input: &mut InputStream<R>,
+    output: &mut OutputStream<O>,
 ) -> Result<u64, Refusal>
     ensures all { IfOk result (λ count. (unmet : ℕ) × (count ≡ counted unmet)
         × ObeysAll reasons table.now (record { control = control.old; wire = W.state wire.old })
-        (record { control = control.new; wire = W.state wire.new }) unmet (R.remaining input.old)
-        (O.contents output.old) (O.contents output.new)) }
+        (record { control = control.new; wire = W.state wire.new }) unmet (R.remaining input.old.stream)
+        output.old output.new) }
     ensures part { OnErr result (ObeysSome reasons table.now (record { control = control.old; wire = W.state wire.old })
-        (R.remaining input.old) (O.contents output.old) (O.contents output.new)) }
-    ensures late { IfErr result IsLate }
+        (R.remaining input.old.stream) output.old output.new) }
+    ensures late { IfErr result (IsLate input.new.is_refused output.new) }
 {
     let mut unmet: u64 = 0;
     for number in 1..usize::MAX {
@@ -79,25 +80,27 @@ pub fn print_lines<W: Wire, R: Read, O: Write>(
         let count = print_line(alloc, table, reasons, control, wire, task, output)?;
         unmet = unmet.saturating_add(count);
     }
-    Err(Refusal::Input)
+    // There is no number for a further line.
+    Err(Refusal::Memory)
 }
 
 /// Does a task once, prints what there is to tell, and answers whether what it expects isn't so.
-fn print_once<W: Wire, O: Write>(
+#[tactic(auto, using(crate::proofs::Late::refused_late))]
+fn print_once<W: Wire, O: Write + Drop>(
     alloc: Global,
     table: &Table,
     reasons: Reasons,
     control: &mut Control<'_>,
     wire: &mut W,
     task: Task,
-    output: &mut O,
+    output: &mut OutputStream<O>,
 ) -> Result<bool, Refusal>
     ensures all { IfOk result (λ unmet. PrintsAll reasons table.now (record { control = control.old; wire = W.state wire.old }) (task ∷ [])
         (record { control = control.new; wire = W.state wire.new }) (if unmet then 1 else 0)
-        (O.contents output.old) (O.contents output.new)) }
+        output.old output.new) }
     ensures part { OnErr result (PrintsPart reasons table.now (record { control = control.old; wire = W.state wire.old }) (task ∷ [])
-        (O.contents output.old) (O.contents output.new)) }
-    ensures late { IfErr result IsLate }
+        output.old output.new) }
+    ensures late { IfErr result (IsLate false output.new) }
 {
     let answer = control.obey(wire, task.order);
     let text = told_text(alloc, table, reasons, control, task, answer)?;
@@ -106,21 +109,21 @@ fn print_once<W: Wire, O: Write>(
 }
 
 /// Does what a line asks for, if it asks for something.
-fn print_line<W: Wire, O: Write>(
+fn print_line<W: Wire, O: Write + Drop>(
     alloc: Global,
     table: &Table,
     reasons: Reasons,
     control: &mut Control<'_>,
     wire: &mut W,
     task: Option<Task>,
-    output: &mut O,
+    output: &mut OutputStream<O>,
 ) -> Result<u64, Refusal>
     ensures all { IfOk result (λ count. (unmet : ℕ) × (count ≡ counted unmet)
         × PrintsAll reasons table.now (record { control = control.old; wire = W.state wire.old }) (repeated task)
-        (record { control = control.new; wire = W.state wire.new }) unmet (O.contents output.old) (O.contents output.new)) }
+        (record { control = control.new; wire = W.state wire.new }) unmet output.old output.new) }
     ensures part { OnErr result (PrintsPart reasons table.now (record { control = control.old; wire = W.state wire.old })
-        (repeated task) (O.contents output.old) (O.contents output.new)) }
-    ensures late { IfErr result IsLate }
+        (repeated task) output.old output.new) }
+    ensures late { IfErr result (IsLate false output.new) }
 {
     match task {
         Some(task) => print_task(alloc, table, reasons, control, wire, task, output),
@@ -129,14 +132,15 @@ fn print_line<W: Wire, O: Write>(
 }
 
 /// What the next line of an input asks for, which has a number; or none where the input has ended. An empty line asks for nothing.
-fn next_task<R: Read>(
+#[tactic(auto, using(crate::proofs::Late::unread))]
+fn next_task<R: Read + Drop>(
     alloc: Global,
     table: &Table,
     number: usize,
-    input: &mut R,
+    input: &mut InputStream<R>,
 ) -> Result<Option<Option<Task>>, Refusal>
-    ensures next { IfOk result (IsNext table.now number (R.remaining input.old) (R.remaining input.new)) }
-    ensures late { IfErr result IsLate }
+    ensures next { IfOk result (IsNext table.now number (R.remaining input.old.stream) (R.remaining input.new.stream)) }
+    ensures late { IfErr result (IsUntaken input.new.is_refused) }
 {
     match take_line(alloc, input)? {
         NextLine::End => Ok(None),

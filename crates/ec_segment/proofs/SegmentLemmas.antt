@@ -1,7 +1,6 @@
 -- Slaves of an input, and a segment that is served.
-use Rattle.std.proofs.Common.{◌≡◌, ◌∙◌, ap, inl, inr, ℕ, List, Option, refl, sym, subst, Result, Ok, Err, IfOk, IfErr}
+use Rattle.std.proofs.Common.{◌≡◌, ◌∙◌, ap, inl, inr, ℕ, List, refl, sym, subst, Result, Ok, Err, IfOk, IfErr}
 use Rattle.std.specs.Result.{IsErrAnd}
-use Rattle.std.specs.Io.KnownBytes.{Appends}
 use Rattle.ec_slave.specs.State.{SlaveState}
 use Rattle.ec_table.specs.Reading.{table_of}
 use Rattle.ec_wire.specs.Wires.{IsOpened, SocketState, WireState, silent}
@@ -9,8 +8,8 @@ use Rattle.ec_wire.specs.Segments.{HasServed, WasCutOff}
 use Rattle.ec_wire.proofs.Serving.{all_treated_by}
 use Rattle.ec_console.specs.declared.refusal.Refusal.{Refusal}
 use Rattle.ec_console.specs.declared.refusal.Refusal.TheVariants as refusal
-use Rattle.ec_console.specs.Given.{GivesText, IsLinkRefusal, IsTableRefusal}
-use Rattle.ec_console.specs.Printing.{FaultState, IsTold, Shows}
+use Rattle.ec_console.specs.Given.{Given, GivesText, IsLinkRefusal, IsTableRefusal}
+use Rattle.ec_console.specs.Printing.{IsPrinted, IsTold, OutputState, Shows}
 use Rattle.ec_table.specs.Contents.{Contents}
 use Rattle.ec_link.specs.Faults.{Fails as LinkFails, compile_fault}
 use Rattle.ec_link.proofs.FacesShown.{faces}
@@ -48,14 +47,14 @@ pub if_shown_refused : {T : Type 0} (r : Result T Refusal) (form : SlaveForm) (t
 if_shown_refused (Ok x) form text t u read shown h = tt
 if_shown_refused (Err x) form text t u read shown h = same_refusal text t u x read (ap compile_fault shown ∙ shown_fault form t) h
 
-pub if_gives : {E : Type 0} (r : Result (List SlaveState) E) (form : SlaveForm) (known : Option (List ℕ)) (text : List ℕ) → GivesText known text → IfOk r (StatesSlaves form text) → IfOk r (GivesSlaves form known)
-if_gives (Ok slaves) form known text gives h = (text, gives, h)
-if_gives (Err e) form known text gives h = tt
+pub if_gives : {E : Type 0} (r : Result (List SlaveState) E) (form : SlaveForm) (given : Given) (text : List ℕ) → GivesText given text → IfOk r (StatesSlaves form text) → IfOk r (GivesSlaves form given)
+if_gives (Ok slaves) form given text gives h = (text, gives, h)
+if_gives (Err e) form given text gives h = tt
 
 -- ---- what is printed
 
 -- all payloads came
-pub all_served : (r : Result Unit Refusal) (frames answered refused : ℕ) (shows : List ℕ → List ℕ → Type 0) (first last : List SlaveState) (before after : WireState) (old new : Option (List ℕ))
+pub all_served : (r : Result Unit Refusal) (frames answered refused : ℕ) (shows : List ℕ → List ℕ → Type 0) (first last : List SlaveState) (before after : WireState) (old new : OutputState)
     → HasServed shows first last before after frames answered refused → Shows (served_line answered refused) old new r
     → ServesSegment frames shows first last before after old new r
 all_served (Ok done) frames answered refused shows first last before after old new h printed = (answered, refused, h, printed)
@@ -63,14 +62,14 @@ all_served (Err e) frames answered refused shows first last before after old new
     subst (λ (x : Refusal). ServesSegment frames shows first last before after old new (Err x)) (sym printed.0) (answered, refused, inl h, printed.1)
 
 -- a fault of the wire, and the counts are printed
-pub some_served : (r : Result Unit Refusal) (frames answered refused : ℕ) (shows : List ℕ → List ℕ → Type 0) (first last : List SlaveState) (before after : WireState) (old new : Option (List ℕ))
-    → WasCutOff shows first last before after frames answered refused → Appends old new (served_line answered refused) → r ≡ Err refusal.Socket
+pub some_served : (r : Result Unit Refusal) (frames answered refused : ℕ) (shows : List ℕ → List ℕ → Type 0) (first last : List SlaveState) (before after : WireState) (old new : OutputState)
+    → WasCutOff shows first last before after frames answered refused → IsPrinted old new (served_line answered refused) → r ≡ Err refusal.Socket
     → ServesSegment frames shows first last before after old new r
 some_served r frames answered refused shows first last before after old new h printed is =
     subst (ServesSegment frames shows first last before after old new) (sym is) (answered, refused, h, printed)
 
 -- or they can't be
-pub served_unprinted : (r s : Result Unit Refusal) (x : Refusal) (frames answered refused : ℕ) (shows : List ℕ → List ℕ → Type 0) (first last : List SlaveState) (before after : WireState) (old new : Option (List ℕ))
+pub served_unprinted : (r s : Result Unit Refusal) (x : Refusal) (frames answered refused : ℕ) (shows : List ℕ → List ℕ → Type 0) (first last : List SlaveState) (before after : WireState) (old new : OutputState)
     → WasCutOff shows first last before after frames answered refused → IsErrAnd r (λ e. e ≡ x) → s ≡ Err x → Shows (served_line answered refused) old new s
     → ServesSegment frames shows first last before after old new r
 served_unprinted (Ok done) s x frames answered refused shows first last before after old new h is err printed = absurd is
@@ -107,7 +106,7 @@ cut-any shows first last before after frames answered refused h = record {
   fault = h.fault;
 }
 
-serves-any : (r : Result Unit Refusal) (frames : ℕ) (shows : List ℕ → List ℕ → Type 0) (first last : List SlaveState) (before after : WireState) (old new : Option (List ℕ))
+serves-any : (r : Result Unit Refusal) (frames : ℕ) (shows : List ℕ → List ℕ → Type 0) (first last : List SlaveState) (before after : WireState) (old new : OutputState)
     → ServesSegment frames shows first last before after old new r → ServesSegment frames any_inputs first last before after old new r
 serves-any (Ok done) frames shows first last before after old new h = (h.0, h.1, served-any shows first last before after frames h.0 h.1 h.2, h.3)
 serves-any (Err refusal.Socket) frames shows first last before after old new h = (h.0, h.1, cut-any shows first last before after frames h.0 h.1 h.2, h.3)
@@ -126,21 +125,21 @@ serves-any (Err (refusal.Unmet n)) frames shows first last before after old new 
 
 -- ---- the whole
 
-pub segment_refused : (r : Result Unit Refusal) (x : Refusal) (frames port : ℕ) (form : SlaveForm) (known old : Option (List ℕ)) (quiet : FaultState) → IsErrAnd r (λ e. e ≡ x) → RefusesSegment known x
-    → RunsSegment frames port form known old old quiet quiet r
-segment_refused (Ok done) x frames port form known old quiet is h = absurd is
-segment_refused (Err e) x frames port form known old quiet is h = inr (e, refl, subst (RefusesSegment known) (sym is) h, refl, refl)
+pub segment_refused : (r : Result Unit Refusal) (x : Refusal) (frames port : ℕ) (form : SlaveForm) (given : Given) (old quiet : OutputState) → IsErrAnd r (λ e. e ≡ x) → RefusesSegment given x
+    → RunsSegment frames port form given old old quiet quiet r
+segment_refused (Ok done) x frames port form given old quiet is h = absurd is
+segment_refused (Err e) x frames port form given old quiet is h = inr (e, refl, subst (RefusesSegment given) (sym is) h, refl, refl)
 
 -- it is refused after a call that told nothing
-pub segment_unbound : (r : Result Unit Refusal) (x : Refusal) (frames port : ℕ) (form : SlaveForm) (known old : Option (List ℕ)) (quiet told : FaultState) → IsErrAnd r (λ e. e ≡ x) → RefusesSegment known x
-    → told ≡ quiet → RunsSegment frames port form known old old quiet told r
-segment_unbound (Ok done) x frames port form known old quiet told is h same = absurd is
-segment_unbound (Err e) x frames port form known old quiet told is h same = inr (e, refl, subst (RefusesSegment known) (sym is) h, refl, same)
+pub segment_unbound : (r : Result Unit Refusal) (x : Refusal) (frames port : ℕ) (form : SlaveForm) (given : Given) (old quiet told : OutputState) → IsErrAnd r (λ e. e ≡ x) → RefusesSegment given x
+    → told ≡ quiet → RunsSegment frames port form given old old quiet told r
+segment_unbound (Ok done) x frames port form given old quiet told is h same = absurd is
+segment_unbound (Err e) x frames port form given old quiet told is h same = inr (e, refl, subst (RefusesSegment given) (sym is) h, refl, same)
 
-pub segment_served : (r : Result Unit Refusal) (frames port : ℕ) (form : SlaveForm) (opened closed : SocketState) (known old new : Option (List ℕ)) (quiet told : FaultState) (shows : List ℕ → List ℕ → Type 0) (first last : List SlaveState)
-    → GivesSlaves form known first → IsOpened port opened → IsTold (listening_line opened.port) quiet told
-    → ServesSegment frames shows first last (silent opened.failed) (silent closed.failed) old new r → RunsSegment frames port form known old new quiet told r
-segment_served r frames port form opened closed known old new quiet told shows first last slaves socket line serves = inl (record {
+pub segment_served : (r : Result Unit Refusal) (frames port : ℕ) (form : SlaveForm) (opened closed : SocketState) (given : Given) (old new quiet told : OutputState) (shows : List ℕ → List ℕ → Type 0) (first last : List SlaveState)
+    → GivesSlaves form given first → IsOpened port opened → IsTold (listening_line opened.port) quiet told
+    → ServesSegment frames shows first last (silent opened.failed) (silent closed.failed) old new r → RunsSegment frames port form given old new quiet told r
+segment_served r frames port form opened closed given old new quiet told shows first last slaves socket line serves = inl (record {
   opened = opened;
   closed = closed;
   first = first;
@@ -152,14 +151,14 @@ segment_served r frames port form opened closed known old new quiet told shows f
 })
 
 -- the same on a card
-pub card_refused : (r : Result Unit Refusal) (x : Refusal) (frames : ℕ) (form : SlaveForm) (known old : Option (List ℕ)) → IsErrAnd r (λ e. e ≡ x) → RefusesSegment known x
-    → RunsCardSegment frames form known old old r
-card_refused (Ok done) x frames form known old is h = absurd is
-card_refused (Err e) x frames form known old is h = inr (e, refl, subst (RefusesSegment known) (sym is) h, refl)
+pub card_refused : (r : Result Unit Refusal) (x : Refusal) (frames : ℕ) (form : SlaveForm) (given : Given) (old : OutputState) → IsErrAnd r (λ e. e ≡ x) → RefusesSegment given x
+    → RunsCardSegment frames form given old old r
+card_refused (Ok done) x frames form given old is h = absurd is
+card_refused (Err e) x frames form given old is h = inr (e, refl, subst (RefusesSegment given) (sym is) h, refl)
 
-pub card_served : (r : Result Unit Refusal) (frames : ℕ) (form : SlaveForm) (opened closed : WireState) (known old new : Option (List ℕ)) (shows : List ℕ → List ℕ → Type 0) (first last : List SlaveState)
-    → GivesSlaves form known first → opened ≡ silent 0 → ServesSegment frames shows first last opened closed old new r → RunsCardSegment frames form known old new r
-card_served r frames form opened closed known old new shows first last slaves fresh serves = inl (record {
+pub card_served : (r : Result Unit Refusal) (frames : ℕ) (form : SlaveForm) (opened closed : WireState) (given : Given) (old new : OutputState) (shows : List ℕ → List ℕ → Type 0) (first last : List SlaveState)
+    → GivesSlaves form given first → opened ≡ silent 0 → ServesSegment frames shows first last opened closed old new r → RunsCardSegment frames form given old new r
+card_served r frames form opened closed given old new shows first last slaves fresh serves = inl (record {
   closed = closed;
   first = first;
   last = last;
@@ -169,7 +168,7 @@ card_served r frames form opened closed known old new shows first last slaves fr
 
 -- payloads answered on a wire where they are noted are answered on the wire
 pub tapped_serves : {W : Type 0} (state : W → WireState) (frames : ℕ) (shows : List ℕ → List ℕ → Type 0) (slaves served : List SlaveState) (first began after : WireState) (last : W)
-    (old new : Option (List ℕ)) (r : Result Unit Refusal) → began ≡ first → state last ≡ after → ServesSegment frames shows slaves served began after old new r
+    (old new : OutputState) (r : Result Unit Refusal) → began ≡ first → state last ≡ after → ServesSegment frames shows slaves served began after old new r
     → (x : W) × ServesSegment frames shows slaves served first (state x) old new r
 tapped_serves state frames shows slaves served first began after last old new r same is serves = (
   last,

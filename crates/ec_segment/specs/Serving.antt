@@ -1,7 +1,6 @@
 -- What `ecat segment` prints and tells (this project's profile).
-use Rattle.std.specs.Prelude.{◌≡◌, ◌⊎◌, ℕ, Bool, true, false, List, ◌∷◌, [], ◌++◌, Option, None, Result, Ok, Err, codes}
+use Rattle.std.specs.Prelude.{◌≡◌, ◌⊎◌, ℕ, Bool, true, false, List, ◌∷◌, [], ◌++◌, None, Result, Ok, Err, codes}
 use Rattle.std.specs.Fmt.{decimal}
-use Rattle.std.specs.Io.KnownBytes.{Appends}
 use Rattle.ec_slave.specs.State.{SlaveState}
 use Rattle.ec_table.specs.Contents.{Contents, shown_full}
 use Rattle.ec_table.specs.Reading.{table_of}
@@ -11,8 +10,8 @@ use Rattle.ec_wire.specs.Wires.{IsOpened, SocketState, WireState, silent}
 use Rattle.ec_wire.specs.Segments.{HasServed, WasCutOff}
 use Rattle.ec_console.specs.declared.refusal.Refusal.{Refusal}
 use Rattle.ec_console.specs.declared.refusal.Refusal.TheVariants.{Output, Socket}
-use Rattle.ec_console.specs.Given.{GivesText, RefusesTable}
-use Rattle.ec_console.specs.Printing.{AppendsPart, FaultState, IsTold}
+use Rattle.ec_console.specs.Given.{Given, GivesText, RefusesTable}
+use Rattle.ec_console.specs.Printing.{IsCutOff, IsPrinted, IsTold, OutputState}
 use Rattle.ec_segment.specs.declared.form.SlaveForm.{SlaveForm}
 use Rattle.ec_segment.specs.declared.form.SlaveForm.TheVariants.{Full, Plain}
 
@@ -45,8 +44,8 @@ abbrev pub StatesSlaves : SlaveForm → List ℕ → List SlaveState → Type 0
 StatesSlaves form text slaves = (t : Contents) × (table_of text ≡ Ok t) × HasSlaves (shown_in form t) slaves
 
 -- and of that which the input gives
-abbrev pub GivesSlaves : SlaveForm → Option (List ℕ) → List SlaveState → Type 0
-GivesSlaves form known slaves = (text : List ℕ) × GivesText known text × StatesSlaves form text slaves
+abbrev pub GivesSlaves : SlaveForm → Given → List SlaveState → Type 0
+GivesSlaves form given slaves = (text : List ℕ) × GivesText given text × StatesSlaves form text slaves
 
 -- ---- on a wire
 
@@ -58,13 +57,13 @@ HasAnswered shows first last before after frames answered refused =
 
 -- The counts are printed at every end: all payloads came; or a call of the wire was a fault; or a write is refused, and a
 -- first part of the line is printed.
-abbrev pub ServesSegment : ℕ → (shows : List ℕ → List ℕ → Type 0) → (first last : List SlaveState) → (before after : WireState) → (old new : Option (List ℕ)) → Result Unit Refusal → Type 0
+abbrev pub ServesSegment : ℕ → (shows : List ℕ → List ℕ → Type 0) → (first last : List SlaveState) → (before after : WireState) → (old new : OutputState) → Result Unit Refusal → Type 0
 ServesSegment frames shows first last before after old new (Ok done) =
-    (answered : ℕ) × (refused : ℕ) × HasServed shows first last before after frames answered refused × Appends old new (served_line answered refused)
+    (answered : ℕ) × (refused : ℕ) × HasServed shows first last before after frames answered refused × IsPrinted old new (served_line answered refused)
 ServesSegment frames shows first last before after old new (Err Socket) =
-    (answered : ℕ) × (refused : ℕ) × WasCutOff shows first last before after frames answered refused × Appends old new (served_line answered refused)
+    (answered : ℕ) × (refused : ℕ) × WasCutOff shows first last before after frames answered refused × IsPrinted old new (served_line answered refused)
 ServesSegment frames shows first last before after old new (Err Output) =
-    (answered : ℕ) × (refused : ℕ) × HasAnswered shows first last before after frames answered refused × AppendsPart old new (served_line answered refused)
+    (answered : ℕ) × (refused : ℕ) × HasAnswered shows first last before after frames answered refused × IsCutOff old new (served_line answered refused)
 ServesSegment frames shows first last before after old new (Err _) = ⊥
 
 -- ---- on a socket
@@ -75,37 +74,37 @@ any_inputs outputs inputs = Unit {0}
 
 -- A socket on this port, and at it the slaves of the table that the input states, in a form, just switched on: it is told that they
 -- listen there, and then they are served. A socket tells no payload, so what it carried is any.
-pub record ListensOn (frames port : ℕ) (form : SlaveForm) (known old new : Option (List ℕ)) (quiet told : FaultState) (ended : Result Unit Refusal) : Type 0 where
+pub record ListensOn (frames port : ℕ) (form : SlaveForm) (given : Given) (old new quiet told : OutputState) (ended : Result Unit Refusal) : Type 0 where
   pub opened : SocketState
   pub closed : SocketState
   pub first : List SlaveState
   pub last : List SlaveState
-  pub slaves : GivesSlaves form known first
+  pub slaves : GivesSlaves form given first
   pub socket : IsOpened port opened
   pub tells : IsTold (listening_line opened.port) quiet told
   pub serves : ServesSegment frames any_inputs first last (silent opened.failed) (silent closed.failed) old new ended
 
 -- a fault of the input or its table, or there is no such socket
-abbrev pub RefusesSegment : Option (List ℕ) → Refusal → Type 0
-RefusesSegment known refusal = RefusesTable known refusal ⊎ (refusal ≡ Socket)
+abbrev pub RefusesSegment : Given → Refusal → Type 0
+RefusesSegment given refusal = RefusesTable given refusal ⊎ (refusal ≡ Socket)
 
 -- how it ends, by what the input gives, and what the output holds and the fault stream is before and after
-abbrev pub RunsSegment : (frames port : ℕ) → SlaveForm → (known old new : Option (List ℕ)) → (quiet told : FaultState) → Result Unit Refusal → Type 0
-RunsSegment frames port form known old new quiet told ended =
-    ListensOn frames port form known old new quiet told ended
-    ⊎ ((refusal : Refusal) × (ended ≡ Err refusal) × RefusesSegment known refusal × (new ≡ old) × (told ≡ quiet))
+abbrev pub RunsSegment : (frames port : ℕ) → SlaveForm → (given : Given) → (old new : OutputState) → (quiet told : OutputState) → Result Unit Refusal → Type 0
+RunsSegment frames port form given old new quiet told ended =
+    ListensOn frames port form given old new quiet told ended
+    ⊎ ((refusal : Refusal) × (ended ≡ Err refusal) × RefusesSegment given refusal × (new ≡ old) × (told ≡ quiet))
 
 -- ---- on a card
 
 -- A card's socket, and at it the slaves of the table that the input states, in a form, just switched on, which are served.
-pub record AnswersOnCard (frames : ℕ) (form : SlaveForm) (known old new : Option (List ℕ)) (ended : Result Unit Refusal) : Type 0 where
+pub record AnswersOnCard (frames : ℕ) (form : SlaveForm) (given : Given) (old new : OutputState) (ended : Result Unit Refusal) : Type 0 where
   pub closed : WireState
   pub first : List SlaveState
   pub last : List SlaveState
-  pub slaves : GivesSlaves form known first
+  pub slaves : GivesSlaves form given first
   pub serves : ServesSegment frames any_inputs first last (silent 0) closed old new ended
 
 -- or a fault of the input or its table, or the descriptor is no socket's
-abbrev pub RunsCardSegment : (frames : ℕ) → SlaveForm → (known old new : Option (List ℕ)) → Result Unit Refusal → Type 0
-RunsCardSegment frames form known old new ended =
-    AnswersOnCard frames form known old new ended ⊎ ((refusal : Refusal) × (ended ≡ Err refusal) × RefusesSegment known refusal × (new ≡ old))
+abbrev pub RunsCardSegment : (frames : ℕ) → SlaveForm → (given : Given) → (old new : OutputState) → Result Unit Refusal → Type 0
+RunsCardSegment frames form given old new ended =
+    AnswersOnCard frames form given old new ended ⊎ ((refusal : Refusal) × (ended ≡ Err refusal) × RefusesSegment given refusal × (new ≡ old))

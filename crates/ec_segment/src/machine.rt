@@ -1,13 +1,13 @@
 //! The machine that a link table on the input states.
 ghost use Rattle.std.specs.Prelude.{◌≡◌, IfErr, IfOk};
 ghost use Rattle.ec_console.specs.Explaining.{IsLeft};
-ghost use Rattle.ec_console.specs.Given.{IsTableRefusal, RefusesTable};
+ghost use Rattle.ec_console.specs.Given.{IsTableRefusal, RefusesTable, given_by};
 ghost use Rattle.ec_segment.specs.Serving.{GivesSlaves, HasSlaves, StatesSlaves, shown_in};
 ghost use Rattle.ec_console.specs.Given.{IsLinkRefusal};
 
 use crate::form::SlaveForm;
 use ec_bringup::slaves_of_machine;
-use ec_console::{Explanation, Refusal, read_text};
+use ec_console::{Explanation, InputStream, Refusal, read_text};
 use ec_link::Machine;
 use ec_ring::Ring;
 use ec_table::{Table, read_table};
@@ -17,14 +17,14 @@ use std::io::Read;
 /// The slaves of the table that the input states, in a form, as they are switched on. A refusal of the
 /// table is explained, where that is wanted.
 #[tactic(auto, using(crate::proofs::SegmentLemmas::if_gives))]
-pub(crate) fn slaves_of_input<R: Read>(
+pub(crate) fn slaves_of_input<R: Read + Drop>(
     alloc: Global,
-    input: &mut R,
+    input: &mut InputStream<R>,
     form: SlaveForm,
     behind: &mut Explanation,
 ) -> Result<Ring, Refusal>
-    ensures slaves { IfOk result (GivesSlaves form (R.remaining input.old)) }
-    ensures refused { IfErr result (RefusesTable (R.remaining input.old)) }
+    ensures slaves { IfOk result (GivesSlaves form (given_by R.remaining input.old input.new)) }
+    ensures refused { IfErr result (RefusesTable (given_by R.remaining input.old input.new)) }
     ensures explains { IsLeft behind.old behind.new }
 {
     let text = read_text(alloc, input)?;

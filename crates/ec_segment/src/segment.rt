@@ -7,13 +7,15 @@ ghost use Rattle.ec_wire.specs.Wires.{IsOpened};
 ghost use Rattle.ec_console.specs.Capturing.{EndsCaptured, Finishes};
 ghost use Rattle.ec_console.specs.declared.refusal.Refusal.{Refusal as RefusalValue};
 ghost use Rattle.ec_segment.specs.Serving.{RunsCardSegment, RunsSegment, ServesSegment, listening_line, served_line};
+ghost use Rattle.ec_console.specs.Given.{given_by};
 
 use crate::form::SlaveForm;
 use crate::machine::slaves_of_input;
 use arrayvec::ArrayString;
 use ec_card::{CardWire, Patience, Sender};
 use ec_console::{
-    Capture, Explanation, FaultStream, Refusal, close_capture, open_capture, print_text,
+    Capture, Explanation, InputStream, OutputStream, Refusal, close_capture, open_capture,
+    print_text,
 };
 use ec_ring::Ring;
 use ec_tap::{CapturedWire, Side};
@@ -34,15 +36,15 @@ const LINE_SIZE: usize = 80;
 ///
 /// `Refusal::Socket` where a call of the wire was a fault, and `Refusal::Output` where the counts could not be printed.
 #[tactic(auto, using(crate::proofs::SegmentLemmas::all_served, crate::proofs::SegmentLemmas::some_served, crate::proofs::SegmentLemmas::served_unprinted))]
-pub fn print_served_segment<W: Wire, O: Write>(
+pub fn print_served_segment<W: Wire, O: Write + Drop>(
     slaves: &mut Ring,
     app: &mut dyn App,
     wire: &mut W,
     frames: u32,
-    output: &mut O,
+    output: &mut OutputStream<O>,
 ) -> Result<(), Refusal>
     ensures { ServesSegment frames (shows app.old) slaves.old slaves.new (W.state wire.old) (W.state wire.new)
-        (O.contents output.old) (O.contents output.new) result }
+        output.old output.new result }
 {
     match serve_counted(slaves, app, wire, frames) {
         Ok(counts) => print_served(counts, output),
@@ -62,19 +64,24 @@ pub fn print_served_segment<W: Wire, O: Write>(
 ///
 /// The refusal of the input or of its table, `Refusal::Socket` where there is no such socket, and what
 /// [`print_served_segment`] ends by.
-pub fn print_segment<H: AllocGlobal + Net + Files + Clock, R: Read, W: Write, F: Write + Drop>(
+pub fn print_segment<
+    H: AllocGlobal + Net + Files + Clock,
+    R: Read + Drop,
+    W: Write + Drop,
+    F: Write + Drop,
+>(
     rt: &H,
     frames: u32,
     port: u16,
     form: SlaveForm,
     idle: u32,
-    input: &mut R,
-    output: &mut W,
-    faults: &mut FaultStream<F>,
+    input: &mut InputStream<R>,
+    output: &mut OutputStream<W>,
+    faults: &mut OutputStream<F>,
     app: &mut dyn App,
     behind: &mut Explanation,
 ) -> Result<(), Refusal>
-    ensures runs { RunsSegment frames port form (R.remaining input.old) (W.contents output.old) (W.contents output.new)
+    ensures runs { RunsSegment frames port form (given_by R.remaining input.old input.new) output.old output.new
         faults.old faults.new result }
     ensures explains { IsLeft behind.old behind.new }
 {
@@ -91,21 +98,26 @@ pub fn print_segment<H: AllocGlobal + Net + Files + Clock, R: Read, W: Write, F:
 /// Those of [`print_segment`]; `Refusal::Output` too where the file couldn't be opened, before anything is received, or
 /// couldn't be written to the end.
 #[tactic(auto, using(ec_console::proofs::CaptureLemmas::captured_refused, ec_console::proofs::CaptureLemmas::captured_end))]
-pub fn capture_segment<H: AllocGlobal + Net + Files + Clock, R: Read, W: Write, F: Write + Drop>(
+pub fn capture_segment<
+    H: AllocGlobal + Net + Files + Clock,
+    R: Read + Drop,
+    W: Write + Drop,
+    F: Write + Drop,
+>(
     rt: &H,
     frames: u32,
     port: u16,
     form: SlaveForm,
     idle: u32,
     file: &str,
-    input: &mut R,
-    output: &mut W,
-    faults: &mut FaultStream<F>,
+    input: &mut InputStream<R>,
+    output: &mut OutputStream<W>,
+    faults: &mut OutputStream<F>,
     app: &mut dyn App,
     behind: &mut Explanation,
 ) -> Result<(), Refusal>
-    ensures runs { EndsCaptured (λ ended. RunsSegment frames port form (R.remaining input.old) (W.contents output.old)
-        (W.contents output.new) faults.old faults.new ended)
+    ensures runs { EndsCaptured (λ ended. RunsSegment frames port form (given_by R.remaining input.old input.new) output.old
+        output.new faults.old faults.new ended)
         ((output.new ≡ output.old) × (faults.new ≡ faults.old)) result }
     ensures explains { IsLeft behind.old behind.new }
 {
@@ -124,18 +136,18 @@ pub fn capture_segment<H: AllocGlobal + Net + Files + Clock, R: Read, W: Write, 
 ///
 /// The refusal of the input or of its table, `Refusal::Socket` where the descriptor isn't that of a socket, and what
 /// [`print_served_segment`] ends by.
-pub fn print_card_segment<H: AllocGlobal + Files + Clock, R: Read, W: Write>(
+pub fn print_card_segment<H: AllocGlobal + Files + Clock, R: Read + Drop, W: Write + Drop>(
     rt: &H,
     frames: u32,
     descriptor: u16,
     form: SlaveForm,
     idle: u32,
-    input: &mut R,
-    output: &mut W,
+    input: &mut InputStream<R>,
+    output: &mut OutputStream<W>,
     app: &mut dyn App,
     behind: &mut Explanation,
 ) -> Result<(), Refusal>
-    ensures runs { RunsCardSegment frames form (R.remaining input.old) (W.contents output.old) (W.contents output.new) result }
+    ensures runs { RunsCardSegment frames form (given_by R.remaining input.old input.new) output.old output.new result }
     ensures explains { IsLeft behind.old behind.new }
 {
     serve_card(
@@ -151,20 +163,20 @@ pub fn print_card_segment<H: AllocGlobal + Files + Clock, R: Read, W: Write>(
 /// Those of [`print_card_segment`]; `Refusal::Output` too where the file couldn't be opened, before anything is received, or
 /// couldn't be written to the end.
 #[tactic(auto, using(ec_console::proofs::CaptureLemmas::captured_refused, ec_console::proofs::CaptureLemmas::captured_end))]
-pub fn capture_card_segment<H: AllocGlobal + Files + Clock, R: Read, W: Write>(
+pub fn capture_card_segment<H: AllocGlobal + Files + Clock, R: Read + Drop, W: Write + Drop>(
     rt: &H,
     frames: u32,
     descriptor: u16,
     form: SlaveForm,
     idle: u32,
     file: &str,
-    input: &mut R,
-    output: &mut W,
+    input: &mut InputStream<R>,
+    output: &mut OutputStream<W>,
     app: &mut dyn App,
     behind: &mut Explanation,
 ) -> Result<(), Refusal>
-    ensures runs { EndsCaptured (λ ended. RunsCardSegment frames form (R.remaining input.old) (W.contents output.old)
-        (W.contents output.new) ended) (output.new ≡ output.old) result }
+    ensures runs { EndsCaptured (λ ended. RunsCardSegment frames form (given_by R.remaining input.old input.new) output.old
+        output.new ended) (output.new ≡ output.old) result }
     ensures explains { IsLeft behind.old behind.new }
 {
     let capture = open_capture(rt, file, "segment")?;
@@ -175,15 +187,18 @@ pub fn capture_card_segment<H: AllocGlobal + Files + Clock, R: Read, W: Write>(
 
 /// Prints how many payloads were answered, and how many not.
 #[tactic(auto, using(ec_console::proofs::PrintLemmas::shown))]
-fn print_served<W: Write>(counts: Served, output: &mut W) -> Result<(), Refusal>
-    ensures { Shows (served_line counts.answered counts.refused) (W.contents output.old) (W.contents output.new) result }
+fn print_served<W: Write + Drop>(
+    counts: Served,
+    output: &mut OutputStream<W>,
+) -> Result<(), Refusal>
+    ensures { Shows (served_line counts.answered counts.refused) output.old output.new result }
 {
     let line = served(counts);
     print_text(line.as_bytes(), output)
 }
 
 /// Tells where a segment listens. A fault in telling it changes nothing.
-fn tell_listening<F: Write + Drop>(port: u16, faults: &mut FaultStream<F>)
+fn tell_listening<F: Write + Drop>(port: u16, faults: &mut OutputStream<F>)
     ensures { IsTold (listening_line port) faults.old faults.new }
 {
     let line = listening(port);
@@ -195,7 +210,7 @@ fn listen<H: Net, F: Write + Drop>(
     rt: &H,
     port: u16,
     idle: u32,
-    faults: &mut FaultStream<F>,
+    faults: &mut OutputStream<F>,
 ) -> Result<UdpWire, SocketFault>
     ensures opened { IfOk result (λ w. IsOpened port w × IsTold (listening_line w.port) faults.old faults.new) }
     ensures refused { IfErr result (λ fault. faults.new ≡ faults.old) }
@@ -231,20 +246,25 @@ fn listening(port: u16) -> ArrayString<LINE_SIZE>
 
 /// Answers payloads on a port, as [`print_segment`] does, and notes them in a capture, if there is one.
 #[tactic(auto, using(crate::proofs::SegmentLemmas::segment_refused, crate::proofs::SegmentLemmas::segment_served))]
-fn serve_port<H: AllocGlobal + Net + Files + Clock, R: Read, W: Write, F: Write + Drop>(
+fn serve_port<
+    H: AllocGlobal + Net + Files + Clock,
+    R: Read + Drop,
+    W: Write + Drop,
+    F: Write + Drop,
+>(
     rt: &H,
     frames: u32,
     port: u16,
     form: SlaveForm,
     idle: u32,
     capture: &mut Capture<H::File>,
-    input: &mut R,
-    output: &mut W,
-    faults: &mut FaultStream<F>,
+    input: &mut InputStream<R>,
+    output: &mut OutputStream<W>,
+    faults: &mut OutputStream<F>,
     app: &mut dyn App,
     behind: &mut Explanation,
 ) -> Result<(), Refusal>
-    ensures runs { RunsSegment frames port form (R.remaining input.old) (W.contents output.old) (W.contents output.new)
+    ensures runs { RunsSegment frames port form (given_by R.remaining input.old input.new) output.old output.new
         faults.old faults.new result }
     ensures explains { IsLeft behind.old behind.new }
 {
@@ -256,19 +276,19 @@ fn serve_port<H: AllocGlobal + Net + Files + Clock, R: Read, W: Write, F: Write 
 /// Answers payloads on a wire that has carried nothing yet, as [`print_served_segment`] does, and notes them in a capture, if
 /// there is one.
 #[tactic(auto, using(crate::proofs::SegmentLemmas::tapped_serves))]
-fn serve_tapped<H: AllocGlobal + Files + Clock, W: Wire + Drop, O: Write>(
+fn serve_tapped<H: AllocGlobal + Files + Clock, W: Wire + Drop, O: Write + Drop>(
     rt: &H,
     slaves: &mut Ring,
     app: &mut dyn App,
     wire: W,
     frames: u32,
     capture: &mut Capture<H::File>,
-    output: &mut O,
+    output: &mut OutputStream<O>,
 ) -> Result<(), Refusal>
     requires sent { Tells (W.state wire).sent [] }
     requires received { Tells (W.state wire).received [] }
     ensures { (last : W) × ServesSegment frames (shows app.old) slaves.old slaves.new (W.state wire) (W.state last)
-        (O.contents output.old) (O.contents output.new) result }
+        output.old output.new result }
 {
     match capture.take() {
         None => {
@@ -286,21 +306,26 @@ fn serve_tapped<H: AllocGlobal + Files + Clock, W: Wire + Drop, O: Write>(
 }
 
 /// Answers payloads on a port, as [`print_segment`] does, with a capture that is open, which is then written to the end.
-fn port_captured<H: AllocGlobal + Net + Files + Clock, R: Read, W: Write, F: Write + Drop>(
+fn port_captured<
+    H: AllocGlobal + Net + Files + Clock,
+    R: Read + Drop,
+    W: Write + Drop,
+    F: Write + Drop,
+>(
     rt: &H,
     frames: u32,
     port: u16,
     form: SlaveForm,
     idle: u32,
     capture: Capture<H::File>,
-    input: &mut R,
-    output: &mut W,
-    faults: &mut FaultStream<F>,
+    input: &mut InputStream<R>,
+    output: &mut OutputStream<W>,
+    faults: &mut OutputStream<F>,
     app: &mut dyn App,
     behind: &mut Explanation,
 ) -> Result<(), Refusal>
-    ensures runs { (ended : Result Unit RefusalValue) × RunsSegment frames port form (R.remaining input.old) (W.contents output.old)
-        (W.contents output.new) faults.old faults.new ended × Finishes ended result }
+    ensures runs { (ended : Result Unit RefusalValue) × RunsSegment frames port form (given_by R.remaining input.old input.new) output.old
+        output.new faults.old faults.new ended × Finishes ended result }
     ensures explains { IsLeft behind.old behind.new }
 {
     let mut capture = capture;
@@ -322,19 +347,19 @@ fn port_captured<H: AllocGlobal + Net + Files + Clock, R: Read, W: Write, F: Wri
 
 /// Answers payloads on a card, as [`print_card_segment`] does, and notes them in a capture, if there is one.
 #[tactic(auto, using(crate::proofs::SegmentLemmas::card_refused, crate::proofs::SegmentLemmas::card_served))]
-fn serve_card<H: AllocGlobal + Files + Clock, R: Read, W: Write>(
+fn serve_card<H: AllocGlobal + Files + Clock, R: Read + Drop, W: Write + Drop>(
     rt: &H,
     frames: u32,
     descriptor: u16,
     form: SlaveForm,
     idle: u32,
     capture: &mut Capture<H::File>,
-    input: &mut R,
-    output: &mut W,
+    input: &mut InputStream<R>,
+    output: &mut OutputStream<W>,
     app: &mut dyn App,
     behind: &mut Explanation,
 ) -> Result<(), Refusal>
-    ensures runs { RunsCardSegment frames form (R.remaining input.old) (W.contents output.old) (W.contents output.new) result }
+    ensures runs { RunsCardSegment frames form (given_by R.remaining input.old input.new) output.old output.new result }
     ensures explains { IsLeft behind.old behind.new }
 {
     let mut slaves = slaves_of_input(rt.alloc(), input, form, behind)?;
@@ -352,20 +377,20 @@ fn patience_of(seconds: u32) -> Patience {
 }
 
 /// Answers payloads on a card, as [`print_card_segment`] does, with a capture that is open, which is then written to the end.
-fn card_captured<H: AllocGlobal + Files + Clock, R: Read, W: Write>(
+fn card_captured<H: AllocGlobal + Files + Clock, R: Read + Drop, W: Write + Drop>(
     rt: &H,
     frames: u32,
     descriptor: u16,
     form: SlaveForm,
     idle: u32,
     capture: Capture<H::File>,
-    input: &mut R,
-    output: &mut W,
+    input: &mut InputStream<R>,
+    output: &mut OutputStream<W>,
     app: &mut dyn App,
     behind: &mut Explanation,
 ) -> Result<(), Refusal>
-    ensures runs { (ended : Result Unit RefusalValue) × RunsCardSegment frames form (R.remaining input.old) (W.contents output.old)
-        (W.contents output.new) ended × Finishes ended result }
+    ensures runs { (ended : Result Unit RefusalValue) × RunsCardSegment frames form (given_by R.remaining input.old input.new) output.old
+        output.new ended × Finishes ended result }
     ensures explains { IsLeft behind.old behind.new }
 {
     let mut capture = capture;

@@ -1,7 +1,6 @@
 -- Lines that print one after another, and how a simulation ends.
-use Rattle.std.proofs.Common.{◌≡◌, ◌∙◌, inl, inr, ℕ, zero, suc, ◌+◌, ◌-◌, ◌^◌, ◌<◌, ◌≤◌, ◌==◌, List, [], ◌∷◌, ◌++◌, length, get_or, take, drop, min, replicate, Bool, true, false, Option, refl, sym, ap, subst, append_assoc, append-nil, arith, if◌then◌else◌, Result, Ok, Err, IfErr, IfOk, OnErr}
+use Rattle.std.proofs.Common.{◌≡◌, ◌∙◌, inl, inr, ℕ, zero, suc, ◌+◌, ◌-◌, ◌^◌, ◌<◌, ◌≤◌, ◌==◌, List, [], ◌∷◌, ◌++◌, length, get_or, take, drop, min, replicate, Bool, true, false, refl, sym, ap, subst, append_assoc, append-nil, arith, if◌then◌else◌, Result, Ok, Err, IfErr, IfOk, OnErr}
 use Rattle.std.specs.Result.{IsErrAnd}
-use Rattle.std.specs.Io.KnownBytes.{Appends}
 use Rattle.std.proofs.lemmas.Bool.Decides.{nat_tests}
 use Rattle.std.proofs.lemmas.List.{drop_all, replicate-append-replicate, take-append-drop, take_all, take_more}
 use Rattle.ec_table.specs.Contents.{Contents}
@@ -20,13 +19,13 @@ use Rattle.ec_why.specs.Reasons.{ReasonIf, is_reasoned}
 use Rattle.ec_console.specs.declared.refusal.Refusal.{Refusal}
 use Rattle.ec_console.specs.declared.refusal.Refusal.TheVariants as refusal
 use Rattle.ec_console.specs.declared.refusal.Refusal.TheVariants.{Memory, Unmet}
-use Rattle.ec_console.specs.Printing.{AppendsPart}
+use Rattle.ec_console.specs.Printing.{IsPartPrinted, IsPrinted, OutputState}
 use Rattle.ec_sim.specs.Stages.{IsBadScript, IsLineText, RunsScript}
 use Rattle.ec_console.specs.Given.{IsTableRefusal}
 use Rattle.ec_sim.specs.Simulating.{IsHalfRefusal, IsLate, IsSimRefusal, IsSimulation, PrintsAll, PrintsLines, PrintsPart, PrintsSome, RunsLines, RunsText, Says, SaysLine, unmet_of}
 use Rattle.ec_console.specs.Unmet.{counted, ended_by}
 use Rattle.ec_console.specs.Capturing.{IsUnopened}
-use Rattle.ec_console.proofs.PrintLemmas.{appends_more, appends_nothing, whole_part}
+use Rattle.ec_console.proofs.PrintLemmas.{texts}
 
 -- ---- a line and why it says `no`
 
@@ -63,22 +62,18 @@ says_join reasons t w mid new (x ∷ xs) ys p q a b (first, text, more, one, res
   omega arith,
 )
 
-pub prints_none : (reasons : Reasons) (t : Contents) (w : WorldState) (old : Option (List ℕ)) → PrintsAll reasons t w [] w 0 old old
-prints_none reasons t w old = record { printed = []; says = (refl, refl, refl); appends = appends_nothing old }
+pub prints_none : (reasons : Reasons) (t : Contents) (w : WorldState) (old : OutputState) → PrintsAll reasons t w [] w 0 old old
+prints_none reasons t w old = record { printed = []; says = (refl, refl, refl); appends = texts.none old }
 
-pub prints_join : (reasons : Reasons) (t : Contents) (w mid new : WorldState) (xs ys : List Line) (a b : ℕ) (old half whole : Option (List ℕ)) → PrintsAll reasons t w xs mid a old half
+pub prints_join : (reasons : Reasons) (t : Contents) (w mid new : WorldState) (xs ys : List Line) (a b : ℕ) (old half whole : OutputState) → PrintsAll reasons t w xs mid a old half
     → PrintsAll reasons t mid ys new b half whole → PrintsAll reasons t w (xs ++ ys) new (a + b) old whole
 prints_join reasons t w mid new xs ys a b old half whole h g = record {
   printed = h.printed ++ g.printed;
   says = says_join reasons t w mid new xs ys h.printed g.printed a b h.says g.says;
-  appends = appends_more old half whole h.printed g.printed h.appends g.appends;
+  appends = texts.both old half whole h.printed g.printed h.appends g.appends;
 }
 
 -- ---- a first part
-
-take-part : (before text : List ℕ) (k : ℕ) → take (length before + k) (before ++ text) ≡ before ++ take k text
-take-part [] text k = let e : 0 + k ≡ k = omega arith in rw e refl
-take-part (x ∷ xs) text k = let e : length (x ∷ xs) + k ≡ suc (length xs + k) = omega arith in rw e (ap (λ rest. x ∷ rest) (take-part xs text k))
 
 take-lines : (before lines : List Line) (k : ℕ) → take (length before + k) (before ++ lines) ≡ before ++ take k lines
 take-lines [] lines k = let e : 0 + k ≡ k = omega arith in rw e refl
@@ -90,17 +85,17 @@ some_take [] ys (suc n) = (0, refl)
 some_take (x ∷ xs) ys zero = (0, refl)
 some_take (x ∷ xs) ys (suc n) = let r = some_take xs ys n in (suc r.0, ap (λ rest. x ∷ rest) r.1)
 
-pub part_none : (reasons : Reasons) (t : Contents) (w : WorldState) (lines : List Line) (old : Option (List ℕ)) → PrintsPart reasons t w lines old old
-part_none reasons t w lines old = record { count = 0; last = w; printed = []; unmet = 0; says = (refl, refl, refl); appends = (0, appends_nothing old) }
+pub part_none : (reasons : Reasons) (t : Contents) (w : WorldState) (lines : List Line) (old : OutputState) → PrintsPart reasons t w lines old old
+part_none reasons t w lines old = record { count = 0; last = w; printed = []; unmet = 0; says = (refl, refl, refl); appends = texts.whole old old [] (texts.none old) }
 
 -- of some first lines it is one of all
-pub part_more : (reasons : Reasons) (t : Contents) (w : WorldState) (xs ys : List Line) (old new : Option (List ℕ)) → PrintsPart reasons t w xs old new → PrintsPart reasons t w (xs ++ ys) old new
+pub part_more : (reasons : Reasons) (t : Contents) (w : WorldState) (xs ys : List Line) (old new : OutputState) → PrintsPart reasons t w xs old new → PrintsPart reasons t w (xs ++ ys) old new
 part_more reasons t w xs ys old new h =
     let r = some_take xs ys h.count in
     record { count = r.0; last = h.last; printed = h.printed; unmet = h.unmet; says = subst (λ (ls : List Line). Says reasons t w ls h.last h.printed h.unmet) (sym r.1) h.says; appends = h.appends }
 
 -- behind lines that are printed whole
-pub part_behind : (reasons : Reasons) (t : Contents) (w mid : WorldState) (xs ys : List Line) (a : ℕ) (old half new : Option (List ℕ)) → PrintsAll reasons t w xs mid a old half → PrintsPart reasons t mid ys half new
+pub part_behind : (reasons : Reasons) (t : Contents) (w mid : WorldState) (xs ys : List Line) (a : ℕ) (old half new : OutputState) → PrintsAll reasons t w xs mid a old half → PrintsPart reasons t mid ys half new
     → PrintsPart reasons t w (xs ++ ys) old new
 part_behind reasons t w mid xs ys a old half new h g = record {
   count = length xs + g.count;
@@ -108,21 +103,18 @@ part_behind reasons t w mid xs ys a old half new h g = record {
   printed = h.printed ++ g.printed;
   unmet = a + g.unmet;
   says = subst (λ (ls : List Line). Says reasons t w ls g.last (h.printed ++ g.printed) (a + g.unmet)) (sym (take-lines xs ys g.count)) (says_join reasons t w mid g.last xs (take g.count ys) h.printed g.printed a g.unmet h.says g.says);
-  appends = (
-    length h.printed + g.appends.0,
-    subst (Appends old new) (sym (take-part h.printed g.printed g.appends.0)) (appends_more old half new h.printed (take g.appends.0 g.printed) h.appends g.appends.1),
-  );
+  appends = texts.part old half new h.printed g.printed h.appends g.appends;
 }
 
 -- a line whose text is cut
-pub part_one : (reasons : Reasons) (t : Contents) (w mid : WorldState) (line : Line) (text : List ℕ) (unmet : ℕ) (old new : Option (List ℕ)) → SaysLine reasons t w line mid text unmet → AppendsPart old new text
+pub part_one : (reasons : Reasons) (t : Contents) (w mid : WorldState) (line : Line) (text : List ℕ) (unmet : ℕ) (old new : OutputState) → SaysLine reasons t w line mid text unmet → IsPartPrinted old new text
     → PrintsPart reasons t w (line ∷ []) old new
 part_one reasons t w mid line text unmet old new h part =
     record { count = 1; last = mid; printed = text; unmet = unmet; says = says_one reasons t w mid line text unmet h; appends = part }
 
 -- a line that is printed whole
-pub one_all : (reasons : Reasons) (t : Contents) (w mid : WorldState) (line : Line) (text : List ℕ) (unmet : Bool) (said : LineOutput) (old new : Option (List ℕ)) → SaysLine reasons t w line mid text (unmet_of said) → unmet ≡ is_unmet said
-    → Appends old new text → PrintsAll reasons t w (line ∷ []) mid (if unmet then 1 else 0) old new
+pub one_all : (reasons : Reasons) (t : Contents) (w mid : WorldState) (line : Line) (text : List ℕ) (unmet : Bool) (said : LineOutput) (old new : OutputState) → SaysLine reasons t w line mid text (unmet_of said) → unmet ≡ is_unmet said
+    → IsPrinted old new text → PrintsAll reasons t w (line ∷ []) mid (if unmet then 1 else 0) old new
 one_all reasons t w mid line text unmet said old new h is appends =
     subst (λ (b : Bool). PrintsAll reasons t w (line ∷ []) mid (if b then 1 else 0) old new) (sym is)
     (record { printed = text; says = says_one reasons t w mid line text (unmet_of said) h; appends = appends })
@@ -138,16 +130,16 @@ where_false false x m n is e = e
 where_false true x m n is e = absurd (let f : true ≡ false = is in cc)
 
 -- so many times it was done, and each time printed
-pub record IsDone (reasons : Reasons) (t : Contents) (w : WorldState) (line : Line) (times : ℕ) (now : WorldState) (count : ℕ) (old new : Option (List ℕ)) : Type 0 where
+pub record IsDone (reasons : Reasons) (t : Contents) (w : WorldState) (line : Line) (times : ℕ) (now : WorldState) (count : ℕ) (old new : OutputState) : Type 0 where
   pub unmet : ℕ
   pub counts : count ≡ counted unmet
   pub printed : PrintsAll reasons t w (replicate times line) now unmet old new
   pub plan : now.plan ≡ w.plan
 
-pub none_done : (reasons : Reasons) (t : Contents) (w : WorldState) (line : Line) (old : Option (List ℕ)) → IsDone reasons t w line 0 w 0 old old
+pub none_done : (reasons : Reasons) (t : Contents) (w : WorldState) (line : Line) (old : OutputState) → IsDone reasons t w line 0 w 0 old old
 none_done reasons t w line old = record { unmet = 0; counts = refl; printed = prints_none reasons t w old; plan = refl }
 
-pub done_more : (reasons : Reasons) (t : Contents) (w : WorldState) (line : Line) (i : ℕ) (now new : WorldState) (count total : ℕ) (b : Bool) (old half whole : Option (List ℕ)) → IsDone reasons t w line i now count old half
+pub done_more : (reasons : Reasons) (t : Contents) (w : WorldState) (line : Line) (i : ℕ) (now new : WorldState) (count total : ℕ) (b : Bool) (old half whole : OutputState) → IsDone reasons t w line i now count old half
     → PrintsAll reasons t now (line ∷ []) new (if b then 1 else 0) half whole → new.plan ≡ now.plan → total ≡ (if b then min (count + 1) (2 ^ 64 - 1) else count) → IsDone reasons t w line (i + 1) new total old whole
 done_more reasons t w line i now new count total b old half whole h one plan is = record {
   unmet = h.unmet + (if b then 1 else 0);
@@ -161,7 +153,7 @@ done_more reasons t w line i now new count total b old half whole h one plan is 
     more true = let e : count ≡ counted h.unmet = h.counts in omega arith
     more false = let e : count ≡ counted h.unmet = h.counts in let z : h.unmet + 0 ≡ h.unmet = omega arith in omega arith
 
-pub done_part : (reasons : Reasons) (t : Contents) (w : WorldState) (line : Line) (i n : ℕ) (now : WorldState) (count : ℕ) (old half whole : Option (List ℕ)) → IsDone reasons t w line i now count old half → i < n
+pub done_part : (reasons : Reasons) (t : Contents) (w : WorldState) (line : Line) (i n : ℕ) (now : WorldState) (count : ℕ) (old half whole : OutputState) → IsDone reasons t w line i now count old half → i < n
     → PrintsPart reasons t now (line ∷ []) half whole → PrintsPart reasons t w (replicate n line) old whole
 done_part reasons t w line i n now count old half whole h lt part =
     let rest : 1 + (n - (i + 1)) ≡ n - i = omega arith in
@@ -173,7 +165,7 @@ done_part reasons t w line i n now count old half whole h lt part =
     (subst (λ (ls : List Line). PrintsPart reasons t w ls old whole) (replicate-append-replicate i (n - i) line)
     (part_behind reasons t w now (replicate i line) (replicate (n - i) line) h.unmet old half whole h.printed ahead))
 
-pub done_all : (reasons : Reasons) (t : Contents) (w : WorldState) (line : Line) (n i : ℕ) (now : WorldState) (count : ℕ) (old new : Option (List ℕ)) → IsDone reasons t w line i now count old new → i ≡ n
+pub done_all : (reasons : Reasons) (t : Contents) (w : WorldState) (line : Line) (n i : ℕ) (now : WorldState) (count : ℕ) (old new : OutputState) → IsDone reasons t w line i now count old new → i ≡ n
     → (unmet : ℕ) × (count ≡ counted unmet) × PrintsAll reasons t w (replicate n line) now unmet old new
 done_all reasons t w line n i now count old new h is = (h.unmet, h.counts, subst (λ (k : ℕ). PrintsAll reasons t w (replicate k line) now h.unmet old new) is h.printed)
 
@@ -200,12 +192,12 @@ repeated_split : (lines : List Line) (i : ℕ) → repeated lines ≡ repeated (
 repeated_split lines i = ap repeated (sym (take-append-drop i lines)) ∙ repeated-append (take i lines) (drop i lines)
 
 -- the first i lines are printed
-pub record AreSaid (reasons : Reasons) (t : Contents) (w : WorldState) (lines : List Line) (i : ℕ) (now : WorldState) (count : ℕ) (old new : Option (List ℕ)) : Type 0 where
+pub record AreSaid (reasons : Reasons) (t : Contents) (w : WorldState) (lines : List Line) (i : ℕ) (now : WorldState) (count : ℕ) (old new : OutputState) : Type 0 where
   pub unmet : ℕ
   pub counts : count ≡ counted unmet
   pub printed : PrintsAll reasons t w (repeated (take i lines)) now unmet old new
 
-pub none_said : (reasons : Reasons) (t : Contents) (w : WorldState) (lines : List Line) (old : Option (List ℕ)) → AreSaid reasons t w lines 0 w 0 old old
+pub none_said : (reasons : Reasons) (t : Contents) (w : WorldState) (lines : List Line) (old : OutputState) → AreSaid reasons t w lines 0 w 0 old old
 none_said reasons t w lines old = record {
   unmet = 0;
   counts = refl;
@@ -215,7 +207,7 @@ none_said reasons t w lines old = record {
 sum_counted : (a b c d : ℕ) → c ≡ counted a → d ≡ counted b → min (c + d) (2 ^ 64 - 1) ≡ counted (a + b)
 sum_counted a b c d h g = omega arith
 
-pub said_more : (reasons : Reasons) (t : Contents) (w : WorldState) (lines : List Line) (i : ℕ) (d : Line) (now new : WorldState) (count more total : ℕ) (old half whole : Option (List ℕ)) → AreSaid reasons t w lines i now count old half
+pub said_more : (reasons : Reasons) (t : Contents) (w : WorldState) (lines : List Line) (i : ℕ) (d : Line) (now new : WorldState) (count more total : ℕ) (old half whole : OutputState) → AreSaid reasons t w lines i now count old half
     → i < length lines → (unmet : ℕ) × (more ≡ counted unmet) × PrintsAll reasons t now (replicate (get_or lines i d).times (get_or lines i d)) new unmet half whole
     → total ≡ min (count + more) (2 ^ 64 - 1) → AreSaid reasons t w lines (i + 1) new total old whole
 said_more reasons t w lines i d now new count more total old half whole h lt (unmet, counts, printed) is = record {
@@ -225,7 +217,7 @@ said_more reasons t w lines i d now new count more total old half whole h lt (un
       (prints_join reasons t w now new (repeated (take i lines)) (replicate (get_or lines i d).times (get_or lines i d)) h.unmet unmet old half whole h.printed printed);
 }
 
-pub said_part : (reasons : Reasons) (t : Contents) (w : WorldState) (lines : List Line) (i : ℕ) (d : Line) (now : WorldState) (count : ℕ) (old half whole : Option (List ℕ)) → AreSaid reasons t w lines i now count old half → i < length lines
+pub said_part : (reasons : Reasons) (t : Contents) (w : WorldState) (lines : List Line) (i : ℕ) (d : Line) (now : WorldState) (count : ℕ) (old half whole : OutputState) → AreSaid reasons t w lines i now count old half → i < length lines
     → PrintsPart reasons t now (replicate (get_or lines i d).times (get_or lines i d)) half whole → PrintsSome reasons t w lines old whole
 said_part reasons t w lines i d now count old half whole h lt part =
     subst (λ (ls : List Line). PrintsPart reasons t w ls old whole) (sym (repeated_split lines (i + 1)))
@@ -233,7 +225,7 @@ said_part reasons t w lines i d now count old half whole h lt part =
     (subst (λ (ls : List Line). PrintsPart reasons t w ls old whole) (sym (repeated_at lines i d lt))
     (part_behind reasons t w now (repeated (take i lines)) (replicate (get_or lines i d).times (get_or lines i d)) h.unmet old half whole h.printed part)))
 
-pub all_said : (reasons : Reasons) (t : Contents) (w : WorldState) (lines : List Line) (i : ℕ) (now : WorldState) (count : ℕ) (old new : Option (List ℕ)) → AreSaid reasons t w lines i now count old new → length lines ≤ i
+pub all_said : (reasons : Reasons) (t : Contents) (w : WorldState) (lines : List Line) (i : ℕ) (now : WorldState) (count : ℕ) (old new : OutputState) → AreSaid reasons t w lines i now count old new → length lines ≤ i
     → (unmet : ℕ) × (count ≡ counted unmet) × PrintsLines reasons t w lines unmet old new
 all_said reasons t w lines i now count old new h le =
     let whole : take i lines ≡ lines = sym (append-nil (take i lines)) ∙ (ap (λ (ls : List Line). take i lines ++ ls) (sym (drop_all i lines le)) ∙ take-append-drop i lines) in
@@ -242,9 +234,9 @@ all_said reasons t w lines i now count old new h le =
 -- ---- how a run ends
 
 -- a text that is refused, also where a call passes the refusal on
-pub sim_refused : (r : Result Unit Refusal) (text : List ℕ) (known : Option (List ℕ)) (refusal : Refusal) (reasons : Reasons) → IsErrAnd r (λ e. e ≡ refusal) → IsSimRefusal text refusal → RunsText reasons text known known r
-sim_refused (Ok done) text known refusal reasons is h = absurd is
-sim_refused (Err e) text known refusal reasons is h = inl (subst (IsSimRefusal text) (sym is) h, refl)
+pub sim_refused : (r : Result Unit Refusal) (text : List ℕ) (known : OutputState) (refusal : Refusal) (reasons : Reasons) (captured : Bool) → IsErrAnd r (λ e. e ≡ refusal) → IsSimRefusal text refusal → RunsText reasons captured text known known r
+sim_refused (Ok done) text known refusal reasons captured is h = absurd is
+sim_refused (Err e) text known refusal reasons captured is h = inl (subst (IsSimRefusal text) (sym is) h, refl)
 
 -- lines that run to their end, by what was expected
 counted_none : (count unmet : ℕ) → count ≡ counted unmet → count ≡ 0 → unmet ≡ 0
@@ -253,42 +245,42 @@ counted_none count unmet is none = omega arith
 counted_some : (count unmet : ℕ) → count ≡ counted unmet → (count == 0) ≡ false → 0 < unmet
 counted_some count unmet is some = let more : 0 < count = grind (arith, nat_tests) in omega arith
 
-ran : (b : Bool) (old new : Option (List ℕ)) (reasons : Reasons) (t : Contents) (w : WorldState) (lines : List Line) (count unmet : ℕ) → (count == 0) ≡ b → IsOfMachine t w → count ≡ counted unmet → PrintsLines reasons t w lines unmet old new
-    → RunsLines reasons t lines old new (if b then Ok tt else Err (Unmet count))
-ran true old new reasons t w lines count unmet is begins counts all =
+ran : (b : Bool) (old new : OutputState) (reasons : Reasons) (captured : Bool) (t : Contents) (w : WorldState) (lines : List Line) (count unmet : ℕ) → (count == 0) ≡ b → IsOfMachine t w → count ≡ counted unmet → PrintsLines reasons t w lines unmet old new
+    → RunsLines reasons captured t lines old new (if b then Ok tt else Err (Unmet count))
+ran true old new reasons captured t w lines count unmet is begins counts all =
     let none : unmet ≡ 0 = counted_none count unmet counts (grind (arith, nat_tests)) in
     (w, begins, subst (λ (n : ℕ). PrintsLines reasons t w lines n old new) none all)
-ran false old new reasons t w lines count unmet is begins counts all = inr (inr (unmet, counted_some count unmet counts is, ap Unmet counts, (w, begins, all)))
+ran false old new reasons captured t w lines count unmet is begins counts all = inr (inr (unmet, counted_some count unmet counts is, ap Unmet counts, (w, begins, all)))
 
-pub lines_ran : (r : Result Unit Refusal) (old new : Option (List ℕ)) (reasons : Reasons) (t u : Contents) (w : WorldState) (lines : List Line) (count : ℕ) → u ≡ t → r ≡ ended_by count → IsOfMachine t w
-    → (unmet : ℕ) × (count ≡ counted unmet) × PrintsLines reasons u w lines unmet old new → RunsLines reasons t lines old new r
-lines_ran r old new reasons t u w lines count same is begins (unmet, counts, all) =
+pub lines_ran : (r : Result Unit Refusal) (old new : OutputState) (reasons : Reasons) (captured : Bool) (t u : Contents) (w : WorldState) (lines : List Line) (count : ℕ) → u ≡ t → r ≡ ended_by count → IsOfMachine t w
+    → (unmet : ℕ) × (count ≡ counted unmet) × PrintsLines reasons u w lines unmet old new → RunsLines reasons captured t lines old new r
+lines_ran r old new reasons captured t u w lines count same is begins (unmet, counts, all) =
     let of_it : PrintsLines reasons t w lines unmet old new = subst (λ (x : Contents). PrintsLines reasons x w lines unmet old new) same all in
-    subst (RunsLines reasons t lines old new) (sym is) (ran (count == 0) old new reasons t w lines count unmet refl begins counts of_it)
+    subst (RunsLines reasons captured t lines old new) (sym is) (ran (count == 0) old new reasons captured t w lines count unmet refl begins counts of_it)
 
 -- and lines that are cut short
-pub lines_cut : {T : Type 0} (r : Result Unit Refusal) (printed : Result T Refusal) (e : Refusal) (old new : Option (List ℕ)) (reasons : Reasons) (t u : Contents) (w : WorldState) (lines : List Line) → u ≡ t → IsOfMachine t w
-    → printed ≡ Err e → OnErr printed (PrintsSome reasons u w lines old new) → IfErr printed IsLate → IsErrAnd r (λ x. x ≡ e) → RunsLines reasons t lines old new r
-lines_cut (Ok done) printed e old new reasons t u w lines table begins is some late same = absurd same
-lines_cut {T} (Err x) printed e old new reasons t u w lines table begins is some late same =
+pub lines_cut : {T : Type 0} (r : Result Unit Refusal) (printed : Result T Refusal) (e : Refusal) (old new : OutputState) (reasons : Reasons) (captured : Bool) (t u : Contents) (w : WorldState) (lines : List Line) → u ≡ t → IsOfMachine t w
+    → printed ≡ Err e → OnErr printed (PrintsSome reasons u w lines old new) → IfErr printed (IsLate captured new) → IsErrAnd r (λ x. x ≡ e) → RunsLines reasons captured t lines old new r
+lines_cut (Ok done) printed e old new reasons captured t u w lines table begins is some late same = absurd same
+lines_cut {T} (Err x) printed e old new reasons captured t u w lines table begins is some late same =
     let of_table : PrintsSome reasons u w lines old new = subst (λ (p : Result T Refusal). OnErr p (PrintsSome reasons u w lines old new)) is some in
     let part : PrintsSome reasons t w lines old new = subst (λ (x : Contents). PrintsSome reasons x w lines old new) table of_table in
-    let is_late : IsLate e = subst (λ (p : Result T Refusal). IfErr p IsLate) is late in
-    inr (inl (subst IsLate (sym same) is_late, w, begins, part))
+    let is_late : IsLate captured new e = subst (λ (p : Result T Refusal). IfErr p (IsLate captured new)) is late in
+    inr (inl (subst (IsLate captured new) (sym same) is_late, w, begins, part))
 
 -- no memory for their world
-pub none_run : (r : Result Unit Refusal) (known : Option (List ℕ)) (reasons : Reasons) (t : Contents) (lines : List Line) → IsErrAnd r (λ e. e ≡ Memory) → RunsLines reasons t lines known known r
-none_run (Ok done) known reasons t lines is = absurd is
-none_run (Err e) known reasons t lines is = inl (is, refl)
+pub none_run : (r : Result Unit Refusal) (known : OutputState) (reasons : Reasons) (captured : Bool) (t : Contents) (lines : List Line) → IsErrAnd r (λ e. e ≡ Memory) → RunsLines reasons captured t lines known known r
+none_run (Ok done) known reasons captured t lines is = absurd is
+none_run (Err e) known reasons captured t lines is = inl (is, refl)
 
 -- and what that makes of their text
-pub simulated : (r : Result Unit Refusal) (text : List ℕ) (old new : Option (List ℕ)) (reasons : Reasons) (t : Contents) (lines : List Line) → IsSimulation text t lines
-    → RunsLines reasons t lines old new r → RunsText reasons text old new r
-simulated (Ok done) text old new reasons t lines is (w, begins, all) = record { t = t; lines = lines; world = w; simulation = is; begins = begins; printed = all }
-simulated (Err e) text old new reasons t lines is (inl (memory, same)) = inl (subst (IsSimRefusal text) (sym memory) (is.table, is.script, is.split, tt), same)
-simulated (Err e) text old new reasons t lines is (inr (inl (late, w, begins, some))) =
+pub simulated : (r : Result Unit Refusal) (text : List ℕ) (old new : OutputState) (reasons : Reasons) (captured : Bool) (t : Contents) (lines : List Line) → IsSimulation text t lines
+    → RunsLines reasons captured t lines old new r → RunsText reasons captured text old new r
+simulated (Ok done) text old new reasons captured t lines is (w, begins, all) = record { t = t; lines = lines; world = w; simulation = is; begins = begins; printed = all }
+simulated (Err e) text old new reasons captured t lines is (inl (memory, same)) = inl (subst (IsSimRefusal text) (sym memory) (is.table, is.script, is.split, tt), same)
+simulated (Err e) text old new reasons captured t lines is (inr (inl (late, w, begins, some))) =
     inr (inl (late, record { t = t; lines = lines; world = w; simulation = is; begins = begins; printed = some }))
-simulated (Err e) text old new reasons t lines is (inr (inr (unmet, some, is_unmet, (w, begins, all)))) =
+simulated (Err e) text old new reasons captured t lines is (inr (inr (unmet, some, is_unmet, (w, begins, all)))) =
     inr (inr (unmet, some, is_unmet, record { t = t; lines = lines; world = w; simulation = is; begins = begins; printed = all }))
 
 -- a script that is bad is the fault of its text
@@ -321,15 +313,15 @@ half_of_table table script refusal.Output is = absurd is
 half_of_table table script refusal.Input is = absurd is
 half_of_table table script (refusal.Unmet n) is = absurd is
 
-script_refused : (r : Result Unit Refusal) (text : List ℕ) (old new : Option (List ℕ)) (x : Refusal) (reasons : Reasons) → r ≡ Err x → new ≡ old → IsSimRefusal text x → RunsText reasons text old new r
-script_refused r text old new x reasons ended same is = subst (RunsText reasons text old new) (sym ended) (inl (is, same))
+script_refused : (r : Result Unit Refusal) (text : List ℕ) (old new : OutputState) (x : Refusal) (reasons : Reasons) (captured : Bool) → r ≡ Err x → new ≡ old → IsSimRefusal text x → RunsText reasons captured text old new r
+script_refused r text old new x reasons captured ended same is = subst (RunsText reasons captured text old new) (sym ended) (inl (is, same))
 
-pub script_run : (r : Result Unit Refusal) (text table script : List ℕ) (reasons : Reasons) (t : Contents) (old new : Option (List ℕ)) → Splits text table script → StatesMachine table t
-    → RunsScript reasons t script old new r → RunsText reasons text old new r
-script_run r text table script reasons t old new split states (inl (lines, read, runs)) =
-    simulated r text old new reasons t lines (record { table = table; script = script; split = split; states = states; read = read }) runs
-script_run r text table script reasons t old new split states (inr (x, ended, is, same)) =
-    script_refused r text old new x reasons ended same (table, script, split, half_of_script table script t x states is)
+pub script_run : (r : Result Unit Refusal) (text table script : List ℕ) (reasons : Reasons) (captured : Bool) (t : Contents) (old new : OutputState) → Splits text table script → StatesMachine table t
+    → RunsScript reasons captured t script old new r → RunsText reasons captured text old new r
+script_run r text table script reasons captured t old new split states (inl (lines, read, runs)) =
+    simulated r text old new reasons captured t lines (record { table = table; script = script; split = split; states = states; read = read }) runs
+script_run r text table script reasons captured t old new split states (inr (x, ended, is, same)) =
+    script_refused r text old new x reasons captured ended same (table, script, split, half_of_script table script t x states is)
 
 pub on_err : {P : Type 0} (r : Result Unit Refusal) → P → OnErr r P
 on_err (Ok done) p = tt
@@ -338,29 +330,50 @@ on_err (Err e) p = p
 -- ---- a capture
 
 -- before its file is open nothing is printed
-pub none_some : (reasons : Reasons) (t : Contents) (w : WorldState) (lines : List Line) (old : Option (List ℕ)) → PrintsSome reasons t w lines old old
+pub none_some : (reasons : Reasons) (t : Contents) (w : WorldState) (lines : List Line) (old : OutputState) → PrintsSome reasons t w lines old old
 none_some reasons t w lines old = part_none reasons t w (repeated lines) old
 
 -- all that is printed is a first part of it
-pub all_part : (reasons : Reasons) (t : Contents) (w last : WorldState) (lines : List Line) (unmet : ℕ) (old new : Option (List ℕ)) → PrintsAll reasons t w lines last unmet old new → PrintsPart reasons t w lines old new
+pub all_part : (reasons : Reasons) (t : Contents) (w last : WorldState) (lines : List Line) (unmet : ℕ) (old new : OutputState) → PrintsAll reasons t w lines last unmet old new → PrintsPart reasons t w lines old new
 all_part reasons t w last lines unmet old new h = record {
   count = length lines;
   last = last;
   printed = h.printed;
   unmet = unmet;
   says = subst (λ (ls : List Line). Says reasons t w ls last h.printed unmet) (sym (take_all (length lines) lines (omega arith))) h.says;
-  appends = whole_part old new h.printed h.appends;
+  appends = texts.whole old new h.printed h.appends;
 }
 
-pub lines_some : (reasons : Reasons) (t : Contents) (w : WorldState) (lines : List Line) (unmet : ℕ) (old new : Option (List ℕ)) → PrintsLines reasons t w lines unmet old new → PrintsSome reasons t w lines old new
+pub lines_some : (reasons : Reasons) (t : Contents) (w : WorldState) (lines : List Line) (unmet : ℕ) (old new : OutputState) → PrintsLines reasons t w lines unmet old new → PrintsSome reasons t w lines old new
 lines_some reasons t w lines unmet old new h = all_part reasons t w h.0 (repeated lines) unmet old new h.1
 
-pub counted_some_lines : (r : Result ℕ Refusal) (reasons : Reasons) (t : Contents) (w : WorldState) (lines : List Line) (old new : Option (List ℕ))
+pub counted_some_lines : (r : Result ℕ Refusal) (reasons : Reasons) (t : Contents) (w : WorldState) (lines : List Line) (old new : OutputState)
     → IfOk r (λ count. (unmet : ℕ) × (count ≡ counted unmet) × PrintsLines reasons t w lines unmet old new) → IfOk r (λ count. PrintsSome reasons t w lines old new)
 counted_some_lines (Ok count) reasons t w lines old new (unmet, is, all) = lines_some reasons t w lines unmet old new all
 counted_some_lines (Err e) reasons t w lines old new all = tt
 
 -- a capture that can't be opened cuts a script short
-pub unopened_late : (x : Refusal) → IsUnopened x → IsLate x
-unopened_late x (inl is) = subst IsLate (sym is) tt
-unopened_late x (inr is) = subst IsLate (sym is) tt
+pub unopened_late : (output : OutputState) (x : Refusal) → IsUnopened x → IsLate true output x
+unopened_late output x (inl is) = subst (IsLate true output) (sym is) (inr refl)
+unopened_late output x (inr is) = subst (IsLate true output) (sym is) tt
+
+-- what ends a run without one ends a run with one
+pub late_captured : {T : Type 0} (r : Result T Refusal) (output : OutputState) → IfErr r (IsLate false output) → IfErr r (IsLate true output)
+late_captured (Ok x) output late = tt
+late_captured (Err Memory) output late = tt
+late_captured (Err refusal.Output) output (inl refused) = inl refused
+late_captured (Err refusal.Output) output (inr none) = inr refl
+late_captured (Err (refusal.Frame e)) output late = absurd late
+late_captured (Err (refusal.Table e)) output late = absurd late
+late_captured (Err (refusal.Link e)) output late = absurd late
+late_captured (Err (refusal.Start e)) output late = absurd late
+late_captured (Err (refusal.Run e)) output late = absurd late
+late_captured (Err refusal.Socket) output late = absurd late
+late_captured (Err (refusal.Script e)) output late = absurd late
+late_captured (Err refusal.BadHex) output late = absurd late
+late_captured (Err refusal.Input) output late = absurd late
+late_captured (Err (refusal.Unmet n)) output late = absurd late
+
+-- a refused write ends one
+pub refused_late : (output : OutputState) (x : Refusal) → output.is_refused ≡ true → x ≡ refusal.Output → IsLate false output x
+refused_late output x refused is = subst (IsLate false output) (sym is) (inl refused)

@@ -1,6 +1,5 @@
 -- What `ecat sim` answers (this project's profile).
-use Rattle.std.specs.Prelude.{◌≡◌, ◌⊎◌, ℕ, ◌+◌, List, [], ◌∷◌, ◌++◌, take, if◌then◌else◌, Option, Result, Ok, Err}
-use Rattle.std.specs.Io.KnownBytes.{Appends}
+use Rattle.std.specs.Prelude.{◌≡◌, ◌⊎◌, ℕ, ◌+◌, List, [], ◌∷◌, ◌++◌, take, if◌then◌else◌, Bool, Result, Ok, Err}
 use Rattle.ec_table.specs.Contents.{Contents}
 use Rattle.ec_link.specs.Machine.{StatesMachine}
 use Rattle.ec_world.specs.Whole.{IsOfMachine}
@@ -17,8 +16,9 @@ use Rattle.ec_why.specs.declared.wanted.Reasons.{Reasons}
 use Rattle.ec_why.specs.Reasons.{IsWhy}
 use Rattle.ec_console.specs.declared.refusal.Refusal.{Refusal}
 use Rattle.ec_console.specs.declared.refusal.Refusal.TheVariants.{Memory, Output, Script}
-use Rattle.ec_console.specs.Given.{GivesText, IsInputRefusal, IsTableRefusal}
-use Rattle.ec_console.specs.Printing.{AppendsPart}
+use Rattle.ec_console.specs.Given.{Given, GivesText, IsInputRefusal, IsTableRefusal}
+use Rattle.ec_console.specs.Printing.{IsPartPrinted, IsPrinted, OutputState}
+use Rattle.ec_console.specs.Capturing.{IsUnwritten}
 use Rattle.ec_console.specs.Unmet.{EndsUnmet}
 
 -- ---- lines
@@ -46,32 +46,32 @@ Says reasons t w (line ∷ lines) new printed unmet = (mid : WorldState) × (tex
     × SaysLine reasons t w line mid text one × Says reasons t mid lines new more rest × (printed ≡ text ++ more) × (unmet ≡ one + rest)
 
 -- these lines are printed
-pub record PrintsAll (reasons : Reasons) (t : Contents) (w : WorldState) (lines : List Line) (last : WorldState) (unmet : ℕ) (old new : Option (List ℕ)) : Type 0 where
+pub record PrintsAll (reasons : Reasons) (t : Contents) (w : WorldState) (lines : List Line) (last : WorldState) (unmet : ℕ) (old new : OutputState) : Type 0 where
   pub printed : List ℕ
   pub says : Says reasons t w lines last printed unmet
-  pub appends : Appends old new printed
+  pub appends : IsPrinted old new printed
 
 -- a first part is printed of what some first of these lines say
-pub record PrintsPart (reasons : Reasons) (t : Contents) (w : WorldState) (lines : List Line) (old new : Option (List ℕ)) : Type 0 where
+pub record PrintsPart (reasons : Reasons) (t : Contents) (w : WorldState) (lines : List Line) (old new : OutputState) : Type 0 where
   pub count : ℕ
   pub last : WorldState
   pub printed : List ℕ
   pub unmet : ℕ
   pub says : Says reasons t w (take count lines) last printed unmet
-  pub appends : AppendsPart old new printed
+  pub appends : IsPartPrinted old new printed
 
 -- the lines of a script are printed, each as often as it is done
-abbrev pub PrintsLines : Reasons → Contents → WorldState → List Line → ℕ → Option (List ℕ) → Option (List ℕ) → Type 0
+abbrev pub PrintsLines : Reasons → Contents → WorldState → List Line → ℕ → (old new : OutputState) → Type 0
 PrintsLines reasons t w lines unmet old new = (last : WorldState) × PrintsAll reasons t w (repeated lines) last unmet old new
 
-abbrev pub PrintsSome : Reasons → Contents → WorldState → List Line → Option (List ℕ) → Option (List ℕ) → Type 0
+abbrev pub PrintsSome : Reasons → Contents → WorldState → List Line → (old new : OutputState) → Type 0
 PrintsSome reasons t w lines old new = PrintsPart reasons t w (repeated lines) old new
 
--- what can end a script that runs
-abbrev pub IsLate : Refusal → Type 0
-IsLate Memory = Unit {0}
-IsLate Output = Unit {0}
-IsLate _ = ⊥
+-- what can end a script that runs, by whether there is a capture and what the output is then; memory may run out at any time
+abbrev pub IsLate : (captured : Bool) → OutputState → Refusal → Type 0
+IsLate captured output Memory = Unit {0}
+IsLate captured output Output = IsUnwritten captured output
+IsLate captured output _ = ⊥
 
 -- ---- the whole
 
@@ -86,11 +86,11 @@ pub record IsSimulation (text : List ℕ) (t : Contents) (lines : List Line) : T
 -- the lines run over slaves of the table that are switched on, and what they say is printed, where what they expect is so; or
 -- it isn't, so many times; or a script that runs is cut short, and what it said until then is printed; or memory is refused
 -- before the first line
-abbrev pub RunsLines : Reasons → Contents → List Line → Option (List ℕ) → Option (List ℕ) → Result Unit Refusal → Type 0
-RunsLines reasons t lines old new (Ok done) = (w : WorldState) × IsOfMachine t w × PrintsLines reasons t w lines 0 old new
-RunsLines reasons t lines old new (Err refusal) =
+abbrev pub RunsLines : Reasons → (captured : Bool) → Contents → List Line → (old new : OutputState) → Result Unit Refusal → Type 0
+RunsLines reasons captured t lines old new (Ok done) = (w : WorldState) × IsOfMachine t w × PrintsLines reasons t w lines 0 old new
+RunsLines reasons captured t lines old new (Err refusal) =
     ((refusal ≡ Memory) × (new ≡ old))
-    ⊎ ((IsLate refusal × (w : WorldState) × IsOfMachine t w × PrintsSome reasons t w lines old new)
+    ⊎ ((IsLate captured new refusal × (w : WorldState) × IsOfMachine t w × PrintsSome reasons t w lines old new)
     ⊎ EndsUnmet refusal (λ unmet. (w : WorldState) × IsOfMachine t w × PrintsLines reasons t w lines unmet old new))
 
 -- the first fault of the table, or of its plan, or the first bad line of the script, in this order
@@ -113,17 +113,17 @@ pub record Simulates (text : List ℕ) (Printed : Contents → WorldState → Li
   pub begins : IsOfMachine t world
   pub printed : Printed t world lines
 
--- how it ends, by what the writer holds before and after: all is printed, and what is expected is so; or it isn't, so many
+-- how it ends, by what the output is before and after, and whether there is a capture: all is printed, and what is expected is so; or it isn't, so many
 -- times; or nothing is printed, since the text is refused; or a script that runs is cut short, and what it said until then is
 -- printed
-abbrev pub RunsText : Reasons → List ℕ → Option (List ℕ) → Option (List ℕ) → Result Unit Refusal → Type 0
-RunsText reasons text old new (Ok done) = Simulates text (λ t w lines. PrintsLines reasons t w lines 0 old new)
-RunsText reasons text old new (Err refusal) =
+abbrev pub RunsText : Reasons → (captured : Bool) → List ℕ → (old new : OutputState) → Result Unit Refusal → Type 0
+RunsText reasons captured text old new (Ok done) = Simulates text (λ t w lines. PrintsLines reasons t w lines 0 old new)
+RunsText reasons captured text old new (Err refusal) =
     (IsSimRefusal text refusal × (new ≡ old))
-    ⊎ ((IsLate refusal × Simulates text (λ t w lines. PrintsSome reasons t w lines old new))
+    ⊎ ((IsLate captured new refusal × Simulates text (λ t w lines. PrintsSome reasons t w lines old new))
     ⊎ EndsUnmet refusal (λ unmet. Simulates text (λ t w lines. PrintsLines reasons t w lines unmet old new)))
 
 -- the same of what the input gives; or the input is refused
-abbrev pub RunsSim : Reasons → Option (List ℕ) → Option (List ℕ) → Option (List ℕ) → Result Unit Refusal → Type 0
-RunsSim reasons known old new ended =
-    ((text : List ℕ) × GivesText known text × RunsText reasons text old new ended) ⊎ ((refusal : Refusal) × (ended ≡ Err refusal) × IsInputRefusal known refusal × (new ≡ old))
+abbrev pub RunsSim : Reasons → (captured : Bool) → Given → (old new : OutputState) → Result Unit Refusal → Type 0
+RunsSim reasons captured given old new ended =
+    ((text : List ℕ) × GivesText given text × RunsText reasons captured text old new ended) ⊎ ((refusal : Refusal) × (ended ≡ Err refusal) × IsInputRefusal given refusal × (new ≡ old))

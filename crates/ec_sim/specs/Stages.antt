@@ -1,10 +1,11 @@
 -- What private code answers once a table was read; none of it is needed to read what is printed.
-use Rattle.std.specs.Prelude.{◌≡◌, ◌⊎◌, ℕ, List, ◌++◌, Option, Result, Ok, Err}
+use Rattle.std.specs.Prelude.{◌≡◌, ◌⊎◌, ℕ, Bool, List, ◌++◌, Result, Ok, Err}
 use Rattle.ec_table.specs.Contents.{Contents}
 use Rattle.ec_script.specs.declared.line.Line.{Line}
 use Rattle.ec_script.specs.Scripts.{Fails as ScriptFails, script_of}
 use Rattle.ec_console.specs.declared.refusal.Refusal.{Refusal}
 use Rattle.ec_console.specs.declared.refusal.Refusal.TheVariants.{Memory, Script}
+use Rattle.ec_console.specs.Printing.{OutputState}
 use Rattle.ec_why.specs.declared.wanted.Reasons.{Reasons}
 use Rattle.ec_why.specs.Reasons.{IsWhy}
 use Rattle.ec_sim.specs.Simulating.{RunsLines}
@@ -23,7 +24,7 @@ IsBadScript t script (Script error) = ScriptFails error (script_of t script)
 IsBadScript t script _ = ⊥
 
 -- a script is read and run over slaves of a machine; or it is refused
-abbrev pub RunsScript : Reasons → Contents → List ℕ → Option (List ℕ) → Option (List ℕ) → Result Unit Refusal → Type 0
-RunsScript reasons t script old new ended =
-    ((lines : List Line) × (script_of t script ≡ Ok lines) × RunsLines reasons t lines old new ended)
+abbrev pub RunsScript : Reasons → (captured : Bool) → Contents → List ℕ → (old new : OutputState) → Result Unit Refusal → Type 0
+RunsScript reasons captured t script old new ended =
+    ((lines : List Line) × (script_of t script ≡ Ok lines) × RunsLines reasons captured t lines old new ended)
     ⊎ ((refusal : Refusal) × (ended ≡ Err refusal) × IsBadScript t script refusal × (new ≡ old))

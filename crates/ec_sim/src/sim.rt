@@ -1,15 +1,16 @@
 //! `ecat sim`: a link table and a script on the input, and what the script does to a simulated segment of the table.
-ghost use Rattle.std.specs.Prelude.{◌≡◌, ◌∷◌, [], ℕ, IfErr, IfOk, OnErr, string_bytes, if◌then◌else◌, replicate};
+ghost use Rattle.std.specs.Prelude.{◌≡◌, ◌∷◌, [], ℕ, IfErr, IfOk, OnErr, false, is_some, option_map, string_bytes, true, if◌then◌else◌, replicate};
 ghost use Rattle.ec_console.specs.Explaining.{IsLeft};
 ghost use Rattle.ec_sim.specs.Simulating.{IsLate, PrintsAll, PrintsLines, PrintsPart, PrintsSome, RunsLines, RunsSim, RunsText};
 ghost use Rattle.ec_console.specs.Unmet.{counted};
 ghost use Rattle.ec_script.specs.Seeing.{Sees};
 ghost use Rattle.ec_sim.specs.Capturing.{NotesRun};
 ghost use Rattle.ec_sim.specs.Stages.{IsLineText, RunsScript};
+ghost use Rattle.ec_console.specs.Given.{given_by};
 
 use ec_console::{
-    Explanation, Recording, Refusal, end_of, finish_recording, open_segment, print_text,
-    read_machine, read_text,
+    Explanation, InputStream, OutputStream, Recording, Refusal, end_of, finish_recording,
+    open_segment, print_text, read_machine, read_text,
 };
 use ec_link::Machine;
 use ec_script::{Line, LineOutput, output_text, read_script, split_script, watch_act};
@@ -27,21 +28,21 @@ use std::io::{Read, Write};
 /// # Errors
 ///
 /// `Refusal::Memory` or `Refusal::Output`, which cut the line short, after what was printed until then.
-pub fn print_line<S: Watcher, W: Write>(
+pub fn print_line<S: Watcher, W: Write + Drop>(
     alloc: Global,
     table: &Table,
     reasons: Reasons,
     world: &mut World<'_>,
     watcher: &mut S,
     line: &Line,
-    output: &mut W,
+    output: &mut OutputStream<W>,
 ) -> Result<u64, Refusal>
     ensures all { IfOk result (λ count. (unmet : ℕ) × (count ≡ counted unmet)
         × PrintsAll reasons table.now world.old (replicate line.now.times line.now) world.new unmet
-        (W.contents output.old) (W.contents output.new)) }
+        output.old output.new) }
     ensures part { OnErr result (PrintsPart reasons table.now world.old
-        (replicate line.now.times line.now) (W.contents output.old) (W.contents output.new)) }
-    ensures late { IfErr result IsLate }
+        (replicate line.now.times line.now) output.old output.new) }
+    ensures late { IfErr result (IsLate false output.new) }
     ensures plan { world.new.plan ≡ world.old.plan }
     ensures seen { Sees S.saw watcher.old world.old world.new watcher.new }
 {
@@ -62,21 +63,21 @@ pub fn print_line<S: Watcher, W: Write>(
 ///
 /// `Refusal::Memory` or `Refusal::Output`, which cut the run short: what was noted is that of the run until then.
 #[tactic(auto, using(crate::proofs::Noting::run_noted))]
-pub fn print_noted<F: Write + Drop, W: Write>(
+pub fn print_noted<F: Write + Drop, W: Write + Drop>(
     alloc: Global,
     table: &Table,
     reasons: Reasons,
     world: &mut World<'_>,
     watch: &mut Watch<F>,
     lines: &[Line],
-    output: &mut W,
+    output: &mut OutputStream<W>,
 ) -> Result<u64, Refusal>
     ensures all { IfOk result (λ count. (unmet : ℕ) × (count ≡ counted unmet)
         × PrintsLines reasons table.now world.old lines.now unmet
-        (W.contents output.old) (W.contents output.new)) }
+        output.old output.new) }
     ensures part { OnErr result (PrintsSome reasons table.now world.old lines.now
-        (W.contents output.old) (W.contents output.new)) }
-    ensures late { IfErr result IsLate }
+        output.old output.new) }
+    ensures late { IfErr result (IsLate false output.new) }
     ensures noted { NotesRun watch.old world.old world.new watch.new }
 {
     print_lines(alloc, table, reasons, world, watch, lines, output)
@@ -93,16 +94,16 @@ pub fn print_noted<F: Write + Drop, W: Write>(
 /// `Refusal::Memory` or `Refusal::Output` where memory or a write was refused, after what was printed until then;
 /// `Refusal::Output` too where the file couldn't be opened, before a line runs, or couldn't be written to the end; and
 /// `Refusal::Unmet` where what lines expect isn't so.
-pub fn print_sim<H: AllocGlobal + Files, R: Read, W: Write>(
+pub fn print_sim<H: AllocGlobal + Files, R: Read + Drop, W: Write + Drop>(
     rt: &H,
     reasons: Reasons,
     file: Option<&str>,
-    input: &mut R,
-    output: &mut W,
+    input: &mut InputStream<R>,
+    output: &mut OutputStream<W>,
     behind: &mut Explanation,
 ) -> Result<(), Refusal>
-    ensures runs { RunsSim reasons (R.remaining input.old) (W.contents output.old)
-        (W.contents output.new) result }
+    ensures runs { RunsSim reasons (is_some (option_map (λ x. x.now) file.entry)) (given_by R.remaining input.old input.new) output.old
+        output.new result }
     ensures explains { IsLeft behind.old behind.new }
 {
     let text = read_text(rt.alloc(), input)?;
@@ -114,20 +115,21 @@ pub fn print_sim<H: AllocGlobal + Files, R: Read, W: Write>(
 }
 
 /// Does a line once, prints what there is to say, and answers whether what it expects isn't so.
-fn print_once<S: Watcher, W: Write>(
+#[tactic(auto, using(crate::proofs::SimLemmas::refused_late))]
+fn print_once<S: Watcher, W: Write + Drop>(
     alloc: Global,
     table: &Table,
     reasons: Reasons,
     world: &mut World<'_>,
     watcher: &mut S,
     line: &Line,
-    output: &mut W,
+    output: &mut OutputStream<W>,
 ) -> Result<bool, Refusal>
     ensures all { IfOk result (λ unmet. PrintsAll reasons table.now world.old (line.now ∷ []) world.new
-        (if unmet then 1 else 0) (W.contents output.old) (W.contents output.new)) }
+        (if unmet then 1 else 0) output.old output.new) }
     ensures part { OnErr result (PrintsPart reasons table.now world.old (line.now ∷ [])
-        (W.contents output.old) (W.contents output.new)) }
-    ensures late { IfErr result IsLate }
+        output.old output.new) }
+    ensures late { IfErr result (IsLate false output.new) }
     ensures plan { world.new.plan ≡ world.old.plan }
     ensures seen { Sees S.saw watcher.old world.old world.new watcher.new }
 {
@@ -164,21 +166,21 @@ fn line_text(
 
 /// Runs the lines of a script over a world of a table, each as often as it is to be done, prints of each what there is to say
 /// before the next one runs, and answers how often what they expect isn't so.
-fn print_lines<S: Watcher, W: Write>(
+fn print_lines<S: Watcher, W: Write + Drop>(
     alloc: Global,
     table: &Table,
     reasons: Reasons,
     world: &mut World<'_>,
     watcher: &mut S,
     lines: &[Line],
-    output: &mut W,
+    output: &mut OutputStream<W>,
 ) -> Result<u64, Refusal>
     ensures all { IfOk result (λ count. (unmet : ℕ) × (count ≡ counted unmet)
         × PrintsLines reasons table.now world.old lines.now unmet
-        (W.contents output.old) (W.contents output.new)) }
+        output.old output.new) }
     ensures part { OnErr result (PrintsSome reasons table.now world.old lines.now
-        (W.contents output.old) (W.contents output.new)) }
-    ensures late { IfErr result IsLate }
+        output.old output.new) }
+    ensures late { IfErr result (IsLate false output.new) }
     ensures seen { Sees S.saw watcher.old world.old world.new watcher.new }
 {
     let mut unmet: u64 = 0;
@@ -191,21 +193,21 @@ fn print_lines<S: Watcher, W: Write>(
 
 /// Runs the lines of a script as `print_lines` does; the frames of the world go into a capture, if a file is named.
 #[tactic(auto, using(crate::proofs::SimLemmas::none_some, crate::proofs::SimLemmas::unopened_late))]
-fn print_watched<H: AllocGlobal + Files, W: Write>(
+fn print_watched<H: AllocGlobal + Files, W: Write + Drop>(
     rt: &H,
     table: &Table,
     reasons: Reasons,
     world: &mut World<'_>,
     lines: &[Line],
     file: Option<&str>,
-    output: &mut W,
+    output: &mut OutputStream<W>,
 ) -> Result<u64, Refusal>
     ensures all { IfOk result (λ count. (unmet : ℕ) × (count ≡ counted unmet)
         × PrintsLines reasons table.now world.old lines.now unmet
-        (W.contents output.old) (W.contents output.new)) }
+        output.old output.new) }
     ensures part { OnErr result (PrintsSome reasons table.now world.old lines.now
-        (W.contents output.old) (W.contents output.new)) }
-    ensures late { IfErr result IsLate }
+        output.old output.new) }
+    ensures late { IfErr result (IsLate (is_some (option_map (λ x. x.now) file.entry)) output.new) }
 {
     let Some(file) = file else {
         return print_lines(
@@ -224,21 +226,21 @@ fn print_watched<H: AllocGlobal + Files, W: Write>(
 
 /// Runs the lines of a script as `print_lines` does; the frames of the world go into a capture that is open, which is then
 /// written to the end.
-fn print_captured<F: Write + Drop, W: Write>(
+fn print_captured<F: Write + Drop, W: Write + Drop>(
     alloc: Global,
     table: &Table,
     reasons: Reasons,
     world: &mut World<'_>,
     recording: Recording<F>,
     lines: &[Line],
-    output: &mut W,
+    output: &mut OutputStream<W>,
 ) -> Result<u64, Refusal>
     ensures all { IfOk result (λ count. (unmet : ℕ) × (count ≡ counted unmet)
         × PrintsLines reasons table.now world.old lines.now unmet
-        (W.contents output.old) (W.contents output.new)) }
+        output.old output.new) }
     ensures part { OnErr result (PrintsSome reasons table.now world.old lines.now
-        (W.contents output.old) (W.contents output.new)) }
-    ensures late { IfErr result IsLate }
+        output.old output.new) }
+    ensures late { IfErr result (IsLate true output.new) }
 {
     let mut watch = Watch::new(recording);
     let ended = print_noted(alloc, table, reasons, world, &mut watch, lines, output);
@@ -246,14 +248,14 @@ fn print_captured<F: Write + Drop, W: Write>(
 }
 
 /// Runs the script of a text over a segment of its machine, and prints what it says.
-fn run_text<H: AllocGlobal + Files, W: Write>(
+fn run_text<H: AllocGlobal + Files, W: Write + Drop>(
     rt: &H,
     file: Option<&str>,
     text: &str,
     reasons: Reasons,
-    output: &mut W,
+    output: &mut OutputStream<W>,
 ) -> Result<(), Refusal>
-    ensures { RunsText reasons text.now (W.contents output.old) (W.contents output.new) result }
+    ensures { RunsText reasons (is_some (option_map (λ x. x.now) file.entry)) text.now output.old output.new result }
 {
     let (head, script) = split_script(text);
     let machine = read_machine(rt.alloc(), head)?;
@@ -261,15 +263,15 @@ fn run_text<H: AllocGlobal + Files, W: Write>(
 }
 
 /// Reads a script and runs it over a new segment of a machine, and prints what it says.
-fn run_script<H: AllocGlobal + Files, W: Write>(
+fn run_script<H: AllocGlobal + Files, W: Write + Drop>(
     rt: &H,
     file: Option<&str>,
     machine: &Machine,
     reasons: Reasons,
     script: &str,
-    output: &mut W,
+    output: &mut OutputStream<W>,
 ) -> Result<(), Refusal>
-    ensures { RunsScript reasons machine.now script.now (W.contents output.old) (W.contents output.new)
+    ensures { RunsScript reasons (is_some (option_map (λ x. x.now) file.entry)) machine.now script.now output.old output.new
         result }
 {
     let lines = read_script(rt.alloc(), machine.table(), script)?;
@@ -277,15 +279,15 @@ fn run_script<H: AllocGlobal + Files, W: Write>(
 }
 
 /// Runs the lines of a script over a new segment of a machine, and prints what they say.
-fn run_lines<H: AllocGlobal + Files, W: Write>(
+fn run_lines<H: AllocGlobal + Files, W: Write + Drop>(
     rt: &H,
     file: Option<&str>,
     machine: &Machine,
     reasons: Reasons,
     lines: &[Line],
-    output: &mut W,
+    output: &mut OutputStream<W>,
 ) -> Result<(), Refusal>
-    ensures { RunsLines reasons machine.now lines.now (W.contents output.old) (W.contents output.new) result }
+    ensures { RunsLines reasons (is_some (option_map (λ x. x.now) file.entry)) machine.now lines.now output.old output.new result }
 {
     let table = machine.table();
     let mut world = World::of_machine(rt.alloc(), machine)?;

@@ -1,6 +1,5 @@
 -- What `ecat decode` and `ecat encode` print (this project's profile).
 use Rattle.std.specs.Prelude.{◌≡◌, ◌⊎◌, ℕ, List, Bool, true, false, Option, Result, Ok, Err}
-use Rattle.std.specs.Io.KnownBytes.{Appends}
 use Rattle.std.specs.Str.Lines.{lines}
 use Rattle.ec_frame.specs.Frame.{Payload}
 use Rattle.ec_decode.specs.Answers.{AreSpelled, DecodesLines}
@@ -8,21 +7,21 @@ use Rattle.ec_decode.specs.Reading.{frames_of}
 use Rattle.ec_script.specs.declared.error.ScriptError.TheVariants as script
 use Rattle.ec_console.specs.declared.refusal.Refusal.{Refusal}
 use Rattle.ec_console.specs.declared.refusal.Refusal.TheVariants.{Memory, Script, BadHex, Output}
-use Rattle.ec_console.specs.Given.{GivesText, IsInputRefusal}
-use Rattle.ec_console.specs.Printing.{AppendsPart, Prints}
+use Rattle.ec_console.specs.Given.{Given, GivesText, IsInputRefusal}
+use Rattle.ec_console.specs.Printing.{IsCutOff, IsPrinted, OutputState, Prints}
 
 -- what is printed of the lines that the input gives, up to the first that isn't hex; and whether there is none
-pub record Decodes (given : Option (List ℕ)) (printed : List ℕ) (whole : Bool) : Type 0 where
+pub record Decodes (given : Given) (printed : List ℕ) (whole : Bool) : Type 0 where
   pub text : List ℕ
   pub gives : GivesText given text
   pub decodes : DecodesLines (lines text) printed whole
 
 -- `ecat decode`: all lines are printed; or those before the first that isn't hex; or a write was refused, and a first part of
 -- them is; or the input is refused, and nothing is printed
-abbrev pub RunsDecode : (given old new : Option (List ℕ)) → Result Unit Refusal → Type 0
-RunsDecode given old new (Ok done) = (printed : List ℕ) × Decodes given printed true × Appends old new printed
-RunsDecode given old new (Err BadHex) = (printed : List ℕ) × Decodes given printed false × Appends old new printed
-RunsDecode given old new (Err Output) = (printed : List ℕ) × (whole : Bool) × Decodes given printed whole × AppendsPart old new printed
+abbrev pub RunsDecode : (given : Given) → (old new : OutputState) → Result Unit Refusal → Type 0
+RunsDecode given old new (Ok done) = (printed : List ℕ) × Decodes given printed true × IsPrinted old new printed
+RunsDecode given old new (Err BadHex) = (printed : List ℕ) × Decodes given printed false × IsPrinted old new printed
+RunsDecode given old new (Err Output) = (printed : List ℕ) × (whole : Bool) × Decodes given printed whole × IsCutOff old new printed
 RunsDecode given old new (Err refusal) = IsInputRefusal given refusal × (new ≡ old)
 
 -- the frames of a text in hex, a line for each
@@ -36,11 +35,11 @@ IsOutOfForm text (Script (script.BadScript n)) = frames_of text ≡ Err n
 IsOutOfForm text _ = ⊥
 
 -- `ecat encode`
-abbrev pub AnswersEncode : Option (List ℕ) → List ℕ → Type 0
+abbrev pub AnswersEncode : Given → List ℕ → Type 0
 AnswersEncode given printed = (text : List ℕ) × GivesText given text × IsEncoded text printed
 
-abbrev pub RefusesEncode : Option (List ℕ) → Refusal → Type 0
+abbrev pub RefusesEncode : Given → Refusal → Type 0
 RefusesEncode given refusal = IsInputRefusal given refusal ⊎ ((text : List ℕ) × GivesText given text × IsOutOfForm text refusal)
 
-abbrev pub RunsEncode : (given old new : Option (List ℕ)) → Result Unit Refusal → Type 0
+abbrev pub RunsEncode : (given : Given) → (old new : OutputState) → Result Unit Refusal → Type 0
 RunsEncode given = Prints (AnswersEncode given) (RefusesEncode given)

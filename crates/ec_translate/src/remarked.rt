@@ -3,10 +3,11 @@ ghost use Rattle.std.specs.Prelude.{IfErr, option_map};
 ghost use Rattle.std.specs.Option.{ForSome};
 ghost use Rattle.ec_link.specs.Usable.{IsUsable};
 ghost use Rattle.ec_translate.specs.Remarking.{IsUnread, RunsByFile, RunsByText, RunsDecodeWith, RunsRemarked, RunsWith};
+ghost use Rattle.ec_console.specs.Given.{given_by};
 
 use crate::translate::print_decode;
 use ec_annotate::{Links, Names, annotate_text};
-use ec_console::{Refusal, print_text, read_machine, read_text};
+use ec_console::{InputStream, OutputStream, Refusal, print_text, read_machine, read_text};
 use ec_link::Machine;
 use std::alloc::Global;
 use std::fs::{File, Files};
@@ -20,15 +21,15 @@ use std::io::{Read, Write};
 ///
 /// `Refusal::Input` where the file can't be read, or the refusal of the table in it, and nothing is
 /// printed; else those of `print_decode`.
-pub fn print_remarked<H: AllocGlobal + Files, R: Read, W: Write>(
+pub fn print_remarked<H: AllocGlobal + Files, R: Read + Drop, W: Write + Drop>(
     rt: &H,
     table: Option<&str>,
     names: Names,
-    input: &mut R,
-    output: &mut W,
+    input: &mut InputStream<R>,
+    output: &mut OutputStream<W>,
 ) -> Result<(), Refusal>
-    ensures { RunsWith (option_map (λ x. x.now) table.entry) (R.remaining input.old) (W.contents output.old)
-        (W.contents output.new) result }
+    ensures { RunsWith (option_map (λ x. x.now) table.entry) (given_by R.remaining input.old input.new) output.old
+        output.new result }
 {
     match table {
         Some(path) => print_by_file(rt, path, names, input, output),
@@ -42,15 +43,15 @@ pub fn print_remarked<H: AllocGlobal + Files, R: Read, W: Write>(
 /// # Errors
 ///
 /// Those of the one that is called.
-pub fn print_payloads<H: AllocGlobal + Files, R: Read, W: Write>(
+pub fn print_payloads<H: AllocGlobal + Files, R: Read + Drop, W: Write + Drop>(
     rt: &H,
     table: Option<&str>,
     names: Names,
-    input: &mut R,
-    output: &mut W,
+    input: &mut InputStream<R>,
+    output: &mut OutputStream<W>,
 ) -> Result<(), Refusal>
-    ensures { RunsDecodeWith (option_map (λ x. x.now) table.entry) names (R.remaining input.old)
-        (W.contents output.old) (W.contents output.new) result }
+    ensures { RunsDecodeWith (option_map (λ x. x.now) table.entry) names (given_by R.remaining input.old input.new)
+        output.old output.new result }
 {
     match (table, names) {
         (None, Names::Untold) => print_decode(rt.alloc(), input, output),
@@ -59,14 +60,14 @@ pub fn print_payloads<H: AllocGlobal + Files, R: Read, W: Write>(
 }
 
 /// Prints the input's payloads with remarks by the link table in a file.
-fn print_by_file<H: AllocGlobal + Files, R: Read, W: Write>(
+fn print_by_file<H: AllocGlobal + Files, R: Read + Drop, W: Write + Drop>(
     rt: &H,
     path: &str,
     names: Names,
-    input: &mut R,
-    output: &mut W,
+    input: &mut InputStream<R>,
+    output: &mut OutputStream<W>,
 ) -> Result<(), Refusal>
-    ensures { RunsByFile (R.remaining input.old) (W.contents output.old) (W.contents output.new) result }
+    ensures { RunsByFile (given_by R.remaining input.old input.new) output.old output.new result }
 {
     let text = read_file(rt, path)?;
     print_by_text(rt.alloc(), names, text.as_str(), input, output)
@@ -76,36 +77,36 @@ fn print_by_file<H: AllocGlobal + Files, R: Read, W: Write>(
 fn read_file<H: AllocGlobal + Files>(rt: &H, path: &str) -> Result<String, Refusal>
     ensures { IfErr result IsUnread }
 {
-    let Ok(mut file) = File::open(rt, path) else {
+    let Ok(file) = File::open(rt, path) else {
         return Err(Refusal::Input);
     };
-    read_text(rt.alloc(), &mut file)
+    read_text(rt.alloc(), &mut InputStream::new(file))
 }
 
 /// Prints the input's payloads with remarks by the link table that a text states.
-fn print_by_text<R: Read, W: Write>(
+fn print_by_text<R: Read + Drop, W: Write + Drop>(
     alloc: Global,
     names: Names,
     text: &str,
-    input: &mut R,
-    output: &mut W,
+    input: &mut InputStream<R>,
+    output: &mut OutputStream<W>,
 ) -> Result<(), Refusal>
-    ensures { RunsByText text.now (R.remaining input.old) (W.contents output.old)
-        (W.contents output.new) result }
+    ensures { RunsByText text.now (given_by R.remaining input.old input.new) output.old
+        output.new result }
 {
     let machine = read_machine(alloc, text)?;
     print_linked(alloc, names, &machine, input, output)
 }
 
 /// The same by a machine.
-fn print_linked<R: Read, W: Write>(
+fn print_linked<R: Read + Drop, W: Write + Drop>(
     alloc: Global,
     names: Names,
     machine: &Machine,
-    input: &mut R,
-    output: &mut W,
+    input: &mut InputStream<R>,
+    output: &mut OutputStream<W>,
 ) -> Result<(), Refusal>
-    ensures { RunsRemarked (R.remaining input.old) (W.contents output.old) (W.contents output.new) result }
+    ensures { RunsRemarked (given_by R.remaining input.old input.new) output.old output.new result }
 {
     let links = Links {
         table: machine.table(),
@@ -115,15 +116,15 @@ fn print_linked<R: Read, W: Write>(
 }
 
 /// Prints the input's payloads with remarks.
-fn print_text_remarked<R: Read, W: Write>(
+fn print_text_remarked<R: Read + Drop, W: Write + Drop>(
     alloc: Global,
     names: Names,
     links: Option<Links<'_>>,
-    input: &mut R,
-    output: &mut W,
+    input: &mut InputStream<R>,
+    output: &mut OutputStream<W>,
 ) -> Result<(), Refusal>
     requires { ForSome links (λ links. IsUsable links.plan.now) }
-    ensures { RunsRemarked (R.remaining input.old) (W.contents output.old) (W.contents output.new) result }
+    ensures { RunsRemarked (given_by R.remaining input.old input.new) output.old output.new result }
 {
     let text = read_text(alloc, input)?;
     let remarked = annotate_text(alloc, text.as_str(), names, links)?;

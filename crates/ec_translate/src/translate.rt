@@ -1,8 +1,9 @@
 //! The two commands: the whole input is read, and then its answer is printed.
 ghost use Rattle.std.specs.Prelude.{IfErr, IfOk, string_bytes};
 ghost use Rattle.ec_translate.specs.Translating.{IsEncoded, IsOutOfForm, RunsDecode, RunsEncode};
+ghost use Rattle.ec_console.specs.Given.{given_by};
 
-use ec_console::{Refusal, print_text, read_text};
+use ec_console::{InputStream, OutputStream, Refusal, print_text, read_text};
 use ec_decode::{DecodeError, decode_text, encode_text};
 use ec_script::ScriptError;
 use std::alloc::Global;
@@ -15,12 +16,12 @@ use std::io::{Read, Write};
 ///
 /// `Refusal::BadHex` at the first line that isn't hex, behind the texts of those before it; the refusal of the input;
 /// `Refusal::Output` where a write was refused.
-pub fn print_decode<R: Read, W: Write>(
+pub fn print_decode<R: Read + Drop, W: Write + Drop>(
     alloc: Global,
-    input: &mut R,
-    output: &mut W,
+    input: &mut InputStream<R>,
+    output: &mut OutputStream<W>,
 ) -> Result<(), Refusal>
-    ensures { RunsDecode (R.remaining input.old) (W.contents output.old) (W.contents output.new) result }
+    ensures { RunsDecode (given_by R.remaining input.old input.new) output.old output.new result }
 {
     let text = read_text(alloc, input)?;
     let decoded = decode_text(alloc, text.as_str())?;
@@ -39,12 +40,12 @@ pub fn print_decode<R: Read, W: Write>(
 ///
 /// `Refusal::Script` with the number of the first line that is out of form, or of the one behind the last where datagrams are
 /// missing; the refusal of the input; `Refusal::Output` where a write was refused. Nothing is printed of a text that is refused.
-pub fn print_encode<R: Read, W: Write>(
+pub fn print_encode<R: Read + Drop, W: Write + Drop>(
     alloc: Global,
-    input: &mut R,
-    output: &mut W,
+    input: &mut InputStream<R>,
+    output: &mut OutputStream<W>,
 ) -> Result<(), Refusal>
-    ensures { RunsEncode (R.remaining input.old) (W.contents output.old) (W.contents output.new) result }
+    ensures { RunsEncode (given_by R.remaining input.old input.new) output.old output.new result }
 {
     let text = read_text(alloc, input)?;
     let answer = encoded(alloc, text.as_str())?;

@@ -4,7 +4,7 @@ mod askers;
 mod drivers;
 
 use crate::streams::Sink;
-use ec_console::{Explanation, Refusal};
+use ec_console::{Explanation, InputStream, OutputStream, Refusal};
 use ec_live::print_live;
 use ec_why::Reasons;
 use std::fs::Files;
@@ -12,10 +12,10 @@ use std::io::Read;
 use std::process::Abort;
 
 /// Runs lines as they come behind a table. It promises nothing, so what calls it is quickly checked.
-fn run<H: AllocGlobal + Files, R: Read>(
+fn run<H: AllocGlobal + Files, R: Read + Drop>(
     rt: &H,
-    input: &mut R,
-    output: &mut Sink<'_>,
+    input: &mut InputStream<R>,
+    output: &mut OutputStream<Sink<'_>>,
 ) -> Result<(), Refusal> {
     let mut behind = Explanation::new(rt.alloc(), false);
     print_live(rt, Reasons::Untold, None, input, output, &mut behind)
@@ -25,9 +25,10 @@ fn run<H: AllocGlobal + Files, R: Read>(
 fn expect_ended(
     rt: &impl Abort,
     ended: Result<(), Refusal>,
-    output: &Sink<'_>,
+    output: OutputStream<Sink<'_>>,
     wanted: (Result<(), Refusal>, &str),
 ) {
     let (end, printed) = wanted;
-    assert_eq!(rt; (ended, output.taken.as_slice()), (end, printed.as_bytes()));
+    let taken = output.into_stream().taken;
+    assert_eq!(rt; (ended, taken.as_slice()), (end, printed.as_bytes()));
 }

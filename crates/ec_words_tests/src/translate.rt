@@ -1,8 +1,9 @@
 //! `ecat decode` and `ecat encode` to a writer that is full. What they print and tell stands as cases in
 //! `crates/ecat_cases/data/translates.cases`.
-use crate::streams::{Sink, nothing_handed_on, sink_of, source_of};
-use ec_console::Refusal;
+use crate::streams::{HandedOn, Sink, Source, nothing_handed_on, sink_of, source_of};
+use ec_console::{InputStream, OutputStream, Refusal};
 use ec_translate::{print_decode, print_encode};
+use std::alloc::Global;
 use std::process::Abort;
 
 /// A NOP with ten bytes of data, and a broadcast read of the AL status that three slaves answered.
@@ -17,22 +18,33 @@ frame 2
 ";
 
 /// A command ends so, and the writer is full.
-fn expect_full(rt: &impl Abort, ended: Result<(), Refusal>, output: &Sink<'_>) {
-    assert_eq!(rt; (ended, output.room), (Err(Refusal::Output), 0));
+fn expect_full(rt: &impl Abort, ended: Result<(), Refusal>, output: OutputStream<Sink<'_>>) {
+    let is_refused = output.is_refused();
+    assert_eq!(rt;
+        (ended, is_refused, output.into_stream().room),
+        (Err(Refusal::Output), true, 0)
+    );
+}
+
+/// An output that takes ten bytes.
+fn small_output(alloc: Global, handed_on: &HandedOn) -> OutputStream<Sink<'_>> {
+    let mut sink = sink_of(alloc, handed_on);
+    sink.room = 10;
+    OutputStream::new(sink)
+}
+
+/// An input of a text.
+fn input_of(text: &str) -> InputStream<Source<'_>> {
+    InputStream::new(source_of(text.as_bytes()))
 }
 
 #[test]
 fn a_full_output_is_told(rt: HostRuntime) {
     let handed_on = nothing_handed_on();
-    let mut output = sink_of(rt.alloc(), &handed_on);
-    output.room = 10;
-    let ended = print_decode(rt.alloc(), &mut source_of(CYCLE.as_bytes()), &mut output);
-    expect_full(&rt, ended, &output);
-    output.room = 10;
-    let ended = print_encode(
-        rt.alloc(),
-        &mut source_of(CYCLE_TEXT.as_bytes()),
-        &mut output,
-    );
-    expect_full(&rt, ended, &output);
+    let mut output = small_output(rt.alloc(), &handed_on);
+    let ended = print_decode(rt.alloc(), &mut input_of(CYCLE), &mut output);
+    expect_full(&rt, ended, output);
+    let mut output = small_output(rt.alloc(), &handed_on);
+    let ended = print_encode(rt.alloc(), &mut input_of(CYCLE_TEXT), &mut output);
+    expect_full(&rt, ended, output);
 }

@@ -1,5 +1,5 @@
 //! Runs of the program over memory.
-use ec_commands::{App, FaultStream, run_command};
+use ec_commands::{App, InputStream, OutputStream, run_command};
 use std::fs::Files;
 use std::net::Net;
 use std::time::Clock;
@@ -36,13 +36,13 @@ pub fn run_in_memory<H: AllocGlobal + Net + Files + Clock>(
     input: &[u8],
     slaves: &mut Slaves,
 ) -> Ended {
-    let mut input = input;
-    let mut printed: Vec<u8> = Vec::new(rt.alloc());
-    let mut faults: FaultStream<Vec<u8>> = FaultStream::new(Vec::new(rt.alloc()));
-    let status = run_command(rt, args, &mut input, &mut printed, &mut faults, slaves);
+    let mut input = InputStream::new(input);
+    let mut output: OutputStream<Vec<u8>> = OutputStream::new(Vec::new(rt.alloc()));
+    let mut faults: OutputStream<Vec<u8>> = OutputStream::new(Vec::new(rt.alloc()));
+    let status = run_command(rt, args, &mut input, &mut output, &mut faults, slaves);
     Ended {
         status,
-        printed,
+        printed: output.into_stream(),
         told: faults.into_stream(),
     }
 }

@@ -1,7 +1,7 @@
 //! `ecat loop` over a wire in memory whose calls can fail.
 
 use ec_bringup::slaves_of_machine;
-use ec_commands::{Refusal, run_loop};
+use ec_commands::{OutputStream, Refusal, run_loop};
 use ec_examples::THREE_SLAVES;
 use ec_link::Machine;
 use ec_start::StartError;
@@ -24,7 +24,7 @@ fn run_over(
     alloc: Global,
     machine: &Machine,
     wire: &mut MemoryWire,
-    output: &mut Vec<u8>,
+    output: &mut OutputStream<Vec<u8>>,
 ) -> Result<(), Refusal> {
     run_loop(alloc, machine, wire, 2, output)
 }
@@ -48,9 +48,9 @@ fn wire_of(alloc: Global, machine: &Machine, fails_at: u64) -> Result<MemoryWire
 /// Runs two cycles over a wire that fails, and compares how that ends.
 fn expect_fault<H: AllocGlobal + Abort>(rt: &H, machine: &Machine, fault: &Fault) {
     let mut wire = wire_of(rt.alloc(), machine, fault.0).expect(rt, "memory");
-    let mut output: Vec<u8> = Vec::new(rt.alloc());
+    let mut output: OutputStream<Vec<u8>> = OutputStream::new(Vec::new(rt.alloc()));
     let ended = run_over(rt.alloc(), machine, &mut wire, &mut output);
-    expect_end(rt, ended, output.as_slice(), fault);
+    expect_end(rt, ended, output.into_stream().as_slice(), fault);
 }
 
 /// Does so for each fault.

@@ -2,7 +2,7 @@
 
 use crate::tests::Idle;
 use ec_bringup::slaves_of_machine;
-use ec_commands::{UdpWire, print_served_segment};
+use ec_commands::{OutputStream, UdpWire, print_served_segment};
 use ec_link::Machine;
 use ec_ring::Ring;
 use std::net::{Ipv4Addr, Net, SocketAddr, UdpSocket};
@@ -49,13 +49,16 @@ fn expect_back(rt: &impl Abort, client: &UdpSocket) {
 
 /// Serves two frames, and compares what is printed.
 fn expect_served(rt: &(impl AllocGlobal + Abort), slaves: &mut Ring, wire: &mut UdpWire) {
-    let mut output: Vec<u8> = Vec::new(rt.alloc());
+    let mut output: OutputStream<Vec<u8>> = OutputStream::new(Vec::new(rt.alloc()));
     serve(slaves, wire, &mut output);
-    assert_eq!(rt; output.as_slice(), b"served 2 refused 0\n".as_slice());
+    assert_eq!(rt;
+        output.into_stream().as_slice(),
+        b"served 2 refused 0\n".as_slice()
+    );
 }
 
 /// Serves two frames. What is printed is told by no clause here, so that the comparison behind it carries nothing of it.
-fn serve(slaves: &mut Ring, wire: &mut UdpWire, output: &mut Vec<u8>) {
+fn serve(slaves: &mut Ring, wire: &mut UdpWire, output: &mut OutputStream<Vec<u8>>) {
     let _ = print_served_segment(slaves, &mut Idle, wire, 2, output);
 }
 

@@ -2,7 +2,7 @@
 
 use crate::live::{expect_ended, run};
 use crate::streams::{HandedOn, Sink, nothing_handed_on, sink_of, source_of};
-use ec_console::Refusal;
+use ec_console::{InputStream, OutputStream, Refusal};
 use std::fs::Files;
 use std::io;
 use std::io::{ErrorKind, Read};
@@ -54,34 +54,35 @@ const ASKED: [(&str, usize); 8] = [
 #[test]
 fn answers_before_it_asks(rt: HostRuntime) {
     let handed_on = nothing_handed_on();
-    let mut input = Asking {
+    let mut input = InputStream::new(Asking {
         lines: &ASKED,
         line: 0,
         place: 0,
         handed_on: &handed_on,
-    };
-    let mut output = sink_of(rt.alloc(), &handed_on);
+    });
+    let mut output = OutputStream::new(sink_of(rt.alloc(), &handed_on));
     let ended = run(&rt, &mut input, &mut output);
     let printed = "no 1\nready\nbad 4\nno 5\nno 7\n";
-    expect_ended(&rt, ended, &output, (Ok(()), printed));
+    expect_ended(&rt, ended, output, (Ok(()), printed));
 }
 
 /// Gives ten thousand lines, each once the one before was answered, and answers how the run ended.
 fn drive<H: AllocGlobal + Files>(
     rt: &H,
     handed_on: &HandedOn,
-    output: &mut Sink<'_>,
+    output: &mut OutputStream<Sink<'_>>,
 ) -> Result<(), Refusal> {
-    let mut input = source_of(b"%%\n");
-    input.line = b"expect ready\n";
-    input.left = 10_000;
-    input.awaits = Some(handed_on);
-    run(rt, &mut input, output)
+    let mut source = source_of(b"%%\n");
+    source.line = b"expect ready\n";
+    source.left = 10_000;
+    source.awaits = Some(handed_on);
+    run(rt, &mut InputStream::new(source), output)
 }
 
 /// Compares how the run ended, how often answers were handed on, how many bytes they have, and how they end. The lines `unmet 1` to
 /// `unmet 10000` have 7 bytes each beside 9 digits, 2 times 90, 3 times 900, 4 times 9000, and 5.
-fn expect_answered(rt: &impl Abort, ended: Result<(), Refusal>, output: &Sink<'_>) {
+fn expect_answered(rt: &impl Abort, ended: Result<(), Refusal>, output: OutputStream<Sink<'_>>) {
+    let output = output.into_stream();
     let taken = output.taken.as_slice();
     let times = output.handed_on.times.get();
     assert_eq!(rt;
@@ -99,23 +100,25 @@ fn expect_answered(rt: &impl Abort, ended: Result<(), Refusal>, output: &Sink<'_
 #[test]
 fn answers_ten_thousand_lines(rt: HostRuntime) {
     let handed_on = nothing_handed_on();
-    let mut output = sink_of(rt.alloc(), &handed_on);
+    let mut output = OutputStream::new(sink_of(rt.alloc(), &handed_on));
     let ended = drive(&rt, &handed_on, &mut output);
-    expect_answered(&rt, ended, &output);
+    expect_answered(&rt, ended, output);
 }
 
 /// Whoever stops reading ends the run at the line that can't be told.
 #[test]
 fn ends_where_nobody_reads(rt: HostRuntime) {
     let handed_on = nothing_handed_on();
-    let mut input = source_of(b"%%\n");
-    input.line = b"begin\n";
-    input.left = 100;
-    let mut output = sink_of(rt.alloc(), &handed_on);
-    output.room = 12;
+    let mut source = source_of(b"%%\n");
+    source.line = b"begin\n";
+    source.left = 100;
+    let mut input = InputStream::new(source);
+    let mut sink = sink_of(rt.alloc(), &handed_on);
+    sink.room = 12;
+    let mut output = OutputStream::new(sink);
     let ended = run(&rt, &mut input, &mut output);
     assert_eq!(rt;
-        (ended, output.room, input.left),
+        (ended, output.into_stream().room, input.into_stream().left),
         (Err(Refusal::Output), 0, 97)
     );
 }

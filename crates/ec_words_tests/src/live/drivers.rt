@@ -2,7 +2,7 @@
 
 use crate::live::{expect_ended, run};
 use crate::streams::{Source, nothing_handed_on, sink_of, source_of};
-use ec_console::Refusal;
+use ec_console::{InputStream, OutputStream, Refusal};
 use std::fs::Files;
 use std::process::Abort;
 
@@ -14,8 +14,8 @@ const ANSWERS: &str =
     "no 1\nready\nno 3\nunmet 5\nbad 6\nreport taken missing 0 counters 0 al 0000\n";
 
 /// Compares what wasn't read.
-fn expect_unread(rt: &impl Abort, input: &Source<'_>, wanted: &str) {
-    assert_eq!(rt; input.text, wanted.as_bytes());
+fn expect_unread(rt: &impl Abort, input: InputStream<Source<'_>>, wanted: &str) {
+    assert_eq!(rt; input.into_stream().text, wanted.as_bytes());
 }
 
 /// How many writes are taken, how the run then ends, and what was answered.
@@ -33,10 +33,11 @@ const CLOSED: [(usize, Refusal, &str); 7] = [
 fn expect_closed<H: AllocGlobal + Files + Abort>(rt: &H, closed: &(usize, Refusal, &str)) {
     let (writes, refusal, answers) = *closed;
     let handed_on = nothing_handed_on();
-    let mut output = sink_of(rt.alloc(), &handed_on);
-    output.writes = writes;
-    let ended = run(rt, &mut source_of(LINES), &mut output);
-    expect_ended(rt, ended, &output, (Err(refusal), answers));
+    let mut sink = sink_of(rt.alloc(), &handed_on);
+    sink.writes = writes;
+    let mut output = OutputStream::new(sink);
+    let ended = run(rt, &mut InputStream::new(source_of(LINES)), &mut output);
+    expect_ended(rt, ended, output, (Err(refusal), answers));
 }
 
 /// Wherever a write is refused, the run ends there, and what was answered before stays.
@@ -51,25 +52,27 @@ fn ends_at_each_write_that_is_refused(rt: HostRuntime) {
 #[test]
 fn ends_where_answers_are_stuck(rt: HostRuntime) {
     let handed_on = nothing_handed_on();
-    let mut input = source_of(LINES);
-    let mut output = sink_of(rt.alloc(), &handed_on);
-    output.flushes = 2;
+    let mut input = InputStream::new(source_of(LINES));
+    let mut sink = sink_of(rt.alloc(), &handed_on);
+    sink.flushes = 2;
+    let mut output = OutputStream::new(sink);
     let ended = run(&rt, &mut input, &mut output);
     let wanted = (Err(Refusal::Output), "no 1\nready\nno 3\n");
-    expect_ended(&rt, ended, &output, wanted);
-    expect_unread(&rt, &input, "# now\nexpect failed\nstop\ncycle\n");
+    expect_ended(&rt, ended, output, wanted);
+    expect_unread(&rt, input, "# now\nexpect failed\nstop\ncycle\n");
 }
 
 /// Nothing is lost where answers are taken byte by byte, with an interruption before each.
 #[test]
 fn answers_byte_by_byte(rt: HostRuntime) {
     let handed_on = nothing_handed_on();
-    let mut output = sink_of(rt.alloc(), &handed_on);
-    output.at_a_time = 1;
-    output.halts = true;
-    let ended = run(&rt, &mut source_of(LINES), &mut output);
+    let mut sink = sink_of(rt.alloc(), &handed_on);
+    sink.at_a_time = 1;
+    sink.halts = true;
+    let mut output = OutputStream::new(sink);
+    let ended = run(&rt, &mut InputStream::new(source_of(LINES)), &mut output);
     let wanted = (Err(Refusal::Unmet(1)), ANSWERS);
-    expect_ended(&rt, ended, &output, wanted);
+    expect_ended(&rt, ended, output, wanted);
 }
 
 /// What is given, byte by byte, before a read is refused, and what is answered by then: a line without its end isn't done.
@@ -86,12 +89,12 @@ const BROKEN: [(&str, &str); 6] = [
 fn expect_broken<H: AllocGlobal + Files + Abort>(rt: &H, broken: &(&str, &str)) {
     let (given, answers) = *broken;
     let handed_on = nothing_handed_on();
-    let mut input = source_of(given.as_bytes());
-    input.at_a_time = 1;
-    input.fails = true;
-    let mut output = sink_of(rt.alloc(), &handed_on);
-    let ended = run(rt, &mut input, &mut output);
-    expect_ended(rt, ended, &output, (Err(Refusal::Input), answers));
+    let mut source = source_of(given.as_bytes());
+    source.at_a_time = 1;
+    source.fails = true;
+    let mut output = OutputStream::new(sink_of(rt.alloc(), &handed_on));
+    let ended = run(rt, &mut InputStream::new(source), &mut output);
+    expect_ended(rt, ended, output, (Err(Refusal::Input), answers));
 }
 
 #[test]

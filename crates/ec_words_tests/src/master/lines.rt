@@ -2,7 +2,7 @@
 //! `crates/ecat_cases/data/masters.cases`.
 
 use ec_bringup::slaves_of_machine;
-use ec_console::Refusal;
+use ec_console::{InputStream, OutputStream, Refusal};
 use ec_link::Machine;
 use ec_master::{Control, print_lines};
 use ec_why::Reasons;
@@ -24,9 +24,9 @@ fn run_lines(
     control: &mut Control,
     wire: &mut MemoryWire,
     lines: &str,
-    output: &mut Vec<u8>,
+    output: &mut OutputStream<Vec<u8>>,
 ) -> Result<u64, Refusal> {
-    let mut input = lines.as_bytes();
+    let mut input = InputStream::new(lines.as_bytes());
     print_lines(
         alloc,
         machine.table(),
@@ -62,7 +62,7 @@ fn expect_ended(rt: &impl Abort, run: &Run, ended: Result<u64, Refusal>, output:
 fn expect_run<H: AllocGlobal + Abort>(rt: &H, machine: &Machine, reasons: Reasons, run: &Run) {
     let mut wire = wire_of(rt, machine, run.1);
     let mut control = control_of(rt, machine);
-    let mut output = Vec::new(rt.alloc());
+    let mut output = OutputStream::new(Vec::new(rt.alloc()));
     let alloc = rt.alloc();
     let ended = run_lines(
         alloc,
@@ -73,7 +73,7 @@ fn expect_run<H: AllocGlobal + Abort>(rt: &H, machine: &Machine, reasons: Reason
         run.0,
         &mut output,
     );
-    expect_ended(rt, run, ended, output.as_slice());
+    expect_ended(rt, run, ended, output.into_stream().as_slice());
 }
 
 /// Does so with each of these, of the three slaves.
@@ -259,7 +259,7 @@ fn other_slaves(rt: &(impl AllocGlobal + Abort), old: &str, new: &str) -> Machin
 fn ready_over(rt: &(impl AllocGlobal + Abort), machine: &Machine, slaves: &Machine) -> Vec<u8> {
     let mut wire = wire_of(rt, slaves, NEVER);
     let mut control = control_of(rt, machine);
-    let mut output = Vec::new(rt.alloc());
+    let mut output = OutputStream::new(Vec::new(rt.alloc()));
     let ended = run_lines(
         rt.alloc(),
         machine,
@@ -270,7 +270,7 @@ fn ready_over(rt: &(impl AllocGlobal + Abort), machine: &Machine, slaves: &Machi
         &mut output,
     );
     assert_eq!(rt; ended, Ok(0));
-    output
+    output.into_stream()
 }
 
 /// Compares what is printed of a start-up over other slaves.

@@ -1,20 +1,21 @@
-use Rattle.std.proofs.Common.{◌≡◌, ℕ}
+use Rattle.std.proofs.Common.{◌≡◌, inr, ℕ, refl, true}
 use Rattle.ec_console.proofs.CaptureLemmas.{finished_err, finished_late, finished_ok}
 use Rattle.ec_console.specs.Unmet.{counted}
 use Rattle.ec_live.specs.Living.{IsLiveLate, LivesOut, LivesPart}
-use Rattle.ec_live.proofs.LiveLemmas.{counted_out_part}
+use Rattle.ec_live.proofs.LiveLemmas.{counted_out_part, late_captured}
 use Rattle.ec_live.proofs.live.print_live_captured.Goals as goal
 
 pub returns-clause-all : goal.returns-clause-all
 returns-clause-all g c =
-    finished_ok (λ count. (unmet : ℕ) × (count ≡ counted unmet) × LivesOut c.args.reasons c.args.table.now c.args.world.now (g.R.Read.remaining c.args.input.now) unmet (g.W.Write.contents c.args.output.now) (g.W.Write.contents c.print_live_lines-ended.new.output))
+    finished_ok (λ count. (unmet : ℕ) × (count ≡ counted unmet) × LivesOut c.args.reasons c.args.table.now c.args.world.now (g.R.Read.remaining c.args.input.now.stream) unmet c.args.output.now c.print_live_lines-ended.new.output)
     c.print_live_lines-ended.result c.finish_recording.result c.finish_recording.ensures c.print_live_lines-ended.ensures.all
 
 pub returns-clause-part : goal.returns-clause-part
 returns-clause-part g c =
-    finished_err (LivesPart c.args.reasons c.args.table.now c.args.world.now (g.R.Read.remaining c.args.input.now) (g.W.Write.contents c.args.output.now) (g.W.Write.contents c.print_live_lines-ended.new.output))
+    finished_err (LivesPart c.args.reasons c.args.table.now c.args.world.now (g.R.Read.remaining c.args.input.now.stream) c.args.output.now c.print_live_lines-ended.new.output)
     c.print_live_lines-ended.result c.finish_recording.result c.finish_recording.ensures c.print_live_lines-ended.ensures.part
-    (counted_out_part c.print_live_lines-ended.result c.args.reasons c.args.table.now c.args.world.now (g.R.Read.remaining c.args.input.now) (g.W.Write.contents c.args.output.now) (g.W.Write.contents c.print_live_lines-ended.new.output) c.print_live_lines-ended.ensures.all)
+    (counted_out_part c.print_live_lines-ended.result c.args.reasons c.args.table.now c.args.world.now (g.R.Read.remaining c.args.input.now.stream) c.args.output.now c.print_live_lines-ended.new.output c.print_live_lines-ended.ensures.all)
 
 pub returns-clause-late : goal.returns-clause-late
-returns-clause-late g c = finished_late IsLiveLate c.print_live_lines-ended.result c.finish_recording.result c.finish_recording.ensures c.print_live_lines-ended.ensures.late tt
+returns-clause-late g c = finished_late (IsLiveLate true c.print_live_lines-ended.new.input.is_refused c.print_live_lines-ended.new.output) c.print_live_lines-ended.result c.finish_recording.result c.finish_recording.ensures
+    (late_captured c.print_live_lines-ended.result c.print_live_lines-ended.new.input.is_refused c.print_live_lines-ended.new.output c.print_live_lines-ended.ensures.late) (inr refl)

@@ -7,8 +7,8 @@ pub loop-place-preserved : goal.loop-place-preserved
 loop-place-preserved g c = elim c.match-matches.branch [
   | in-End w ↦ let e : true ≡ false = sym w.matches-is ∙ c.if-matches.false in cc
   | in_default w ↦
-      lived_next c.args.reasons c.args.table.now c.args.world.now c.loop-place.world c.print_reading.new.world (g.R.Read.remaining c.args.input.now) (g.R.Read.remaining c.loop-place.input) (g.R.Read.remaining c.take_line.new.input)
+      lived_next c.args.reasons c.args.table.now c.args.world.now c.loop-place.world c.print_reading.new.world (g.R.Read.remaining c.args.input.now.stream) (g.R.Read.remaining c.loop-place.input.stream) (g.R.Read.remaining c.take_line.new.input.stream)
       c.loop-place.place c.in_ok-taken.taken c.in_ok-reading.reading c.loop-place.unmet c.in_ok-count.count c.saturating_add-unmet.result
-      (g.W.Write.contents c.args.output.now) (g.W.Write.contents c.loop-place.output) (g.W.Write.contents c.print_reading.new.output) c.loop-place.invariant
+      c.args.output.now c.loop-place.output c.print_reading.new.output c.loop-place.invariant
       c.in_ok-taken.ensures.taken w.in_default.not-End c.in_ok-reading.ensures c.in_ok-count.ensures.all c.saturating_add-unmet.ensures
 ]

@@ -7,6 +7,6 @@ use Rattle.ec_loop.proofs.looping.print_cycles.Given as goal
 abbrev pub invariant-loop-cycle : goal.invariant-loop-cycle
 invariant-loop-cycle g l = record {
   can : CanCycle (plan_of l.machine) l.master;
-  printed : AreReported l.machine l.initial.master (g.W.Wire.state l.initial.wire) l.master (g.W.Wire.state l.wire) (g.O.Write.contents l.initial.output) (g.O.Write.contents l.output) l.cycle;
+  printed : AreReported l.machine l.initial.master (g.W.Wire.state l.initial.wire) l.master (g.W.Wire.state l.wire) l.initial.output l.output l.cycle;
   within : l.cycle ≤ l.cycles;
 }

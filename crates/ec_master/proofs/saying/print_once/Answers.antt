@@ -17,7 +17,7 @@ returns-in_err-print_text-clause-part g c =
       text = c.as_bytes.ensures.value ∙ c.in_ok-text.ensures.2;
       count = refl;
     } in
-    if_err _ (part_one c.args.reasons c.args.table.now _ _ c.args.task c.as_bytes.result.now _ _ _ line c.in_err-print_text.ensures.part)
+    if_err _ (part_one c.args.reasons c.args.table.now _ _ c.args.task c.as_bytes.result.now _ _ _ line c.in_err-print_text.ensures.part.part)
 
 pub returns-clause-all : goal.returns-clause-all
 returns-clause-all g c =

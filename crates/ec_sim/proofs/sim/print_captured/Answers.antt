@@ -1,20 +1,21 @@
-use Rattle.std.proofs.Common.{◌≡◌, ℕ}
+use Rattle.std.proofs.Common.{◌≡◌, inr, ℕ, refl, true}
 use Rattle.ec_console.proofs.CaptureLemmas.{finished_err, finished_late, finished_ok}
 use Rattle.ec_sim.specs.Simulating.{IsLate, PrintsLines, PrintsSome}
 use Rattle.ec_console.specs.Unmet.{counted}
-use Rattle.ec_sim.proofs.SimLemmas.{counted_some_lines}
+use Rattle.ec_sim.proofs.SimLemmas.{counted_some_lines, late_captured}
 use Rattle.ec_sim.proofs.sim.print_captured.Goals as goal
 
 pub returns-clause-all : goal.returns-clause-all
 returns-clause-all g c =
-    finished_ok (λ count. (unmet : ℕ) × (count ≡ counted unmet) × PrintsLines c.args.reasons c.args.table.now c.args.world.now c.args.lines.now unmet (g.W.Write.contents c.args.output.now) (g.W.Write.contents c.print_noted-ended.new.output))
+    finished_ok (λ count. (unmet : ℕ) × (count ≡ counted unmet) × PrintsLines c.args.reasons c.args.table.now c.args.world.now c.args.lines.now unmet c.args.output.now c.print_noted-ended.new.output)
     c.print_noted-ended.result c.finish_recording.result c.finish_recording.ensures c.print_noted-ended.ensures.all
 
 pub returns-clause-part : goal.returns-clause-part
 returns-clause-part g c =
-    finished_err (PrintsSome c.args.reasons c.args.table.now c.args.world.now c.args.lines.now (g.W.Write.contents c.args.output.now) (g.W.Write.contents c.print_noted-ended.new.output))
+    finished_err (PrintsSome c.args.reasons c.args.table.now c.args.world.now c.args.lines.now c.args.output.now c.print_noted-ended.new.output)
     c.print_noted-ended.result c.finish_recording.result c.finish_recording.ensures c.print_noted-ended.ensures.part
-    (counted_some_lines c.print_noted-ended.result c.args.reasons c.args.table.now c.args.world.now c.args.lines.now (g.W.Write.contents c.args.output.now) (g.W.Write.contents c.print_noted-ended.new.output) c.print_noted-ended.ensures.all)
+    (counted_some_lines c.print_noted-ended.result c.args.reasons c.args.table.now c.args.world.now c.args.lines.now c.args.output.now c.print_noted-ended.new.output c.print_noted-ended.ensures.all)
 
 pub returns-clause-late : goal.returns-clause-late
-returns-clause-late g c = finished_late IsLate c.print_noted-ended.result c.finish_recording.result c.finish_recording.ensures c.print_noted-ended.ensures.late tt
+returns-clause-late g c = finished_late (IsLate true c.print_noted-ended.new.output) c.print_noted-ended.result c.finish_recording.result c.finish_recording.ensures
+    (late_captured c.print_noted-ended.result c.print_noted-ended.new.output c.print_noted-ended.ensures.late) (inr refl)

@@ -4,6 +4,6 @@ use Rattle.ec_sim.proofs.sim.print_line.Given as goal
 
 abbrev pub invariant-loop : goal.invariant-loop
 invariant-loop g l = record {
-  said : IsDone l.reasons l.table l.initial.world l.line l.counter l.world l.unmet (g.W.Write.contents l.initial.output) (g.W.Write.contents l.output);
+  said : IsDone l.reasons l.table l.initial.world l.line l.counter l.world l.unmet l.initial.output l.output;
   seen : Sees g.S.Watcher.saw l.initial.watcher l.initial.world l.world l.watcher;
 }

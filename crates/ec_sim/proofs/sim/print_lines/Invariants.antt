@@ -4,6 +4,6 @@ use Rattle.ec_sim.proofs.sim.print_lines.Given as goal
 
 abbrev pub invariant-loop-line : goal.invariant-loop-line
 invariant-loop-line g l = record {
-  said : AreSaid l.reasons l.table l.initial.world l.lines l.line-index l.world l.unmet (g.W.Write.contents l.initial.output) (g.W.Write.contents l.output);
+  said : AreSaid l.reasons l.table l.initial.world l.lines l.line-index l.world l.unmet l.initial.output l.output;
   seen : Sees g.S.Watcher.saw l.initial.watcher l.initial.world l.world l.watcher;
 }

@@ -2,13 +2,13 @@ use Rattle.ec_sim.proofs.SimLemmas.{lines_cut, lines_ran, none_run}
 use Rattle.ec_sim.proofs.sim.run_lines.Goals as goal
 
 pub returns-in_err-world : goal.returns-in_err-world
-returns-in_err-world g c = none_run _ _ _ _ _ c.from_residual.ensures.1
+returns-in_err-world g c = none_run _ _ _ _ _ _ c.from_residual.ensures.1
 
 pub returns-in_err-unmet : goal.returns-in_err-unmet
 returns-in_err-unmet g c =
-    lines_cut _ c.print_watched.result _ _ _ _ c.args.machine.now c.table-table.result.now _ _ c.table-table.ensures.value c.in_ok-world.ensures c.in_err-unmet.was c.print_watched.ensures.part c.print_watched.ensures.late
+    lines_cut _ c.print_watched.result _ _ _ _ _ c.args.machine.now c.table-table.result.now _ _ c.table-table.ensures.value c.in_ok-world.ensures c.in_err-unmet.was c.print_watched.ensures.part c.print_watched.ensures.late
     c.from_residual-in_err-unmet.ensures.1
 
 pub returns : goal.returns
 returns g c =
-    lines_ran c.end_of.result _ _ _ c.args.machine.now c.table-table.result.now _ _ c.in_ok-unmet.unmet c.table-table.ensures.value c.end_of.ensures c.in_ok-world.ensures c.in_ok-unmet.ensures.all
+    lines_ran c.end_of.result _ _ _ _ c.args.machine.now c.table-table.result.now _ _ c.in_ok-unmet.unmet c.table-table.ensures.value c.end_of.ensures c.in_ok-world.ensures c.in_ok-unmet.ensures.all

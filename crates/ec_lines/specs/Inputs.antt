@@ -1,0 +1,28 @@
+-- An input, and whether a read of it was refused (a choice of this project).
+use Rattle.std.specs.Prelude.{ℕ, Bool, true, false, Result, Ok, Err}
+use Rattle.std.specs.IoError.{error_kind}
+use Rattle.std.specs.declared.io.Error.{Error}
+use Rattle.std.specs.declared.io.ErrorKind.{ErrorKind}
+use Rattle.std.specs.declared.io.ErrorKind.TheVariants.{Interrupted, OutOfMemory}
+use Rattle.ec_lines.specs.declared.error.LinesError.{LinesError}
+use Rattle.ec_lines.specs.declared.error.LinesError.TheVariants.{Memory, Unread}
+
+-- the stream that is read, and whether a read of it was ever refused
+pub record InputState (R : Type 0) : Type 0 where
+  pub stream : R
+  pub is_refused : Bool
+
+-- an error of a read that refuses it: not that it was interrupted, after which it is made again, nor that memory ran out
+abbrev pub is_refusal : ErrorKind → Bool
+is_refusal Interrupted = false
+is_refusal OutOfMemory = false
+is_refusal _ = true
+
+abbrev pub is_read_refused : Result ℕ Error → Bool
+is_read_refused (Ok count) = false
+is_read_refused (Err error) = is_refusal (error_kind error)
+
+-- as what a read is told that gave an error, and wasn't interrupted
+abbrev pub read_fault : ErrorKind → LinesError
+read_fault OutOfMemory = Memory
+read_fault _ = Unread

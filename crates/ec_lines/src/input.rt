@@ -1,0 +1,104 @@
+//! An input that keeps whether a read of it was refused.
+ghost use Rattle.std.specs.Prelude.{◌≡◌, ◌≢◌, ◌||◌, ◌++◌, IfErr, IfSome, OnOk, false, true, take};
+ghost use Rattle.std.specs.Io.KnownBytes.{ReadConsumes};
+ghost use Rattle.std.specs.Io.{ReadsAtMost};
+ghost use Rattle.std.specs.IoError.{error_kind};
+ghost use Rattle.ec_lines.specs.Inputs.{is_read_refused};
+
+use std::io::{ErrorKind, Read, Result};
+use std::marker::Model;
+
+/// An input that is read. It keeps whether a read was ever refused: such as gave an error, and not because it was interrupted, after
+/// which it is made again, or because memory ran out. Nobody else can say so, and thus a contract can promise that an input isn't
+/// refused unless a read of it was.
+#[derive(Drop)]
+pub struct InputStream<R: Read + Drop> {
+    stream: R,
+    is_refused: bool,
+}
+
+impl<R: Read + Drop> Model for InputStream<R> {
+    ghost use Rattle.ec_lines.specs.Inputs.{InputState};
+
+    ghost Value = { InputState R };
+
+    ghost view = { λ s. record { stream = s.stream; is_refused = s.is_refused } };
+}
+
+impl<R: Read + Drop> InputStream<R> {
+    /// An input of which no read was refused yet.
+    pub fn new(stream: R) -> InputStream<R>
+        ensures { result ≡ record { stream = stream; is_refused = false } }
+    {
+        InputStream {
+            stream,
+            is_refused: false,
+        }
+    }
+
+    /// The stream itself, which gives what was not read.
+    pub fn into_stream(self) -> R
+        ensures { result ≡ self.stream }
+    {
+        self.stream
+    }
+
+    /// Whether a read was ever refused.
+    pub fn is_refused(&self) -> bool
+        ensures { result ≡ self.now.is_refused }
+    {
+        self.is_refused
+    }
+
+    /// Reads some bytes, as the stream does, whose answer is handed on.
+    pub fn read(&mut self, buffer: &mut [u8]) -> Result<usize>
+        ensures bound { ReadsAtMost result buffer.new }
+        ensures bytes { ReadConsumes (R.remaining self.old.stream) (R.remaining self.new.stream) result buffer.new }
+        ensures refused { self.new.is_refused ≡ self.old.is_refused || is_read_refused result }
+    {
+        let read = self.stream.read(buffer);
+        self.is_refused = self.is_refused || is_read_refused(&read);
+        read
+    }
+
+    /// Reads so many bytes, or all that are left where these are fewer, as the stream does, whose answer is handed on. An
+    /// interrupted read is made again.
+    pub fn read_first(&mut self, most: u64, bytes: &mut Vec<u8>) -> Result<usize>
+        ensures bytes { OnOk result (IfSome (R.remaining self.old.stream) (λ all. bytes.new.items ≡ bytes.old.items ++ take most all)) }
+        ensures retried { IfErr result (λ error. error_kind error ≢ ErrorKind.Interrupted) }
+        ensures refused { self.new.is_refused ≡ self.old.is_refused || is_read_refused result }
+    {
+        let read = read_first(&mut self.stream, most, bytes);
+        self.is_refused = self.is_refused || is_read_refused(&read);
+        read
+    }
+
+    /// An input that gives no end, however often it is read, counts as one that refuses to be read.
+    pub(crate) fn give_up(&mut self)
+        ensures stream { self.new.stream ≡ self.old.stream }
+        ensures refused { self.new.is_refused ≡ true }
+    {
+        self.is_refused = true;
+    }
+}
+
+/// Reads so many bytes of a stream, or all that are left where these are fewer.
+fn read_first<R: Read>(stream: &mut R, most: u64, bytes: &mut Vec<u8>) -> Result<usize>
+    ensures bytes { OnOk result (IfSome (R.remaining stream.old) (λ all. bytes.new.items ≡ bytes.old.items ++ take most all)) }
+    ensures retried { IfErr result (λ error. error_kind error ≢ ErrorKind.Interrupted) }
+{
+    stream.take(most).read_to_end(bytes)
+}
+
+/// Whether what a read gave is a refusal.
+fn is_read_refused(read: &Result<usize>) -> bool
+    ensures { result ≡ is_read_refused read.now }
+{
+    match read {
+        Ok(_) => false,
+        Err(error) => !matches!(
+            error.kind(),
+            ErrorKind::Interrupted | ErrorKind::OutOfMemory
+        ),
+    }
+}
