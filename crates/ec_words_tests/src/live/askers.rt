@@ -83,8 +83,8 @@ fn drive<H: AllocGlobal + Files>(
 /// `unmet 10000` have 7 bytes each beside 9 digits, 2 times 90, 3 times 900, 4 times 9000, and 5.
 fn expect_answered(rt: &impl Abort, ended: Result<(), Refusal>, output: OutputStream<Sink<'_>>) {
     let output = output.into_stream();
-    let taken = output.taken.as_slice();
     let times = output.handed_on.times.get();
+    let taken = output.taken.as_slice();
     assert_eq!(rt;
         (
             ended,
