@@ -1,5 +1,5 @@
 //! A stream that is written, and keeps what became of that.
-ghost use Rattle.std.specs.Prelude.{◌≡◌, ◌||◌, OnOk, false, length, true};
+ghost use Rattle.std.specs.Prelude.{◌≡◌, ◌||◌, OnOk, false, true};
 ghost use Rattle.std.specs.Io.KnownBytes.{Keeps, WriteAppends};
 ghost use Rattle.std.specs.Io.{WritesAtMost};
 ghost use Rattle.ec_console.specs.Printing.{is_flush_refused, is_write_refused};
@@ -80,6 +80,7 @@ impl<W: Write + Drop> OutputStream<W> {
     pub(crate) fn give_up(&mut self)
         ensures holds { self.new.holds ≡ self.old.holds }
         ensures refused { self.new.is_refused ≡ true }
+        ensures flushed { self.new.is_flushed ≡ self.old.is_flushed }
     {
         self.is_refused = true;
     }

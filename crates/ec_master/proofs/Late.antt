@@ -5,9 +5,8 @@ use Rattle.ec_lines.specs.declared.error.LinesError.TheVariants as lines
 use Rattle.ec_lines.specs.Taking.{IsReadFault}
 use Rattle.ec_console.specs.declared.refusal.Refusal.{Refusal}
 use Rattle.ec_console.specs.declared.refusal.Refusal.TheVariants as refusal
-use Rattle.ec_console.specs.Given.{lines_refusal}
+use Rattle.ec_console.specs.Given.{IsReadRefusal, lines_refusal}
 use Rattle.ec_console.specs.Printing.{OutputState}
-use Rattle.ec_master.specs.Held.{IsUntaken}
 use Rattle.ec_master.specs.Saying.{IsLate}
 
 -- a write that was refused
@@ -30,13 +29,13 @@ task_late is_unread output refusal.BadHex late = absurd late
 task_late is_unread output (refusal.Unmet n) late = absurd late
 
 -- a line that isn't taken
-pub unread : (is_unread : Bool) (error : LinesError) → IsReadFault is_unread error → IsUntaken is_unread (lines_refusal error)
+pub unread : (is_unread : Bool) (error : LinesError) → IsReadFault is_unread error → IsReadRefusal is_unread (lines_refusal error)
 unread is_unread lines.Memory fault = tt
 unread is_unread lines.Unread fault = fault
 unread is_unread lines.TooLong fault = absurd fault
 unread is_unread lines.NoText fault = absurd fault
 
-pub untaken_late : (is_unread : Bool) (output : OutputState) (x : Refusal) → IsUntaken is_unread x → IsLate is_unread output x
+pub untaken_late : (is_unread : Bool) (output : OutputState) (x : Refusal) → IsReadRefusal is_unread x → IsLate is_unread output x
 untaken_late is_unread output refusal.Memory late = tt
 untaken_late is_unread output refusal.Input late = late
 untaken_late is_unread output refusal.Output late = absurd late

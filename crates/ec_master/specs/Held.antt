@@ -1,10 +1,8 @@
 -- What holds of a master over a wire, whatever was done with it.
-use Rattle.std.specs.Prelude.{◌≡◌, ℕ, ◌<◌, All, List, [], length, Option, Bool, true, None, Some, string_bytes}
+use Rattle.std.specs.Prelude.{◌≡◌, ℕ, ◌<◌, All, List, [], length, Option, true, None, Some, string_bytes}
 use Rattle.std.specs.declared.alloc.Global.{Global}
 use Rattle.std.specs.declared.string.String.{String}
 use Rattle.ec_table.specs.Contents.{Contents}
-use Rattle.ec_console.specs.declared.refusal.Refusal.{Refusal}
-use Rattle.ec_console.specs.declared.refusal.Refusal.TheVariants.{Memory, Input}
 use Rattle.ec_lines.specs.Taking.{TakesLine}
 use Rattle.ec_link.specs.Plan.{PlanState}
 use Rattle.ec_start.specs.Planned.{HasFewAssigned}
@@ -27,12 +25,6 @@ pub record IsHeld (plan : PlanState) (s : StartState) (m : MasterState) : Type 0
 abbrev pub IsShown : Text → Option (String Global) → Type 0
 IsShown text None = with_show text ≡ text
 IsShown text (Some shown) = string_bytes shown ≡ with_show text
-
--- what can keep a line from being taken: memory, or a read was refused
-abbrev pub IsUntaken : (is_unread : Bool) → Refusal → Type 0
-IsUntaken is_unread Memory = Unit {0}
-IsUntaken is_unread Input = is_unread ≡ true
-IsUntaken is_unread _ = ⊥
 
 -- what the next line of an input asks for, if there is one
 abbrev pub IsNext : Contents → ℕ → Option (List ℕ) → Option (List ℕ) → Option (Option Task) → Type 0

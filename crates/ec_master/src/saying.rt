@@ -1,7 +1,8 @@
 //! The lines of an input, each done and printed as it comes.
 ghost use Rattle.std.specs.Prelude.{◌≡◌, ◌∷◌, [], ℕ, IfErr, IfOk, OnErr, Option, false, if◌then◌else◌, replicate};
+ghost use Rattle.ec_console.specs.Given.{IsReadRefusal};
 ghost use Rattle.ec_console.specs.Unmet.{counted};
-ghost use Rattle.ec_master.specs.Held.{IsNext, IsUntaken};
+ghost use Rattle.ec_master.specs.Held.{IsNext};
 ghost use Rattle.ec_master.specs.Saying.{IsLate, ObeysAll, ObeysSome, PrintsAll, PrintsPart, repeated};
 
 use crate::control::Control;
@@ -140,7 +141,7 @@ fn next_task<R: Read + Drop>(
     input: &mut InputStream<R>,
 ) -> Result<Option<Option<Task>>, Refusal>
     ensures next { IfOk result (IsNext table.now number (R.remaining input.old.stream) (R.remaining input.new.stream)) }
-    ensures late { IfErr result (IsUntaken input.new.is_refused) }
+    ensures late { IfErr result (IsReadRefusal input.new.is_refused) }
 {
     match take_line(alloc, input)? {
         NextLine::End => Ok(None),

@@ -1,5 +1,5 @@
 -- What `ecat decode` and `ecat encode` print (this project's profile).
-use Rattle.std.specs.Prelude.{◌≡◌, ◌⊎◌, ℕ, List, Bool, true, false, Option, Result, Ok, Err}
+use Rattle.std.specs.Prelude.{◌≡◌, ◌⊎◌, ℕ, List, Bool, true, false, Result, Ok, Err}
 use Rattle.std.specs.Str.Lines.{lines}
 use Rattle.ec_frame.specs.Frame.{Payload}
 use Rattle.ec_decode.specs.Answers.{AreSpelled, DecodesLines}
