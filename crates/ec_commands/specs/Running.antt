@@ -32,6 +32,7 @@ use Rattle.ec_translate.specs.Translating.{RunsEncode}
 use Rattle.ec_sim.specs.Simulating.{RunsSim}
 use Rattle.ec_why.specs.declared.wanted.Reasons.{Reasons}
 use Rattle.ec_why.specs.Reasons.{reasons_of}
+use Rattle.ec_wire.specs.Wires.{Traffic}
 
 -- what the output, or the fault stream, is before and after
 pub record Stream : Type 0 where
@@ -60,6 +61,14 @@ abbrev pub RunsSegmentAt : (descriptor : Option ℕ) → (frames port : ℕ) →
 RunsSegmentAt descriptor frames port form file given output told ended =
     EndsWith file (RunsSegmentOn descriptor frames port form given output told) (IsStill output told) ended
 
+-- `ecat loop`, with a capture if its file is named, by what went over sockets before and after
+abbrev pub RunsLoopWith : ℕ → (file : Option (List ℕ)) → (given : Given) → (output told : Stream) → (before after : Traffic) → Result Unit Refusal → Type 0
+RunsLoopWith cycles file given output told before after ended =
+    EndsWith file (λ ended. RunsLoop cycles given output.old output.new told.old told.new before after ended) (IsBlank output × IsQuiet told × (after ≡ before)) ended
+
+abbrev pub nothing_sent : Traffic
+nothing_sent = record { sent = 0; received = 0 }
+
 -- `ecat sim`, whose lines are run as a script, or as they come, with a capture if its file is named, and which tells why they say
 -- `no`, where it explains
 abbrev pub RunsLines : (live : Bool) → (file : Option (List ℕ)) → (explained : Bool) → (given : Given) → (output : Stream) → Result Unit Refusal → Type 0
@@ -77,8 +86,7 @@ Runs (PlanOf header explained) given output told ended = RunsPlan (form_of heade
 Runs (DecodeOf table explained) given output told ended = RunsDecodeWith table (names_of explained) given output.old output.new ended × IsQuiet told
 Runs EncodeOf given output told ended = RunsEncode given output.old output.new ended × IsQuiet told
 Runs (SimOf live capture explained) given output told ended = RunsLines live capture explained given output ended × IsQuiet told
-Runs (LoopOf cycles capture explained) given output told ended =
-    EndsWith capture (λ ended. RunsLoop cycles given output.old output.new told.old told.new ended) (IsStill output told) ended
+Runs (LoopOf cycles capture explained) given output told ended = (after : Traffic) × RunsLoopWith cycles capture given output told nothing_sent after ended
 Runs (SegmentOf frames port descriptor full idle capture explained) given output told ended =
     RunsSegmentAt descriptor frames port (slave_form full) capture given output told ended
 Runs (MasterOf to descriptor patience capture explained) given output told ended = RunsMasterWith (reasons_of explained) capture given output ended × IsQuiet told

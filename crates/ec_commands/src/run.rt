@@ -6,7 +6,7 @@ ghost use Rattle.ec_args.specs.declared.request.Request.{Request as RequestValue
 ghost use Rattle.ec_console.specs.Explaining.{IsLeft};
 ghost use Rattle.ec_commands.specs.Connecting.{Connects};
 ghost use Rattle.ec_commands.specs.Explaining.{is_explained};
-ghost use Rattle.ec_commands.specs.Running.{Ends, EndsAlone, LeavesAlone, Runs, RunsMasterWith, RunsSegmentAt, Tells, TellsWith};
+ghost use Rattle.ec_commands.specs.Running.{Ends, EndsAlone, LeavesAlone, Runs, RunsLoopWith, RunsMasterWith, RunsSegmentAt, Tells, TellsWith};
 ghost use Rattle.ec_console.specs.Given.{given_by};
 
 use crate::pass::print_pass;
@@ -23,7 +23,7 @@ use ec_segment::{
 use ec_sim::print_sim;
 use ec_translate::{print_encode, print_payloads};
 use ec_why::Reasons;
-use ec_wire::App;
+use ec_wire::{App, Loopback};
 use std::alloc::Global;
 use std::convert::AsStr;
 use std::fs::Files;
@@ -209,13 +209,50 @@ fn run_request<
             cycles,
             capture,
             ..
-        } => match capture {
-            None => print_loop(rt, cycles, input, output, faults, app, behind),
-            Some(file) => capture_loop(rt, cycles, file, input, output, faults, app, behind),
-        },
+        } => {
+            let mut loopback = Loopback::new(app);
+            run_loop_with(
+                rt,
+                cycles,
+                capture,
+                input,
+                output,
+                faults,
+                &mut loopback,
+                behind,
+            )
+        }
         Request::Segment { .. } | Request::Master { .. } => {
             run_connected(rt, request, input, output, faults, app, behind)
         }
+    }
+}
+
+/// Runs `ecat loop`, with a capture or without.
+fn run_loop_with<
+    H: AllocGlobal + Net + Files + Clock,
+    R: Read + Drop,
+    W: Write + Drop,
+    F: Write + Drop,
+    A: App + Drop,
+>(
+    rt: &H,
+    cycles: u16,
+    capture: Option<&str>,
+    input: &mut InputStream<R>,
+    output: &mut OutputStream<W>,
+    faults: &mut OutputStream<F>,
+    loopback: &mut Loopback<A>,
+    behind: &mut Explanation,
+) -> Result<(), Refusal>
+    ensures runs { RunsLoopWith cycles (option_map (λ file. file.now) capture.entry) (given_by R.remaining input.old input.new)
+        (record { old = output.old; new = output.new }) (record { old = faults.old; new = faults.new })
+        loopback.old.traffic loopback.new.traffic result }
+    ensures explains { IsLeft behind.old behind.new }
+{
+    match capture {
+        None => print_loop(rt, cycles, input, output, faults, loopback, behind),
+        Some(file) => capture_loop(rt, cycles, file, input, output, faults, loopback, behind),
     }
 }
 

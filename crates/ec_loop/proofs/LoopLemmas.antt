@@ -25,7 +25,7 @@ use Rattle.ec_cycle.specs.Closing.{ReportState}
 use Rattle.ec_cycle.specs.Master.{MasterState, OpenCycle, IsAnswer, IsClosed, IsTaken, begin_refusal, cycle_limit, holds_value, new_master, readied, value_put, variable_set}
 use Rattle.ec_cycle.specs.declared.error.CycleError.{CycleError}
 use Rattle.ec_cycle.specs.declared.error.CycleError.TheVariants.{NumbersSpent}
-use Rattle.ec_wire.specs.Wires.{Ports, WireState, silent}
+use Rattle.ec_wire.specs.Wires.{LoopbackState, Ports, Traffic, WireState, counted}
 use Rattle.ec_slave.specs.State.{SlaveState}
 use Rattle.ec_bringup.specs.SwitchedOn.{AreSlavesOf}
 use Rattle.ec_wire.specs.Running.{AreTaken, IsEnded, IsRun}
@@ -474,9 +474,10 @@ loop_started r cycles t p first before between after old new plan up runs = inl 
 -- ---- over sockets
 
 -- a refusal before anything is told, also where a call passes it on
-pub never_run : (r : Result Unit Refusal) (x : Refusal) (Refuses : Refusal → Type 0) (known quiet : OutputState) → IsErrAnd r (λ e. e ≡ x) → Refuses x → IsNeverRun Refuses known known quiet quiet r
-never_run (Ok done) x Refuses known quiet is h = absurd is
-never_run (Err e) x Refuses known quiet is h = (e, refl, subst Refuses (sym is) h, refl, refl)
+pub never_run : (r : Result Unit Refusal) (x : Refusal) (Refuses : Refusal → Type 0) (known quiet : OutputState) (before after : Traffic) → IsErrAnd r (λ e. e ≡ x) → Refuses x → after ≡ before
+    → IsNeverRun Refuses known known quiet quiet before after r
+never_run (Ok done) x Refuses known quiet before after is h kept = absurd is
+never_run (Err e) x Refuses known quiet before after is h kept = (e, refl, subst Refuses (sym is) h, refl, refl, kept)
 
 pub if_unbound : {T : Type 0} (r : Result T Refusal) (x : Refusal) → IsErrAnd r (λ e. e ≡ x) → IsUnbound x → IfErr r IsUnbound
 if_unbound (Ok v) x is h = tt
@@ -494,33 +495,37 @@ ports_spelled b0 b1 b2 b3 b4 b5 one two end m s master segment e0 e1 e2 e3 e4 e5
     e5 ∙ (ap (λ (x : List ℕ). x ++ end) fourth_part ∙ (append_assoc ((one ++ decimal master) ++ two) (decimal segment) end
     ∙ (append_assoc (one ++ decimal master) two (decimal segment ++ end) ∙ append_assoc one (decimal master) (two ++ (decimal segment ++ end)))))
 
-pub no_wire : (r : Result Unit Refusal) (x : Refusal) (cycles : ℕ) (t : Contents) (known quiet : OutputState) → IsErrAnd r (λ e. e ≡ x) → IsUnbound x → LoopsOnSockets cycles t known known quiet quiet r
-no_wire r x cycles t known quiet is h = inr (never_run r x IsUnbound known quiet is h)
+pub no_wire : {A : Type 0} (r : Result Unit Refusal) (x : Refusal) (cycles : ℕ) (t : Contents) (known quiet : OutputState) (before after : LoopbackState A) → IsErrAnd r (λ e. e ≡ x) → IsUnbound x → after ≡ before
+    → LoopsOnSockets cycles t known known quiet quiet before.traffic after.traffic r
+no_wire {A} r x cycles t known quiet before after is h kept =
+    inr (never_run r x IsUnbound known quiet before.traffic after.traffic is h (ap (λ (l : LoopbackState A). l.traffic) kept))
 
-pub looped_between : (r : Result Unit Refusal) (cycles : ℕ) (t : Contents) (slaves : List SlaveState) (sockets : Ports) (ports : ℕ × ℕ) (before after : ℕ) (old new quiet told : OutputState)
-    → AreSlavesOf t slaves → ports ≡ (sockets.master, sockets.segment) → IsTold (ports_line ports.0 ports.1) quiet told → Loops cycles t (silent before) (silent after) old new r
-    → LoopsOnSockets cycles t old new quiet told r
-looped_between r cycles t slaves sockets ports before after old new quiet told are same line runs = inl (record {
+pub looped_between : (r : Result Unit Refusal) (cycles : ℕ) (t : Contents) (slaves : List SlaveState) (sockets : Ports) (ports : ℕ × ℕ) (before began ended after : Traffic) (first failed : ℕ)
+    (old new quiet told : OutputState) → AreSlavesOf t slaves → ports ≡ (sockets.master, sockets.segment) → IsTold (ports_line ports.0 ports.1) quiet told → began ≡ before → first ≡ 0
+    → Loops cycles t (counted began first) (counted ended failed) old new r → after ≡ ended → LoopsOnSockets cycles t old new quiet told before after r
+looped_between r cycles t slaves sockets ports before began ended after first failed old new quiet told are same line starts fine runs ends = inl (record {
   slaves = slaves;
   are = are;
   ports = sockets;
   tells = subst (λ (p : ℕ × ℕ). IsTold (ports_line p.0 p.1) quiet told) same line;
-  before = before;
-  after = after;
-  runs = runs;
+  failed = failed;
+  runs = subst (λ (x : Traffic). Loops cycles t (counted before 0) (counted x failed) old new r) (sym ends)
+      (subst (λ (n : ℕ). Loops cycles t (counted before n) (counted ended failed) old new r) fine
+      (subst (λ (x : Traffic). Loops cycles t (counted x first) (counted ended failed) old new r) starts runs));
 })
 
-pub looped : (cycles : ℕ) (text : List ℕ) (t : Contents) (old new quiet told : OutputState) (r : Result Unit Refusal) → StatesMachine text t
-    → LoopsOnSockets cycles t old new quiet told r → LoopsText cycles text old new quiet told r
-looped cycles text t old new quiet told r states (inl loops) = inl (t, states, loops)
-looped cycles text t old new quiet told r states (inr (x, is, why, kept, mute)) = inr (x, is, inr why, kept, mute)
+pub looped : (cycles : ℕ) (text : List ℕ) (t : Contents) (old new quiet told : OutputState) (before after : Traffic) (r : Result Unit Refusal) → StatesMachine text t
+    → LoopsOnSockets cycles t old new quiet told before after r → LoopsText cycles text old new quiet told before after r
+looped cycles text t old new quiet told before after r states (inl loops) = inl (t, states, loops)
+looped cycles text t old new quiet told before after r states (inr (x, is, why, kept, mute, unsent)) = inr (x, is, inr why, kept, mute, unsent)
 
 -- a text that states none
-pub unstated : (r : Result Unit Refusal) (x : Refusal) (cycles : ℕ) (text : List ℕ) (known quiet : OutputState) → IsErrAnd r (λ e. e ≡ x) → IsTableRefusal text x → LoopsText cycles text known known quiet quiet r
-unstated r x cycles text known quiet is why = inr (never_run r x (λ refusal. IsTableRefusal text refusal ⊎ IsUnbound refusal) known quiet is (inl why))
+pub unstated : (r : Result Unit Refusal) (x : Refusal) (cycles : ℕ) (text : List ℕ) (known quiet : OutputState) (before : Traffic) → IsErrAnd r (λ e. e ≡ x) → IsTableRefusal text x
+    → LoopsText cycles text known known quiet quiet before before r
+unstated r x cycles text known quiet before is why = inr (never_run r x (λ refusal. IsTableRefusal text refusal ⊎ IsUnbound refusal) known quiet before before is (inl why) refl)
 
 -- cycles over a wire whose payloads are noted are cycles over the wire
-pub tapped_loops : {W : Type 0} (state : W → WireState) (cycles : ℕ) (t : Contents) (first began after : WireState) (last : W) (old new : OutputState) (r : Result Unit Refusal)
-    → began ≡ first → state last ≡ after → Loops cycles t began after old new r → (x : W) × Loops cycles t first (state x) old new r
-tapped_loops state cycles t first began after last old new r same is loops =
-    (last, subst (λ (w : WireState). Loops cycles t first w old new r) (sym is) (subst (λ (w : WireState). Loops cycles t w after old new r) same loops))
+pub tapped_loops : (cycles : ℕ) (t : Contents) (first began after last : WireState) (old new : OutputState) (r : Result Unit Refusal)
+    → began ≡ first → last ≡ after → Loops cycles t began after old new r → Loops cycles t first last old new r
+tapped_loops cycles t first began after last old new r same is loops =
+    subst (λ (w : WireState). Loops cycles t first w old new r) (sym is) (subst (λ (w : WireState). Loops cycles t w after old new r) same loops)

@@ -14,7 +14,7 @@ use Rattle.ec_start.specs.declared.error.StartError.{StartError}
 use Rattle.ec_start.specs.declared.phase.Phase.TheVariants.{Ready, Failed}
 use Rattle.ec_start.specs.Running.{StartState, begun}
 use Rattle.ec_bringup.specs.SwitchedOn.{AreSlavesOf}
-use Rattle.ec_wire.specs.Wires.{Ports, WireState, silent}
+use Rattle.ec_wire.specs.Wires.{Ports, Traffic, WireState, counted}
 use Rattle.ec_wire.specs.BringingUp.{IsBroughtUp}
 use Rattle.ec_slave.specs.State.{SlaveState}
 use Rattle.ec_wire.specs.Running.{IsRun}
@@ -157,33 +157,34 @@ abbrev pub ports_line : ℕ → ℕ → List ℕ
 ports_line master segment = codes "ecat: loop between 127.0.0.1:" ++ (decimal master ++ (codes " and 127.0.0.1:" ++ (decimal segment ++ 10 ∷ [])))
 
 -- Two sockets of this process, with the table's slaves at one of them, just switched on: the ports are told, and then the
--- cycles run over them. Sockets tell no payload, so what they carried is any.
-pub record LoopsBetween (cycles : ℕ) (t : Contents) (old new quiet told : OutputState) (ended : Result Unit Refusal) : Type 0 where
+-- cycles run over them. Sockets tell no payload, so what they carried is any; but as many are sent and received as went over
+-- sockets to slaves of the application that it was given.
+pub record LoopsBetween (cycles : ℕ) (t : Contents) (old new quiet told : OutputState) (before after : Traffic) (ended : Result Unit Refusal) : Type 0 where
   pub slaves : List SlaveState
   pub are : AreSlavesOf t slaves
   pub ports : Ports
   pub tells : IsTold (ports_line ports.master ports.segment) quiet told
-  -- how many calls of its wire were faults before and after
-  pub before : ℕ
-  pub after : ℕ
-  pub runs : Loops cycles t (silent before) (silent after) old new ended
+  -- how many calls of its wire were faults
+  pub failed : ℕ
+  pub runs : Loops cycles t (counted before 0) (counted after failed) old new ended
 
--- it is refused, and nothing is printed or told
-abbrev pub IsNeverRun : (Refusal → Type 0) → (old new : OutputState) → (quiet told : OutputState) → Result Unit Refusal → Type 0
-IsNeverRun Refuses old new quiet told ended = (refusal : Refusal) × (ended ≡ Err refusal) × Refuses refusal × (new ≡ old) × (told ≡ quiet)
+-- it is refused, and nothing is printed, told or sent
+abbrev pub IsNeverRun : (Refusal → Type 0) → (old new quiet told : OutputState) → (before after : Traffic) → Result Unit Refusal → Type 0
+IsNeverRun Refuses old new quiet told before after ended =
+    (refusal : Refusal) × (ended ≡ Err refusal) × Refuses refusal × (new ≡ old) × (told ≡ quiet) × (after ≡ before)
 
 -- no memory for the slaves, or no sockets
 abbrev pub IsUnbound : Refusal → Type 0
 IsUnbound refusal = (refusal ≡ Memory) ⊎ (refusal ≡ Socket)
 
 -- cycles of the table that a text states; or it is refused, or there are no sockets
-abbrev pub LoopsText : ℕ → List ℕ → (old new : OutputState) → (quiet told : OutputState) → Result Unit Refusal → Type 0
-LoopsText cycles text old new quiet told ended =
-    ((t : Contents) × StatesMachine text t × LoopsBetween cycles t old new quiet told ended)
-    ⊎ IsNeverRun (λ refusal. IsTableRefusal text refusal ⊎ IsUnbound refusal) old new quiet told ended
+abbrev pub LoopsText : ℕ → List ℕ → (old new quiet told : OutputState) → (before after : Traffic) → Result Unit Refusal → Type 0
+LoopsText cycles text old new quiet told before after ended =
+    ((t : Contents) × StatesMachine text t × LoopsBetween cycles t old new quiet told before after ended)
+    ⊎ IsNeverRun (λ refusal. IsTableRefusal text refusal ⊎ IsUnbound refusal) old new quiet told before after ended
 
 -- the same of what the input gives; or the input is refused
-abbrev pub RunsLoop : ℕ → (given : Given) → (old new : OutputState) → (quiet told : OutputState) → Result Unit Refusal → Type 0
-RunsLoop cycles given old new quiet told ended =
-    ((text : List ℕ) × GivesText given text × LoopsText cycles text old new quiet told ended)
-    ⊎ IsNeverRun (IsInputRefusal given) old new quiet told ended
+abbrev pub RunsLoop : ℕ → (given : Given) → (old new quiet told : OutputState) → (before after : Traffic) → Result Unit Refusal → Type 0
+RunsLoop cycles given old new quiet told before after ended =
+    ((text : List ℕ) × GivesText given text × LoopsText cycles text old new quiet told before after ended)
+    ⊎ IsNeverRun (IsInputRefusal given) old new quiet told before after ended

@@ -1,12 +1,14 @@
 //! `ecat loop`: cycles of a link table over two sockets of this process.
-ghost use Rattle.std.specs.Prelude.{◌≡◌, ◌≤◌, ◌<◌, ◌%◌, ◌^◌, List, [], All, None, Some, Ok, Result, IfErr, IfOk, OnOk, length, slice_get};
+ghost use Rattle.std.specs.Prelude.{◌≡◌, ◌≤◌, ◌<◌, ◌%◌, ◌^◌, List, [], All, None, Some, Ok, Result, IfErr, IfOk, OnErr, OnOk, length, slice_get};
 ghost use Rattle.std.specs.String.{string_bytes};
 ghost use Rattle.ec_link.specs.Plan.{plan_of};
 ghost use Rattle.ec_start.specs.Planned.{HasFewAssigned};
 ghost use Rattle.ec_cycle.specs.Closing.{ReportState};
 ghost use Rattle.ec_cycle.specs.Master.{new_master};
 ghost use Rattle.ec_bringup.specs.SwitchedOn.{AreSlavesOf};
+ghost use Rattle.ec_slave.specs.State.{SlaveState};
 ghost use Rattle.ec_wire.specs.Running.{IsRun};
+ghost use Rattle.ec_wire.specs.Wires.{IsBack};
 ghost use Rattle.ec_tap.specs.Taps.{Tells};
 ghost use Rattle.ec_text.specs.ReportText.{report_text};
 ghost use Rattle.ec_console.specs.Capturing.{EndsCaptured, Finishes};
@@ -25,11 +27,10 @@ use ec_console::{
 };
 use ec_cycle::{Master, Report};
 use ec_link::{Machine, Plan, Variable};
-use ec_ring::Ring;
 use ec_start::Startup;
 use ec_tap::{CapturedWire, Side};
 use ec_text::{input_lines, push_number, write_report};
-use ec_wire::{App, LoopWire, RunError, Sockets, Wire, bring_up_wire, run_cycle};
+use ec_wire::{App, LoopWire, Loopback, RunError, Wire, bring_up_wire, run_cycle};
 use std::alloc::Global;
 use std::fs::Files;
 use std::io::{Read, Write};
@@ -64,11 +65,11 @@ pub fn run_loop<W: Wire, O: Write + Drop>(
     run_started(alloc, machine, &mut master, wire, cycles, output)
 }
 
-/// Runs so many cycles of the table that the input states, master and slaves on two sockets of this process, the slaves'
-/// applications being `app`. It tells the ports of the sockets on `faults`. In the n-th cycle each output variable is sent
-/// as n, as far as it has bits. It prints a line when the slaves are up, the report on each cycle before the next begins,
-/// and at the end the input variables. A refusal of the table, of its start-up or of a cycle is explained, where that is
-/// wanted.
+/// Runs so many cycles of the table that the input states, master and slaves on two sockets of this process, where the slaves
+/// have the application of `loopback`, which counts what goes over the sockets. It tells the ports of the sockets on `faults`.
+/// In the n-th cycle each output variable is sent as n, as far as it has bits. It prints a line when the slaves are up, the
+/// report on each cycle before the next begins, and at the end the input variables. A refusal of the table, of its start-up or
+/// of a cycle is explained, where that is wanted.
 ///
 /// # Errors
 ///
@@ -79,20 +80,24 @@ pub fn print_loop<
     R: Read + Drop,
     W: Write + Drop,
     F: Write + Drop,
+    A: App + Drop,
 >(
     rt: &H,
     cycles: u16,
     input: &mut InputStream<R>,
     output: &mut OutputStream<W>,
     faults: &mut OutputStream<F>,
-    app: &mut dyn App,
+    loopback: &mut Loopback<A>,
     behind: &mut Explanation,
 ) -> Result<(), Refusal>
     ensures runs { RunsLoop cycles (given_by R.remaining input.old input.new) output.old output.new
-        faults.old faults.new result }
+        faults.old faults.new loopback.old.traffic loopback.new.traffic result }
+    ensures back { IsBack loopback.old loopback.new }
     ensures explains { IsLeft behind.old behind.new }
 {
-    loop_input(rt, cycles, &mut None, input, output, faults, app, behind)
+    loop_input(
+        rt, cycles, &mut None, input, output, faults, loopback, behind,
+    )
 }
 
 /// The same with a capture: what the master sends and receives goes into a file, at the interface `loop`.
@@ -107,6 +112,7 @@ pub fn capture_loop<
     R: Read + Drop,
     W: Write + Drop,
     F: Write + Drop,
+    A: App + Drop,
 >(
     rt: &H,
     cycles: u16,
@@ -114,16 +120,17 @@ pub fn capture_loop<
     input: &mut InputStream<R>,
     output: &mut OutputStream<W>,
     faults: &mut OutputStream<F>,
-    app: &mut dyn App,
+    loopback: &mut Loopback<A>,
     behind: &mut Explanation,
 ) -> Result<(), Refusal>
     ensures runs { EndsCaptured (λ ended. RunsLoop cycles (given_by R.remaining input.old input.new) output.old
-        output.new faults.old faults.new ended)
-        ((output.new ≡ output.old) × (faults.new ≡ faults.old)) result }
+        output.new faults.old faults.new loopback.old.traffic loopback.new.traffic ended)
+        ((output.new ≡ output.old) × (faults.new ≡ faults.old) × (loopback.new ≡ loopback.old)) result }
+    ensures back { IsBack loopback.old loopback.new }
     ensures explains { IsLeft behind.old behind.new }
 {
     let capture = open_capture(rt, file, "loop")?;
-    loop_captured(rt, cycles, capture, input, output, faults, app, behind)
+    loop_captured(rt, cycles, capture, input, output, faults, loopback, behind)
 }
 
 /// Runs so many cycles with a master whose slaves are up, and prints what `run_loop` does.
@@ -279,6 +286,7 @@ fn loop_input<
     R: Read + Drop,
     W: Write + Drop,
     F: Write + Drop,
+    A: App + Drop,
 >(
     rt: &H,
     cycles: u16,
@@ -286,15 +294,16 @@ fn loop_input<
     input: &mut InputStream<R>,
     output: &mut OutputStream<W>,
     faults: &mut OutputStream<F>,
-    app: &mut dyn App,
+    loopback: &mut Loopback<A>,
     behind: &mut Explanation,
 ) -> Result<(), Refusal>
     ensures runs { RunsLoop cycles (given_by R.remaining input.old input.new) output.old output.new
-        faults.old faults.new result }
+        faults.old faults.new loopback.old.traffic loopback.new.traffic result }
+    ensures back { IsBack loopback.old loopback.new }
     ensures explains { IsLeft behind.old behind.new }
 {
     let text = read_text(rt.alloc(), input)?;
-    let ended = loop_text(rt, cycles, capture, text.as_str(), output, faults, app);
+    let ended = loop_text(rt, cycles, capture, text.as_str(), output, faults, loopback);
     if let Err(refusal) = &ended {
         behind.explain(rt.alloc(), text.as_str(), refusal);
     }
@@ -302,44 +311,52 @@ fn loop_input<
 }
 
 /// Runs cycles of the machine that a text states, over two sockets.
-fn loop_text<H: AllocGlobal + Net + Files + Clock, W: Write + Drop, F: Write + Drop>(
+fn loop_text<H: AllocGlobal + Net + Files + Clock, W: Write + Drop, F: Write + Drop, A: App + Drop>(
     rt: &H,
     cycles: u16,
     capture: &mut Capture<H::File>,
     text: &str,
     output: &mut OutputStream<W>,
     faults: &mut OutputStream<F>,
-    app: &mut dyn App,
+    loopback: &mut Loopback<A>,
 ) -> Result<(), Refusal>
-    ensures { LoopsText cycles text.now output.old output.new
-        faults.old faults.new result }
+    ensures loops { LoopsText cycles text.now output.old output.new
+        faults.old faults.new loopback.old.traffic loopback.new.traffic result }
+    ensures back { IsBack loopback.old loopback.new }
 {
     let machine = read_machine(rt.alloc(), text)?;
-    loop_machine(rt, &machine, cycles, capture, output, faults, app)
+    loop_machine(rt, &machine, cycles, capture, output, faults, loopback)
 }
 
 /// Runs cycles of a machine over two sockets.
 #[tactic(auto, using(crate::proofs::LoopLemmas::no_wire, crate::proofs::LoopLemmas::looped_between))]
-fn loop_machine<H: AllocGlobal + Net + Files + Clock, W: Write + Drop, F: Write + Drop>(
+fn loop_machine<
+    H: AllocGlobal + Net + Files + Clock,
+    W: Write + Drop,
+    F: Write + Drop,
+    A: App + Drop,
+>(
     rt: &H,
     machine: &Machine,
     cycles: u16,
     capture: &mut Capture<H::File>,
     output: &mut OutputStream<W>,
     faults: &mut OutputStream<F>,
-    app: &mut dyn App,
+    loopback: &mut Loopback<A>,
 ) -> Result<(), Refusal>
-    ensures { LoopsOnSockets cycles machine.now output.old output.new
-        faults.old faults.new result }
+    ensures loops { LoopsOnSockets cycles machine.now output.old output.new
+        faults.old faults.new loopback.old.traffic loopback.new.traffic result }
+    ensures back { IsBack loopback.old loopback.new }
 {
-    let ends = loop_ends(rt, machine)?;
-    tell_ports(ends.1.ports(), faults);
-    let wire = LoopWire::new(ends.1, ends.0, app);
-    run_tapped(rt, machine, wire, cycles, capture, output)
+    let wire = open_loop(rt, machine, loopback)?;
+    tell_ports(wire.ports(), faults);
+    let (ended, wire) = run_tapped(rt, machine, wire, cycles, capture, output);
+    loopback.close(wire);
+    ended
 }
 
 /// Runs cycles of a machine over a wire that has carried nothing yet, and notes what it carries in a capture, if there
-/// is one.
+/// is one. It hands the wire on.
 #[tactic(auto, using(crate::proofs::LoopLemmas::tapped_loops))]
 fn run_tapped<H: AllocGlobal + Files + Clock, W: Wire + Drop, O: Write + Drop>(
     rt: &H,
@@ -348,23 +365,24 @@ fn run_tapped<H: AllocGlobal + Files + Clock, W: Wire + Drop, O: Write + Drop>(
     cycles: u16,
     capture: &mut Capture<H::File>,
     output: &mut OutputStream<O>,
-) -> Result<(), Refusal>
+) -> (Result<(), Refusal>, W)
     requires sent { Tells (W.state wire).sent [] }
     requires received { Tells (W.state wire).received [] }
-    ensures { (last : W) × Loops cycles machine.now (W.state wire) (W.state last)
-        output.old output.new result }
+    ensures { Loops cycles machine.now (W.state wire) (W.state result.1)
+        output.old output.new result.0 }
 {
     match capture.take() {
         None => {
             let mut wire = wire;
-            run_loop(rt.alloc(), machine, &mut wire, cycles, output)
+            let ended = run_loop(rt.alloc(), machine, &mut wire, cycles, output);
+            (ended, wire)
         }
         Some(recording) => {
             let mut tapped = CapturedWire::new(wire, recording, Side::Master, rt);
             let ended = run_loop(rt.alloc(), machine, &mut tapped, cycles, output);
-            let (_, recording) = tapped.into_parts();
+            let (wire, recording) = tapped.into_parts();
             *capture = Some(recording);
-            ended
+            (ended, wire)
         }
     }
 }
@@ -390,14 +408,21 @@ fn between(ports: (u16, u16)) -> ArrayString<LINE_SIZE>
     line
 }
 
-/// What a loop of a machine runs between: its slaves, just switched on, and two sockets of this process.
-fn loop_ends<H: AllocGlobal + Net>(rt: &H, machine: &Machine) -> Result<(Ring, Sockets), Refusal>
-    ensures slaves { IfOk result (λ ends. AreSlavesOf machine.now ends.0) }
+/// A wire between two sockets of this process, to the slaves of a machine, just switched on, and with the application that it
+/// takes away.
+fn open_loop<H: AllocGlobal + Net, A: App + Drop>(
+    rt: &H,
+    machine: &Machine,
+    loopback: &mut Loopback<A>,
+) -> Result<LoopWire<A>, Refusal>
+    ensures slaves { OnOk result ((slaves : List SlaveState) × AreSlavesOf machine.now slaves) }
+    ensures opened { IfOk result (λ wire. (wire.traffic ≡ loopback.old.traffic) × (wire.failed ≡ 0)) }
     ensures refused { IfErr result IsUnbound }
+    ensures kept { OnErr result (loopback.new ≡ loopback.old) }
 {
     let slaves = slaves_of_machine(rt.alloc(), machine)?;
-    let sockets = Sockets::bind(rt)?;
-    Ok((slaves, sockets))
+    let wire = loopback.open(rt, slaves)?;
+    Ok(wire)
 }
 
 /// Runs cycles of the table that the input states, as [`print_loop`] does, with a capture that is open, which is then written
@@ -407,6 +432,7 @@ fn loop_captured<
     R: Read + Drop,
     W: Write + Drop,
     F: Write + Drop,
+    A: App + Drop,
 >(
     rt: &H,
     cycles: u16,
@@ -414,14 +440,24 @@ fn loop_captured<
     input: &mut InputStream<R>,
     output: &mut OutputStream<W>,
     faults: &mut OutputStream<F>,
-    app: &mut dyn App,
+    loopback: &mut Loopback<A>,
     behind: &mut Explanation,
 ) -> Result<(), Refusal>
     ensures runs { (ended : Result Unit RefusalValue) × RunsLoop cycles (given_by R.remaining input.old input.new) output.old
-        output.new faults.old faults.new ended × Finishes ended result }
+        output.new faults.old faults.new loopback.old.traffic loopback.new.traffic ended × Finishes ended result }
+    ensures back { IsBack loopback.old loopback.new }
     ensures explains { IsLeft behind.old behind.new }
 {
     let mut capture = capture;
-    let ended = loop_input(rt, cycles, &mut capture, input, output, faults, app, behind);
+    let ended = loop_input(
+        rt,
+        cycles,
+        &mut capture,
+        input,
+        output,
+        faults,
+        loopback,
+        behind,
+    );
     close_capture(ended, capture)
 }

@@ -1,5 +1,6 @@
 //! Wires whose payloads are noted in captures, by the public calls of `ec_tap`.
-ghost use Rattle.std.specs.Prelude.{◌≡◌, [], Some};
+ghost use Rattle.std.specs.Prelude.{◌≡◌, []};
+ghost use Rattle.ec_wire.specs.Wires.{Payloads};
 
 use crate::rows::{assert_same, bytes_of};
 use ec_capture::Recorder;
@@ -36,7 +37,7 @@ impl Clock for Still {
 
 /// A wire to no slaves, of which the call of a number is a fault.
 fn wire_of(rt: &(impl AllocGlobal + Abort), fails_at: u64) -> MemoryWire
-    ensures { result ≡ record { sent = Some []; received = Some []; failed = 0 } }
+    ensures { result ≡ record { sent = Payloads []; received = Payloads []; failed = 0 } }
 {
     MemoryWire::new(rt.alloc(), Ring::new(Vec::new(rt.alloc())), 4, fails_at).expect(rt, "memory")
 }

@@ -1,10 +1,10 @@
 -- A payload more, noted.
-use Rattle.std.proofs.Common.{ℕ, ◌≡◌, ◌∙◌, refl, sym, ap, subst, List, [], ◌∷◌, ◌++◌, map, Bool, true, false, Option, None, Some, if◌then◌else◌}
+use Rattle.std.proofs.Common.{ℕ, ◌≡◌, ◌∙◌, refl, sym, ap, subst, List, [], ◌∷◌, ◌++◌, map, Bool, true, false, if◌then◌else◌}
 use Rattle.std.proofs.lemmas.List.{append-nil, map-append}
 use Rattle.ec_capture.specs.Captures.{Seen}
 use Rattle.ec_capture.specs.Recordings.{Notes, Recording}
 use Rattle.ec_capture.proofs.Noting.{notes_nothing, notes_then}
-use Rattle.ec_wire.specs.Wires.{Carries, Grows, WireState}
+use Rattle.ec_wire.specs.Wires.{Carries, Nothing, Number, Payloads, Told, WireState, grown}
 use Rattle.ec_tap.specs.declared.tap.Side.{Side}
 use Rattle.ec_tap.specs.Taps.{Carried, IsTapped, Tells, received_of, seen_of, sent_of}
 
@@ -24,11 +24,13 @@ received-append : (cs ds : List Carried) → received_of (cs ++ ds) ≡ received
 received-append [] ds = refl
 received-append (c ∷ cs) ds = received_by c.is_sent c.payload (received_of (cs ++ ds)) (received_of cs) (received_of ds) (received-append cs ds)
 
-tells_more : (old new : Option (List (List ℕ))) (ps qs : List (List ℕ)) → Tells old ps → Grows old new qs → Tells new (ps ++ qs)
-tells_more None None ps qs told grows = tt
-tells_more None (Some xs) ps qs told grows = absurd grows
-tells_more (Some xs) None ps qs told grows = absurd grows
-tells_more (Some xs) (Some ys) ps qs told grows = grows ∙ ap (λ (l : List (List ℕ)). l ++ qs) told
+tells_grown : (old : Told) (ps qs : List (List ℕ)) → Tells old ps → Tells (grown old qs) (ps ++ qs)
+tells_grown Nothing ps qs told = tt
+tells_grown (Number n) ps qs told = tt
+tells_grown (Payloads xs) ps qs told = ap (λ (l : List (List ℕ)). l ++ qs) told
+
+tells_more : (old new : Told) (ps qs : List (List ℕ)) → Tells old ps → new ≡ grown old qs → Tells new (ps ++ qs)
+tells_more old new ps qs told is = subst (λ (x : Told). Tells x (ps ++ qs)) (sym is) (tells_grown old ps qs told)
 
 -- before anything was carried
 pub tapped_new : (side : Side) (w : WireState) (r : Recording) → Tells w.sent [] → Tells w.received [] → IsTapped side w r

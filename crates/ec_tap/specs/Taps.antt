@@ -1,8 +1,8 @@
 -- A wire whose payloads are noted in a capture.
-use Rattle.std.specs.Prelude.{ℕ, ◌≡◌, not, List, [], ◌∷◌, map, Bool, Option, None, Some, if◌then◌else◌}
+use Rattle.std.specs.Prelude.{ℕ, ◌≡◌, not, List, [], ◌∷◌, map, Bool, None, if◌then◌else◌}
 use Rattle.ec_capture.specs.Captures.{Seen}
 use Rattle.ec_capture.specs.Recordings.{Notes, Recording}
-use Rattle.ec_wire.specs.Wires.{WireState}
+use Rattle.ec_wire.specs.Wires.{Nothing, Number, Payloads, Told, WireState}
 use Rattle.ec_tap.specs.declared.tap.Side.{Side}
 use Rattle.ec_tap.specs.declared.tap.Side.TheVariants.{Master, Segment}
 
@@ -30,10 +30,11 @@ has_passed Segment is_sent = is_sent
 abbrev pub seen_of : Side → Carried → Seen
 seen_of side c = record { interface = 0; time = c.time; passed = has_passed side c.is_sent; payload = c.payload; comment = None }
 
--- where a wire tells payloads, it tells these
-abbrev pub Tells : Option (List (List ℕ)) → List (List ℕ) → Type 0
-Tells None payloads = Unit {0}
-Tells (Some told) payloads = told ≡ payloads
+-- Where a wire tells payloads, it tells these. Of one that counts from any number on, or tells nothing, nothing is said.
+abbrev pub Tells : Told → List (List ℕ) → Type 0
+Tells Nothing payloads = Unit {0}
+Tells (Number count) payloads = Unit {0}
+Tells (Payloads told) payloads = told ≡ payloads
 
 -- All that a wire carried is noted, in order: one packet for each payload, up to the first write that was refused.
 pub record IsTapped (side : Side) (wire : WireState) (capture : Recording) : Type 0 where

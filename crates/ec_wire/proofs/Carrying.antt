@@ -1,29 +1,30 @@
 -- Calls of a wire one after the other.
-use Rattle.std.proofs.Common.{◌≡◌, ◌≤◌, ◌++◌, ◌||◌, ◌==◌, ℕ, List, [], Bool, true, false, Option, None, Some, sym, ◌∙◌, ap, append_assoc, arith, nat_lt, not, refl, subst}
-use Rattle.std.proofs.lemmas.List.{append-nil}
+use Rattle.std.proofs.Common.{◌≡◌, ◌≤◌, ◌++◌, ◌||◌, ◌==◌, ℕ, List, [], Bool, true, false, sym, ◌∙◌, ap, append_assoc, arith, nat_lt, not, refl, subst}
+use Rattle.std.proofs.lemmas.List.{append-nil, length-append}
 use Rattle.std.proofs.lemmas.Bool.Decides.{nat_tests}
-use Rattle.ec_wire.specs.Wires.{WireState, Carries, Grows, is_fault, max_failed}
+use Rattle.ec_wire.specs.Wires.{Carries, Nothing, Number, Payloads, Told, WireState, grown, is_fault, max_failed}
 
-grows-none : (a : Option (List (List ℕ))) → Grows a a []
-grows-none None = tt
-grows-none (Some xs) = sym (append-nil xs)
+grown-none : (a : Told) → a ≡ grown a []
+grown-none Nothing = refl
+grown-none (Number n) = ap Number (omega arith)
+grown-none (Payloads xs) = ap Payloads (sym (append-nil xs))
 
-grows-then : (a b c : Option (List (List ℕ))) (ps qs : List (List ℕ)) → Grows a b ps → Grows b c qs → Grows a c (ps ++ qs)
-grows-then None None None ps qs g h = tt
-grows-then None None (Some zs) ps qs g h = absurd h
-grows-then None (Some ys) c ps qs g h = absurd g
-grows-then (Some xs) None c ps qs g h = absurd g
-grows-then (Some xs) (Some ys) None ps qs g h = absurd h
-grows-then (Some xs) (Some ys) (Some zs) ps qs g h = h ∙ ap (λ (l : List (List ℕ)). l ++ qs) g ∙ append_assoc xs ps qs
+grown-twice : (a : Told) (ps qs : List (List ℕ)) → grown (grown a ps) qs ≡ grown a (ps ++ qs)
+grown-twice Nothing ps qs = refl
+grown-twice (Number n) ps qs = ap Number (let l = length-append ps qs in omega (arith, l))
+grown-twice (Payloads xs) ps qs = ap Payloads (append_assoc xs ps qs)
+
+grown-then : (a b c : Told) (ps qs : List (List ℕ)) → b ≡ grown a ps → c ≡ grown b qs → c ≡ grown a (ps ++ qs)
+grown-then a b c ps qs g h = h ∙ (ap (λ (x : Told). grown x qs) g ∙ grown-twice a ps qs)
 
 -- before any call
 pub carries-none : (a : WireState) → Carries a a [] []
-carries-none a = record { sends = grows-none a.sent; receives = grows-none a.received; faults = omega arith }
+carries-none a = record { sends = grown-none a.sent; receives = grown-none a.received; faults = omega arith }
 
 pub carries-then : (a b c : WireState) (xs ys zs ws : List (List ℕ)) → Carries a b xs ys → Carries b c zs ws → Carries a c (xs ++ zs) (ys ++ ws)
 carries-then a b c xs ys zs ws g h = record {
-  sends = grows-then a.sent b.sent c.sent xs zs g.sends h.sends;
-  receives = grows-then a.received b.received c.received ys ws g.receives h.receives;
+  sends = grown-then a.sent b.sent c.sent xs zs g.sends h.sends;
+  receives = grown-then a.received b.received c.received ys ws g.receives h.receives;
   faults = let p = g.faults in let q = h.faults in omega arith;
 }
 

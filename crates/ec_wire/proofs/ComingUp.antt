@@ -1,5 +1,5 @@
 -- A start-up over a wire that carries each frame past all slaves and back comes up.
-use Rattle.std.proofs.Common.{ℕ, suc, ◌+◌, ◌<◌, ◌≤◌, ◌≡◌, ◌≢◌, ◌==◌, ◌&&◌, Bool, true, false, if◌then◌else◌, Option, Some, None, is_some, inl, inr, ◌⊎◌, List, [], ◌∷◌, ◌++◌, length, map, slice_index_or, refl, sym, ◌∙◌, ap, subst, arith}
+use Rattle.std.proofs.Common.{ℕ, suc, ◌+◌, ◌<◌, ◌≤◌, ◌≡◌, ◌≢◌, ◌==◌, ◌&&◌, Bool, true, false, if◌then◌else◌, None, inl, inr, ◌⊎◌, List, [], ◌∷◌, ◌++◌, length, map, slice_index_or, refl, sym, ◌∙◌, ap, subst, arith}
 use Rattle.std.proofs.lemmas.Bool.{both_ways, cases_Bool, cases_eq, eq-eqb, ne_eqb}
 use Rattle.std.proofs.lemmas.List.{append-nil, append_cancel_left}
 use Rattle.ec_bits.proofs.AnyLaws.{if_true, if_false}
@@ -21,7 +21,7 @@ use Rattle.ec_bringup.specs.Applied.{Applied, Rests as Idles, Reads, Writes, Are
 use Rattle.ec_bringup.proofs.Applying.{turns-on}
 use Rattle.ec_bringup.proofs.BringUp.{is-sending, turn-kept, turn-made}
 use Rattle.ec_bringup.proofs.ComesUp.{applied_up}
-use Rattle.ec_wire.specs.Wires.{WireState, Carries, Grows, is_fault}
+use Rattle.ec_wire.specs.Wires.{Carries, Nothing, Number, Payloads, Told, WireState, grown, is_fault, tells_all}
 use Rattle.ec_wire.specs.Applications.{IsServed, AreServed, has_data, inputs_written, outputs_read}
 use Rattle.ec_wire.specs.Segments.{IsAnswer, IsTreated, AreTreated}
 use Rattle.ec_wire.specs.BringingUp.{IsBroughtUp, IsNextFrame, Rests, Waits, Loses, Goes}
@@ -69,15 +69,21 @@ all-applied (s ∷ ss) (t ∷ ts) h = (
 
 -- ---- what was carried
 
-grown : (old new : Option (List (List ℕ))) (xs ys : List (List ℕ)) → is_some old ≡ true → Grows old new xs → Grows old new ys → xs ≡ ys
-grown None new xs ys told g h = absurd (both_ways false refl told)
-grown (Some zs) None xs ys told g h = absurd g
-grown (Some zs) (Some new) xs ys told g h = append_cancel_left zs xs ys (sym g ∙ h)
+same-payloads : (xs ys : List (List ℕ)) → Payloads xs ≡ Payloads ys → xs ≡ ys
+same-payloads xs ys e = cc
 
-still-told : (old new : Option (List (List ℕ))) (xs : List (List ℕ)) → is_some old ≡ true → Grows old new xs → is_some new ≡ true
-still-told None new xs told g = absurd (both_ways false refl told)
-still-told (Some zs) None xs told g = absurd g
-still-told (Some zs) (Some new) xs told g = refl
+went-so : (old new : Told) (xs ys : List (List ℕ)) → tells_all old ≡ true → new ≡ grown old xs → new ≡ grown old ys → xs ≡ ys
+went-so Nothing new xs ys told g h = absurd (both_ways false refl told)
+went-so (Number n) new xs ys told g h = absurd (both_ways false refl told)
+went-so (Payloads zs) new xs ys told g h = append_cancel_left zs xs ys (same-payloads (zs ++ xs) (zs ++ ys) (sym g ∙ h))
+
+tells-by : (old : Told) (xs : List (List ℕ)) → tells_all old ≡ true → tells_all (grown old xs) ≡ true
+tells-by Nothing xs told = told
+tells-by (Number n) xs told = told
+tells-by (Payloads zs) xs told = refl
+
+still-told : (old new : Told) (xs : List (List ℕ)) → tells_all old ≡ true → new ≡ grown old xs → tells_all new ≡ true
+still-told old new xs told g = ap tells_all g ∙ tells-by old xs told
 
 pub record HasCarried (w x : WireState) : Type 0 where
   pub sent : List (List ℕ)
@@ -178,13 +184,13 @@ by-answer s t ss mid frame answer a (p ∷ ps) rest more sends spelled h strange
 abbrev FromHere : (ps : List SlavePlan) (from : ℕ) (first : List SlaveState) → (s e : StartState) (w x : WireState) → Type 0
 FromHere ps from first s e w x =
     (k : ℕ) (ss tt : List SlaveState) (sent received : List (List ℕ)) → k ≤ length (script ps) → TurnsTo k (rising (begun ps from) first) (rising s ss)
-    → is_some w.sent ≡ true → is_some w.received ≡ true → is_fault w x ≡ false → Carries w x sent received → AreTreated AnyInputs ss sent tt received → IsUpAndWorks ps (from + length (script ps)) (rising e tt)
+    → tells_all w.sent ≡ true → tells_all w.received ≡ true → is_fault w x ≡ false → Carries w x sent received → AreTreated AnyInputs ss sent tt received → IsUpAndWorks ps (from + length (script ps)) (rising e tt)
 
 -- a start-up that sends no frame has made all turns
 rests-up : (ps : List SlavePlan) (from k : ℕ) (s e : StartState) (w : WireState) (ss tt : List SlaveState) (sent received : List (List ℕ)) → (k ≡ length (script ps) → IsUpAndWorks ps (from + k) (rising s ss))
-    → k ≡ length (script ps) → e ≡ s → is_some w.sent ≡ true → Carries w w sent received → AreTreated AnyInputs ss sent tt received → IsUpAndWorks ps (from + length (script ps)) (rising e tt)
+    → k ≡ length (script ps) → e ≡ s → tells_all w.sent ≡ true → Carries w w sent received → AreTreated AnyInputs ss sent tt received → IsUpAndWorks ps (from + length (script ps)) (rising e tt)
 rests-up ps from k s e w ss tt sent received up last same told carried treated =
-    let none : sent ≡ [] = grown w.sent w.sent sent [] told carried.sends (carries-none w).sends in
+    let none : sent ≡ [] = went-so w.sent w.sent sent [] told carried.sends (carries-none w).sends in
     let h : AreTreated AnyInputs ss [] tt received = subst (λ (l : List (List ℕ)). AreTreated AnyInputs ss l tt received) none treated in
     subst (λ (l : List SlaveState). IsUpAndWorks ps (from + length (script ps)) (rising e l)) (sym h.0)
     (subst (λ (x : StartState). IsUpAndWorks ps (from + length (script ps)) (rising x ss)) (sym same)
@@ -216,8 +222,8 @@ comes-up-over ps plans from first devices few s e w x (Waits _ _ f) k ss tt sent
       | inr n ↦ ended-waiting (next_frame s) (rests-on s n.1) f
     ])
 comes-up-over ps plans from first devices few s e w x (Loses _ _ _ frame f spelled u) k ss tt sent received most turns told_sent told_received fine carried treated =
-    let got : received ≡ u.foreign = grown w.received x.received received u.foreign told_received carried.receives u.carried.receives in
-    let went : sent ≡ u.frames = grown w.sent x.sent sent u.frames told_sent carried.sends u.carried.sends in
+    let got : received ≡ u.foreign = went-so w.received x.received received u.foreign told_received carried.receives u.carried.receives in
+    let went : sent ≡ u.frames = went-so w.sent x.sent sent u.frames told_sent carried.sends u.carried.sends in
     let size : length received ≡ length u.foreign = ap length got in
     absurd (elim u.lost [
       | inl fault ↦ both_ways (is_fault w x) fine fault
@@ -233,8 +239,8 @@ comes-up-over ps plans from first devices few s e w x (Goes _ t _ _ v _ turn up)
     let a = turn.answered in
     let r = has-carried t e v x up in
     let all = carries-then w v x (turn.frame ∷ []) (a.foreign ++ a.answer ∷ []) r.sent r.received a.carried r.carried in
-    let went : sent ≡ turn.frame ∷ r.sent = grown w.sent x.sent sent (turn.frame ∷ r.sent) told_sent carried.sends all.sends in
-    let got : received ≡ (a.foreign ++ a.answer ∷ []) ++ r.received = grown w.received x.received received ((a.foreign ++ a.answer ∷ []) ++ r.received) told_received carried.receives all.receives in
+    let went : sent ≡ turn.frame ∷ r.sent = went-so w.sent x.sent sent (turn.frame ∷ r.sent) told_sent carried.sends all.sends in
+    let got : received ≡ (a.foreign ++ a.answer ∷ []) ++ r.received = went-so w.received x.received received ((a.foreign ++ a.answer ∷ []) ++ r.received) told_received carried.receives all.receives in
     let h : AreTreated AnyInputs ss (turn.frame ∷ r.sent) tt received = subst (λ (l : List (List ℕ)). AreTreated AnyInputs ss l tt received) went treated in
     let one = answered-at s ss h.0 turn.frame h.1 turn.is_next h.3 in
     let split : (a.foreign ++ a.answer ∷ []) ++ r.received ≡ one.answer ∷ h.2 = sym got ∙ (h.5 ∙ ap (λ (l : List (List ℕ)). l ++ h.2) one.only) in

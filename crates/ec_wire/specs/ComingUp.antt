@@ -1,5 +1,5 @@
 -- A start-up over a wire that carries each frame past all slaves and back.
-use Rattle.std.specs.Prelude.{ℕ, ◌+◌, ◌≤◌, ◌≡◌, List, length, true, false, is_some}
+use Rattle.std.specs.Prelude.{ℕ, ◌+◌, ◌≤◌, ◌≡◌, List, length, true, false}
 use Rattle.ec_slave.specs.State.{SlaveState}
 use Rattle.ec_link.specs.declared.settings.SlavePlan.{SlavePlan}
 use Rattle.ec_start.specs.Scripts.{script}
@@ -7,7 +7,7 @@ use Rattle.ec_start.specs.Running.{StartState, begun, last_number}
 use Rattle.ec_bringup.specs.Undisturbed.{ArePlans, AreDevices}
 use Rattle.ec_bringup.specs.BringUp.{rising}
 use Rattle.ec_bringup.specs.ComesUp.{IsUpAndWorks}
-use Rattle.ec_wire.specs.Wires.{WireState, Carries, is_fault}
+use Rattle.ec_wire.specs.Wires.{WireState, Carries, is_fault, tells_all}
 use Rattle.ec_wire.specs.Segments.{AreTreated}
 
 -- an application that may show any inputs
@@ -17,8 +17,8 @@ AnyInputs outputs inputs = Unit {0}
 -- The wire tells what it carried, and no call of it was a fault. At its other end a segment treated each payload that was sent, in
 -- order: a frame passed all slaves, each of which then served and let its application step. Its answers are what was received.
 pub record IsCarriedPast (old new : WireState) (before after : List SlaveState) : Type 0 where
-  pub tells_sent : is_some old.sent ≡ true
-  pub tells_received : is_some old.received ≡ true
+  pub tells_sent : tells_all old.sent ≡ true
+  pub tells_received : tells_all old.received ≡ true
   pub fine : is_fault old new ≡ false
   pub sent : List (List ℕ)
   pub received : List (List ℕ)

@@ -1,10 +1,16 @@
 -- What a wire tells of itself, and what a call makes of that.
-use Rattle.std.specs.Prelude.{◌≡◌, ◌≢◌, ◌≤◌, ◌++◌, ◌||◌, ◌==◌, ◌+◌, if◌then◌else◌, ℕ, List, Bool, Option, None, Some, nat_lt}
+use Rattle.std.specs.Prelude.{◌≡◌, ◌≢◌, ◌≤◌, ◌++◌, ◌||◌, ◌==◌, ◌+◌, if◌then◌else◌, ℕ, List, length, Bool, true, false, Option, is_some, nat_lt}
 
--- The payloads sent and received so far, where the wire tells them, and how many of its calls were faults.
+-- What a wire tells of the payloads that went one way: nothing, how many they were, or each of them.
+pub data Told : Type 0 where
+  Nothing : Told
+  Number : ℕ → Told
+  Payloads : List (List ℕ) → Told
+
+-- What it tells of those sent and received so far, and how many of its calls were faults.
 pub record WireState : Type 0 where
-  pub sent : Option (List (List ℕ))
-  pub received : Option (List (List ℕ))
+  pub sent : Told
+  pub received : Told
   pub failed : ℕ
 
 -- the last value of the count of faults: there every call is a fault, and the count stays
@@ -15,22 +21,36 @@ max_failed = 18446744073709551615
 abbrev pub is_fault : WireState → WireState → Bool
 is_fault old new = nat_lt old.failed new.failed || (old.failed == max_failed)
 
--- Told payloads stay, and these come behind them. Of a wire that tells none nothing is said, and it goes on telling none.
-abbrev pub Grows : Option (List (List ℕ)) → Option (List (List ℕ)) → List (List ℕ) → Type 0
-Grows None None payloads = Unit {0}
-Grows None (Some new) payloads = ⊥
-Grows (Some old) None payloads = ⊥
-Grows (Some old) (Some new) payloads = new ≡ old ++ payloads
+-- what it tells after these too went that way
+abbrev pub grown : Told → List (List ℕ) → Told
+grown Nothing payloads = Nothing
+grown (Number count) payloads = Number (count + length payloads)
+grown (Payloads told) payloads = Payloads (told ++ payloads)
+
+-- each payload is told
+abbrev pub tells_all : Told → Bool
+tells_all Nothing = false
+tells_all (Number count) = false
+tells_all (Payloads told) = true
 
 -- These payloads were sent and these received, in one call or in several.
 pub record Carries (old new : WireState) (sent received : List (List ℕ)) : Type 0 where
-  pub sends : Grows old.sent new.sent sent
-  pub receives : Grows old.received new.received received
+  pub sends : new.sent ≡ grown old.sent sent
+  pub receives : new.received ≡ grown old.received received
   pub faults : old.failed ≤ new.failed
 
--- a wire that tells no payload, with so many faults
+-- a wire that tells nothing of payloads, with so many faults
 abbrev pub silent : ℕ → WireState
-silent failed = record { sent = None; received = None; failed = failed }
+silent failed = record { sent = Nothing; received = Nothing; failed = failed }
+
+-- How many payloads a master sent to slaves in its own process, and received from them.
+pub record Traffic : Type 0 where
+  pub sent : ℕ
+  pub received : ℕ
+
+-- a wire that tells these two, with so many faults
+abbrev pub counted : Traffic → ℕ → WireState
+counted traffic failed = record { sent = Number traffic.sent; received = Number traffic.received; failed = failed }
 
 -- What is known of a socket, which doesn't tell what it carried: its port, and how many of its calls were faults.
 pub record SocketState : Type 0 where
@@ -42,11 +62,29 @@ pub record Ports : Type 0 where
   pub master : ℕ
   pub segment : ℕ
 
+-- What is known of a wire between two sockets of this process.
+pub record LoopState : Type 0 where
+  pub ports : Ports
+  pub traffic : Traffic
+  pub failed : ℕ
+
+-- An application of simulated slaves, while it is at no wire, and what went over sockets to slaves that had it.
+pub record LoopbackState (A : Type 0) : Type 0 where
+  pub app : Option A
+  pub traffic : Traffic
+
+-- an application that was there is there again
+abbrev pub IsBack : {A : Type 0} → (old new : LoopbackState A) → Type 0
+IsBack {A} old new = is_some old.app ≡ true → is_some new.app ≡ true
+
 -- a new socket that was asked for on a port, where 0 lets the system pick one
 pub record IsOpened (asked : ℕ) (s : SocketState) : Type 0 where
   pub port : asked ≢ 0 → s.port ≡ asked
   pub fine : s.failed ≡ 0
 
 -- one fault more, as far as the count goes
+abbrev pub one_more : ℕ → ℕ
+one_more failed = if failed == max_failed then max_failed else failed + 1
+
 abbrev pub failed_again : WireState → WireState
-failed_again w = record w { failed = if w.failed == max_failed then max_failed else w.failed + 1 }
+failed_again w = record w { failed = one_more w.failed }

@@ -17,7 +17,7 @@ mod wire;
 pub use crate::application::{App, Echo};
 pub use crate::cycle::run_cycle;
 pub use crate::error::{RunError, SocketFault};
-pub use crate::loopback::{LoopWire, Sockets};
+pub use crate::loopback::{LoopWire, Loopback};
 pub use crate::memory::MemoryWire;
 pub use crate::payload::Payload;
 pub use crate::segment::{Served, serve_counted, serve_segment};

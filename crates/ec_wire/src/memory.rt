@@ -1,6 +1,6 @@
 //! A wire over memory.
-ghost use Rattle.std.specs.Prelude.{◌≡◌, ◌≤◌, ◌<◌, [], ◌∷◌, true, false, Some, IfOk, IfSome, IfNone, length, take};
-ghost use Rattle.ec_wire.specs.Wires.{WireState, Carries, failed_again, max_failed};
+ghost use Rattle.std.specs.Prelude.{◌≡◌, ◌≤◌, ◌<◌, ℕ, List, [], ◌∷◌, true, false, IfOk, IfSome, IfNone, length, take};
+ghost use Rattle.ec_wire.specs.Wires.{Carries, Payloads, WireState, failed_again, max_failed};
 
 use crate::application::{Echo, answer};
 use crate::payload::{Payload, frame_of};
@@ -26,14 +26,13 @@ pub struct MemoryWire {
 }
 
 impl Model for MemoryWire {
-    ghost use Rattle.std.specs.Prelude.{Some};
-    ghost use Rattle.ec_wire.specs.Wires.{WireState};
+    ghost use Rattle.ec_wire.specs.Wires.{Payloads, WireState};
 
     ghost Value = { WireState };
 
     ghost view = { λ w. record {
-      sent = Some w.sent.items;
-      received = Some w.received.items;
+      sent = Payloads w.sent.items;
+      received = Payloads w.received.items;
       failed = w.failures;
     } };
 }
@@ -51,7 +50,7 @@ impl MemoryWire {
         room: usize,
         fails_at: u64,
     ) -> Result<MemoryWire, AllocError>
-        ensures { IfOk result (λ w. w ≡ record { sent = Some []; received = Some []; failed = 0 }) }
+        ensures { IfOk result (λ w. w ≡ record { sent = Payloads []; received = Payloads []; failed = 0 }) }
     {
         Ok(MemoryWire {
             ring,
@@ -72,7 +71,7 @@ impl MemoryWire {
 
     /// How many payloads were received.
     pub fn received_count(&self) -> usize
-        ensures { IfSome self.now.received (λ received. result ≡ length received) }
+        ensures { (received : List (List ℕ)) → self.now.received ≡ Payloads received → result ≡ length received }
     {
         self.received.len()
     }

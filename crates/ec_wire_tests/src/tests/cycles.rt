@@ -10,7 +10,7 @@ use crate::tests::machines::{
 use ec_cycle::{Master, Report};
 use ec_link::{ExpectedCounters, Machine};
 use ec_ring::Ring;
-use ec_wire::{Echo, LoopWire, MemoryWire, RunError, Sockets, Wire, run_cycle};
+use ec_wire::{Echo, LoopWire, Loopback, MemoryWire, RunError, Wire, run_cycle};
 use std::net::Net;
 use std::process::Abort;
 
@@ -142,7 +142,8 @@ fn expect_two(rt: &impl Abort, master: &mut Master<'_>, wire: &mut LoopWire<Echo
     assert_same(rt, &seen, &(0, 1, 0));
 }
 
-/// Brings the slaves of a machine up over a loop of two sockets, and runs two cycles.
+/// Brings the slaves of a machine up over a loop of two sockets, and runs two cycles. As many payloads are counted as the
+/// start-up and the cycles have frames.
 pub fn expect_loop(
     rt: &(impl Net + AllocGlobal + Abort),
     machine: &Machine,
@@ -150,9 +151,22 @@ pub fn expect_loop(
 )
     requires { master.old.plan ≡ plan_of machine.now }
 {
-    let sockets = Sockets::bind(rt).expect(rt, "sockets");
-    let mut wire = LoopWire::new(sockets, ring_of(rt, machine), Echo);
+    let mut loopback = Loopback::new(Echo);
+    let mut wire = loopback
+        .open(rt, ring_of(rt, machine))
+        .expect(rt, "sockets");
+    assert!(rt; loopback.open(rt, ring_of(rt, machine)).is_err());
     let mut startup = startup_of(rt, machine, 0);
     bring_up(rt, &mut startup, &mut wire, master);
     expect_two(rt, master, &mut wire);
+    loopback.close(wire);
+    let sent = master.parts().saturating_mul(2);
+    let frames = startup
+        .next_number()
+        .saturating_add(u64::try_from(sent).unwrap_or(0));
+    assert_same(
+        rt,
+        &(loopback.sent(), loopback.received()),
+        &(frames, frames),
+    );
 }

@@ -1,9 +1,10 @@
 use Rattle.ec_loop.proofs.LoopLemmas.{looped_between, no_wire}
 use Rattle.ec_loop.proofs.looping.loop_machine.Goals as goal
 
-pub returns-in_err-ends : goal.returns-in_err-ends
-returns-in_err-ends g c = no_wire _ _ _ _ _ _ c.from_residual.ensures.1 c.in_err-ends.ensures.refused
+pub returns-in_err-wire-clause-loops : goal.returns-in_err-wire-clause-loops
+returns-in_err-wire-clause-loops g c = no_wire _ _ _ _ _ _ _ _ c.from_residual.ensures.1 c.in_err-wire.ensures.refused c.in_err-wire.ensures.kept
 
-pub returns : goal.returns
-returns g c =
-    looped_between c.run_tapped.result c.args.cycles c.args.machine.now c.in_ok-ends.ends.0 c.in_ok-ends.ends.1 c.ports.result _ _ _ _ _ _ c.in_ok-ends.ensures.slaves c.ports.ensures c.tell_ports.ensures c.run_tapped.ensures.1
+pub returns-clause-loops : goal.returns-clause-loops
+returns-clause-loops g c =
+    looped_between _ c.args.cycles c.args.machine.now c.in_ok-wire.ensures.slaves.0 c.in_ok-wire.wire.ports c.ports.result _ _ _ _ _ _ _ _ _ _ c.in_ok-wire.ensures.slaves.1 c.ports.ensures
+    c.tell_ports.ensures c.in_ok-wire.ensures.opened.0 c.in_ok-wire.ensures.opened.1 c.run_tapped-ended.ensures c.close.ensures.counts
