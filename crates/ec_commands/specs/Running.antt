@@ -66,6 +66,7 @@ abbrev pub RunsLoopWith : ℕ → (file : Option (List ℕ)) → (given : Given)
 RunsLoopWith cycles file given output told before after ended =
     EndsWith file (λ ended. RunsLoop cycles given output.old output.new told.old told.new before after ended) (IsBlank output × IsQuiet told × (after ≡ before)) ended
 
+-- what a command begins with: nothing went over sockets yet
 abbrev pub nothing_sent : Traffic
 nothing_sent = record { sent = 0; received = 0 }
 

@@ -82,9 +82,10 @@ pub record IsOpened (asked : ℕ) (s : SocketState) : Type 0 where
   pub port : asked ≢ 0 → s.port ≡ asked
   pub fine : s.failed ≡ 0
 
--- one fault more, as far as the count goes
+-- one more, as far as the count of faults goes
 abbrev pub one_more : ℕ → ℕ
 one_more failed = if failed == max_failed then max_failed else failed + 1
 
+-- one fault more
 abbrev pub failed_again : WireState → WireState
 failed_again w = record w { failed = one_more w.failed }

@@ -1,5 +1,5 @@
 //! A master's wire and its segment on two sockets in one thread.
-ghost use Rattle.std.specs.Prelude.{◌≡◌, ◌≤◌, ◌<◌, Some, true, is_some, length, IfOk, IfSome, OnErr};
+ghost use Rattle.std.specs.Prelude.{◌≡◌, ◌≤◌, ◌<◌, None, Some, true, is_some, length, IfOk, IfSome, OnErr};
 ghost use Rattle.ec_wire.specs.Wires.{counted, max_failed, one_more};
 
 use crate::application::{App, answer};
@@ -91,6 +91,7 @@ impl<A: App + Drop> Loopback<A> {
     /// `SocketFault` where there are no such sockets, or another wire has the application. The slaves are lost then.
     pub fn open<R: Net>(&mut self, rt: &R, ring: Ring) -> Result<LoopWire<A>, SocketFault>
         ensures opened { IfOk result (λ wire. (wire.traffic ≡ self.old.traffic) × (wire.failed ≡ 0)) }
+        ensures taken { IfOk result (λ wire. (is_some self.old.app ≡ true) × (self.new.app ≡ None)) }
         ensures counts { self.new.traffic ≡ self.old.traffic }
         ensures refused { OnErr result (self.new ≡ self.old) }
     {
