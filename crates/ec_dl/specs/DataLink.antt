@@ -17,7 +17,7 @@ pub record DataLink : Type 0 where
 
 -- ---- what they read
 
--- the type of the slave controller, one byte: an IP core; its revision and build, 0x0001 to 0x0003, read 0
+-- the type of the slave controller, one byte: 0x11 is an ET1100; its revision and build, 0x0001 to 0x0003, read 0
 abbrev pub controller_type : ℕ
 controller_type = 0x0000
 

@@ -11,8 +11,8 @@ use std::marker::Model;
 
 /// The type of the slave controller, a byte.
 const CONTROLLER_TYPE: usize = 0x0000;
-/// What it says: an IP core.
-const IP_CORE: u8 = 0x11;
+/// What it says: an ET1100.
+const ET1100: u8 = 0x11;
 /// The port descriptors, a byte.
 const PORT_DESCRIPTORS: usize = 0x0007;
 /// What they say: ports 0 and 1 are MII, two bits each.
@@ -76,7 +76,7 @@ impl DataLink {
             return 0;
         }
         match address {
-            CONTROLLER_TYPE => IP_CORE,
+            CONTROLLER_TYPE => ET1100,
             PORT_DESCRIPTORS => TWO_PORTS,
             DL_STATUS => (status_word(self.has_next) % 256) as u8,
             DL_STATUS_HIGH => (status_word(self.has_next) / 256) as u8,

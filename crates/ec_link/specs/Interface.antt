@@ -21,7 +21,7 @@ pub use Rattle.ec_table.specs.declared.rows.SlaveRow.{SlaveRow}
 use Rattle.ec_table.specs.declared.rows.VariableRow.{VariableRow}
 pub use Rattle.ec_link.specs.Faults.{compile_fault}
 pub use Rattle.ec_link.specs.Image.{image_from, placed, image}
-pub use Rattle.ec_link.specs.Laws.{AreItsLinks, IsPair}
+pub use Rattle.ec_link.specs.Links.{AreItsLinks, IsPair}
 pub use Rattle.ec_link.specs.LinkRuns.{IsLinked, is_out}
 pub use Rattle.ec_link.specs.Meaning.{Linked, in_source, slave_at, Meaning, meaning, share_of, area_at, place_of_part, IsLaid, out_source, no_slave, area_of}
 pub use Rattle.ec_link.specs.Plan.{PlanState, plan_of, part_at, no_part, part_of}

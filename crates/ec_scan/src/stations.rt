@@ -37,7 +37,7 @@ static KEPT: [(u16, &[u8]); 6] = [
     (0x0500, &[0]),
 ];
 
-/// The first registers: an IP core of revision and build 0, four FMMUs and four sync managers, 8 KiB, two ports that are MII, and no
+/// The first registers: an ET1100 of revision and build 0, four FMMUs and four sync managers, 8 KiB, two ports that are MII, and no
 /// feature such as clocks.
 const BASE: [u8; 12] = [0x11, 0, 0, 0, 4, 4, 8, 0x0F, 0, 0, 0, 0];
 

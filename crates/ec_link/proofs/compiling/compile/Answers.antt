@@ -1,4 +1,4 @@
-use Rattle.ec_link.specs.Laws.{AreItsLinks}
+use Rattle.ec_link.specs.Links.{AreItsLinks}
 use Rattle.ec_link.specs.Plan.{PlanState}
 use Rattle.ec_link.specs.Sound.{IsSound, IsLaidOut}
 use Rattle.ec_link.specs.Usable.{IsUsable}
