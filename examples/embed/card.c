@@ -64,10 +64,10 @@ int main(int argc, char **argv) {
     len = f ? fread(table, 1, sizeof table, f) : 0;
     if (ecat_open(&m, table, len, &refusal)) { fprintf(stderr, "card: %d %s\n", refusal.number, refusal.name); return 3; }
     int card = open_card(argv[1]);
-    while ((len = ecat_next(&m, sent + HEADING, ECAT_FRAME)) != 0) {
+    while (ecat_phase(&m) == 0 && (len = ecat_next(&m, sent + HEADING, ECAT_FRAME)) != 0) {
         send_frame(card, len);
         while ((len = receive_frame(card)) != 0 && !ecat_take(&m, came + HEADING, len, NULL)) {}
-        if (!len) { ecat_give_up(&m); break; }
+        if (!len) ecat_give_up(&m);
     }
     if (ecat_phase(&m) != 1) { fprintf(stderr, "card: the start-up failed, %d\n", -ecat_phase(&m)); return 4; }
     clock_gettime(CLOCK_MONOTONIC, &begun);
