@@ -1,8 +1,8 @@
-//! Whether what a payload says is told by the standard's names.
+//! Whether remarks explain a payload by the standard's names.
 ghost use Rattle.std.specs.Prelude.{◌≡◌};
 ghost use Rattle.ec_annotate.specs.Annotating.{names_of};
 
-/// Whether remarks tell by the standard's names what a datagram says, and what is wrong with a payload that is no frame.
+/// Whether remarks explain datagrams by the standard's names, and say what is wrong with a payload that is no frame.
 #[derive(Clone, Copy, Debug, PartialEq, Eq, Drop)]
 pub enum Names {
     /// They do.

@@ -32,7 +32,7 @@ pub(crate) fn remarks_of(
     Ok(remarks)
 }
 
-/// Adds the remarks on a line of hex, and answers whether it is hex.
+/// Adds the remarks on a line of hex, and returns whether it is hex.
 fn add_line(
     alloc: Global,
     remarks: &mut Vec<String>,

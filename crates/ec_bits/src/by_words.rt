@@ -107,8 +107,8 @@ fn shift_run(dst: &mut [u8], at: usize, src: &[u8], start: usize, shift: usize, 
 }
 
 /// Fills `dst` with the bits of `src` from a place inside its first byte on. Each of the seven
-/// shifts has a loop of its own, since a turn of it takes a quarter less time by a shift that
-/// stands in the code than by one that is told.
+/// shifts has a loop of its own: a turn takes a quarter less time if the shift stands in the code
+/// than if it is an argument.
 fn shift_over(dst: &mut [u8], src: &[u8], shift: usize)
     requires some { 0 < shift }
     requires small { shift < 8 }

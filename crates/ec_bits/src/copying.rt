@@ -3,7 +3,7 @@ ghost use Rattle.std.specs.Prelude.{◌≡◌, ◌<◌, ◌≤◌, ◌+◌, ◌-
 ghost use Rattle.std.specs.Int.{bit_at, from_bool};
 ghost use Rattle.ec_bits.specs.Bits.{bit, copied, within, bytes_touched};
 
-/// Copies bits into one byte of `dst`, or none, and answers in how many turns.
+/// Copies bits into one byte of `dst`, or none, and returns in how many turns.
 pub(crate) fn copy_part(dst: &mut [u8], to: usize, src: &[u8], from: usize, count: usize) -> usize
     requires byte { to % 8 + count ≤ 8 }
     requires inside { to + count ≤ 8 * length dst.old }
@@ -42,7 +42,7 @@ pub(crate) fn shift_bytes(
     turns
 }
 
-/// Copies the `count` bits of `src` from `from` on to the place `to` of `dst`, and answers in how
+/// Copies the `count` bits of `src` from `from` on to the place `to` of `dst`, and returns in how
 /// many turns. A turn is one masked write of a byte of `dst`, so there are as many as bytes of
 /// `dst` that hold a copied bit. The ends of both runs, counted in bits, fit a `usize`.
 pub fn copy_bits(dst: &mut [u8], to: usize, src: &[u8], from: usize, count: usize) -> usize
@@ -122,7 +122,7 @@ fn shifted(low: u8, high: u8, shift: usize) -> u8
     (low >> shift) | (high << (8 - shift))
 }
 
-/// Copies whole bytes of `dst`, and answers how many.
+/// Copies whole bytes of `dst`, and returns how many.
 fn copy_whole(dst: &mut [u8], at: usize, src: &[u8], from: usize, count: usize) -> usize
     requires inside { at + count ≤ length dst.old }
     requires there { from + 8 * count ≤ 8 * length src.now }

@@ -46,7 +46,7 @@ pub fn put(bytes: &mut [u8], place: usize, value: bool)
     }
 }
 
-/// Sets the bit at a place, if one is told, and answers whether one is.
+/// Sets the bit at a place if the overlay has one there, and returns whether it has.
 pub fn put_told(bytes: &mut [u8], place: usize, value: Option<bool>) -> bool
     requires { place < 8 * length bytes.old }
     ensures told { result ≡ is_some value }

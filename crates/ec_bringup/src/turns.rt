@@ -49,7 +49,7 @@ fn make_turns(startup: &mut Startup<'_>, ring: &mut Ring)
     turn(startup, ring, &mut frame);
 }
 
-/// One turn: the next frame is written, passes all slaves, each slave serves once, and the frame is taken back. It answers
+/// One turn: the next frame is written, passes all slaves, each slave serves once, and the frame is taken back. It returns
 /// whether there was a frame; without one the ring stays as it was.
 fn turn(startup: &mut Startup<'_>, ring: &mut Ring, frame: &mut Frame) -> bool
     requires { is_sent startup.old.phase ≡ false }

@@ -11,7 +11,7 @@ use ec_table::{Direction, Table};
 use std::alloc::{AllocError, Global};
 use std::fmt::Write as _;
 
-/// What a datagram tells of process data.
+/// What a datagram with process data says.
 #[derive(Clone, Copy, Debug)]
 pub struct Told<'a> {
     /// What the slaves are asked to do.
@@ -25,8 +25,8 @@ pub struct Told<'a> {
 }
 
 /// Adds what a datagram carries, for people, in lines, where it is a process datagram of the plan: its
-/// part with the predicted counter beside the one that came, and each variable with its value. Of a
-/// datagram that no slave has answered these are outputs alone; an output is left out where its slave has
+/// part with the predicted counter beside the one that came, and each variable with its value. If no
+/// slave has answered the datagram, these are outputs alone; an output is left out if its slave has
 /// put inputs over it. The error is want of memory.
 pub fn write_process(
     alloc: Global,

@@ -62,7 +62,7 @@ impl Dictionary {
     ///
     /// # Errors
     ///
-    /// `AllocError` where there is no memory. The type is lost then: who needs it again copies it before.
+    /// `AllocError` if there is no memory. The type is lost then: copy it before if you need it again.
     pub fn new(alloc: Global, kind: SlaveType, identity: Identity) -> Result<Dictionary, AllocError>
         ensures { IfOk result (λ d. d ≡ new_dictionary kind identity) }
     {
@@ -192,7 +192,7 @@ impl Dictionary {
 
     /// The reply to a request, with this counter; the counter of the request is not looked at. The reply is a response with
     /// the index and the subindex of the request, or an abort. The name of a full slave, where it has more than four letters,
-    /// is told by a normal upload response, whose letters `reply_bytes` puts behind the message. The caller knows that the
+    /// is sent by a normal upload response, whose letters `reply_bytes` puts behind the message. The caller knows that the
     /// counter is below 8; the request may be any value of its type.
     #[tactic(auto, unfolding(crate::specs::Answers::answered))]
     pub fn answer(&mut self, in_preop: bool, request: &Message, counter: u8) -> Message

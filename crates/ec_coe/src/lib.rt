@@ -1,5 +1,5 @@
 //! CANopen over EtherCAT (CoE) as simulated slaves and their master speak it (ETG.1000.6): mailbox messages with expedited
-//! SDOs, a slave's object dictionary with its PDO assignments, the name that a full slave tells by a normal transfer, its
+//! SDOs, a slave's object dictionary with its PDO assignments, the name that a full slave sends by a normal transfer, its
 //! refusals in place of silence, and what a reply says.
 #![tactic(auto)]
 

@@ -1,4 +1,4 @@
-//! The bytes of a slave's replies, with the name behind those that tell it by a normal transfer.
+//! The bytes of a slave's replies, with the name behind those that send it by a normal transfer.
 
 ghost use Rattle.std.specs.Prelude.{◌≡◌, ◌≤◌, ◌+◌, length, IfSome};
 ghost use Rattle.std.specs.Option.{option_copied};

@@ -1,4 +1,4 @@
-//! What a master answers of itself.
+//! What a master says of itself.
 ghost use Rattle.std.specs.Prelude.{◌≡◌, length, is_some};
 
 use crate::master::Master;

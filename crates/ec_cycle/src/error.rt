@@ -34,7 +34,7 @@ impl CycleError {
         }
     }
 
-    /// The name by which the program tells this refusal.
+    /// The name by which the program prints this refusal.
     pub fn name(self) -> &'static str
         ensures { result.now ≡ refusal_name self }
     {

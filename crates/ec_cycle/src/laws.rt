@@ -62,7 +62,7 @@ pub fn set_keeps_frames()
     ensures { SetKeepsFrames }
 {}
 
-/// The process data of a frame fill its part, and its name tells of which cycle and part it is.
+/// The process data of a frame fill its part, and its name says of which cycle and part it is.
 pub fn frames_are_of_their_part()
     ensures data { ProcessDataFillTheirPart }
     ensures names { NamesTell }

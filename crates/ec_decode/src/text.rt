@@ -87,7 +87,7 @@ pub fn encode_text(alloc: Global, text: &str) -> Result<String, DecodeError>
     Ok(answer)
 }
 
-/// Adds what lines of hex are printed as, up to the first that isn't hex, and answers whether each is.
+/// Adds what lines of hex are printed as, up to the first that isn't hex, and returns whether each is.
 fn add_lines(alloc: Global, text: &mut String, lines: &[&str]) -> Result<bool, AllocError>
     ensures { IfOk result (AddsLines (map (λ x. x.now) lines.now) (string_bytes text.old) (string_bytes text.new)) }
 {
@@ -99,7 +99,7 @@ fn add_lines(alloc: Global, text: &mut String, lines: &[&str]) -> Result<bool, A
     Ok(true)
 }
 
-/// Adds what a line of hex is printed as, which is nothing where it is empty, and answers whether it is hex.
+/// Adds what a line of hex is printed as, which is nothing if it is empty, and returns whether it is hex.
 fn add_line(alloc: Global, text: &mut String, line: &str) -> Result<bool, AllocError>
     ensures { IfOk result (AddsLine line.now (string_bytes text.old) (string_bytes text.new)) }
 {

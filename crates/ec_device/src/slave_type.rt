@@ -26,7 +26,7 @@ pub const MAX_MAILBOX_SIZE: u16 = 1024;
 /// The most letters of a face's name.
 pub const MAX_NAME: usize = 32;
 
-/// What tells the devices of one type from those of another: the first three numbers of object
+/// What distinguishes the devices of one type from all others: the first three numbers of object
 /// 0x1018 (ETG.1000.6, "Identity object").
 #[derive(Clone, Copy, Debug, PartialEq, Eq)]
 pub struct Device {
@@ -38,7 +38,7 @@ pub struct Device {
     pub revision: u32,
 }
 
-/// What tells one slave from every other: its device and its serial number, as its SII and its
+/// What distinguishes one slave from every other: its device and its serial number, as its SII and its
 /// object 0x1018 show them (ETG.1000.6, "Identity object").
 #[derive(Clone, Copy, Debug, PartialEq, Eq)]
 pub struct Identity {

@@ -30,7 +30,7 @@ pub fn one_kept_is_taken()
     ensures { OneKeptIsTaken }
 {}
 
-/// DL status tells the links of a slave.
+/// DL status shows the links of a slave.
 #[tactic(auto, unfolding(crate::specs::DataLink::dl_byte))]
 pub fn status_tells_links()
     ensures { StatusTellsLinks }

@@ -6,8 +6,8 @@ ghost use Rattle.ec_link.specs.Example.{AcceptedLaw, AcceptedTwoLaw};
 ghost use Rattle.ec_link.specs.Interface.{PlansAreSound, PlansAreUsable, PlansHaveTheLinks, VariablesAreApart, VariablesArePlaced};
 ghost use Rattle.ec_link.specs.Interface.{LinkedBitsAreThere, LinkedInputsAreThere, PlansListTheUnits, SlavesAreOfTheirTypes, SettingsAreListed};
 
-/// The fault that is told of a table is the first that it has, by the numbers of the kinds and then by the places; a table of
-/// which none is told has none.
+/// The fault that `compile` returns is the first that the table has, by the numbers of the kinds and then by the places. If it
+/// returns none, the table has none.
 #[tactic(auto, using(crate::proofs::FirstFault::first_link_fault))]
 pub fn first_link_fault()
     ensures { FirstLinkFault }

@@ -74,7 +74,7 @@ impl Machine {
     ///
     /// # Errors
     ///
-    /// The table's first fault, as `compile` tells it, or `LinkError::Memory`. The table is lost then.
+    /// The table's first fault, as `compile` returns it, or `LinkError::Memory`. The table is lost then.
     pub fn new(alloc: Global, table: Table) -> Result<Machine, LinkError>
         ensures machine { IfOk result (λ m. m ≡ table) }
         ensures accepted { OnOk result (compile_fault table ≡ None) }
@@ -88,7 +88,7 @@ impl Machine {
     ///
     /// # Errors
     ///
-    /// The text's first fault, as `read_table` tells it, or the first of the table that it states, as `compile` does.
+    /// The text's first fault, as `read_table` returns it, or the first of the table that it states, as `compile` does.
     pub fn read(alloc: Global, text: &str) -> Result<Machine, MachineError>
         ensures machine { IfOk result (StatesMachine text.now) }
         ensures refused { IfErr result (Refuses text.now) }

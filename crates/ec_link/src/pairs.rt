@@ -28,7 +28,7 @@ pub fn first_given_twice(
     first_of_many(alloc, link_runs, slaves, variables)
 }
 
-/// The same by each pair of them: it takes no memory, and the square of their number as time.
+/// As [`first_given_twice`], by comparing each pair: it takes no memory, and quadratic time.
 fn first_of_pairs(link_runs: &[LinkRun]) -> Option<usize>
     ensures { result ≡ first_at (linked_twice link_runs.now) 0 link_runs.now }
 {

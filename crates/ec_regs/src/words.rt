@@ -55,14 +55,14 @@ impl AlWord {
         (self.0 % 16) as u8
     }
 
-    /// Whether a status word tells of an error.
+    /// Whether a status word shows an error.
     pub fn has_error(self) -> bool
         ensures { result ≡ al_flag self.0 }
     {
         self.contains(AlWord::ERROR)
     }
 
-    /// Whether a control word acknowledges an error: the bit that tells of one in a status word.
+    /// Whether a control word acknowledges an error, by the bit that shows one in a status word.
     pub fn acknowledges(self) -> bool
         ensures { result ≡ al_flag self.0 }
     {

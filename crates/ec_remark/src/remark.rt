@@ -11,7 +11,7 @@ use std::fmt::Write as _;
 
 /// Adds what a datagram says for people, in lines: each register of which it has all bytes, with its
 /// value; where it has none whole, the register in which it begins; and a mailbox message in the memory
-/// behind the registers. Of a logical datagram and a NOP nothing is said. The error is want of memory.
+/// behind the registers. It adds nothing for a logical datagram or a NOP. The error is want of memory.
 pub fn write_remarks(alloc: Global, text: &mut String, seen: Seen<'_>) -> Result<(), AllocError> {
     if !is_physical(seen.command) {
         return Ok(());
@@ -43,7 +43,7 @@ fn write_part(text: &mut String, from: usize) -> Result<(), AllocError> {
     Ok(())
 }
 
-/// Adds a line for each register all of whose bytes are there, and answers whether there is one.
+/// Adds a line for each register all of whose bytes are there, and returns whether there is one.
 fn write_registers(
     alloc: Global,
     text: &mut String,

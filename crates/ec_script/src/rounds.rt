@@ -34,7 +34,7 @@ pub fn watch_act<S: Watcher>(world: &mut World<'_>, watcher: &mut S, act: LineAc
     }
 }
 
-/// Makes an event, if it can be made, and answers what there is to say of it.
+/// Makes an event, if it can be made, and returns what there is to say of it.
 #[tactic(auto, using(crate::proofs::Seeing::sees_none, crate::proofs::Seeing::sees_made, crate::proofs::Seeing::sees_then))]
 pub fn make<S: Watcher>(world: &mut World<'_>, watcher: &mut S, event: Event) -> LineOutput
     ensures made { Makes event world.old world.new result }

@@ -17,7 +17,7 @@ use ec_table::Table;
 use ec_world::{Unwatched, World};
 use std::alloc::{AllocError, Global};
 
-/// Does what a line asks for, up to the first event that can't be made, and answers what there is to say of it. The world is
+/// Does what a line asks for, up to the first event that can't be made, and returns what there is to say of it. The world is
 /// left as `World::run` of the line's events leaves it. It takes no memory.
 pub fn do_act(world: &mut World<'_>, act: LineAction) -> LineOutput
     ensures does { Does act world.old world.new result }
@@ -27,7 +27,7 @@ pub fn do_act(world: &mut World<'_>, act: LineAction) -> LineOutput
     watch_act(world, &mut Unwatched, act)
 }
 
-/// Does once what a line asks for, up to the first event that can't be made, and answers what is printed of it: a line is done
+/// Does once what a line asks for, up to the first event that can't be made, and returns what is printed of it: a line is done
 /// by as many calls as its `times` say. The world is left
 /// as `World::run` of the line's events leaves it, and the text is that of the last of them. The world is one of the table.
 /// `ready` on a new world of devices, or where the last start-up failed and no frame is on its way, brings every slave up, and

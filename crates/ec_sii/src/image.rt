@@ -16,7 +16,7 @@ pub struct SiiImage {
     pub identity: Identity,
     /// Where its mailboxes lie, if it has any.
     pub mailbox: Option<Mailbox>,
-    /// Of a full slave the words of its categories, one category after another.
+    /// The words of the categories of a full slave, one category after another.
     pub categories: Option<Listed<u16>>,
 }
 

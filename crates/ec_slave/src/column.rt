@@ -25,8 +25,8 @@ struct Carried {
 }
 
 impl Slave {
-    /// Meets what a datagram carries, and answers what it carries on. One through the FMMUs is asked first whether it
-    /// concerns the slave at all.
+    /// Meets what a datagram carries, and returns what it carries on. One through the FMMUs is tested first: it may not
+    /// concern the slave at all.
     fn meet(
         &mut self,
         command: Command,
@@ -46,7 +46,7 @@ impl Slave {
         self.meet_by_command(command, carried, bytes)
     }
 
-    /// The same by the table of commands.
+    /// As [`Slave::meet`], by the table of commands.
     fn meet_by_command(&mut self, command: Command, carried: Carried, bytes: &mut [u8]) -> Carried
         requires { length bytes.old < 2048 }
         ensures slave { self.new ≡ slave_met self.old (carrying command carried bytes.old) }

@@ -26,7 +26,7 @@ pub fn other_position_passes()
     ensures { OtherPositionPasses }
 {}
 
-/// Of a datagram only ADP, the bytes of its data and its working counter ever change.
+/// Only ADP, the bytes of the data and the working counter of a datagram ever change.
 #[tactic(auto, using(crate::proofs::Bystanders::heading_stays))]
 pub fn heading_stays()
     ensures { HeadingStays }

@@ -37,7 +37,7 @@ impl Slave {
         self.fmmus.is_outside(from, bits)
     }
 
-    /// Meets the bits of a datagram in a role, and answers what the working counter grows by. Whether
+    /// Meets the bits of a datagram in a role, and returns what the working counter grows by. Whether
     /// it concerns the slave at all is asked before, by `misses`. Most often it has all process data
     /// of a slave that is set up as usual, which is a copy each way.
     pub(crate) fn access_bits(&mut self, role: Role, from: u64, bytes: &mut [u8]) -> u16
@@ -56,8 +56,8 @@ impl Slave {
         self.access_any_bits(role, from, bytes)
     }
 
-    /// The same of a datagram that has a whole area, which managers don't hold as usual: where it lies in the RAM itself, that is
-    /// a copy each way, too. It is a function of its own, since few slaves are set up so.
+    /// As [`Slave::access_bits`], for a datagram with a whole area that managers don't hold as usual. If it lies in the RAM itself,
+    /// that is a copy each way, too. It is a function of its own, since few slaves are set up so.
     #[inline(never)]
     fn access_unheld(&mut self, mapped: &MappedArea, role: Role, from: u64, bytes: &mut [u8]) -> u16
         requires small { from + 8 * length bytes.old < 2 ^ 64 }

@@ -74,7 +74,7 @@ fn write_managers(managers: &mut [SyncManager], reads: bool, from: usize, bytes:
 }
 
 impl Slave {
-    /// Meets the bytes of a datagram in a role, and answers what the working counter grows by.
+    /// Meets the bytes of a datagram in a role, and returns what the working counter grows by.
     #[tactic(auto, using(crate::proofs::Idle::slave_idle), unfolding(crate::specs::Physical::physical_met))]
     pub(crate) fn access_bytes(&mut self, role: Role, from: usize, bytes: &mut [u8]) -> u16
         requires small { from + length bytes.old < 2 ^ 32 }
@@ -134,7 +134,7 @@ impl Slave {
         }
     }
 
-    /// Writes the bytes of a datagram, and answers whether one was written.
+    /// Writes the bytes of a datagram, and returns whether one was written.
     #[tactic(auto, unfolding(crate::specs::Physical::physical_after))]
     fn write_bytes(&mut self, reads: bool, from: usize, bytes: &[u8]) -> bool
         requires { from + length bytes.now < 2 ^ 32 }
@@ -150,7 +150,7 @@ impl Slave {
         is_some | is_kept
     }
 
-    /// Reads into the bytes of a datagram, and answers whether one was read. Who governs bytes, and whether they may be
+    /// Reads into the bytes of a datagram, and returns whether one was read. Who governs bytes, and whether they may be
     /// read, is asked once for each part of which all or none are.
     fn read_parts(&self, joining: bool, from: usize, bytes: &mut [u8]) -> bool
         requires { from + length bytes.old < 2 ^ 32 }
@@ -183,7 +183,7 @@ impl Slave {
         bytes[1] = read_over(joining, bytes[1], high);
     }
 
-    /// Reads into the bytes of a datagram that lies within the registers, and answers whether one was read. All are,
+    /// Reads into the bytes of a datagram that lies within the registers, and returns whether one was read. All are,
     /// and no manager governs one.
     fn read_registers(&self, joining: bool, from: usize, bytes: &mut [u8]) -> bool
         requires { from + length bytes.old ≤ ram_start }
@@ -202,7 +202,7 @@ impl Slave {
         is_some
     }
 
-    /// Reads into the bytes of a datagram, and answers whether one was read.
+    /// Reads into the bytes of a datagram, and returns whether one was read.
     fn read_physical(&self, joining: bool, from: usize, bytes: &mut [u8]) -> bool
         requires { from + length bytes.old < 2 ^ 32 }
         ensures bytes { bytes.new ≡ retold bytes.old (byte_read self.now joining (record { from = from; bytes = bytes.old })) }

@@ -76,7 +76,7 @@ impl Slave {
     ///
     /// # Errors
     ///
-    /// `AllocError` where there is no memory. The type is lost then: who needs it again copies it before.
+    /// `AllocError` if there is no memory. The type is lost then: copy it before if you need it again.
     pub fn new(alloc: Global, kind: SlaveType, identity: Identity) -> Result<Slave, AllocError>
         ensures { IfOk result (λ s. s ≡ power_on kind identity) }
     {

@@ -274,7 +274,7 @@ fn write_frame(action: &Action, number: u64, frame: &mut Frame)
     }
 }
 
-/// The same by way of the longest buffer, which a mailbox message may need.
+/// As [`write_through`], with the longest buffer, which a mailbox message may need.
 #[inline(never)]
 fn write_long(action: &Action, number: u64, frame: &mut Frame)
     requires doable { IsDoable action.now }
@@ -284,7 +284,7 @@ fn write_long(action: &Action, number: u64, frame: &mut Frame)
     write_through(&mut [0; MAX_DATA], action, number, frame);
 }
 
-/// The same by way of a buffer that has room for a usual mailbox.
+/// As [`write_through`], with a buffer that has room for a usual mailbox.
 #[inline(never)]
 fn write_usual(action: &Action, number: u64, frame: &mut Frame)
     requires doable { IsDoable action.now }

@@ -46,8 +46,8 @@ impl SyncManager {
         }
     }
 
-    /// A datagram reads: what it gets, `shown_byte` tells before. A mailbox is empty then. False, and nothing changes,
-    /// exactly where it is denied: it must touch the first and the last byte of an enabled manager that the ring reads,
+    /// A datagram reads; `shown_byte` returns before what it gets. A mailbox is empty then. False, and nothing changes,
+    /// exactly if it is denied: it must touch the first and the last byte of an enabled manager that the ring reads,
     /// and of a mailbox that is full.
     pub fn ring_read<T: Touching>(&mut self, access: &T) -> bool
         ensures granted { result ≡ (covers (T.touched access.now) self.old && may_read self.old) }

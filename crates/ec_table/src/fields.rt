@@ -26,7 +26,7 @@ pub fn is_name(text: &str) -> bool
     1 <= text.len() && text.len() <= 32 && are_name_bytes(text.as_bytes())
 }
 
-/// Whether two short texts are the same. Their lengths tell most texts apart, at the price of a compare.
+/// Whether two short texts are the same. Most texts differ in length, which takes one comparison.
 pub fn are_same(one: &str, other: &str) -> bool
     ensures { result ≡ bytes_eq one.now other.now }
 {

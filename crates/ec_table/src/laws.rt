@@ -14,7 +14,7 @@ pub fn accepted_element_by_element()
     ensures { AcceptedElementByElement }
 {}
 
-/// What is told of a document before its elements, and in which order.
+/// Which faults of a document come before those of its elements, and in which order.
 #[tactic(auto, using(crate::proofs::DocumentFaults::document_faults))]
 pub fn document_faults_in_order()
     ensures { DocumentFaultsInOrder }
@@ -26,7 +26,7 @@ pub fn left_out_is_default()
     ensures { LeftOutIsDefault }
 {}
 
-/// The first element in order that fails a test is told.
+/// The fault of a table is that of the first element, in order, that fails a test.
 #[tactic(auto, using(crate::proofs::ElementByElement::first_told))]
 pub fn first_fault_is_told()
     ensures { FirstFaultIsTold }

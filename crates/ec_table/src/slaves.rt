@@ -75,7 +75,7 @@ fn slave_element(
     }
 }
 
-/// The same of an element's members.
+/// The slave that the members of an element state, or their first fault.
 #[tactic(auto, unfolding(crate::specs::Reading::slave_at, crate::specs::Reading::slave_named))]
 fn slave_at(
     alloc: Global,

@@ -65,7 +65,7 @@ fn type_element(
     }
 }
 
-/// The same of an element's members.
+/// The type that the members of an element state, or their first fault.
 #[tactic(auto, unfolding(crate::specs::Reading::type_at, crate::specs::Reading::type_named))]
 fn type_at(
     alloc: Global,

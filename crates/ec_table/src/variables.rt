@@ -60,7 +60,7 @@ fn variable_element(
     }
 }
 
-/// The same of an element's members.
+/// The variable that the members of an element state, or their first fault.
 #[tactic(auto, unfolding(crate::specs::Reading::variable_at))]
 fn variable_at(
     version: Version,

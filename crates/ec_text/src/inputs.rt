@@ -8,7 +8,7 @@ use ec_table::{Direction, Table, VariableRow};
 use std::alloc::{AllocError, Global};
 use std::fmt::Write as _;
 
-/// Adds the lines of the input variables among these: of each its name and the value that `value` answers for its place.
+/// Adds the lines of the input variables among these: for each its name and the value that `value` returns for its place.
 ///
 /// # Errors
 ///

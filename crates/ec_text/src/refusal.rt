@@ -1,4 +1,4 @@
-//! Refusals: what is told of each error by which the program is refused, and its text.
+//! Refusals: the number, name and values of each error by which the program is refused, and its text.
 ghost use Rattle.std.specs.Prelude.{◌≡◌, ◌+◌, ◌*◌, ◌≤◌, ◌++◌, length};
 ghost use Rattle.arrayvec.specs.ArrayString.{array_string_len};
 ghost use Rattle.ec_text.specs.RefusalText.{told_line, told_text, values_text};
@@ -27,7 +27,7 @@ const LINE_SIZE: usize = 160;
 pub trait Refused {
     ghost use Rattle.ec_text.specs.RefusalText.{Told};
 
-    /// What is told of it.
+    /// Its number, its name and its values.
     ghost told: { Self → Told };
 
     /// The number of the refusal.
@@ -189,7 +189,7 @@ pub fn refusal_text<E: Refused>(error: &E) -> ArrayString<TEXT_SIZE>
     text
 }
 
-/// The line that tells a refusal: `ecat: NUMBER NAME VALUES` and its end. It takes no memory.
+/// The line that says a refusal: `ecat: NUMBER NAME VALUES` and its end. It takes no memory.
 pub fn refusal_line<E: Refused>(error: &E) -> ArrayString<LINE_SIZE>
     ensures { result.bytes ≡ told_line (E.told error.now) }
 {

@@ -20,7 +20,7 @@ use ec_table::Direction;
 use std::alloc::{AllocError, Global};
 use std::marker::Model;
 
-/// A master that owns its plan, for those who can't lend it one: each call is the call of [`Master`] of the same name.
+/// A master that owns its plan, for callers who can't lend it one: each call is the call of [`Master`] of the same name.
 #[derive(Drop)]
 pub struct OwnMaster {
     plan: Plan,
@@ -44,7 +44,7 @@ impl OwnMaster {
     ///
     /// # Errors
     ///
-    /// `AllocError` where there is no memory. The plan is lost then: who needs it again compiles its table once more.
+    /// `AllocError` if there is no memory. The plan is lost then: compile its table once more if you need it again.
     pub fn new(alloc: Global, plan: Plan) -> Result<OwnMaster, AllocError>
         requires { IsUsable plan }
         ensures { IfOk result (λ m. m ≡ new_master plan) }

@@ -65,7 +65,7 @@ pub(crate) fn end_of_part(managers: &[SyncManager], start: usize, end: usize) ->
     end_of_alike(managers, start, stop)
 }
 
-/// Writes the bytes of a datagram into the memory itself, and answers whether one is written there or behind a manager.
+/// Writes the bytes of a datagram into the memory itself, and returns whether one is written there or behind a manager.
 /// Who governs bytes of the RAM, and whether they may be written, is asked once for each part of which all or none are.
 pub(crate) fn write_physical(
     memory: &mut [u8],
@@ -216,7 +216,7 @@ fn end_of_written(managers: &[SyncManager], start: usize, end: usize) -> usize
     end_of_alike(managers, start, stop)
 }
 
-/// Writes the bytes of a datagram that lies within the registers of the FMMUs, and answers whether one is written. The
+/// Writes the bytes of a datagram that lies within the registers of the FMMUs, and returns whether one is written. The
 /// memory itself keeps all of them.
 fn write_fmmus(memory: &mut [u8], from: usize, bytes: &[u8]) -> bool
     requires room { length memory.old ≡ ram_end }
@@ -268,7 +268,7 @@ fn takes_some(is_busy: bool, from: usize, bytes: &[u8]) -> bool
     false
 }
 
-/// Writes the bytes of a datagram that lies within the registers, and answers whether one is written. No manager
+/// Writes the bytes of a datagram that lies within the registers, and returns whether one is written. No manager
 /// governs a register.
 fn write_registers(memory: &mut [u8], is_busy: bool, from: usize, bytes: &[u8]) -> bool
     requires room { length memory.old ≡ ram_end }

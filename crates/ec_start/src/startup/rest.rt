@@ -8,7 +8,7 @@ use crate::startup::Startup;
 use ec_device::Device;
 use ec_link::Plan;
 
-/// All that a start-up has beside its plan, for those who own the plan and so can't keep what borrows it: they keep this, and
+/// All that a start-up has beside its plan, for an owner of the plan, which can't keep what borrows it: it keeps this, and
 /// make the start-up of both for the time of a call.
 #[derive(Clone, Copy)]
 pub struct StartupRest {
