@@ -1,5 +1,5 @@
-//! What needs streams that fail, sockets that are held, arguments of a system, or calls of parts of the program. What a run over
-//! memory prints and tells, and what the helps list, stands as cases in `crates/ecat_cases/data/`.
+//! What needs streams that fail, sockets that are held, another application, arguments of a system, or calls of parts of the program. What a run over
+//! memory prints and tells, and what the helps list, stands as cases in `tools/cases/data/`.
 
 mod loops;
 mod programs;
@@ -302,6 +302,21 @@ fn segments_on_a_port_that_is_held(rt: HostRuntime) {
     for run in &HELD {
         expect_run(&rt, run, held.port());
     }
+}
+
+/// A loop over sockets to slaves whose application does nothing. That of the program shows their outputs as their inputs.
+const IDLE_LOOP: Run = (
+    "nothing",
+    "ecat loop --cycles 2",
+    THREE_SLAVES,
+    0,
+    "ready\nreport taken missing 0 counters 6 al 0008\nreport taken missing 0 counters 6 al 0008\nc 0\nd 0\n",
+    "ecat: loop between 127.0.0.1:..",
+);
+
+#[test]
+fn loops_to_slaves_whose_application_does_nothing(rt: HostRuntime) {
+    expect_run(&rt, &IDLE_LOOP, 0);
 }
 
 /// Compares what came of a text that was printed or read slowly.

@@ -1,5 +1,5 @@
 //! Of frames as text and back what no command shows, by the public calls of `ec_decode`. What `ecat decode` and `ecat encode`
-//! show are cases (`ecat_cases/data/frames.cases`).
+//! show are cases (`tools/cases/data/frames.cases`).
 use ec_decode::{DecodeError, Reader, check_placed, decode_line, write_frame};
 use std::alloc::AllocError;
 use std::process::Abort;

@@ -1,5 +1,5 @@
 //! Frames changed and built, by the public calls of `ec_frame`. Which payloads are frames is shown by cases
-//! (`ecat_cases/data/frames.cases`, `pass.cases`).
+//! (`tools/cases/data/frames.cases`, `pass.cases`).
 ghost use Rattle.std.specs.Prelude.{◌≡◌, ◌<◌, ◌+◌, ◌%◌, length, slice_set};
 ghost use Rattle.std.proofs.Common.{lit<};
 ghost use Rattle.std.proofs.Math.Nat.{mod-lt};

@@ -1,5 +1,5 @@
 //! What is taken of an input that is interrupted or fails, what is wrong with a text, and what is left behind it. What lines and
-//! texts are otherwise is shown by cases of `ecat sim --live` (`ecat_cases/data/lives.cases`).
+//! texts are otherwise is shown by cases of `ecat sim --live` (`tools/cases/data/lives.cases`).
 use ec_lines::{InputStream, LinesError, MAX_BYTES, NextLine, take_line, take_text};
 use std::io;
 use std::io::{ErrorKind, Read};

@@ -1,5 +1,5 @@
 //! Of registers and datagrams what no command shows, by the public calls of `ec_seen`. What `ecat decode --explain` shows are
-//! cases (`ecat_cases/data/remarks.cases`).
+//! cases (`tools/cases/data/remarks.cases`).
 use ec_frame::Command;
 use ec_seen::{REGISTERS, Register, first_seen, register_at, register_bytes, registers_within};
 use std::test::Fail;

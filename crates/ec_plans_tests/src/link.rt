@@ -1,6 +1,6 @@
 //! Tables as texts, and what is told of the plan of each. Rows of texts are walked. Nothing here has another way out, on which a table
 //! or a plan would go away: what keeps a test from its end, ends it. Links, entries and machines, as `ecat plan` tells of them, stand as
-//! cases in `crates/ecat_cases/data/links.cases`.
+//! cases in `tools/cases/data/links.cases`.
 mod described;
 mod sizes;
 mod tables;

@@ -1,6 +1,6 @@
 //! Texts, and what reading each tells. Whatever isn't as it must be ends the test, and so does memory that is refused: so no
 //! function here has another way out, on which texts or tables would go away. What is wrong with texts that are changed, as
-//! `ecat plan` tells it, stands as cases in `crates/ecat_cases/data/`: `lacking.cases`, `types.cases` and `values.cases`.
+//! `ecat plan` tells it, stands as cases in `tools/cases/data/`: `lacking.cases`, `types.cases` and `values.cases`.
 mod described;
 mod examples;
 mod full;

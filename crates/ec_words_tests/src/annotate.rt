@@ -1,5 +1,5 @@
 //! Of payloads as text with remarks what no command shows, by the public calls of `ec_annotate`. What `ecat decode` shows are
-//! cases (`ecat_cases/data/remarks.cases`).
+//! cases (`tools/cases/data/remarks.cases`).
 use ec_annotate::{Names, annotate_text};
 use std::test::Fail;
 

@@ -1,5 +1,5 @@
 //! Each line is answered before the next one is read, whoever reads and writes. What lines print, and what is told of them, stands
-//! as cases in `crates/ecat_cases/data/lives.cases`.
+//! as cases in `tools/cases/data/lives.cases`.
 mod askers;
 mod drivers;
 

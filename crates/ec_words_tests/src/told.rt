@@ -1,4 +1,4 @@
-//! Places of a text as people count them. What is found at them in tables stands as cases in `crates/ecat_cases/data/stumbles.cases`.
+//! Places of a text as people count them. What is found at them in tables stands as cases in `tools/cases/data/stumbles.cases`.
 use ec_told::spot_of;
 use std::process::Abort;
 

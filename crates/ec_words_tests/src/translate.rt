@@ -1,5 +1,5 @@
 //! `ecat decode` and `ecat encode` to a writer that is full. What they print and tell stands as cases in
-//! `crates/ecat_cases/data/translates.cases`.
+//! `tools/cases/data/translates.cases`.
 use crate::streams::{HandedOn, Sink, Source, nothing_handed_on, sink_of, source_of};
 use ec_console::{InputStream, OutputStream, Refusal};
 use ec_translate::{print_decode, print_encode};

@@ -1,5 +1,5 @@
 //! Worlds of the table with three slaves whose start-ups fail, by slaves that are others or in trouble. Cycles event after event, as
-//! scripts print them, stand as cases in `crates/ecat_cases/data/events.cases`.
+//! scripts print them, stand as cases in `tools/cases/data/events.cases`.
 
 mod trouble;
 

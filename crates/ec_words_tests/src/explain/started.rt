@@ -1,5 +1,5 @@
 //! Start-ups and cycles that fail, and what is told of them. What a run of `ecat` tells of tables, of lines of a script and of what
-//! they expect stands as cases in `crates/ecat_cases/data/`.
+//! they expect stands as cases in `tools/cases/data/`.
 use crate::explain::machine::MACHINE;
 use ec_cycle::CycleError;
 use ec_device::Device;

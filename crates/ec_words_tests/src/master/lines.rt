@@ -1,5 +1,5 @@
 //! What lines print, and how often what they expect isn't so. What is printed of lines that need no wire stands as cases in
-//! `crates/ecat_cases/data/masters.cases`.
+//! `tools/cases/data/masters.cases`.
 
 use ec_bringup::slaves_of_machine;
 use ec_console::{InputStream, OutputStream, Refusal};
