@@ -1,5 +1,5 @@
 //! Events at random.
-use crate::model::Model;
+use crate::runs::model::Model;
 use ec_link::Plan;
 use ec_random::Random;
 use ec_world::{Event, World};

@@ -4,8 +4,8 @@ ghost use Rattle.ec_link.specs.Faults.{compile_fault};
 ghost use Rattle.ec_link.specs.Plan.{plan_of};
 ghost use Rattle.ec_link.specs.Usable.{IsUsable};
 
-use crate::judge::{counters_of, must_be_taken, number, take_inputs};
-use crate::liar::{Liar, Segment};
+use crate::peer::judge::{counters_of, must_be_taken, number, take_inputs};
+use crate::peer::liar::{Liar, Segment};
 use ec_bringup::{bring_up, slaves_of};
 use ec_cycle::{Master, Report};
 use ec_frame::Frame;

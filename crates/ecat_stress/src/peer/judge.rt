@@ -1,5 +1,5 @@
 //! What a cycle must take of what came back, read off the payloads byte by byte, apart from the master.
-use crate::plain::{are_same, behind, byte, data_length, datagrams_end, is_frame, word};
+use crate::peer::plain::{are_same, behind, byte, data_length, datagrams_end, is_frame, word};
 use ec_frame::Frame;
 use ec_link::{ExpectedCounters, Link, PartPlan, Plan};
 

@@ -1,7 +1,7 @@
 //! A segment under payloads at random: over a wire in memory, and over the system's sockets.
-use crate::payloads::random_payload;
-use crate::plain::{is_frame, may_answer};
-use crate::visits::visit;
+use crate::peer::payloads::random_payload;
+use crate::peer::plain::{is_frame, may_answer};
+use crate::peer::visits::visit;
 use ec_frame::Frame;
 use ec_frame::field::MAX_FRAME_LEN;
 use ec_random::Random;
@@ -66,7 +66,7 @@ impl Peer {
         };
         if is_frame(payload.as_slice()) {
             self.frames = self.frames.saturating_add(1);
-            self.open = Some(crate::payloads::frame_of(payload.as_slice()));
+            self.open = Some(crate::peer::payloads::frame_of(payload.as_slice()));
         } else {
             self.others = self.others.saturating_add(1);
         }

@@ -4,7 +4,7 @@ ghost use Rattle.ec_link.specs.Faults.{compile_fault};
 ghost use Rattle.ec_link.specs.Plan.{plan_of};
 ghost use Rattle.ec_link.specs.Usable.{IsUsable};
 
-use crate::table::{SCRIPT, TABLE};
+use crate::memory::table::{SCRIPT, TABLE};
 use ec_cycle::Master;
 use ec_device::Identity;
 use ec_link::{Plan, compile};

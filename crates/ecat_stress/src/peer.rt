@@ -1,12 +1,10 @@
 //! A hostile peer, from a seed. A segment of three slaves gets payloads at random: frames, frames that were tampered with, and
-//! bytes; full slaves get the same, and what masters ask that look around. A master runs cycles over a wire that answers with other frames' answers, answers of earlier cycles, and answers with
-//! bytes and counters changed. All is judged apart from the crates that are tried, from the payloads alone.
-//!
-//!     ecat_peer [SEED [ROUNDS [PORT]]]
+//! bytes. Full slaves get the same, and the frames of masters that look around. A master runs cycles over a wire that gives it
+//! answers to other frames, answers of earlier cycles, and answers with bytes and counters changed. All is judged apart from the
+//! crates that are tried, from the payloads alone.
 //!
 //! With a port, the payloads go in bursts to a segment of three slaves there, as `ecat segment` is, and no cycle is run. It prints a
-//! line of figures; the status is 1 where something was not as it must be.
-#![tactic(auto)]
+//! line of figures.
 
 mod cycles;
 mod judge;
@@ -17,15 +15,14 @@ mod segment;
 mod tables;
 mod visits;
 
-use crate::cycles::{Ran, ring_of, run_cycles};
-use crate::segment::{Sent, Served, send_bursts, serve_in_memory};
-use crate::tables::{THREE_SLAVES, two_units, without_lrw};
+use crate::args::number;
+use crate::peer::cycles::{Ran, ring_of, run_cycles};
+use crate::peer::segment::{Sent, Served, send_bursts, serve_in_memory};
+use crate::peer::tables::{THREE_SLAVES, two_units, without_lrw};
 use std::alloc::Global;
-use std::env::Env;
+use std::io;
 use std::io::Write;
 use std::net::Net;
-use std::process::ExitCode;
-use std::{env, io};
 
 /// What the arguments ask for.
 #[derive(Drop)]
@@ -33,14 +30,6 @@ struct Task {
     seed: u64,
     rounds: u32,
     port: Option<u16>,
-}
-
-/// The number that an argument is, or a default where it isn't there; none where it is no number.
-fn number(args: &[String], place: usize, default: u32) -> Option<u32> {
-    match args.get(place) {
-        Some(text) => text.as_str().parse::<u32>().ok(),
-        None => Some(default),
-    }
 }
 
 /// What the arguments ask for; none where they aren't numbers.
@@ -145,26 +134,42 @@ fn play_on_port<H: AllocGlobal + Net, W: Write>(
     }
 }
 
-/// Does what the arguments ask for.
-fn run<H: AllocGlobal + Net + Env, W: Write>(rt: &H, output: &mut W) -> io::Result<bool> {
-    let args: Vec<String> = env::args(rt)?.collect(rt.alloc())?;
-    let Some(task) = task_of(args.as_slice()) else {
-        write!(output, "ecat_peer [SEED [ROUNDS [PORT]]]")?;
-        return Ok(false);
+/// Plays the peer that a task asks for, and prints its figures.
+fn print_task<H: AllocGlobal + Net, W: Write>(
+    rt: &H,
+    task: &Task,
+    output: &mut W,
+) -> io::Result<bool> {
+    let is_right = match task.port {
+        Some(port) => play_on_port(rt, task, port, output)?,
+        None => play(rt.alloc(), task, output)?,
     };
-    match task.port {
-        Some(port) => play_on_port(rt, &task, port, output),
-        None => play(rt.alloc(), &task, output),
+    let verdict = if is_right { "all" } else { "NOT" };
+    writeln!(output, "; {verdict} as it must be")?;
+    Ok(is_right)
+}
+
+/// Plays the peer that the arguments ask for, and prints its figures.
+pub fn run<H: AllocGlobal + Net, W: Write>(
+    rt: &H,
+    args: &[String],
+    output: &mut W,
+) -> io::Result<bool> {
+    match task_of(args) {
+        Some(task) => print_task(rt, &task, output),
+        None => {
+            writeln!(output, "peer [SEED [ROUNDS [PORT]]]")?;
+            Ok(false)
+        }
     }
 }
 
-fn main(rt: HostRuntime) -> io::Result<ExitCode> {
-    let mut output = rt.stdout();
-    let is_right = run(&rt, &mut output)?;
-    if is_right {
-        writeln!(output, "; all as it must be")?;
-        return Ok(ExitCode::SUCCESS);
-    }
-    writeln!(output, "; NOT as it must be")?;
-    Ok(ExitCode::FAILURE)
+/// Plays the gate's share in memory.
+pub fn run_share<H: AllocGlobal + Net, W: Write>(rt: &H, output: &mut W) -> io::Result<bool> {
+    let task = Task {
+        seed: 1,
+        rounds: 300,
+        port: None,
+    };
+    print_task(rt, &task, output)
 }

@@ -1,7 +1,7 @@
 //! A wire that answers with whatever there is: what the slaves answered, tampered with or not, answers of other parts and of earlier
 //! cycles, frames that came to no slave, and bytes at random.
-use crate::judge::is_answer;
-use crate::payloads::{frame_of, random_payload, tamper};
+use crate::peer::judge::is_answer;
+use crate::peer::payloads::{frame_of, random_payload, tamper};
 use ec_frame::Frame;
 use ec_random::Random;
 use ec_ring::Ring;

@@ -1,10 +1,8 @@
-//! Calls each function that takes memory, on the table with three slaves, and prints what it answers: its name, and then 0 with a
+//! Calls each function that takes memory, on the table with three slaves, and prints what it returned: its name, and then 0 with a
 //! figure of what it made, or the number of its refusal. A call that is refused is made once more, with the same arguments, and
-//! its second answer stands behind the first. With the name of a function it calls that one, with no argument all of them in turn.
-//! Where memory is refused before the function is called, it prints `prepared 1`.
+//! its second result stands behind the first. If memory is refused before the function is called, it prints `prepared 1`.
 //!
-//! The status is 0 where each answer is the figure that the table must give or 1, want of memory.
-#![tactic(auto)]
+//! All is right if each result is the figure that the table must give or 1, want of memory.
 
 mod calls;
 mod table;
@@ -14,17 +12,15 @@ ghost use Rattle.ec_link.specs.Faults.{compile_fault};
 ghost use Rattle.ec_link.specs.Plan.{plan_of};
 ghost use Rattle.ec_link.specs.Usable.{IsUsable};
 
-use crate::calls::{Answer, Call, MEMORY, attempt};
-use crate::table::TABLE;
+use crate::memory::calls::{Answer, Call, MEMORY, attempt};
+use crate::memory::table::TABLE;
 use ec_bringup::identities_of;
 use ec_device::Identity;
 use ec_link::{Plan, compile};
 use ec_table::{Table, read_table};
 use std::alloc::{AllocError, Global};
-use std::env::Env;
+use std::io;
 use std::io::Write;
-use std::process::ExitCode;
-use std::{env, io};
 
 /// What a function answered, and what it answered when it was called again after a refusal.
 #[derive(Drop)]
@@ -124,38 +120,16 @@ fn print_calls<W: Write>(alloc: Global, calls: &[Call], output: &mut W) -> io::R
     Ok(are_right)
 }
 
-/// The arguments, the first of which is the program's name.
-fn given_args<H: Env + AllocGlobal>(rt: &H) -> io::Result<Vec<String>> {
-    let given = env::args(rt)?;
-    Ok(given.collect(rt.alloc())?)
-}
-
-/// Calls what the arguments name, and answers whether all was right.
-fn run<H: AllocGlobal, W: Write>(rt: &H, args: &[String], output: &mut W) -> io::Result<bool> {
-    let Some(name) = args.get(1) else {
-        return print_calls(rt.alloc(), &Call::ALL, output);
+/// Calls the function of a name, or all of them in turn, and returns whether all was right.
+pub fn run<W: Write>(alloc: Global, name: Option<&str>, output: &mut W) -> io::Result<bool> {
+    let Some(name) = name else {
+        return print_calls(alloc, &Call::ALL, output);
     };
-    match Call::named(name.as_str()) {
-        Some(call) => print_call(rt.alloc(), call, output),
+    match Call::named(name) {
+        Some(call) => print_call(alloc, call, output),
         None => {
             writeln!(output, "no such function")?;
             Ok(false)
         }
     }
-}
-
-fn main(rt: HostRuntime) -> io::Result<ExitCode> {
-    let mut output = rt.stdout();
-    let is_right = match given_args(&rt) {
-        Ok(args) => run(&rt, &args, &mut output)?,
-        Err(_) => {
-            writeln!(output, "prepared {MEMORY}")?;
-            true
-        }
-    };
-    Ok(if is_right {
-        ExitCode::SUCCESS
-    } else {
-        ExitCode::FAILURE
-    })
 }

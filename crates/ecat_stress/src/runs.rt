@@ -1,11 +1,7 @@
 //! Long runs, from a seed. Worlds of tables at random get events at random: one world gets them one by one, another the same in lists.
 //! Each must be made where the table of events lets it, and nowhere else; both worlds must show the same after each list; and at the
-//! end an undisturbed cycle must take every sync unit whose slaves are well.
-//!
-//!     ecat_runs [SEED [TABLES [EVENTS]]]
-//!
-//! Each table gets so many events in ten worlds. It prints a line of figures; the status is 1 where something was not as it must be.
-#![tactic(auto)]
+//! end an undisturbed cycle must take every sync unit whose slaves are well. Each table gets so many events in ten worlds. It
+//! prints a line of figures.
 
 mod events;
 mod life;
@@ -15,18 +11,17 @@ ghost use Rattle.std.specs.Prelude.{◌≡◌, None};
 ghost use Rattle.ec_link.specs.Faults.{compile_fault};
 ghost use Rattle.ec_link.specs.Plan.{plan_of};
 
-use crate::events::Kind;
-use crate::life::{Seen, live};
+use crate::args::number;
+use crate::runs::events::Kind;
+use crate::runs::life::{Seen, live};
 use ec_bringup::identities_of;
 use ec_fixtures::random_table;
 use ec_link::{Plan, compile};
 use ec_random::Random;
 use ec_table::{Table, read_table};
 use std::alloc::{AllocError, Global};
-use std::env::Env;
+use std::io;
 use std::io::Write;
-use std::process::ExitCode;
-use std::{env, io};
 
 /// The worlds of each table.
 const WORLDS: [Kind; 10] = [
@@ -113,14 +108,6 @@ impl Sum {
     }
 }
 
-/// The number that an argument is, or a default where it isn't there; none where it is no number.
-fn number(args: &[String], place: usize, default: u32) -> Option<u32> {
-    match args.get(place) {
-        Some(text) => text.as_str().parse::<u32>().ok(),
-        None => Some(default),
-    }
-}
-
 /// What the arguments ask for; none where they aren't numbers.
 fn task_of(args: &[String]) -> Option<Task> {
     Some(Task {
@@ -180,7 +167,7 @@ fn live_all(
 }
 
 /// All tables.
-fn run(alloc: Global, task: Task) -> Result<Sum, AllocError> {
+fn live_tables(alloc: Global, task: Task) -> Result<Sum, AllocError> {
     let mut sum = Sum {
         worlds: 0,
         tried: 0,
@@ -198,13 +185,8 @@ fn run(alloc: Global, task: Task) -> Result<Sum, AllocError> {
     Ok(sum)
 }
 
-/// Does what the arguments ask for, and prints its figures.
-fn print_run<H: AllocGlobal + Env, W: Write>(rt: &H, output: &mut W) -> io::Result<bool> {
-    let args: Vec<String> = env::args(rt)?.collect(rt.alloc())?;
-    let Some(task) = task_of(args.as_slice()) else {
-        writeln!(output, "ecat_runs [SEED [TABLES [EVENTS]]]")?;
-        return Ok(false);
-    };
+/// Moves the worlds that a task asks for, and prints their figures.
+fn print_task<W: Write>(alloc: Global, task: Task, output: &mut W) -> io::Result<bool> {
     let Sum {
         worlds,
         tried,
@@ -212,7 +194,7 @@ fn print_run<H: AllocGlobal + Env, W: Write>(rt: &H, output: &mut W) -> io::Resu
         taken,
         untaken,
         is_right,
-    } = run(rt.alloc(), task)?;
+    } = live_tables(alloc, task)?;
     let verdict = if is_right { "all" } else { "NOT" };
     writeln!(
         output,
@@ -221,11 +203,23 @@ fn print_run<H: AllocGlobal + Env, W: Write>(rt: &H, output: &mut W) -> io::Resu
     Ok(is_right)
 }
 
-fn main(rt: HostRuntime) -> io::Result<ExitCode> {
-    let mut output = rt.stdout();
-    Ok(if print_run(&rt, &mut output)? {
-        ExitCode::SUCCESS
-    } else {
-        ExitCode::FAILURE
-    })
+/// Moves the worlds that the arguments ask for, and prints their figures.
+pub fn run<W: Write>(alloc: Global, args: &[String], output: &mut W) -> io::Result<bool> {
+    match task_of(args) {
+        Some(task) => print_task(alloc, task, output),
+        None => {
+            writeln!(output, "runs [SEED [TABLES [EVENTS]]]")?;
+            Ok(false)
+        }
+    }
+}
+
+/// Moves the gate's share of worlds.
+pub fn run_share<W: Write>(alloc: Global, output: &mut W) -> io::Result<bool> {
+    let task = Task {
+        seed: 1,
+        tables: 3,
+        events: 20_000,
+    };
+    print_task(alloc, task, output)
 }

@@ -3,8 +3,8 @@ ghost use Rattle.std.specs.Prelude.{◌≡◌, None, length};
 ghost use Rattle.ec_link.specs.Faults.{compile_fault};
 ghost use Rattle.ec_link.specs.Plan.{plan_of};
 
-use crate::events::{Kind, next_event, next_move};
-use crate::model::Model;
+use crate::runs::events::{Kind, next_event, next_move};
+use crate::runs::model::Model;
 use ec_cycle::Report;
 use ec_device::Identity;
 use ec_link::Plan;
