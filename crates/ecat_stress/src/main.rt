@@ -5,6 +5,7 @@
 //!     ecat_stress peer [SEED [ROUNDS [PORT]]]       a hostile peer
 //!     ecat_stress runs [SEED [TABLES [EVENTS]]]     worlds under events at random
 //!     ecat_stress frames [SEED [PAYLOADS]]          payloads as text and back
+//!     ecat_stress tables [SEED [TABLES]]            tables and scripts, and what the calls make of them
 //!
 //! Each prints its figures. The status is 0 if all was as it must be, else 1.
 #![tactic(auto)]
@@ -14,6 +15,7 @@ mod frames;
 mod memory;
 mod peer;
 mod runs;
+mod tables;
 
 use std::env::Env;
 use std::io::Write;
@@ -50,6 +52,7 @@ fn run_trial<H: AllocGlobal + Net, W: Write>(
         "peer" => peer::run(rt, args, output),
         "runs" => runs::run(rt.alloc(), args, output),
         "frames" => frames::run(rt.alloc(), args, output),
+        "tables" => tables::run(rt.alloc(), args, output),
         _ => {
             writeln!(output, "no such trial")?;
             Ok(false)

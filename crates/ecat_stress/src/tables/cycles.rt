@@ -1,9 +1,10 @@
-//! The cycles of `ecat loop` as events of a world, whose slaves' applications show their outputs as their inputs.
+//! The cycles of `ecat loop` as events of a world, whose slaves' applications copy their outputs to their inputs.
 use ec_link::{Machine, Plan};
 use ec_table::{Direction, Table, VariableRow};
 use ec_text::write_report;
 use ec_world::{Event, World};
-use std::process::Abort;
+use std::alloc::{AllocError, Global};
+use std::fmt::Write;
 
 /// A slave's inputs have fewer bytes.
 const MANY_BYTES: usize = 4096;
@@ -88,52 +89,47 @@ fn run_cycle(world: &mut World<'_>, parts: usize) {
 
 /// Adds the line of the last report, if there is one.
 fn write_line(
-    rt: &(impl AllocGlobal + Abort),
+    alloc: Global,
     text: &mut String,
     world: &World<'_>,
     table: &Table,
     plan: &Plan,
-) {
-    if let Some(report) = world.report() {
-        write_report(rt.alloc(), text, table.version(), plan.parts(), report).expect(rt, "memory");
+) -> Result<(), AllocError> {
+    match world.report() {
+        Some(report) => write_report(alloc, text, table.version(), plan.parts(), report),
+        None => Ok(()),
     }
-}
-
-/// Adds the line of an input variable.
-fn write_input(rt: &(impl AllocGlobal + Abort), text: &mut String, name: &str, value: u64) {
-    let line = format!(in rt.alloc(); "{name} {value}\n").expect(rt, "memory");
-    text.push_str(line.as_str()).expect(rt, "memory");
 }
 
 /// Adds the line of each input variable.
 fn write_inputs(
-    rt: &(impl AllocGlobal + Abort),
     text: &mut String,
     world: &World<'_>,
     rows: &[VariableRow],
-) {
+) -> Result<(), AllocError> {
     for (place, row) in rows.iter().enumerate() {
         if row.direction == Direction::In && place < world.variables() {
-            write_input(rt, text, row.name.as_str(), world.input(place));
+            writeln!(text, "{} {}", row.name.as_str(), world.input(place))?;
         }
     }
+    Ok(())
 }
 
-/// A world of a machine comes up, and says what it has to say of so many cycles.
+/// Brings a world of a machine up, and adds what `ecat loop` prints of so many cycles.
 pub fn write_cycles(
-    rt: &(impl AllocGlobal + Abort),
+    alloc: Global,
     machine: &Machine,
     world: &mut World<'_>,
     cycles: u64,
     text: &mut String,
-) {
+) -> Result<(), AllocError> {
     let (table, plan) = (machine.table(), machine.plan());
     start_up(world);
-    text.push_str("ready\n").expect(rt, "memory");
+    text.push_str("ready\n")?;
     for cycle in 0..cycles {
         set_outputs(world, table.variables(), cycle.saturating_add(1));
         run_cycle(world, plan.parts().len());
-        write_line(rt, text, world, table, plan);
+        write_line(alloc, text, world, table, plan)?;
     }
-    write_inputs(rt, text, world, table.variables());
+    write_inputs(text, world, table.variables())
 }
