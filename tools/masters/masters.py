@@ -4,125 +4,30 @@ Each finds the slaves, reads who they are from their SII, asks them by CoE or by
 and brings them to OP with what it found alone: nothing here knows the link table. What a step wants of a slave and doesn't get
 is a `Stumble`.
 """
-import socket
 import struct
 
-INIT, PREOP, SAFEOP, OP = 1, 2, 4, 8
-STRINGS, GENERAL, FMMUS, MANAGERS, INPUTS, OUTPUTS, END = 10, 30, 40, 41, 50, 51, 0xFFFF
-APRD, APWR, FPRD, FPWR, BRD, BWR, LRD, LWR, LRW = 1, 2, 4, 5, 7, 8, 10, 11, 12
+from bus import APRD, APWR, BRD, BWR, COE, GENERAL, INIT, INPUTS, LRD, LRW, LWR, MANAGERS, OP, OUTPUTS, PREOP, SAFEOP, STRINGS
+from bus import Slave as BusSlave
+from bus import fmmu_of, long, pdos_of, sdo, want, word
 
 
-class Stumble(Exception):
-    """A slave isn't as the master wants it."""
-
-
-def want(holds, text):
-    if not holds:
-        raise Stumble(text)
-
-
-def word(data, at=0):
-    return struct.unpack_from("<H", data, at)[0]
-
-
-def long(data, at=0):
-    return struct.unpack_from("<I", data, at)[0]
-
-
-class Bus:
-    """One datagram a frame, over UDP or over a card."""
-
-    def __init__(self, port=None, card=None):
-        self.number = self.frames = 0
-        if card:
-            self.socket = socket.socket(socket.AF_PACKET, socket.SOCK_RAW, socket.htons(0x88A4))
-            self.socket.bind((card, 0x88A4))
-            self.heading = b"\xff" * 6 + bytes.fromhex("020101010101") + b"\x88\xa4"
-        else:
-            self.socket = socket.socket(socket.AF_INET, socket.SOCK_DGRAM)
-            self.socket.connect(("127.0.0.1", port))
-            self.heading = b""
-        self.socket.settimeout(10)
-
-    def wait(self):
-        """Broadcasts until a frame comes back: over a card nobody is told when a segment begins to listen."""
-        self.socket.settimeout(0.1)
-        for _ in range(100):
-            try:
-                self.physical(BRD, 0, 0x0000, bytes(1))
-                break
-            except TimeoutError:
-                pass
-        self.socket.settimeout(10)
-
-    def send(self, command, address, data):
-        """What came back in the datagram: its data and its working counter."""
-        self.number = (self.number + 1) % 256
-        self.frames += 1
-        datagram = bytes([command, self.number]) + struct.pack("<IHH", address, len(data), 0) + bytes(data) + b"\0\0"
-        frame = struct.pack("<H", len(datagram) | 0x1000) + datagram
-        self.socket.send(self.heading + frame.ljust(46, b"\0"))
-        while True:
-            came, sender = self.socket.recvfrom(2000)
-            if self.heading and sender[2] == socket.PACKET_OUTGOING:
-                continue
-            came = came[len(self.heading):]
-            if came[3] == self.number:
-                return came[12 : 12 + len(data)], word(came, 12 + len(data))
-
-    def physical(self, command, first, register, data):
-        return self.send(command, first % 65536 | register << 16, data)
-
-
-class Slave:
-    """A slave by its station address, and what was found out of it."""
+class Slave(BusSlave):
+    """A slave as these masters see it, with the settings of its managers."""
 
     def __init__(self, bus, station):
-        self.bus, self.station, self.counter = bus, station, 0
-        self.managers, self.pdos = {}, {}
-
-    def read(self, register, count):
-        data, counted = self.bus.physical(FPRD, self.station, register, bytes(count))
-        want(counted == 1, f"slave {self.station:#x}: no read of {register:#06x}")
-        return data
-
-    def write(self, register, data):
-        return self.bus.physical(FPWR, self.station, register, data)[1] == 1
-
-    # ---- the SII
-
-    def sii(self, address, low=0x00):
-        """Two words, as four bytes; none where the read ends with an error."""
-        if word(self.read(0x0502, 2)) & 0x7800:
-            self.write(0x0502, b"\0\0")
-        want(self.write(0x0502, struct.pack("<BBI", low, 1, address)), f"slave {self.station:#x}: the SII takes no command")
-        for _ in range(100):
-            state = word(self.read(0x0502, 2))
-            if not state & 0x8000:
-                return None if state & 0x7800 else self.read(0x0508, 4)
-        raise Stumble(f"slave {self.station:#x}: the SII stays busy")
+        super().__init__(bus, station)
+        self.managers = {}
 
     def read_categories(self, low=0x00):
-        """The categories by their types, crawled from word 0x40 on to the end mark."""
-        at, self.categories = 0x40, {}
-        while True:
-            head = self.sii(at, low)
-            want(head is not None, f"slave {self.station:#x}: no SII word {at:#x}")
-            kind, length = struct.unpack("<HH", head)
-            if kind == END:
-                break
-            body = b"".join(self.sii(at + 2 + k, low) or b"" for k in range(0, length, 2))[: 2 * length]
-            want(len(body) == 2 * length, f"slave {self.station:#x}: category {kind} is cut off")
-            self.categories[kind] = body
-            at += 2 + length
-        self.words = at
+        found, self.words = self.crawl(low)
+        self.categories = dict(found)
 
     def identify(self):
         self.identity = tuple(long(self.sii(at)) for at in (0x08, 0x0A, 0x0C, 0x0E))
         self.out_box, self.in_box = struct.unpack("<HH", self.sii(0x18)), struct.unpack("<HH", self.sii(0x1A))
         self.protocols = word(self.sii(0x1C))
         strings, general = self.categories.get(STRINGS, b"\0"), self.categories.get(GENERAL)
-        want(general is not None and MANAGERS in self.categories, f"slave {self.station:#x}: no general or SyncM category")
+        self.want(general is not None and MANAGERS in self.categories, "no general or SyncM category")
         names, at = [""], 1
         for _ in range(strings[0]):
             names.append(strings[at + 1 : at + 1 + strings[at]].decode())
@@ -136,40 +41,28 @@ class Slave:
         """The bits of each manager, by the PDO categories."""
         bits = {}
         for kind in (INPUTS, OUTPUTS):
-            body, at = self.categories.get(kind, b""), 0
-            while at < len(body):
-                count, manager = body[at + 2], body[at + 3]
-                bits[manager] = bits.get(manager, 0) + sum(body[at + 8 + 8 * k + 5] for k in range(count))
-                at += 8 + 8 * count
+            for _, manager, entries in pdos_of(self.categories.get(kind, b"")):
+                bits[manager] = bits.get(manager, 0) + sum(count for _, _, count in entries)
         return bits
 
     # ---- the mailbox
 
-    def mail(self, message):
-        want(self.write(self.out_box[0], message.ljust(self.out_box[1], b"\0")), f"slave {self.station:#x}: the mailbox takes nothing")
-        for _ in range(20):
-            if self.read(0x080D, 1)[0] & 8:
-                return self.read(*self.in_box)
-        raise Stumble(f"slave {self.station:#x}: no answer in the mailbox")
-
     def upload(self, index, sub):
         """An object's bytes; none where the transfer is aborted."""
-        self.counter = self.counter % 7 + 1
-        sent = struct.pack("<HHBBHBHBI", 10, 0, 0, 3 | self.counter << 4, 2 << 12, 0x40, index, sub, 0)
-        came = self.mail(sent)
-        want(came[5] & 15 == 3, f"slave {self.station:#x}: mailbox type {came[5] & 15}")
+        came = self.converse(COE, sdo(2, 0x40, index, sub))
+        self.want(came[5] & 15 == COE, f"mailbox type {came[5] & 15}")
         command, told, at, value = struct.unpack_from("<BHBI", came, 8)
         if command == 0x80:
             return None
-        want((told, at) == (index, sub), f"slave {self.station:#x}: another object came")
+        self.want((told, at) == (index, sub), "another object came")
         if command & 2:
             return came[12 : 16 - (command >> 2 & 3)]
-        want(word(came) == 10 + value, f"slave {self.station:#x}: {index:#06x} comes in segments")
+        self.want(word(came) == 10 + value, f"{index:#06x} comes in segments")
         return came[16 : 16 + value]
 
     def number(self, index, sub):
         data = self.upload(index, sub)
-        want(data is not None, f"slave {self.station:#x}: no {index:#06x}:{sub}")
+        self.want(data is not None, f"no {index:#06x}:{sub}")
         return int.from_bytes(data, "little")
 
     def bits_assigned(self, assignment):
@@ -185,25 +78,21 @@ class Slave:
 
     # ---- states
 
-    def state(self):
-        return word(self.read(0x0130, 2))
-
     def go(self, state):
-        want(self.write(0x0120, struct.pack("<H", state)), f"slave {self.station:#x}: AL control takes nothing")
-        for _ in range(100):
+        self.set(0x0120, struct.pack("<H", state))
+        for _ in range(self.polls):
             now = self.read(0x0130, 6)
             if word(now) & 0x1F == state:
                 return
-            want(not word(now) & 0x10, f"slave {self.station:#x}: state {state} refused, code {word(now, 4):#06x}")
-        raise Stumble(f"slave {self.station:#x}: state {state} isn't reached")
+            self.want(not word(now) & 0x10, f"state {state} refused, code {word(now, 4):#06x}")
+        self.want(False, f"state {state} isn't reached")
 
     def set_manager(self, number):
         start, length, control, enable, _ = self.managers[number]
-        want(self.write(0x0800 + 8 * number, struct.pack("<HHBBH", start, length, control, 0, enable)), f"slave {self.station:#x}: SM{number}")
+        self.set(0x0800 + 8 * number, struct.pack("<HHBBH", start, length, control, 0, enable))
 
     def set_fmmu(self, number, logical, bits, start, way):
-        data = struct.pack("<IHBBHBBB3x", logical, (bits + 7) // 8, 0, (bits - 1) % 8, start, 0, way, 1)
-        want(self.write(0x0600 + 16 * number, data), f"slave {self.station:#x}: FMMU {number}")
+        self.set(0x0600 + 16 * number, fmmu_of(logical, (bits + 7) // 8, start, way, (bits - 1) % 8))
 
 
 def map_process_data(slaves):
@@ -244,7 +133,7 @@ def compare(slaves, came, shown):
         if 1 in where and 2 in where:
             (ins, inputs), (outs, outputs) = where[1], where[2]
             few = min(inputs, outputs) - 1
-            want(came[ins : ins + few] == shown[outs : outs + few], f"slave {slave.station:#x}: its inputs are not its outputs")
+            slave.want(came[ins : ins + few] == shown[outs : outs + few], "its inputs are not its outputs")
 
 
 def run_cycles(bus, slaves, size, cycles):
@@ -371,10 +260,8 @@ def igh_assign(slave, assignment):
     pdos = [slave.number(assignment, place) for place in range(1, count[0] + 1)]
     steps = [(0, 0, 1)] + [(place + 1, pdo, 2) for place, pdo in enumerate(pdos)] + [(0, len(pdos), 1)]
     for sub, value, size in steps:
-        slave.counter = slave.counter % 7 + 1
-        command = 0x2F if size == 1 else 0x2B
-        came = slave.mail(struct.pack("<HHBBHBHBI", 10, 0, 0, 3 | slave.counter << 4, 2 << 12, command, assignment, sub, value))
-        want(came[8] == 0x60, f"slave {slave.station:#x}: {assignment:#06x}:{sub} isn't written")
+        came = slave.converse(COE, sdo(2, 0x2F if size == 1 else 0x2B, assignment, sub, struct.pack("<I", value)))
+        slave.want(came[8] == 0x60, f"{assignment:#06x}:{sub} isn't written")
 
 
 MASTERS = {"soem": soem, "igh": igh}
