@@ -1,6 +1,6 @@
 //! The commands that `ecat` has, and behind them what they are built of. A builder of `clap` owns much, and
-//! each way out of a function on which one goes away costs the checker dearly. So a command goes on as what was made,
-//! which may be want of memory, and two functions alone have a way out.
+//! each way out of a function on which one goes away costs the checker dearly. So a command is handed on as `Made`,
+//! which may be want of memory, and only two functions have a way out.
 ghost use Rattle.std.specs.Prelude.{◌≡◌, Some, codes, IfOk, true};
 ghost use Rattle.clap.specs.Simple.{App, app_of, new_app, new_rule, on_top, with_rule, with_subcommand};
 ghost use Rattle.clap.specs.Walk.{Rule};
@@ -10,8 +10,9 @@ ghost use Rattle.ec_args.specs.CommandLine.{capture_rule, descriptor_rule, expla
 ghost use Rattle.ec_args.specs.Stages.{IsArgument, IsMadeAs, alone};
 
 use crate::helps::{
-    DECODE_LINES, ENCODE_LINES, EXIT_STATUSES, LOOP_LINES, MASTER_LINES, PASS_REFUSALS, PLAN_LINES,
-    SEGMENT_LINES, SIM_LINES,
+    DECODE_EXAMPLE, DECODE_LINES, ENCODE_EXAMPLE, ENCODE_LINES, EXIT_STATUSES, LOOP_EXAMPLE,
+    LOOP_LINES, MASTER_EXAMPLE, MASTER_LINES, PASS_EXAMPLE, PASS_REFUSALS, PLAN_EXAMPLE,
+    PLAN_LINES, SEGMENT_EXAMPLE, SEGMENT_LINES, SIM_EXAMPLE, SIM_LINES,
 };
 use clap::builder::ValueParser;
 use clap::{Arg, ArgAction, Command};
@@ -38,7 +39,7 @@ pub fn command<'a>(alloc: Global) -> Made<'a>
 fn program<'a>(alloc: Global) -> Made<'a>
     ensures { IsMadeAs result (on_top (λ s. record s { has_version = true; subcommand_required = true }) (new_app (codes "ecat"))) }
 {
-    let about = "An EtherCAT master and a segment of simulated slaves";
+    let about = "An EtherCAT master and simulated EtherCAT slaves";
     let command = Command::new(alloc, "ecat")
         .about(about)
         .after_help(EXIT_STATUSES);
@@ -49,9 +50,8 @@ fn program<'a>(alloc: Global) -> Made<'a>
 fn pass_command<'a>(alloc: Global) -> Made<'a>
     ensures { IsMadeAs result (alone pass_shape) }
 {
-    let about =
-        "Passes a frame through a ring of slaves at power-on and prints it as it comes back";
-    let command = told_of(alloc, "pass", about, PASS_REFUSALS);
+    let about = "Passes a frame through slaves at power-on and prints it as it comes back";
+    let command = told_of(alloc, "pass", about, PASS_EXAMPLE, PASS_REFUSALS);
     let help = "How many slaves the ring has, 0 to 64";
     let slaves = required(number(alloc, "slaves", "N", 0, 64, help));
     let command = with_argument(command, slaves);
@@ -65,10 +65,10 @@ fn plan_command<'a>(alloc: Global) -> Made<'a>
 {
     let usage = "ecat plan [--header] [--explain] < TABLE";
     let about = "Reads a link table from standard input and prints its plan";
-    let command = used_as(alloc, "plan", usage, about, PLAN_LINES);
-    let help = "Print the table's variables as a header of C in the place of the plan";
+    let command = used_as(alloc, "plan", usage, about, PLAN_EXAMPLE, PLAN_LINES);
+    let help = "Print the variables as a C header instead of the plan";
     let command = with_argument(command, flag(alloc, "header", help));
-    let help = "Show the plan as tables of bits, and tell of a refusal what is wrong, for people";
+    let help = "Print the plan as tables of bits, for people, and explain a refusal";
     with_argument(command, flag(alloc, "explain", help))
 }
 
@@ -78,10 +78,10 @@ fn decode_command<'a>(alloc: Global) -> Made<'a>
 {
     let usage = "ecat decode [--table <FILE>] [--explain] < PAYLOADS";
     let about = "Reads payloads in hex from standard input, one a line, and prints them as text";
-    let command = used_as(alloc, "decode", usage, about, DECODE_LINES);
-    let help = "Tell of process data which variables of this link table they carry";
+    let command = used_as(alloc, "decode", usage, about, DECODE_EXAMPLE, DECODE_LINES);
+    let help = "Name the variables of this link table that a frame carries";
     let command = with_argument(command, option(alloc, "table", "FILE", help));
-    let help = "Tell below each datagram what it says by the names of the standard";
+    let help = "Explain each datagram by the names of the standard";
     with_argument(command, flag(alloc, "explain", help))
 }
 
@@ -91,7 +91,7 @@ fn encode_command<'a>(alloc: Global) -> Made<'a>
 {
     let usage = "ecat encode < TEXT";
     let about = "Reads frames as `ecat decode` prints them and prints each in hex";
-    used_as(alloc, "encode", usage, about, ENCODE_LINES)
+    used_as(alloc, "encode", usage, about, ENCODE_EXAMPLE, ENCODE_LINES)
 }
 
 /// `ecat sim [--live] [--capture FILE] [--explain]`.
@@ -99,8 +99,8 @@ fn sim_command<'a>(alloc: Global) -> Made<'a>
     ensures { IsMadeAs result (alone sim_shape) }
 {
     let usage = "ecat sim [--live] [--capture <FILE>] [--explain] < TABLE_AND_SCRIPT";
-    let about = "Reads a link table and a script from standard input and prints what comes of it";
-    let command = used_as(alloc, "sim", usage, about, SIM_LINES);
+    let about = "Runs a script against the simulated slaves of a link table";
+    let command = used_as(alloc, "sim", usage, about, SIM_EXAMPLE, SIM_LINES);
     let help = "Run each line as it comes, and write out what it prints before the next one";
     let command = with_argument(command, flag(alloc, "live", help));
     let command = with_argument(command, capture_argument(alloc));
@@ -112,8 +112,8 @@ fn loop_command<'a>(alloc: Global) -> Made<'a>
     ensures { IsMadeAs result (alone loop_shape) }
 {
     let usage = "ecat loop --cycles <N> [--capture <FILE>] [--explain] < TABLE";
-    let about = "Runs cycles of a link table over two sockets of this process and prints reports";
-    let command = used_as(alloc, "loop", usage, about, LOOP_LINES);
+    let about = "Runs master and slaves of a link table against each other over two sockets";
+    let command = used_as(alloc, "loop", usage, about, LOOP_EXAMPLE, LOOP_LINES);
     let help = "How many cycles are run, 0 to 1000";
     let cycles = required(number(alloc, "cycles", "N", 0, 1000, help));
     let command = with_argument(command, cycles);
@@ -127,9 +127,15 @@ fn segment_command<'a>(alloc: Global) -> Made<'a>
 {
     let usage =
         "ecat segment --frames <N> [--port <P> | --descriptor <N>] [--full] [--idle <SECONDS>] [--capture <FILE>] [--explain] < TABLE";
-    let about =
-        "Answers frames on a UDP port of 127.0.0.1, or a card, as the slaves of a link table";
-    let command = used_as(alloc, "segment", usage, about, SEGMENT_LINES);
+    let about = "Answers frames as the slaves of a link table, on a UDP port or a network card";
+    let command = used_as(
+        alloc,
+        "segment",
+        usage,
+        about,
+        SEGMENT_EXAMPLE,
+        SEGMENT_LINES,
+    );
     let help = "How many payloads are received, 0 to 4294967295";
     let frames = required(number(alloc, "frames", "N", 0, u32::MAX, help));
     let command = with_argument(command, frames);
@@ -152,8 +158,8 @@ fn master_command<'a>(alloc: Global) -> Made<'a>
 {
     let usage =
         "ecat master [--to <ADDRESS:PORT> | --descriptor <N>] [--patience <MS>] [--capture <FILE>] [--explain] < TABLE_AND_LINES";
-    let about = "Runs lines of standard input with a link table's master over UDP, or a card";
-    let command = used_as(alloc, "master", usage, about, MASTER_LINES);
+    let about = "Runs lines as the master of a link table, over UDP or a network card";
+    let command = used_as(alloc, "master", usage, about, MASTER_EXAMPLE, MASTER_LINES);
     let help = "The IPv4 address and the UDP port of the segment";
     let to = by_default(option(alloc, "to", "ADDRESS:PORT", help), "127.0.0.1:34980");
     let command = with_argument(command, to);
@@ -165,24 +171,32 @@ fn master_command<'a>(alloc: Global) -> Made<'a>
     with_argument(command, explain_argument(alloc))
 }
 
-/// A command of a name without arguments, how it is used, what it does, and what stands below its help.
+/// A command of a name without arguments: how it is used, what it does, and what stands below its short and its whole help.
 fn used_as<'a>(
     alloc: Global,
     name: &'a str,
     usage: &'a str,
     about: &'a str,
+    example: &'a str,
     lines: &'a str,
 ) -> Made<'a>
     ensures { IsMadeAs result (new_app name.now) }
 {
-    Ok(told_of(alloc, name, about, lines)?.override_usage(usage))
+    Ok(told_of(alloc, name, about, example, lines)?.override_usage(usage))
 }
 
-/// The same whose help finds by itself how it is used.
-fn told_of<'a>(alloc: Global, name: &'a str, about: &'a str, lines: &'a str) -> Made<'a>
+/// As [`used_as`], but the help finds by itself how the command is used.
+fn told_of<'a>(
+    alloc: Global,
+    name: &'a str,
+    about: &'a str,
+    example: &'a str,
+    lines: &'a str,
+) -> Made<'a>
     ensures { IsMadeAs result (new_app name.now) }
 {
-    Ok(Command::new(alloc, name).about(about).after_help(lines))
+    let command = Command::new(alloc, name).about(about);
+    Ok(command.after_help(example).after_long_help(lines))
 }
 
 /// Commands with one more.
@@ -203,7 +217,7 @@ fn with_argument<'a>(command: Made<'a>, argument: Arg<'a>) -> Made<'a>
 fn explain_argument<'a>(alloc: Global) -> Arg<'a>
     ensures { IsArgument result explain_rule }
 {
-    let help = "Tell of a refusal which line is at fault, what is wrong and what to do";
+    let help = "Explain a refusal: which line is at fault, what is wrong, what to do";
     flag(alloc, "explain", help)
 }
 
@@ -211,7 +225,7 @@ fn explain_argument<'a>(alloc: Global) -> Arg<'a>
 fn capture_argument<'a>(alloc: Global) -> Arg<'a>
     ensures { IsArgument result capture_rule }
 {
-    let help = "Write the frames that pass into a pcapng file, which Wireshark opens";
+    let help = "Write all frames into a pcapng file for Wireshark";
     option(alloc, "capture", "FILE", help)
 }
 

@@ -1,44 +1,58 @@
-//! What the helps of `ecat` and its commands say below their arguments.
+//! What the helps of `ecat` and its commands say below their arguments: `-h` an example, `--help` all.
 
 /// What stands below the list of commands.
 pub(crate) const EXIT_STATUSES: &str = "\
 Exit status:
-  0  done: the answer, or the help that was asked for, is on standard output
-  2  the arguments ask for no command; standard error says why
+  0  done: the result, or the help that you asked for, is on standard output
+  2  the command line isn't valid; standard error says why
   3  refused: standard error has a line `ecat: NUMBER NAME VALUES`
-  4  a fault of input or output, told in the same form
-  5  what a line of `ecat sim` or `ecat master` expects wasn't so, told in the same form
+  4  a fault of input or output, in the same form
+  5  an `expect` of `ecat sim` or `ecat master` didn't hold, in the same form
 
-`ecat COMMAND --help` lists what a command refuses, and what to do.";
+`ecat COMMAND -h` shows an example, `ecat COMMAND --help` lists what is refused, and what to do.";
 
-/// What stands below the arguments of `ecat pass`.
+/// What stands below the arguments of `ecat pass` in its short help.
+pub(crate) const PASS_EXAMPLE: &str = "\
+Example: a broadcast read of the AL status past three slaves
+  ecat pass --slaves 3 0e100701000030010200000000000000
+
+`ecat pass --help` lists the exit statuses and what is refused.";
+
+/// What stands below them in its whole help.
 pub(crate) const PASS_REFUSALS: &str = "\
 HEX is the payload of a UDP datagram to port 34980 (0x88A4): two bytes of header and the
-datagrams. The same bytes stand behind the header of an Ethernet frame of type 0x88A4.
+datagrams. An Ethernet frame of type 0x88A4 has the same bytes behind its header.
 
 Exit status:
   0  the frame is on standard output as it comes back: one line of hex digits
-  2  the arguments ask for no command: put them right as standard error says
+  2  the command line isn't valid: correct it as standard error says
   3  HEX is refused, and standard error says `ecat: NUMBER NAME`:
      40 BadHex      HEX isn't pairs of hex digits: leave out blanks and 0x
       7 TooLong     HEX has over 1472 bytes, or the header says over 1470 bytes of datagrams:
                     send fewer datagrams in a frame
       2 Short       HEX has fewer bytes than the header, or than bits 0 to 10 of the header say:
-                    give all of them, or put the header right
+                    give all of them, or correct the header
       3 BadType     bits 12 to 15 of the header aren't 1: begin with the EtherCAT header, not with
                     that of Ethernet, IP or UDP
       4 BadLength   no datagram fits where one begins: see the header's length, and the length at
                     offset 6 of each datagram
       6 BadCommand  a datagram's command is over 14: see its first byte
-      5 BadMore     a datagram's bit 15 at offset 6 must be set but in the last datagram
+      5 BadMore     bit 15 at offset 6 must be set in every datagram but the last
       1 Memory      memory ran out, and HEX may be good or bad: free some and try again
-  4  the output is at fault, told in the same form:
-     41 Output      the answer couldn't be written, or a part of it is: see where standard output
-                    goes";
+  4  the output is at fault, in the same form:
+     41 Output      the result couldn't be written, or only a part of it: see where standard
+                    output goes";
 
-/// What stands below the arguments of `ecat plan`.
+/// What stands below the arguments of `ecat plan` in its short help.
+pub(crate) const PLAN_EXAMPLE: &str = "\
+Example: a wiring list of a table, and where the table is wrong
+  ecat plan --explain < examples/small_machine.toml
+
+`ecat plan --help` says what the lines mean, and what is refused.";
+
+/// What stands below them in its whole help.
 pub(crate) const PLAN_LINES: &str = "\
-TABLE is a link table; docs/TABLES.md says how one is written.
+TABLE is a link table; docs/TABLES.md describes it.
 
 Lines, in this order for each slave, and then for each part:
   slave S part P out O in I  the slave's part, and how many output and input bits it has
@@ -46,23 +60,23 @@ Lines, in this order for each slave, and then for each part:
   fmmu N BYTES               an FMMU that is active: its 16 register bytes in hex
   part P address A bytes B counter C
                              the part's first logical byte, its bytes, and the working counter
-                             of its LRW; W/R are those of an LWR and an LRD, where a slave of the
+                             of its LRW; W/R are those of an LWR and an LRD, if a slave of the
                              part takes no part in LRW. A table of version 2 adds ` unit U`
 
-With `--header` it is a header of C in their place, for programs that use the library: of each
-variable NAME, in file order, ECAT_NUMBER_NAME is its number, ECAT_BITS_NAME how many bits it has,
-and ECAT_OUTPUT_NAME 1 for an output and 0 for an input. ECAT_VARIABLES is how many there are.
+With `--header` it prints a C header instead, for programs that use the library. For each variable
+NAME, in file order, ECAT_NUMBER_NAME is its number, ECAT_BITS_NAME how many bits it has, and
+ECAT_OUTPUT_NAME is 1 for an output and 0 for an input. ECAT_VARIABLES is how many there are.
 
 Exit status:
   0  the plan is on standard output
-  2  the arguments ask for no command: put them right as standard error says
+  2  the command line isn't valid: correct it as standard error says
   3  the table is refused, and standard error says `ecat: NUMBER NAME VALUES`
-  4  input or output is at fault, told in the same form
+  4  input or output is at fault, in the same form
 
 Refusals with status 3; PLACE counts from 0 in file order:
-  11 Toml                    the text is no TOML: put its syntax right
+  11 Toml                    the text is no TOML: correct its syntax
   12 BadKey SECTION PLACE    a key is unknown or missing: leave it out or add it; `unit` is known
-                             where the text begins with `version = 2`. SECTION is 0 for the
+                             if the text begins with `version = 2`. SECTION is 0 for the
                              document, 1 type, 2 slave, 3 variable, 4 link
   13 BadValue SECTION PLACE  a value has the wrong kind, range or number of items: give one that
                              its key takes. A name has letters, digits and `_` alone; a slave
@@ -94,95 +108,117 @@ Refusals with status 3; PLACE counts from 0 in file order:
                              again
 
 Refusals with status 4:
-  41 Output                  the plan couldn't be written, or a part of it is: see where standard
-                             output goes
-  42 Input                   standard input couldn't be read, is no text in UTF-8, or has over
-                             1048576 bytes: see where it comes from";
+  41 Output                  the plan couldn't be written, or only a part of it: see where
+                             standard output goes
+  42 Input                   standard input couldn't be read, isn't UTF-8, or has over 1048576
+                             bytes: see where it comes from";
 
-/// What stands below the description of `ecat decode`.
+/// What stands below the arguments of `ecat decode` in its short help.
+pub(crate) const DECODE_EXAMPLE: &str = "\
+Example: a broadcast read of the AL status, in the standard's names
+  echo 0e100701030030010200000001000300 | ecat decode --explain
+
+`ecat decode --help` says what the lines mean, and what is refused.";
+
+/// What stands below them in its whole help.
 pub(crate) const DECODE_LINES: &str = "\
 PAYLOADS are payloads of UDP datagrams to port 34980 (0x88A4) in hex, one a line; empty lines are
-skipped. The same bytes stand behind the header of an Ethernet frame of type 0x88A4.
+skipped. An Ethernet frame of type 0x88A4 has the same bytes behind its header.
 
 Lines for each payload, in this order:
-  frame COUNT     it is a frame of COUNT datagrams; ` reserved` where bit 11 of its header is set,
-                  ` rest HEX` where bytes stand behind the datagrams
+  frame COUNT     a frame of COUNT datagrams; ` reserved` if bit 11 of its header is set, and
+                  ` rest HEX` if there are bytes behind the datagrams
   N COMMAND index II at ADP:ADO counter C data HEX
-                  for each datagram: its number from 0, its command, its index, ADP and ADO (of
-                  LRD, LWR and LRW ` logical ADDRESS`) in hex; then, where they aren't zero,
-                  ` irq XXXX`, ` reserved R`, ` circulating`; its counter in decimal, and its data
-                  in hex, `-` for none
+                  each datagram: its number from 0, its command, its index, ADP and ADO (of LRD,
+                  LWR and LRW ` logical ADDRESS`) in hex; then, if they aren't zero, ` irq XXXX`,
+                  ` reserved R`, ` circulating`; its counter in decimal, and its data in hex, `-`
+                  for none
   refused NUMBER NAME datagram WHOLE byte AT
-                  in place of the line `frame`, behind the lines of the WHOLE datagrams before the
-                  fault: the payload is no frame, by what `ecat pass --help` lists, and what is
-                  wrong begins at byte AT
+                  instead of the line `frame`, and behind the lines of the WHOLE datagrams before
+                  the fault: the payload is no frame, for a reason that `ecat pass --help` lists,
+                  and what is wrong begins at byte AT
 
-With `--explain` indented lines stand below a datagram: what it says by the names of the standard,
-registers, AL states and status codes, sync managers, FMMUs, and messages of a mailbox. With `--table`
-those of process data tell which variables of that table they carry, with which values, and the
-working counter that is expected. `ecat encode` skips indented lines.
+With `--explain`, indented lines below a datagram say what it carries, by the names of the standard:
+registers, AL states and status codes, sync managers, FMMUs, and messages of a mailbox. With
+`--table` they say which variables of that table it carries, with their values, and the working
+counter that is expected. `ecat encode` skips indented lines.
 
 Exit status:
-  0  every payload was told, also one that is refused
-  2  the arguments ask for no command: put them right as standard error says
+  0  every payload was printed as text, also one that is refused
+  2  the command line isn't valid: correct it as standard error says
   3  refused, and standard error says `ecat: NUMBER NAME VALUES`:
-     40 BadHex      a line isn't pairs of hex digits: leave out blanks and 0x; what stands before
-                    it is told
+     40 BadHex      a line isn't pairs of hex digits: leave out blanks and 0x; the lines before
+                    it are printed
      11 to 25, 44   the table in FILE is refused; `ecat plan --help` says what to do
       1 Memory      memory ran out, and the input may be good or bad: free some and try again
-  4  input or output is at fault, told in the same form:
-     41 Output      a text couldn't be written, or a part of it is: see where standard output goes
-     42 Input       standard input, or FILE, couldn't be read, is no text in UTF-8, or has over
-                    1048576 bytes: see where it comes from";
+  4  input or output is at fault, in the same form:
+     41 Output      a text couldn't be written, or only a part of it: see where standard output
+                    goes
+     42 Input       standard input, or FILE, couldn't be read, isn't UTF-8, or has over 1048576
+                    bytes: see where it comes from";
 
-/// What stands below the description of `ecat encode`.
+/// What stands below the arguments of `ecat encode` in its short help.
+pub(crate) const ENCODE_EXAMPLE: &str = "\
+Example: what `ecat decode` prints, as hex again
+  echo 0e100701030030010200000001000300 | ecat decode | ecat encode
+
+`ecat encode --help` lists the exit statuses and what is refused.";
+
+/// What stands below them in its whole help.
 pub(crate) const ENCODE_LINES: &str = "\
-TEXT is what `ecat decode` prints of frames: `ecat decode --help` says how their lines are written.
-Empty lines and indented ones are skipped. Each frame is printed as one line of hex digits.
+TEXT is what `ecat decode` prints of frames; `ecat decode --help` describes the lines. Empty lines
+and indented ones are skipped. Each frame is printed as one line of hex digits.
 
 Exit status:
   0  every frame is on standard output
-  2  the arguments ask for no command: put them right as standard error says
+  2  the command line isn't valid: correct it as standard error says
   3  refused, and standard error says `ecat: NUMBER NAME VALUES`:
-     39 BadScript LINE   a line is out of form, or says `refused`: correct it; LINE counts from 1,
-                         and is the line behind the last where datagrams are missing
+     39 BadScript LINE   a line has no valid form, or says `refused`: correct it; LINE counts from
+                         1, and is the line behind the last if datagrams are missing
       1 Memory           memory ran out, and the input may be good or bad: free some and try again
-  4  input or output is at fault, told in the same form:
-     41 Output           a frame couldn't be written, or a part of it is: see where standard output
-                         goes
-     42 Input            standard input couldn't be read, is no text in UTF-8, or has over 1048576
-                         bytes: see where it comes from";
+  4  input or output is at fault, in the same form:
+     41 Output           a frame couldn't be written, or only a part of it: see where standard
+                         output goes
+     42 Input            standard input couldn't be read, isn't UTF-8, or has over 1048576 bytes:
+                         see where it comes from";
 
-/// What stands below the description of `ecat sim`.
+/// What stands below the arguments of `ecat sim` in its short help.
+pub(crate) const SIM_EXAMPLE: &str = "\
+Example: a table, a line `%%` and a script
+  (cat examples/drive.toml; echo %%; cat examples/drive.script) | ecat sim
+
+`ecat sim --help` lists the lines of a script, what they print, and what is refused.";
+
+/// What stands below them in its whole help.
 pub(crate) const SIM_LINES: &str = "\
 TABLE_AND_SCRIPT is a link table, a line `%%`, and a script with one event a line. Numbers are
-decimal, words stand one blank apart, empty lines are skipped. From a `#` on a line is a comment,
-with the blanks before it. VALUE is decimal, `0x` and hex digits, or `-` and decimal, which is its
-two's complement in the variable's bits; a value that they don't hold can't be set. S is a slave's
-number from 0, or its name in the table; digits alone are a number.
+decimal, words have one blank between them, empty lines are skipped, and `#` begins a comment.
+VALUE is decimal, `0x` and hex digits, or `-` and decimal, which is its two's complement in the
+variable's bits; a value that they don't hold can't be set. S is a slave's number from 0, or its
+name in the table; digits alone are a number.
 
 Lines of a script:
-  start           the next frame of the start-up is sent
-  set NAME VALUE  an output variable becomes a value
-  begin           a cycle begins: the frame of each part is sent
+  start           sends the next frame of the start-up
+  set NAME VALUE  sets an output variable
+  begin           begins a cycle: sends the frame of each part
   pass K          the frame in slot K passes its next slave
   lose K          the frame in slot K is lost
   return K        the frame in slot K, past all slaves, comes back to the master
-  close           the cycle is closed, or a start-up that waits for its frame is given up
-  serve S         the firmware of slave S steps
+  close           closes the cycle, or gives up a start-up that waits for its frame
+  serve S         the firmware of slave S makes a step
   put S I BYTE    the application of slave S writes byte I of its inputs, as below
   get S I         it reads byte I of its outputs, as below
   fault S         the application of slave S has a fault
   reset S         slave S is switched off and on
-  in NAME VALUE   an input variable becomes a value: each slave with bits of it writes all bytes of
-                  its inputs, with the other bits as it published them last
-  ready           the start-up runs until it has ended
-  cycle           a cycle is run: begin, each frame past all slaves and back, close
-  show            the input variables are printed
-  repeat N LINE   LINE is done N times, 1 to 1000000; it is none of `repeat`
+  in NAME VALUE   sets an input variable as the plant: each slave with bits of it writes all bytes
+                  of its inputs, with the other bits as it published them last
+  ready           runs the start-up to its end
+  cycle           runs a cycle: begin, each frame past all slaves and back, close
+  show            prints the input variables
+  repeat N LINE   runs LINE N times, 1 to 1000000; LINE isn't a `repeat`
 
-Lines that change nothing, and print something only where what they expect isn't so:
-  expect NAME VALUE           an input variable of the image is VALUE; of an output variable, the
+Lines that change nothing, and print something only if what they expect doesn't hold:
+  expect NAME VALUE           an input variable of the image is VALUE; for an output variable, the
                               slaves publish VALUE in those of its bits that are linked
   expect taken, expect untaken
                               in the last report all sync units are that; with a number behind it,
@@ -190,7 +226,7 @@ Lines that change nothing, and print something only where what they expect isn't
   expect state S STATE CODE   slave S is in INIT, PREOP, SAFEOP or OP, with this AL status code in
                               four hex digits, which may be left out
   expect ready, expect failed
-                              how the start-up ended; behind `failed` may stand a number
+                              how the start-up ended; a number may stand behind `failed`
 
 Bytes count from 0 in the slave's own data, as `ecat plan --explain` shows. `put` begins with byte
 0, which opens a draft of zeros, and the last byte publishes all of it at once: until then the
@@ -205,45 +241,52 @@ What a line prints, before the next one runs:
   no LINE         an event can't be made, and the script's line of this number ended there; with
                   `--explain` the line behind it says why
   ready           the start-up has ended well
-  failed NUMBER   it has ended otherwise, by 9, 26 to 32, 36 or 38: `ecat loop --help` says what
-                  each stands for
+  failed NUMBER   it has failed, by 9, 26 to 32, 36 or 38: `ecat loop --help` says what each
+                  stands for
   report taken missing M counters C C .. al WORD
-                  the cycle was closed: inputs were taken, or `untaken` in place of `taken`; M
-                  frames are missing; the working counters of each part as in the plan, `-` where
-                  its frame is missing; and the OR of the slaves' AL status words in hex. With a
-                  table of version 2 each sync unit has its number and its own `taken` or `untaken`
+                  the cycle was closed: inputs were taken, or `untaken` if not; M frames are
+                  missing; the working counters of each part as in the plan, `-` if its frame is
+                  missing; and the OR of the slaves' AL status words in hex. With a table of
+                  version 2 each sync unit has its number and its own `taken` or `untaken`
   byte BYTE       what `get` read, in hex
   NAME VALUE      of `show`, for each input variable
-  unmet LINE      what this line expects isn't so; the script goes on
-Other lines print nothing. What an act prints that is repeated, it prints each time.
+  unmet LINE      what this line expects doesn't hold; the script goes on
+Other lines print nothing. A repeated line prints each time.
 
 With `--live` each line is run as it comes, and what it prints is written out before the next one is
-read: another program can be the plant, or the control program, through a pipe. A line that can't be
-read then prints `bad LINE` in place of 39, and changes nothing.
+read: another program can be the plant, or the control program, through a pipe. A line without a
+valid form then prints `bad LINE` instead of 39, and changes nothing.
 
 Exit status:
-  0  the script was run to its end, also where lines printed `no` or `failed`
-  2  the arguments ask for no command: put them right as standard error says
+  0  the script was run to its end, also if lines printed `no` or `failed`
+  2  the command line isn't valid: correct it as standard error says
   3  refused, and standard error says `ecat: NUMBER NAME VALUES`:
      11 to 25, 44        the table is refused; `ecat plan --help` says what to do. It is 11 too
-                         where the line `%%` is missing or isn't just that: then the script is
-                         read as a part of the table
+                         if the line `%%` is missing or isn't just that: then the script is read
+                         as a part of the table
      39 BadScript LINE   a line is none of these: correct it; LINE counts from 1 behind `%%`
       1 Memory           memory ran out, and the input may be good or bad: free some and try again
-  4  input or output is at fault, told in the same form:
-     41 Output           what a line says, or the capture, couldn't be written: see where standard
-                         output goes, and the file
-     42 Input            standard input couldn't be read, is no text in UTF-8, or has over 1048576
-                         bytes: see where it comes from
+  4  input or output is at fault, in the same form:
+     41 Output           what a line prints, or the capture, couldn't be written: see where
+                         standard output goes, and the file
+     42 Input            standard input couldn't be read, isn't UTF-8, or has over 1048576 bytes:
+                         see where it comes from
   5  the script was run to its end, and standard error says `ecat: NUMBER NAME VALUE`:
      45 Unmet COUNT      so many times `unmet` was printed: see its lines";
 
-/// What stands below the arguments of `ecat loop`.
+/// What stands below the arguments of `ecat loop` in its short help.
+pub(crate) const LOOP_EXAMPLE: &str = "\
+Example: ten cycles
+  ecat loop --cycles 10 < examples/three_slaves.toml
+
+`ecat loop --help` says what is printed, and what is refused.";
+
+/// What stands below them in its whole help.
 pub(crate) const LOOP_LINES: &str = "\
-TABLE is a link table; docs/TABLES.md says how one is written.
+TABLE is a link table; docs/TABLES.md describes it.
 
 Before cycle K, from 1 on, each output variable becomes K, as far as it has bits. The slaves'
-applications show their outputs as their inputs. Standard error says between which ports it runs.
+applications show their outputs as their inputs.
 
 Lines, in this order:
   ready              the start-up has ended well
@@ -253,9 +296,9 @@ Lines, in this order:
 
 Exit status:
   0  all cycles were run
-  2  the arguments ask for no command: put them right as standard error says
+  2  the command line isn't valid: correct it as standard error says
   3  refused, and standard error says `ecat: NUMBER NAME VALUES`
-  4  input, output or a socket is at fault, told in the same form
+  4  input, output or a socket is at fault, in the same form
 
 Refusals with status 3; SLAVE and STEP count from 0, values are decimal, and `failed` of `ecat sim`
 and `ecat master` has these numbers too:
@@ -286,39 +329,53 @@ Refusals with status 4:
   37 Wire                  a socket was faulty in a cycle: try again
   41 Output                a line, or the capture, couldn't be written: see where standard output
                            goes, and the file
-  42 Input                 standard input couldn't be read, is no text in UTF-8, or has over
-                           1048576 bytes: see where it comes from
-  43 Socket                there is no socket on 127.0.0.1 to be had: see what else has sockets";
+  42 Input                 standard input couldn't be read, isn't UTF-8, or has over 1048576
+                           bytes: see where it comes from
+  43 Socket                there is no free socket on 127.0.0.1: see what else has sockets";
 
-/// What stands below the arguments of `ecat segment`.
+/// What stands below the arguments of `ecat segment` in its short help.
+pub(crate) const SEGMENT_EXAMPLE: &str = "\
+Example: slaves for `ecat master`, or for another master
+  ecat segment --frames 1000000 < examples/three_slaves.toml
+
+`ecat segment --help` says what is printed, and what is refused.";
+
+/// What stands below them in its whole help.
 pub(crate) const SEGMENT_LINES: &str = "\
-TABLE is a link table; docs/TABLES.md says how one is written.
+TABLE is a link table; docs/TABLES.md describes it.
 
-The slaves' applications show their outputs as their inputs. Standard error has a line with the
-port once the segment listens there. With `--descriptor` it answers Ethernet frames of type 0x88A4
-on the raw socket of a network card, which is open already, as `tools/with_card` leaves one. At the
-end, also where no payload came for SECONDS, a line `served N refused M` says how many payloads were
-frames, which were answered, and how many were not.
+The slaves' applications show their outputs as their inputs. Once the segment listens on a port,
+standard error has a line that says so. With `--descriptor` it answers Ethernet frames of type
+0x88A4 on the raw socket of a network card, which is open already, as `tools/with_card` leaves one.
+At the end, also if no payload came for SECONDS, a line `served N refused M` says how many payloads
+were frames, which were answered, and how many were not.
 
-With `--full` slaves are as usual masters expect them, and show besides: SII categories, DL status,
+With `--full`, slaves are as usual masters expect them, and show besides: SII categories, DL status,
 and CoE objects 0x1000 to 0x100A and 0x1C00.
 
 Exit status:
   0  all payloads came, and the line is on standard output
-  2  the arguments ask for no command: put them right as standard error says
+  2  the command line isn't valid: correct it as standard error says
   3  refused, and standard error says `ecat: NUMBER NAME VALUES`:
      11 to 25, 44       the table is refused; `ecat plan --help` says what to do
       1 Memory          memory ran out, and the table may be good or bad: free some and try again
-  4  input, output or a socket is at fault, told in the same form:
+  4  input, output or a socket is at fault, in the same form:
      41 Output          the line, or the capture, couldn't be written: see where standard output
                         goes, and the file
-     42 Input           standard input couldn't be read, is no text in UTF-8, or has over 1048576
-                        bytes: see where it comes from
+     42 Input           standard input couldn't be read, isn't UTF-8, or has over 1048576 bytes:
+                        see where it comes from
      43 Socket          the port is in use, the descriptor is no socket of a card, or no payload
                         came for SECONDS: take another port, open the card, start the master in
                         time, or give a longer `--idle`";
 
-/// What stands below the arguments of `ecat master`.
+/// What stands below the arguments of `ecat master` in its short help.
+pub(crate) const MASTER_EXAMPLE: &str = "\
+Example: a start-up and a cycle against `ecat segment`
+  (cat examples/three_slaves.toml; echo %%; echo ready; echo cycle) | ecat master
+
+`ecat master --help` lists the lines, what they print, and what is refused.";
+
+/// What stands below them in its whole help.
 pub(crate) const MASTER_LINES: &str = "\
 TABLE_AND_LINES is a link table up to a line `%%`, and behind it lines that are run one by one as
 they come. What a line prints is written out before the next one is read, so a control program can
@@ -330,52 +387,52 @@ Ethernet frames of type 0x88A4 on the raw socket of a network card, which is ope
 `tools/with_card` leaves one.
 
 Lines:
-  ready           a start-up runs over the wire from its beginning, until it has ended
-  set NAME VALUE  an output variable becomes a value; the next cycle sends it
-  cycle           a cycle runs over the wire
-  show            the input variables are printed
-  report          the last report is printed again
+  ready           runs a start-up over the wire, from its beginning to its end
+  set NAME VALUE  sets an output variable; the next cycle sends it
+  cycle           runs a cycle over the wire
+  show            prints the input variables
+  report          prints the last report again
   expect NAME VALUE
                   an input variable of the image is VALUE
   expect taken, expect untaken
                   in the last report all sync units are that; with a number behind it, that unit
   expect ready, expect failed
-                  how the last start-up ended; behind `failed` may stand a number
-  repeat N LINE   LINE is done N times, 1 to 1000000; it is none of `repeat`
+                  how the last start-up ended; a number may stand behind `failed`
+  repeat N LINE   runs LINE N times, 1 to 1000000; LINE isn't a `repeat`
 
 What a line prints; lines count from 1 behind `%%`:
   ready           the start-up has ended well
-  failed NUMBER   it has ended otherwise, by 9, 26 to 32, 36 or 38: `ecat loop --help` says what
-                  each stands for; with `--explain` the line behind it says what was seen
+  failed NUMBER   it has failed, by 9, 26 to 32, 36 or 38: `ecat loop --help` says what each
+                  stands for; with `--explain` the line behind it says what was seen
   report ...      of `cycle` and `report`, as `ecat sim --help` says
   fault 37 Wire   of `cycle`: a socket was faulty, or an answer didn't come for MS. Inputs and the
                   last report stay as they were, and a new `cycle` or `ready` may go well
   NAME VALUE      of `show`, for each input variable
-  unmet LINE      what this line expects isn't so
+  unmet LINE      what this line expects doesn't hold
   no LINE         what this line says can't be done, and nothing was: a `cycle` while the last
                   start-up hasn't ended well, or with no frame number left; a `set` of what is no
                   output variable, or can't hold the value; a `report` before the first one. With
                   `--explain` the line behind it says why
   bad LINE        the line is none of these, and nothing was done. `expect` of an output variable or
-                  of a slave's state is none of them: no frame of a cycle tells what slaves publish
-                  of their outputs, or the state of one slave
-Other lines print nothing. What an act prints that is repeated, it prints each time.
+                  of a slave's state is none of them: no frame of a cycle carries what slaves
+                  publish of their outputs, or the state of one slave
+Other lines print nothing. A repeated line prints each time.
 
 Exit status:
-  0  all lines were run, also where they printed `no`, `bad`, `failed` or `fault`
-  2  the arguments ask for no command: put them right as standard error says
+  0  all lines were run, also if they printed `no`, `bad`, `failed` or `fault`
+  2  the command line isn't valid: correct it as standard error says
   3  refused, and standard error says `ecat: NUMBER NAME VALUES`:
      11 to 25, 44       the table is refused; `ecat plan --help` says what to do. It is 11 too
-                        where the line `%%` is missing or isn't just that: then the lines are read
+                        if the line `%%` is missing or isn't just that: then the lines are read
                         as a part of the table
       1 Memory          memory ran out, and the input may be good or bad: free some and try again
-  4  input, output or a socket is at fault, told in the same form:
-     41 Output          what a line says, or the capture, couldn't be written: see where standard
+  4  input, output or a socket is at fault, in the same form:
+     41 Output          what a line prints, or the capture, couldn't be written: see where standard
                         output goes, and the file
-     42 Input           standard input couldn't be read, or the table is no text in UTF-8, or has
-                        over 1048576 bytes: see where it comes from
+     42 Input           standard input couldn't be read, or the table isn't UTF-8, or has over
+                        1048576 bytes: see where it comes from
      43 Socket          ADDRESS:PORT is no IPv4 address with a port, there is no socket for it, or
-                        the descriptor is no socket of a card: put the address right, or open the
+                        the descriptor is no socket of a card: correct the address, or open the
                         card
   5  all lines were run, and standard error says `ecat: NUMBER NAME VALUE`:
      45 Unmet COUNT     so many times `unmet` was printed: see its lines";
