@@ -1,4 +1,7 @@
-"""The program `ecat` for tools that run it: one that is named, the one that the gate built, or an unproved one."""
+"""Programs for the tools that run them: one that is named, one that the gate built, or `ecat` unproved.
+
+A tool in a folder beside this file imports it with the folder above its own in `sys.path`.
+"""
 import collections
 import os
 import pathlib
@@ -10,7 +13,8 @@ import tempfile
 import time
 
 TOP = pathlib.Path(__file__).resolve().parent.parent
-ECAT = TOP / "crates" / "ecat"
+CRATES = TOP / "crates"
+ECAT = CRATES / "ecat"
 # the most seconds of a run, and those of a run of a program that isn't proved, which has many checks in it
 LIMIT, LIMIT_TRIED = 60, 1200
 
@@ -33,19 +37,25 @@ def program_of(word, room):
     """The program that a word names: a file, `--try` for an unproved one, which is kept in a folder, or the built one if it is empty."""
     if word == "--try":
         return unproved(room)
-    if word and not os.access(word, os.X_OK):
-        sys.exit(f"there is no program {word}")
-    return Program(os.path.abspath(word), ["ecat"], LIMIT) if word else built()
+    return given(word) if word else built()
 
 
-def built():
-    """The program, proved and built unless it is there."""
-    program = ECAT / "out" / "ecat"
+def given(path):
+    """A program that was built before."""
+    if not os.access(path, os.X_OK):
+        sys.exit(f"there is no program {path}")
+    return Program(os.path.abspath(path), [os.path.basename(path).split(".")[0]], LIMIT)
+
+
+def built(name="ecat"):
+    """The program of a crate, proved and built unless it is there."""
+    folder = CRATES / name
+    program = folder / "out" / name
     if not program.exists():
-        made = subprocess.run([os.environ.get("RT", "rt"), "run"], cwd=ECAT, capture_output=True, input=b"")
+        made = subprocess.run([os.environ.get("RT", "rt"), "run"], cwd=folder, capture_output=True, input=b"")
         if not program.exists():
             sys.exit(shown(made.stdout + made.stderr))
-    return Program(str(program), ["ecat"], LIMIT)
+    return given(program)
 
 
 def words_that_run(room):
