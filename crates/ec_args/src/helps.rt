@@ -184,8 +184,8 @@ Exit status:
 
 /// What stands below the arguments of `ecat sim` in its short help.
 pub(crate) const SIM_EXAMPLE: &str = "\
-Example: a table, a line `%%` and a script
-  (cat examples/drive.toml; echo %%; cat examples/drive.script) | ecat sim
+Example: a table, and a script that begins with a line `%%`
+  cat examples/drive.toml examples/drive.script | ecat sim
 
 `ecat sim --help` lists the lines of a script, what they print, and what is refused.";
 
