@@ -1,5 +1,5 @@
 -- What lines of hex are printed as has no indented line.
-use Rattle.std.proofs.Common.{◌≡◌, ◌∙◌, inl, inr, ℕ, zero, suc, ◌+◌, ◌/◌, ◌%◌, ◌<◌, ◌^◌, ◌==◌, ◌||◌, nat_lt, List, [], ◌∷◌, ◌++◌, length, get_or, take, drop, Bool, true, false, if◌then◌else◌, codes, refl, sym, ap, subst, append_assoc, append-nil, arith}
+use Rattle.std.proofs.Common.{◌≡◌, ◌⊎◌, ◌∙◌, inl, inr, ℕ, zero, suc, ◌+◌, ◌/◌, ◌%◌, ◌<◌, ◌^◌, ◌==◌, ◌||◌, nat_lt, List, [], ◌∷◌, ◌++◌, length, get_or, take, drop, Bool, true, false, if◌then◌else◌, codes, refl, sym, ap, subst, append_assoc, append-nil, arith}
 use Rattle.std.specs.Fmt.{decimal, digits, digits_onto, digit_glyph}
 use Rattle.std.specs.List.{AllByRecursion}
 use Rattle.std.proofs.lemmas.Bool.Decides.{nat_tests}
@@ -8,7 +8,7 @@ use Rattle.hex.specs.Hex.{IsBytes}
 use Rattle.hex.proofs.HexLemmas.{decode_of-ok}
 use Rattle.ec_frame.specs.declared.error.FrameError.{FrameError}
 use Rattle.ec_frame.specs.declared.error.FrameError.TheVariants.{Short, BadType, TooLong, BadLength, BadCommand, BadMore}
-use Rattle.ec_frame.specs.Datagram.{Datagram, IsDatagram, opened, spelling, heading}
+use Rattle.ec_frame.specs.Datagram.{Datagram, IsDatagram, is_followed, joined, opened, spelling, heading}
 use Rattle.ec_frame.specs.Frame.{IsByte, IsFrame, Payload, area, length_field}
 use Rattle.ec_frame.specs.Refusals.{refusal_number}
 use Rattle.byteorder.specs.Endian.{little_bytes}
@@ -16,7 +16,7 @@ use Rattle.ec_frame.proofs.FrameLaws.{data_are_bytes}
 use Rattle.ec_frame.proofs.Steps.{joined_length}
 use Rattle.ec_decode.specs.declared.placed.PlacedFault.{PlacedFault}
 use Rattle.ec_decode.specs.Answers.{IsLineText, IsTextOf}
-use Rattle.ec_decode.specs.Faults.{IsPlaced, IsRefusedAt, StandBefore, error_name, refused_line, refused_text}
+use Rattle.ec_decode.specs.Faults.{BeginsNone, IsPlaced, IsRefusedAt, StandBefore, error_name, refused_line, refused_text}
 use Rattle.ec_decode.specs.FrameText.{Text, datagram_line, datagram_lines, datagram_words, frame_text, heading_line, newline, reserved_bit_words, rest_words, spaced}
 use Rattle.ec_decode.specs.Reading.{is_skipped}
 use Rattle.ec_decode.proofs.Holdings.{opened_long}
@@ -177,6 +177,18 @@ opened_bytes (d ∷ ds) rest h =
 stand_full : (bytes : List ℕ) (ds : List Datagram) (rest : List ℕ) → AllByRecursion IsByte bytes → bytes ≡ opened ds ++ rest → AllByRecursion IsDatagram ds → AllByRecursion IsFull ds
 stand_full bytes ds rest all is each = full ds each (opened_bytes ds rest (subst (λ (xs : List ℕ). AllByRecursion IsByte xs) is all))
 
+joined_bytes : (ds : List Datagram) (rest : List ℕ) → AllByRecursion IsByte (joined ds ++ rest) → AllByRecursion (λ (d : Datagram). AllByRecursion IsByte d.data_bytes) ds
+joined_bytes [] rest h = tt
+joined_bytes (d ∷ ds) rest h =
+    let m = is_followed ds in
+    let again : AllByRecursion IsByte (spelling m d ++ (joined ds ++ rest)) = subst (λ (xs : List ℕ). AllByRecursion IsByte xs) (append_assoc (spelling m d) (joined ds) rest) h in
+    let body : AllByRecursion IsByte (d.data_bytes ++ little_bytes 2 d.counter) = all_right (heading m d) (d.data_bytes ++ little_bytes 2 d.counter) (all_left (spelling m d) (joined ds ++ rest) again) in
+    (all_left d.data_bytes (little_bytes 2 d.counter) body, joined_bytes ds rest (all_right (spelling m d) (joined ds ++ rest) again))
+
+whole_full : (bytes : List ℕ) (ds : List Datagram) (rest : List ℕ) → AllByRecursion IsByte bytes → AllByRecursion IsDatagram ds → ((0 < length ds) × (bytes ≡ joined ds ++ rest)) ⊎ ((bytes ≡ opened ds ++ rest) × BeginsNone rest) → AllByRecursion IsFull ds
+whole_full bytes ds rest all each (inl h) = full ds each (joined_bytes ds rest (subst (λ (xs : List ℕ). AllByRecursion IsByte xs) h.1 all))
+whole_full bytes ds rest all each (inr h) = stand_full bytes ds rest all h.0 each
+
 all_drop : (n : ℕ) (xs : List ℕ) → AllByRecursion IsByte xs → AllByRecursion IsByte (drop n xs)
 all_drop zero xs h = h
 all_drop (suc n) [] h = tt
@@ -198,7 +210,7 @@ before_full payload e ds at all s =
     subst (λ (es : List Datagram). AllByRecursion IsFull es) s.whole (stand_full (area payload) s.fault.before s.fault.rest all s.fault.parts s.fault.each)
 
 placed_full : (payload : List ℕ) (e : FrameError) (ds : List Datagram) (at : ℕ) → AllByRecursion IsByte (area payload) → IsPlaced payload e ds at → AllByRecursion IsFull ds
-placed_full payload Short ds at all p = stand_full (area payload) ds p.0.rest all p.0.parts p.0.each
+placed_full payload Short ds at all p = whole_full (area payload) ds p.0.rest all p.0.each p.0.parts
 placed_full payload BadType ds at all p = none_full ds p.0
 placed_full payload TooLong ds at all p = none_full ds p.0
 placed_full payload BadLength ds at all (inl h) = none_full ds h.1.0

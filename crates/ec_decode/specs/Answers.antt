@@ -44,7 +44,7 @@ abbrev pub AreSpelled : List Payload → Text → Type 0
 AreSpelled [] text = text ≡ []
 AreSpelled (p ∷ ps) text = (payload : List ℕ) × (more : Text) × IsFrame payload p × (text ≡ encode_lower payload ++ (newline ++ more)) × AreSpelled ps more
 
--- the payloads of a text's frames, or its first line that is out of form
+-- the payloads of a text's frames, or its first line that is out of form; memory may run out at any time
 abbrev pub EncodesText : Text → Result (String Global) DecodeError → Type 0
 EncodesText text (Ok answer) = (ps : List Payload) × (frames_of text ≡ Ok ps) × AreSpelled ps (string_bytes answer)
 EncodesText text (Err Memory) = Unit {0}

@@ -1,11 +1,11 @@
 -- A payload that is no frame: its fault, the datagrams that stand whole before it, and where what is wrong begins (this
 -- project's profile).
-use Rattle.std.specs.Prelude.{◌≡◌, ◌≢◌, ◌⊎◌, ℕ, ◌+◌, true, List, [], ◌∷◌, ◌++◌, length, codes}
+use Rattle.std.specs.Prelude.{◌≡◌, ◌≢◌, ◌⊎◌, ℕ, ◌+◌, ◌<◌, Bool, List, [], ◌∷◌, ◌++◌, length, codes}
 use Rattle.std.specs.Fmt.{decimal}
 use Rattle.std.specs.List.{AllByRecursion}
 use Rattle.ec_frame.specs.declared.error.FrameError.{FrameError}
 use Rattle.ec_frame.specs.declared.error.FrameError.TheVariants.{Short, BadType, TooLong, BadLength, BadCommand, BadMore}
-use Rattle.ec_frame.specs.Datagram.{Datagram, IsDatagram, opened, spelling}
+use Rattle.ec_frame.specs.Datagram.{Datagram, IsDatagram, joined, opened, spelling}
 use Rattle.ec_frame.specs.Frame.{area, length_field}
 use Rattle.ec_frame.specs.Refusals.{FirstFault, IsRefused, refusal_number}
 use Rattle.ec_decode.specs.FrameText.{Text, datagram_lines, newline, spaced}
@@ -13,12 +13,16 @@ use Rattle.ec_decode.specs.declared.placed.PlacedFault.{PlacedFault}
 
 -- ---- where a fault is
 
--- bytes begin with these datagrams, each of which says that another follows, and no such datagram begins what is left
+-- no datagram stands whole at the front of some bytes
+abbrev pub BeginsNone : List ℕ → Type 0
+BeginsNone bytes = (more : Bool) (d : Datagram) (after : List ℕ) → IsDatagram d → bytes ≢ spelling more d ++ after
+
+-- All datagrams that stand whole at the front of some bytes: the last of them says that it is the last; or each says that
+-- another follows, and none does.
 pub record AreWhole (bytes : List ℕ) (ds : List Datagram) : Type 0 where
   pub rest : List ℕ
   pub each : AllByRecursion IsDatagram ds
-  pub parts : bytes ≡ opened ds ++ rest
-  pub last : (d : Datagram) (after : List ℕ) → IsDatagram d → rest ≢ spelling true d ++ after
+  pub parts : ((0 < length ds) × (bytes ≡ joined ds ++ rest)) ⊎ ((bytes ≡ opened ds ++ rest) × BeginsNone rest)
 
 -- the datagrams before the first fault of the area, and the byte where the datagram begins that has it
 pub record StandBefore (payload : List ℕ) (e : FrameError) (ds : List Datagram) (at : ℕ) : Type 0 where
@@ -30,7 +34,7 @@ pub record StandBefore (payload : List ℕ) (e : FrameError) (ds : List Datagram
 abbrev pub IsInHeader : List Datagram → ℕ → Type 0
 IsInHeader ds at = (ds ≡ []) × (at ≡ 0)
 
--- A payload that is cut short is wrong at its end, whatever stands whole before that.
+-- A payload that is cut short is wrong at its end, and all datagrams that stand whole are before that.
 abbrev pub IsPlaced : List ℕ → FrameError → List Datagram → ℕ → Type 0
 IsPlaced payload Short ds at = AreWhole (area payload) ds × (at ≡ length payload)
 IsPlaced payload BadType ds at = IsInHeader ds at

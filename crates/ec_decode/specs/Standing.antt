@@ -1,5 +1,6 @@
 -- Where datagrams stand in bytes, as the writers of lines see them.
-use Rattle.std.specs.Prelude.{◌≡◌, ℕ, ◌+◌, ◌<◌, Bool, true, false, List, [], ◌∷◌, ◌++◌, length}
+use Rattle.std.specs.Prelude.{◌≡◌, ℕ, ◌+◌, ◌<◌, Bool, true, leb, List, [], ◌∷◌, ◌++◌, length, drop}
+use Rattle.byteorder.specs.Endian.{little_number}
 use Rattle.ec_frame.specs.declared.datagram.Header.{Header}
 use Rattle.ec_frame.specs.Datagram.{Datagram, IsDatagram, spelling}
 
@@ -26,15 +27,23 @@ abbrev pub BeginsWith : List ℕ → List Datagram → Type 0
 BeginsWith bytes [] = Unit {0}
 BeginsWith bytes (d ∷ ds) = (rest : List ℕ) × BeginsOne bytes d rest × BeginsWith rest ds
 
--- ---- datagrams that say rightly that another follows: what is cut goes on behind the bytes, so there one may end them
+-- a datagram stands whole at the front of the bytes, and is so long; bit 15 of its flags says whether another follows
+pub record BeginsLong (bytes : List ℕ) (len : ℕ) : Type 0 where
+  pub datagram : Datagram
+  pub after : List ℕ
+  pub begins : BeginsOne bytes datagram after
+  pub size : len ≡ 12 + length datagram.data_bytes
+  pub says : leb 32768 (little_number 2 (drop 6 bytes)) ≡ begins.more
 
-pub record IsOpened (cut : Bool) (bytes : List ℕ) (len : ℕ) : Type 0 where
+-- ---- datagrams that say rightly that another follows
+
+pub record IsOpened (bytes : List ℕ) (len : ℕ) : Type 0 where
   pub datagram : Datagram
   pub after : List ℕ
   pub good : IsDatagram datagram
   pub parts : bytes ≡ spelling true datagram ++ after
   pub size : len ≡ 12 + length datagram.data_bytes
-  pub goes_on : cut ≡ false → 0 < length after
+  pub goes_on : 0 < length after
 
-abbrev pub IsNotOpened : Bool → List ℕ → Type 0
-IsNotOpened cut bytes = (d : Datagram) (after : List ℕ) → IsDatagram d → bytes ≡ spelling true d ++ after → (cut ≡ false) × (after ≡ [])
+abbrev pub IsNotOpened : List ℕ → Type 0
+IsNotOpened bytes = (d : Datagram) (after : List ℕ) → IsDatagram d → bytes ≡ spelling true d ++ after → after ≡ []

@@ -3,8 +3,8 @@ ghost use Rattle.std.specs.Prelude.{◌≡◌, ◌++◌, IfErr, IfNone, IfOk, If
 ghost use Rattle.ec_frame.specs.Datagram.{Datagram};
 ghost use Rattle.ec_frame.specs.Frame.{IsFrame, Payload, area};
 ghost use Rattle.ec_frame.specs.Refusals.{IsRefused};
-ghost use Rattle.ec_decode.specs.Faults.{IsRefusedAt, error_name, refused_line, refused_text};
-ghost use Rattle.ec_decode.specs.Standing.{IsNotOpened, IsOpened};
+ghost use Rattle.ec_decode.specs.Faults.{AreWhole, BeginsNone, IsRefusedAt, error_name, refused_line, refused_text};
+ghost use Rattle.ec_decode.specs.Standing.{BeginsLong, IsNotOpened, IsOpened};
 ghost use Rattle.ec_decode.specs.Stopping.{Stops};
 
 use crate::datagram::{flags_at, length_at, write_datagrams};
@@ -24,7 +24,7 @@ const MORE: u16 = 0x8000;
 pub struct PlacedFault {
     /// The first fault, as `ec_frame::check` gives it.
     pub error: FrameError,
-    /// How many datagrams stand whole before it.
+    /// How many datagrams stand whole before it; of `Short` a whole last one counts too.
     pub whole: usize,
     /// The byte where what is wrong begins: of `Short` the payload's length; 0 where it is the
     /// header; else where the next datagram begins.
@@ -66,7 +66,8 @@ pub fn error_name(error: FrameError) -> &'static str
 }
 
 /// Adds the text of a payload that is no frame: the lines of the datagrams that stand whole before
-/// its fault, and that of its refusal. The error is want of memory.
+/// its fault, and that of its refusal. The error is want of memory; what stands in the text is then
+/// unspecified, and the text is to be dropped.
 pub fn write_refused(
     alloc: Global,
     text: &mut String,
@@ -95,13 +96,13 @@ fn place(payload: &[u8], error: FrameError) -> PlacedFault
     match error {
         FrameError::Short => PlacedFault {
             error,
-            whole: front_of(area, true).whole,
+            whole: count_whole(area),
             at: payload.len(),
         },
         FrameError::BadType | FrameError::TooLong => header,
         _ if area.is_empty() => header,
         _ => {
-            let Front { whole, len } = front_of(area, false);
+            let Front { whole, len } = front_of(area);
             PlacedFault {
                 error,
                 whole,
@@ -125,13 +126,26 @@ fn area_of(payload: &[u8]) -> &[u8]
     area
 }
 
+/// How many datagrams stand whole at the front of an area that is cut short: those that say rightly
+/// that another follows, and the one behind them, if it is whole.
+fn count_whole(area: &[u8]) -> usize
+    ensures { (ds : List Datagram) × AreWhole area.now ds × (result ≡ length ds) }
+{
+    let Front { whole, len } = front_of(area);
+    let (_, rest) = area.split_at(len);
+    match whole_length(rest) {
+        Some(_) => whole + 1,
+        None => whole,
+    }
+}
+
 /// The datagrams at the front of an area that say rightly that another follows.
-fn front_of(area: &[u8], is_cut: bool) -> Front
-    ensures { Stops is_cut area.now result }
+fn front_of(area: &[u8]) -> Front
+    ensures { Stops area.now result }
 {
     let mut rest = area;
     let mut whole = 0;
-    while let Some(len) = opened_length(rest, is_cut) {
+    while let Some(len) = opened_length(rest) {
         let (_, after) = rest.split_at(len);
         rest = after;
         whole += 1;
@@ -143,17 +157,28 @@ fn front_of(area: &[u8], is_cut: bool) -> Front
 }
 
 /// The length of the datagram at the front of some bytes, if it stands there whole and says rightly
-/// that another follows. What is cut goes on behind these bytes, so there it may end them.
-fn opened_length(bytes: &[u8], is_cut: bool) -> Option<usize>
-    ensures found { IfSome result (IsOpened is_cut bytes.now) }
-    ensures none { IfNone result (IsNotOpened is_cut bytes.now) }
+/// that another follows.
+fn opened_length(bytes: &[u8]) -> Option<usize>
+    ensures found { IfSome result (IsOpened bytes.now) }
+    ensures none { IfNone result (IsNotOpened bytes.now) }
+{
+    let len = whole_length(bytes)?;
+    if len == bytes.len() || flags_at(bytes) < MORE {
+        return None;
+    }
+    Some(len)
+}
+
+/// The length of the datagram at the front of some bytes, if it stands there whole.
+fn whole_length(bytes: &[u8]) -> Option<usize>
+    ensures found { IfSome result (BeginsLong bytes.now) }
+    ensures none { IfNone result (BeginsNone bytes.now) }
 {
     if bytes.len() < OVERHEAD {
         return None;
     }
     let len = length_at(bytes);
-    let most = if is_cut { bytes.len() } else { bytes.len() - 1 };
-    if most < len || flags_at(bytes) < MORE {
+    if bytes.len() < len {
         return None;
     }
     let _command = Command::from_number(bytes[0])?;

@@ -5,7 +5,7 @@ ghost use Rattle.ec_decode.specs.Indented.{behind, ended, indented, indented_lin
 use std::alloc::{AllocError, Global};
 
 /// Adds each line of some remarks with a margin of four blanks, and leaves out empty ones. The error is
-/// want of memory.
+/// want of memory; what stands in the text is then unspecified, and the text is to be dropped.
 pub fn push_indented(alloc: Global, text: &mut String, remarks: &str) -> Result<(), AllocError>
     ensures { OnOk result (string_bytes text.new ≡ string_bytes text.old ++ indented remarks.now) }
 {

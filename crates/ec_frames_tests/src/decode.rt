@@ -55,6 +55,33 @@ fn no_bytes_are_no_frame(rt: HostRuntime) {
     assert_eq!(&rt; said_of(&said), Some("refused 2 Short datagram 0 byte 0\n"));
 }
 
+/// Two frames whose header says one byte more than there is, and their texts: of two datagrams and of one, all whole.
+const CUT: [(&str, &str); 2] = [
+    (
+        "1f1007010000300102800000010200000701000030010200000003040000",
+        "\
+0 BRD index 01 at 0000:0130 counter 0 data 0102
+1 BRD index 01 at 0000:0130 counter 0 data 0304
+refused 2 Short datagram 2 byte 30
+",
+    ),
+    (
+        "0f100701000030010200000001020000",
+        "\
+0 BRD index 01 at 0000:0130 counter 0 data 0102
+refused 2 Short datagram 1 byte 16
+",
+    ),
+];
+
+#[test]
+fn a_whole_last_datagram_of_a_cut_frame_counts(rt: HostRuntime) {
+    for (line, text) in &CUT {
+        let said = decode_line(rt.alloc(), line);
+        assert_eq!(&rt; said_of(&said), Some(*text));
+    }
+}
+
 /// What a reader gives for a line: the frame that the line makes whole, if it does.
 type Given<'a> = Result<Option<&'a [u8]>, DecodeError>;
 

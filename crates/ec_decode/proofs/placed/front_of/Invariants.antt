@@ -3,7 +3,7 @@ use Rattle.ec_decode.proofs.Places.{Passed}
 use Rattle.ec_decode.proofs.placed.front_of.Given as goal
 
 abbrev pub invariant-loop-len : goal.invariant-loop-len
-invariant-loop-len l = Passed l.is_cut l.area l.rest l.whole
+invariant-loop-len l = Passed l.area l.rest l.whole
 
 abbrev pub decreases-loop-len : goal.decreases-loop-len
 decreases-loop-len l = length l.rest

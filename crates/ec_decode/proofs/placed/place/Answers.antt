@@ -11,7 +11,7 @@ some_from xs ys e h = grind (arith, nat_tests, ap length e)
 pub returns-in_default-2 : goal.returns-in_default-2
 returns-in_default-2 c =
     let payload = c.args.payload.now in
-    let stops : Stops false (area payload) c.front_of-whole.result = subst (λ (xs : List ℕ). Stops false xs c.front_of-whole.result) c.area_of-area.ensures c.front_of-whole.ensures in
+    let stops : Stops (area payload) c.front_of-whole.result = subst (λ (xs : List ℕ). Stops xs c.front_of-whole.result) c.area_of-area.ensures c.front_of-whole.ensures in
     let some : 0 < length (area payload) = some_from _ _ c.area_of-area.ensures (sym c.is_empty.ensures ∙ c.if-is_empty.false) in (
       stops.datagrams,
       record { refused = c.requires; placed = in_area payload c.args.error c.front_of-whole.result c.requires c.in_default.not-Short c.in_default.not-BadType c.in_default.not-TooLong some stops; whole = stops.whole },
