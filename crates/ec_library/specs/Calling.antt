@@ -1,11 +1,14 @@
 -- What a call does to what is behind its handle, and what it answers.
-use Rattle.std.specs.Prelude.{◌≡◌, ◌≢◌, ◌≤◌, ◌<◌, ℕ, Bool, true, false, List, length, take, set, slice_get, is_some, option_and_then, Option, None, Some, Result, Ok, Err, IsUtf8}
+use Rattle.std.specs.Prelude.{◌≡◌, ◌≢◌, ◌≤◌, ◌<◌, ◌↔◌, ℕ, Bool, true, false, List, length, take, set, slice_get, nat_lt, is_some, option_and_then, option_map, unwrap_or, Option, None, Some, Result, Ok, Err, IsTrue, IsUtf8}
 use Rattle.std.specs.List.{list_all}
 use Rattle.ec_cycle.specs.Closing.{ReportState}
 use Rattle.ec_cycle.specs.Master.{Begun, IsClosed, OpenCycle, begin_refusal, frame_of, holds_value, missing_of, value_at, variable_set}
 use Rattle.ec_cycle.specs.Refusals.{refusal_number}
 use Rattle.ec_cycle.specs.declared.error.CycleError.{CycleError}
 use Rattle.ec_ring.specs.Rings.{HasPassedRing, IsNoFrame}
+use Rattle.ec_slave.specs.Interface.{Got, Op}
+use Rattle.ec_slave.specs.Application.{input_put, output_got, output_taken}
+use Rattle.ec_slave.specs.Faulting.{faulted}
 use Rattle.ec_slave.specs.State.{SlaveState}
 use Rattle.ec_start.specs.Errors.{error_number}
 use Rattle.ec_start.specs.Running.{asked, given_up, next_frame, outcome_of}
@@ -130,3 +133,29 @@ pub record Passes (old : List SlaveState) (frame : List ℕ) (is_frame : Bool) (
 -- the slave at a place, if it is there, becomes another, and all others stay
 abbrev pub AtSlave : List SlaveState → ℕ → (SlaveState → SlaveState) → List SlaveState → Type 0
 AtSlave old place f new = ((s : SlaveState) → slice_get old place ≡ Some s → new ≡ set old place (f s)) × (slice_get old place ≡ None → new ≡ old)
+
+-- something is done to the slave at a place, if it is there
+pub record Does (old : List SlaveState) (place : ℕ) (f : SlaveState → SlaveState) (done : Bool) (new : List SlaveState) : Type 0 where
+  pub is_done : done ≡ nat_lt place (length old)
+  pub slaves : AtSlave old place f new
+
+-- a byte of the outputs, if the slave is there and its application may read it
+abbrev pub output_read : List SlaveState → (place byte : ℕ) → Option ℕ
+output_read slaves place byte = option_and_then (λ (s : SlaveState). option_map (λ (got : Got). got.byte) (output_got s byte)) (slice_get slaves place)
+
+-- the application of the slave at a place reads a byte of its outputs; a byte that it may not read leaves the room as it was
+pub record Reads (old : List SlaveState) (place byte room : ℕ) (done : Bool) (read : ℕ) (new : List SlaveState) : Type 0 where
+  pub is_done : done ≡ is_some (output_read old place byte)
+  pub byte_is : read ≡ unwrap_or (output_read old place byte) room
+  pub slaves : AtSlave old place (λ (s : SlaveState). output_taken s (output_got s byte)) new
+
+-- the application of the slave at a place writes a byte of its inputs
+pub record Writes (old : List SlaveState) (place byte value : ℕ) (done : Bool) (new : List SlaveState) : Type 0 where
+  pub is_done : done ≡ is_some (option_and_then (λ (s : SlaveState). input_put s byte value) (slice_get old place))
+  pub slaves : AtSlave old place (λ (s : SlaveState). unwrap_or (input_put s byte value) s) new
+
+-- the application of the slave at a place has a fault: done if the slave is in OP
+pub record HasFault (old : List SlaveState) (place : ℕ) (done : Bool) (new : List SlaveState) : Type 0 where
+  pub there : (s : SlaveState) → slice_get old place ≡ Some s → (IsTrue done ↔ (s.al.state ≡ Op))
+  pub none : slice_get old place ≡ None → done ≡ false
+  pub slaves : AtSlave old place faulted new

@@ -5,13 +5,11 @@
 //! what was behind the one that it was given.
 #![tactic(auto)]
 
-ghost use Rattle.std.specs.Prelude.{◌≡◌, true, is_some, unwrap_or};
+ghost use Rattle.std.specs.Prelude.{◌≡◌, true, is_some};
 ghost use Rattle.ec_owned.specs.Opening.{AreOpened, IsOpened};
-ghost use Rattle.ec_slave.specs.Application.{input_put, output_got, output_taken};
-ghost use Rattle.ec_slave.specs.Faulting.{faulted};
 ghost use Rattle.ec_slave.specs.Serving.{served};
 ghost use Rattle.ec_slave.specs.State.{power_on};
-ghost use Rattle.ec_library.specs.Calling.{AsksNext, AtSlave, Begins, Closes, Finds, Gets, GivesUp, Leads, Passes, Sets, SetsOutputs, ShowsInputs, ShowsPart, Takes, TellsPhase, TellsUnit};
+ghost use Rattle.ec_library.specs.Calling.{AsksNext, Begins, Closes, Does, Finds, Gets, GivesUp, HasFault, Leads, Passes, Reads, Sets, SetsOutputs, ShowsInputs, ShowsPart, Takes, TellsPhase, TellsUnit, Writes};
 ghost use Rattle.ec_library.specs.Refusing.{HasOpened};
 
 mod calls;
@@ -38,7 +36,7 @@ pub extern "C" fn ecat_c_open(
     told: &mut NotOpened,
     out: &mut MasterHandle,
 )
-    ensures { HasOpened (IsOpened table.now) table.now told.new out.new.machine out.old out.new }
+    ensures { HasOpened (IsOpened table.now) table.now told.new name.new out.new.machine out.old out.new }
 {
     match boxed_machine(alloc, table) {
         Ok(machine) => {
@@ -295,7 +293,7 @@ pub extern "C" fn ecat_c_segment_open(
     told: &mut NotOpened,
     out: &mut SegmentHandle,
 )
-    ensures { HasOpened (AreOpened full table.now) table.now told.new out.new.slaves out.old out.new }
+    ensures { HasOpened (AreOpened full table.now) table.now told.new name.new out.new.slaves out.old out.new }
 {
     match boxed_slaves(alloc, table, full) {
         Ok(slaves) => {
@@ -343,7 +341,7 @@ pub extern "C" fn ecat_c_segment_serve(
     out: &mut SegmentHandle,
 )
     requires { is_some segment.slaves ≡ true }
-    ensures { Leads segment.slaves out.new.slaves (λ old new. AtSlave old slave served new) }
+    ensures { Leads segment.slaves out.new.slaves (λ old new. Does old slave served done.new new) }
 {
     let mut slaves = reveal_segment(segment).into_box(alloc);
     *done = segments::serve(&mut slaves, slave);
@@ -363,16 +361,10 @@ pub extern "C" fn ecat_c_segment_get(
     out: &mut SegmentHandle,
 )
     requires { is_some segment.slaves ≡ true }
-    ensures { Leads segment.slaves out.new.slaves (λ old new. AtSlave old slave (λ s. output_taken s (output_got s place)) new) }
+    ensures { Leads segment.slaves out.new.slaves (λ old new. Reads old slave place byte.old done.new byte.new new) }
 {
     let mut slaves = reveal_segment(segment).into_box(alloc);
-    match segments::get(&mut slaves, slave, place) {
-        Some(read) => {
-            *byte = read;
-            *done = true;
-        }
-        None => *done = false,
-    }
+    *done = segments::get(&mut slaves, slave, place, byte);
     *out = conceal_segment(Kept::of(slaves));
 }
 
@@ -389,7 +381,7 @@ pub extern "C" fn ecat_c_segment_put(
     out: &mut SegmentHandle,
 )
     requires { is_some segment.slaves ≡ true }
-    ensures { Leads segment.slaves out.new.slaves (λ old new. AtSlave old slave (λ s. unwrap_or (input_put s place byte) s) new) }
+    ensures { Leads segment.slaves out.new.slaves (λ old new. Writes old slave place byte done.new new) }
 {
     let mut slaves = reveal_segment(segment).into_box(alloc);
     *done = segments::put(&mut slaves, slave, place, byte);
@@ -407,7 +399,7 @@ pub extern "C" fn ecat_c_segment_fault(
     out: &mut SegmentHandle,
 )
     requires { is_some segment.slaves ≡ true }
-    ensures { Leads segment.slaves out.new.slaves (λ old new. AtSlave old slave faulted new) }
+    ensures { Leads segment.slaves out.new.slaves (λ old new. HasFault old slave done.new new) }
 {
     let mut slaves = reveal_segment(segment).into_box(alloc);
     *done = segments::fault(&mut slaves, slave);
@@ -425,7 +417,7 @@ pub extern "C" fn ecat_c_segment_reset(
     out: &mut SegmentHandle,
 )
     requires { is_some segment.slaves ≡ true }
-    ensures { Leads segment.slaves out.new.slaves (λ old new. AtSlave old slave (λ s. power_on s.kind s.identity) new) }
+    ensures { Leads segment.slaves out.new.slaves (λ old new. Does old slave (λ s. power_on s.kind s.identity) done.new new) }
 {
     let mut slaves = reveal_segment(segment).into_box(alloc);
     *done = segments::reset(&mut slaves, slave);

@@ -1,5 +1,5 @@
 //! What is opened, and why it isn't.
-ghost use Rattle.std.specs.Prelude.{◌≡◌, ◌≤◌, length, take, IfOk, IfErr};
+ghost use Rattle.std.specs.Prelude.{◌≡◌, length, min, take, IfOk, IfErr};
 ghost use Rattle.ec_owned.specs.Opening.{AreOpened, IsOpenFault, IsOpened, listed};
 ghost use Rattle.ec_library.specs.Refusing.{TellsRefusal, no_refusal, with_values};
 
@@ -36,7 +36,7 @@ pub fn opened() -> NotOpened
 
 /// Tells a refusal, and writes its name.
 pub fn tell_refusal(error: OpenError, room: &mut [u8]) -> NotOpened
-    ensures { TellsRefusal error result }
+    ensures { TellsRefusal error result room.new }
 {
     let (count, first, second) = spread(error.values());
     NotOpened {
@@ -75,7 +75,7 @@ pub fn boxed_slaves(alloc: Global, table: &[u8], full: bool) -> Result<Box<Ring>
 
 /// Writes as much of a name as there is room for, and answers how many bytes that is.
 fn write_name(name: &str, room: &mut [u8]) -> usize
-    ensures few { result ≤ length room.new }
+    ensures few { result ≡ min (length name.now) (length room.new) }
     ensures written { take result room.new ≡ take result name.now }
 {
     let bytes = name.as_bytes();
@@ -86,7 +86,8 @@ fn write_name(name: &str, room: &mut [u8]) -> usize
 
 /// How many values there are, and these.
 fn spread(values: Values) -> (usize, u64, u64)
-    ensures { with_values result.0 result.1 result.2 ≡ listed values }
+    ensures count { result.0 ≡ length (listed values) }
+    ensures values { with_values result.0 result.1 result.2 ≡ listed values }
 {
     match values {
         Values::Empty => (0, 0, 0),

@@ -1,10 +1,7 @@
 //! The calls of a segment, over its slaves.
-ghost use Rattle.std.specs.Prelude.{◌≡◌, nat_lt, length, slice_get, is_some, option_and_then, option_map, unwrap_or};
-ghost use Rattle.ec_slave.specs.Application.{input_put, output_got, output_taken};
-ghost use Rattle.ec_slave.specs.Faulting.{faulted};
 ghost use Rattle.ec_slave.specs.Serving.{served};
 ghost use Rattle.ec_slave.specs.State.{power_on};
-ghost use Rattle.ec_library.specs.Calling.{AtSlave, Passes};
+ghost use Rattle.ec_library.specs.Calling.{Does, HasFault, Passes, Reads, Writes};
 
 use ec_ring::Ring;
 
@@ -17,8 +14,7 @@ pub fn pass(slaves: &mut Ring, frame: &mut [u8]) -> bool
 
 /// The firmware of a slave steps, if it is there.
 pub fn serve(slaves: &mut Ring, place: usize) -> bool
-    ensures there { result ≡ nat_lt place (length slaves.old) }
-    ensures after { AtSlave slaves.old place served slaves.new }
+    ensures { Does slaves.old place served result slaves.new }
 {
     if place >= slaves.len() {
         return false;
@@ -29,8 +25,7 @@ pub fn serve(slaves: &mut Ring, place: usize) -> bool
 
 /// A slave is switched off and on, if it is there.
 pub fn reset(slaves: &mut Ring, place: usize) -> bool
-    ensures there { result ≡ nat_lt place (length slaves.old) }
-    ensures after { AtSlave slaves.old place (λ s. power_on s.kind s.identity) slaves.new }
+    ensures { Does slaves.old place (λ s. power_on s.kind s.identity) result slaves.new }
 {
     if place >= slaves.len() {
         return false;
@@ -39,21 +34,25 @@ pub fn reset(slaves: &mut Ring, place: usize) -> bool
     true
 }
 
-/// The application of a slave reads a byte of its outputs, if it is there and may.
-pub fn get(slaves: &mut Ring, place: usize, byte: usize) -> Option<u8>
-    ensures read { result ≡ option_and_then (λ s. option_map (λ got. got.byte) (output_got s byte)) (slice_get slaves.old place) }
-    ensures after { AtSlave slaves.old place (λ s. output_taken s (output_got s byte)) slaves.new }
+/// The application of a slave reads a byte of its outputs into `read`, if it is there and may.
+pub fn get(slaves: &mut Ring, place: usize, byte: usize, read: &mut u8) -> bool
+    ensures { Reads slaves.old place byte read.old result read.new slaves.new }
 {
     if place >= slaves.len() {
-        return None;
+        return false;
     }
-    slaves.slave_mut(place).app_get(byte)
+    match slaves.slave_mut(place).app_get(byte) {
+        Some(got) => {
+            *read = got;
+            true
+        }
+        None => false,
+    }
 }
 
 /// The application of a slave writes a byte of its inputs, if it is there and may.
 pub fn put(slaves: &mut Ring, place: usize, byte: usize, value: u8) -> bool
-    ensures granted { result ≡ is_some (option_and_then (λ s. input_put s byte value) (slice_get slaves.old place)) }
-    ensures after { AtSlave slaves.old place (λ s. unwrap_or (input_put s byte value) s) slaves.new }
+    ensures { Writes slaves.old place byte value result slaves.new }
 {
     if place >= slaves.len() {
         return false;
@@ -63,7 +62,7 @@ pub fn put(slaves: &mut Ring, place: usize, byte: usize, value: u8) -> bool
 
 /// The application of a slave has a fault, if it is there and in OP.
 pub fn fault(slaves: &mut Ring, place: usize) -> bool
-    ensures { AtSlave slaves.old place faulted slaves.new }
+    ensures { HasFault slaves.old place result slaves.new }
 {
     if place >= slaves.len() {
         return false;
