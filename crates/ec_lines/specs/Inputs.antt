@@ -1,5 +1,5 @@
--- An input, and whether a read of it was refused (a choice of this project).
-use Rattle.std.specs.Prelude.{ℕ, Bool, true, false, Result, Ok, Err}
+-- An input, how often it was read, and whether a read of it was refused (a choice of this project).
+use Rattle.std.specs.Prelude.{ℕ, ◌+◌, ◌-◌, ◌^◌, ◌≤◌, min, Bool, true, false, Result, Ok, Err}
 use Rattle.std.specs.IoError.{error_kind}
 use Rattle.std.specs.declared.io.Error.{Error}
 use Rattle.std.specs.declared.io.ErrorKind.{ErrorKind}
@@ -7,10 +7,19 @@ use Rattle.std.specs.declared.io.ErrorKind.TheVariants.{Interrupted, OutOfMemory
 use Rattle.ec_lines.specs.declared.error.LinesError.{LinesError}
 use Rattle.ec_lines.specs.declared.error.LinesError.TheVariants.{Memory, Unread}
 
--- the stream that is read, and whether a read of it was ever refused
+-- the stream that is read; whether a read of it was ever refused, or it was given up; and how often it was read
 pub record InputState (R : Type 0) : Type 0 where
   pub stream : R
   pub is_refused : Bool
+  pub reads : ℕ
+
+-- one read more, as far as 64 bits count
+abbrev pub one_more : ℕ → ℕ
+one_more reads = min (reads + 1) (2 ^ 64 - 1)
+
+-- it was read so often that it may be given up
+abbrev pub IsSpent : ℕ → Type 0
+IsSpent reads = 2 ^ 64 - 1 ≤ reads
 
 -- an error of a read that refuses it: not that it was interrupted, after which it is made again, nor that memory ran out
 abbrev pub is_refusal : ErrorKind → Bool

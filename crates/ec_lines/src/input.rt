@@ -1,20 +1,21 @@
 //! An input that keeps whether a read of it was refused.
-ghost use Rattle.std.specs.Prelude.{◌≡◌, ◌≢◌, ◌||◌, ◌++◌, IfErr, IfSome, OnOk, false, true, take};
+ghost use Rattle.std.specs.Prelude.{◌≡◌, ◌≢◌, ◌||◌, ◌+◌, ◌++◌, IfErr, IfOk, IfSome, OnOk, false, length, true, take};
 ghost use Rattle.std.specs.Io.KnownBytes.{ReadConsumes};
 ghost use Rattle.std.specs.Io.{ReadsAtMost};
 ghost use Rattle.std.specs.IoError.{error_kind};
-ghost use Rattle.ec_lines.specs.Inputs.{is_read_refused};
+ghost use Rattle.ec_lines.specs.Inputs.{IsSpent, is_read_refused, one_more};
 
 use std::io::{ErrorKind, Read, Result};
 use std::marker::Model;
 
 /// An input that is read. It keeps whether a read was ever refused: such as gave an error, and not because it was interrupted, after
 /// which it is made again, or because memory ran out. Nobody else can say so, and thus a contract can promise that an input isn't
-/// refused unless a read of it was.
+/// refused unless a read of it was, or 2^64 - 1 reads gave no end.
 #[derive(Drop)]
 pub struct InputStream<R: Read + Drop> {
     stream: R,
     is_refused: bool,
+    reads: u64,
 }
 
 impl<R: Read + Drop> Model for InputStream<R> {
@@ -22,17 +23,18 @@ impl<R: Read + Drop> Model for InputStream<R> {
 
     ghost Value = { InputState R };
 
-    ghost view = { λ s. record { stream = s.stream; is_refused = s.is_refused } };
+    ghost view = { λ s. record { stream = s.stream; is_refused = s.is_refused; reads = s.reads } };
 }
 
 impl<R: Read + Drop> InputStream<R> {
     /// An input of which no read was refused yet.
     pub fn new(stream: R) -> InputStream<R>
-        ensures { result ≡ record { stream = stream; is_refused = false } }
+        ensures { result ≡ record { stream = stream; is_refused = false; reads = 0 } }
     {
         InputStream {
             stream,
             is_refused: false,
+            reads: 0,
         }
     }
 
@@ -55,27 +57,34 @@ impl<R: Read + Drop> InputStream<R> {
         ensures bound { ReadsAtMost result buffer.new }
         ensures bytes { ReadConsumes (R.remaining self.old.stream) (R.remaining self.new.stream) result buffer.new }
         ensures refused { self.new.is_refused ≡ self.old.is_refused || is_read_refused result }
+        ensures counted { self.new.reads ≡ one_more self.old.reads }
     {
         let read = self.stream.read(buffer);
+        self.reads = self.reads.saturating_add(1);
         self.is_refused = self.is_refused || is_read_refused(&read);
         read
     }
 
-    /// Reads so many bytes, or all that are left where these are fewer, as the stream does, whose answer is handed on. An
-    /// interrupted read is made again.
+    /// Reads so many bytes, or all that are left where these are fewer, as the stream does, whose answer is handed on: how many
+    /// bytes were read. An interrupted read is made again.
     pub fn read_first(&mut self, most: u64, bytes: &mut Vec<u8>) -> Result<usize>
         ensures bytes { OnOk result (IfSome (R.remaining self.old.stream) (λ all. bytes.new.items ≡ bytes.old.items ++ take most all)) }
+        ensures count { IfOk result (λ count. length bytes.new.items ≡ length bytes.old.items + count) }
         ensures retried { IfErr result (λ error. error_kind error ≢ ErrorKind.Interrupted) }
         ensures refused { self.new.is_refused ≡ self.old.is_refused || is_read_refused result }
+        ensures counted { self.new.reads ≡ one_more self.old.reads }
     {
         let read = read_first(&mut self.stream, most, bytes);
+        self.reads = self.reads.saturating_add(1);
         self.is_refused = self.is_refused || is_read_refused(&read);
         read
     }
 
-    /// An input that gives no end, however often it is read, counts as one that refuses to be read.
+    /// An input that gives no end, though it was read 2^64 - 1 times, counts as one that refuses to be read.
     pub(crate) fn give_up(&mut self)
+        requires { IsSpent self.old.reads }
         ensures stream { self.new.stream ≡ self.old.stream }
+        ensures reads { self.new.reads ≡ self.old.reads }
         ensures refused { self.new.is_refused ≡ true }
     {
         self.is_refused = true;
@@ -85,6 +94,7 @@ impl<R: Read + Drop> InputStream<R> {
 /// Reads so many bytes of a stream, or all that are left where these are fewer.
 fn read_first<R: Read>(stream: &mut R, most: u64, bytes: &mut Vec<u8>) -> Result<usize>
     ensures bytes { OnOk result (IfSome (R.remaining stream.old) (λ all. bytes.new.items ≡ bytes.old.items ++ take most all)) }
+    ensures count { IfOk result (λ count. length bytes.new.items ≡ length bytes.old.items + count) }
     ensures retried { IfErr result (λ error. error_kind error ≢ ErrorKind.Interrupted) }
 {
     stream.take(most).read_to_end(bytes)

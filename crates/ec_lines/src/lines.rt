@@ -1,6 +1,7 @@
 //! Lines, each up to its end, and the text before a line `%%`.
 ghost use Rattle.std.specs.Prelude.{◌≡◌, ◌≤◌, ◌^◌, ◌++◌, List, ℕ, IfErr, IfOk, OnErr, OnOk, length, string_bytes};
 ghost use Rattle.std.specs.Str.{IsUtf8};
+ghost use Rattle.ec_lines.specs.Inputs.{one_more};
 ghost use Rattle.ec_lines.specs.Kept.{IsAddFault, RefusesLines, TakesKept, is_last, kept_more};
 ghost use Rattle.ec_lines.specs.Taking.{IsReadFault, IsTaken, RefusesText, TakesPart, TakesLine, TakesText, is_divider, without_end};
 
@@ -106,6 +107,7 @@ fn take_bytes<R: Read + Drop>(
     ensures refused { IfErr result (IsReadFault input.new.is_refused) }
     ensures kept { OnOk result (input.new.is_refused ≡ input.old.is_refused) }
     ensures left { OnErr result (TakesPart (R.remaining input.old.stream) (R.remaining input.new.stream)) }
+    ensures counted { one_more input.old.reads ≤ input.new.reads }
 {
     let mut line = Vec::new(alloc);
     let mut byte = [0];

@@ -26,9 +26,16 @@ loop-preserved g c = elim c.match-read.branch [
         (byte_taken (g.R.Read.remaining c.loop.input.stream) (g.R.Read.remaining c.read.new.self.stream) w.in-Ok.field-0 c.read.new.buffer (omega arith) w.in-Ok.field-0-test.1 w.in-Ok.ensures.bound.0 w.in-Ok.ensures.bytes.0)
         w.if-byte-eq10.false (rw w.line-is w.in_ok-keep-in-Ok.ensures);
     kept = not_refused _ _ false w.in-Ok.ensures.refused refl ∙ c.loop.invariant.kept;
+    counted = omega (arith, w.in-Ok.ensures.counted, c.loop.invariant.counted, c.loop-test.true);
+    more = omega (arith, w.in-Ok.ensures.counted, c.loop.invariant.more);
   }
   | in-Err w ↦ record {
     line = rw w.line-is (interrupted (g.R.Read.remaining c.args.input.now.stream) (g.R.Read.remaining c.loop.input.stream) (g.R.Read.remaining c.read.new.self.stream) c.args.most c.loop.line.items c.loop.invariant.line w.in-Err.ensures.bytes);
     kept = not_refused _ _ _ w.in-Err.ensures.refused (interrupted_only _ (w.if-eq.ensures ∙ ap (λ kind. sameb the_type kind Interrupted) w.kind.ensures)) ∙ c.loop.invariant.kept;
+    counted = omega (arith, w.in-Err.ensures.counted, c.loop.invariant.counted, c.loop-test.true);
+    more = omega (arith, w.in-Err.ensures.counted, c.loop.invariant.more);
   }
 ]
+
+pub returns-clause-counted : goal.returns-clause-counted
+returns-clause-counted g c = omega (arith, c.loop.invariant.counted, c.loop-test.false, c.give_up.ensures.reads)

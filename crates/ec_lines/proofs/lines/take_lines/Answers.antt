@@ -1,4 +1,4 @@
-use Rattle.std.proofs.Common.{◌≡◌, ◌∙◌, ◌++◌, List, ℕ, subst, sym}
+use Rattle.std.proofs.Common.{◌≡◌, ◌∙◌, ◌++◌, List, ℕ, arith, subst, sym}
 use Rattle.ec_lines.specs.Kept.{IsAddFault, RefusesLines, is_last}
 use Rattle.ec_lines.specs.Taking.{TakesUndivided}
 use Rattle.ec_lines.proofs.TakeLemmas.{undivided_part}
@@ -28,6 +28,7 @@ loop-preserved g c = record {
       (subst (λ (l : List ℕ). c.is_last.result ≡ is_last l) c.deref.ensures.value c.is_last.ensures) c.if-is_last.false
       (subst (λ (l : List ℕ). c.add_line.new.text.items ≡ c.loop.text.items ++ l) c.deref-in-loop.ensures.value c.in_ok-add_line.ensures.added) c.in_ok-add_line.ensures.short;
   kept = c.in_ok-line.ensures.kept ∙ c.loop.invariant.kept;
+  counted = omega (arith, c.in_ok-line.ensures.counted, c.loop.invariant.counted, c.loop-test.true);
   short = c.in_ok-add_line.ensures.short;
 }
 

@@ -6,5 +6,6 @@ abbrev pub invariant-loop : goal.invariant-loop
 invariant-loop g l = record {
   lines : TakesUndivided (g.R.Read.remaining l.initial.input.stream) (g.R.Read.remaining l.input.stream) l.text.items;
   kept : l.input.is_refused ≡ l.initial.input.is_refused;
+  counted : l.counter ≤ l.input.reads;
   short : length l.text.items ≤ 2 ^ 20;
 }
