@@ -199,7 +199,8 @@ def pdos_of(body):
     """The process data objects of a category: of each the index, the manager and the entries, each an index, a subindex and bits."""
     at, found = 0, []
     while at < len(body):
-        index, count, manager = struct.unpack_from("<HBB", body, at)
+        index, count, manager = struct.unpack_from("<HBB", body.ljust(at + 4, b"\0"), at)
+        want(at + 8 + 8 * count <= len(body), f"the PDO {index:#06x} of a category is cut off")
         entries = [struct.unpack_from("<HB2xB", body, at + 8 + 8 * place) for place in range(count)]
         found.append((index, manager, entries))
         at += 8 + 8 * count

@@ -133,8 +133,9 @@ class Found(Slave):
         # FMMU 0 for outputs, FMMU 1 for inputs, where there are any
         expect("category FMMU", self.category(FMMUS), bytes([bool(row.outputs), 2 * bool(row.inputs), 0, 0]))
         expect("category SyncM", self.category(MANAGERS), managers_of(row))
-        for title, found, pdos, manager in (("inputs", self.inputs, row.inputs, 3), ("outputs", self.outputs, row.outputs, 2)):
+        for title, kind, found, pdos, manager in (("inputs", INPUTS, self.inputs, row.inputs, 3), ("outputs", OUTPUTS, self.outputs, row.outputs, 2)):
             expect(f"PDOs of {title}", found, [(index, manager, entries) for index, entries in pdos])
+            expect(f"category of {title}", self.category(kind), category_of(pdos, manager))
         expect("bytes of outputs and inputs", (self.output_bytes, self.input_bytes), (row.output_bytes, row.input_bytes))
 
     def expect_head(self, row):
@@ -150,7 +151,7 @@ class Found(Slave):
     def expect_edge(self, row):
         """Behind the mark all is as the mark, up to the end of the image; past it a read ends with the error bit, and the port works on."""
         length = 64 * (row.size + 1)
-        for at in (row.end, length - 2):
+        for at in (*range(row.end, length - 1, 2), length - 2):
             expect(f"SII words {at:#x}", self.sii(at), b"\xff\xff\xff\xff")
         for at in (length, 0xFFFF, 0xFFFFFFFE):
             expect(f"SII words {at:#x}, past the end", self.sii(at), None)
@@ -277,6 +278,15 @@ def managers_of(row):
     return b"".join(struct.pack("<HHBBBB", start, length, control, 0, int(length > 0), usage) for start, length, control, usage in found)
 
 
+def category_of(pdos, manager):
+    """The category of a direction: of each object index, number of entries and manager, of each entry index, subindex and bits; no names."""
+    found = b""
+    for index, entries in pdos:
+        found += struct.pack("<HBBHH", index, len(entries), manager, 0, 0)
+        found += b"".join(struct.pack("<HBHBH", entry, part, 0, bits, 0) for entry, part, bits in entries)
+    return found
+
+
 class Scan:
     """A scan of the slaves behind a bus, from the first frame to cycles in OP."""
 
@@ -372,7 +382,10 @@ class Scan:
         for place, slave in enumerate(self.slaves):
             self.place = place
             outputs, inputs = slave.seat
-            wanted = before[outputs : outputs + slave.output_bytes][: slave.input_bytes].ljust(slave.input_bytes, b"\0")
+            # an LRW brings the outputs back as they were sent, an LRD the zeros in their place
+            carried = image[outputs:inputs] if joint and slave.lrw else bytes(slave.output_bytes)
+            expect("outputs that came back", bytes(seen[outputs:inputs]), carried)
+            wanted = before[outputs:inputs][: slave.input_bytes].ljust(slave.input_bytes, b"\0")
             expect("inputs", bytes(seen[inputs : inputs + slave.input_bytes]), wanted)
         self.place = None
         return image
