@@ -32,6 +32,11 @@ appends_kept (Some xs) None new bytes first kept = absurd first
 appends_kept (Some xs) (Some ys) None bytes first kept = absurd kept
 appends_kept (Some xs) (Some ys) (Some zs) bytes first kept = kept ∙ first
 
+-- all of the bytes are a first part of them, also where they aren't handed on
+pub kept_part : (old mid new : Option (List ℕ)) (bytes : List ℕ) → Appends old mid bytes → Keeps mid new → AppendsPart old new bytes
+kept_part old mid new bytes all kept =
+    (length bytes, subst (λ (xs : List ℕ). Appends old new xs) (sym (take-length bytes)) (appends_kept old mid new bytes all kept))
+
 -- a first part of bytes is one of more bytes
 take-longer : (n : ℕ) (a b : List ℕ) → (m : ℕ) × (take n a ≡ take m (a ++ b))
 take-longer zero a b = (0, refl)

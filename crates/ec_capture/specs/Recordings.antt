@@ -5,7 +5,8 @@ use Rattle.ec_capture.specs.Blocks.{blocks_bytes}
 use Rattle.ec_capture.specs.Captures.{Seen, packet_block}
 use Rattle.ec_capture.specs.Writing.{AppendsPart}
 
--- What is known of it: the bytes of its file, how many interfaces it has, and whether it is whole, so that no write was refused.
+-- What is known of it: the bytes of its file, how many interfaces it has, and whether it is whole, so that all of it is written and
+-- handed on.
 pub record Recording : Type 0 where
   pub file : Option (List ℕ)
   pub interfaces : ℕ

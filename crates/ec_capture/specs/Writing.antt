@@ -1,5 +1,5 @@
 -- What a write of bytes leaves in a file, where its bytes are known.
-use Rattle.std.specs.Prelude.{ℕ, List, take, Option, Result, OnOk, OnErr}
+use Rattle.std.specs.Prelude.{◌≡◌, ℕ, List, take, Bool, true, Option, Result, OnOk, OnErr}
 use Rattle.std.specs.Io.KnownBytes.{Appends}
 use Rattle.ec_capture.specs.declared.writing.WriteFault.{WriteFault}
 
@@ -11,3 +11,12 @@ AppendsPart old new bytes = (count : ℕ) × Appends old new (take count bytes)
 pub record Writes (bytes : List ℕ) (old new : Option (List ℕ)) (ended : Result Unit WriteFault) : Type 0 where
   pub all : OnOk ended (Appends old new bytes)
   pub part : OnErr ended (AppendsPart old new bytes)
+
+-- a file that is written: what it holds, where that is known, and whether all that was written is handed on, which a flush does
+pub record FileState : Type 0 where
+  pub holds : Option (List ℕ)
+  pub is_flushed : Bool
+
+-- of a capture that is whole, all is handed on
+abbrev pub IsHandedOn : (is_whole : Bool) → FileState → Type 0
+IsHandedOn is_whole file = is_whole ≡ true → file.is_flushed ≡ true

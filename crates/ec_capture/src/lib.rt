@@ -3,6 +3,7 @@
 #![tactic(auto)]
 
 mod blocks;
+mod file;
 pub mod laws;
 mod packet;
 mod recorder;

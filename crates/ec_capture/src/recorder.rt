@@ -1,33 +1,37 @@
 //! A capture that is being written.
-ghost use Rattle.std.specs.Prelude.{◌≡◌, ◌<◌, ◌∷◌, [], All, IfOk, IsOk, false, length, map, option_map, true};
-ghost use Rattle.std.specs.Io.KnownBytes.{Appends, Keeps};
+ghost use Rattle.std.specs.Prelude.{◌≡◌, ◌∷◌, [], All, IfOk, false, length, map, option_map, true};
+ghost use Rattle.std.specs.Io.KnownBytes.{Appends};
 ghost use Rattle.ec_capture.specs.Captures.{IsComment, IsText, file_of, interface_block, packet_block, seen_as};
 ghost use Rattle.ec_capture.specs.Blocks.{block_bytes, blocks_bytes};
 ghost use Rattle.ec_capture.specs.Recordings.{Notes, Recording};
 ghost use Rattle.ec_capture.specs.Writing.{AppendsPart, Writes};
 
 use crate::blocks::{write_interface, write_packet, write_section};
+use crate::file::CaptureFile;
 use crate::packet::{MAX_INTERFACES, MAX_PAYLOAD, Packet};
 use crate::writing::WriteFault;
 use std::convert::AsStr;
 use std::io::Write;
 use std::marker::Model;
 
-/// A capture that is being written: packets are noted one after the other. Once a write is refused it is cut short, and notes no
-/// more; nothing else comes of that.
+/// A capture that is being written: packets are noted one after the other, and each is handed on before the next. Once a write is
+/// refused, or what was written isn't handed on, it is cut short, and notes no more; nothing else comes of that.
 #[derive(Drop)]
 pub struct Recorder<W: Write + Drop> {
-    file: W,
+    file: CaptureFile<W>,
     interfaces: usize,
     is_whole: bool,
 }
 
 impl<W: Write + Drop> Model for Recorder<W> {
     ghost use Rattle.ec_capture.specs.Recordings.{Recording};
+    ghost use Rattle.ec_capture.specs.Writing.{IsHandedOn};
 
     ghost Value = { Recording };
 
-    ghost view = { λ r. record { file = W.contents r.file; interfaces = r.interfaces; is_whole = r.is_whole } };
+    ghost view = { λ r. record { file = r.file.holds; interfaces = r.interfaces; is_whole = r.is_whole } };
+
+    ghost invariant = { λ r. IsHandedOn r.is_whole r.file };
 }
 
 impl<W: Write + Drop> Recorder<W> {
@@ -35,15 +39,19 @@ impl<W: Write + Drop> Recorder<W> {
     ///
     /// # Errors
     ///
-    /// `WriteFault` where a write was refused.
+    /// `WriteFault` where a write was refused, or what was written isn't handed on.
+    #[tactic(auto, using(crate::proofs::Growing::appends_kept))]
     pub fn open<S: AsStr>(file: W, names: &[S]) -> Result<Recorder<W>, WriteFault>
         requires { All IsText (map S.text names.now) }
         ensures { IfOk result (λ r. (r.is_whole ≡ true) × (r.interfaces ≡ length names.now)
             × Appends (W.contents file) r.file (file_of (record { names = map S.text names.now; seen = [] }))) }
     {
-        let mut file = file;
+        let mut file = CaptureFile::new(file);
         write_section(&mut file)?;
         write_interfaces(names, &mut file)?;
+        if file.flush().is_err() {
+            return Err(WriteFault);
+        }
         Ok(Recorder {
             file,
             interfaces: names.len(),
@@ -51,7 +59,7 @@ impl<W: Write + Drop> Recorder<W> {
         })
     }
 
-    /// Whether it is whole: no write was refused.
+    /// Whether it is whole: all of it is written and handed on.
     pub fn is_whole(&self) -> bool
         ensures { result ≡ self.now.is_whole }
     {
@@ -62,34 +70,36 @@ impl<W: Write + Drop> Recorder<W> {
     pub fn file(&self) -> &W
         ensures { W.contents result.now ≡ self.now.file }
     {
-        &self.file
+        self.file.file()
     }
 
-    /// Notes a packet, which stands in the file then, unless a write was refused now or before. One at an interface that isn't
-    /// there, or with more payload than an Ethernet frame has room for, cuts the capture short as a refused write does.
+    /// Notes a packet, which stands in the file then and is handed on, unless that was refused now or before. One at an interface
+    /// that isn't there, or with more payload than an Ethernet frame has room for, cuts the capture short as a refused write does.
     pub fn note(&mut self, packet: &Packet<'_>)
         requires { IsComment (option_map (λ t. t.now) packet.now.comment) }
         ensures { Notes (seen_as packet.now ∷ []) self.old self.new }
     {
-        if self.is_whole && !write_fitting(packet, self.interfaces, &mut self.file) {
+        if self.is_whole && !write_through(packet, self.interfaces, &mut self.file) {
             self.is_whole = false;
         }
     }
+}
 
-    /// Hands on what is written.
-    ///
-    /// # Errors
-    ///
-    /// `WriteFault` where a write was refused now or before.
-    pub fn finish(&mut self) -> Result<(), WriteFault>
-        ensures whole { IsOk result → self.old.is_whole ≡ true }
-        ensures kept { Keeps self.old.file self.new.file }
-    {
-        match self.file.flush() {
-            Ok(()) if self.is_whole => Ok(()),
-            _ => Err(WriteFault),
-        }
-    }
+/// Writes a packet as [`write_fitting`] does, and hands it on. Whether both are done.
+#[tactic(auto, using(crate::proofs::Growing::appends_kept))]
+fn write_through<W: Write + Drop>(
+    packet: &Packet<'_>,
+    interfaces: usize,
+    file: &mut CaptureFile<W>,
+) -> bool
+    requires { IsComment (option_map (λ t. t.now) packet.now.comment) }
+    ensures all { result ≡ true
+        → Appends file.old.holds file.new.holds (block_bytes (packet_block (seen_as packet.now))) }
+    ensures flushed { result ≡ true → file.new.is_flushed ≡ true }
+    ensures part { result ≡ false
+        → AppendsPart file.old.holds file.new.holds (block_bytes (packet_block (seen_as packet.now))) }
+{
+    write_fitting(packet, interfaces, file) && file.flush().is_ok()
 }
 
 /// Writes a packet, if it is at one of so many interfaces and has no more payload than an Ethernet frame. Whether it is

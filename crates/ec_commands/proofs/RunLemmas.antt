@@ -1,17 +1,16 @@
 -- The exit statuses that there are, and how a run ends to which arguments were given.
-use Rattle.std.proofs.Common.{◌≡◌, ℕ, List, [], ◌∷◌, ◌==◌, ◌||◌, inl, inr, Bool, true, false, Option, Some, Result, Ok, Err, String, Global, refl, sym, ap, subst, arith}
+use Rattle.std.proofs.Common.{◌≡◌, ℕ, List, [], ◌∷◌, ◌==◌, ◌||◌, inl, inr, Bool, true, false, Option, Result, Ok, Err, String, Global, refl, sym, subst, arith}
 use Rattle.std.specs.declared.io.Error.{Error}
 use Rattle.std.specs.declared.vec.IntoIter.{IntoIter}
 use Rattle.std.specs.Prelude.{Contains, if◌then◌else◌}
 use Rattle.ec_console.specs.declared.refusal.Refusal.{Refusal}
 use Rattle.ec_console.specs.Refusals.{number_of, status_of}
 use Rattle.ec_console.specs.declared.refusal.Refusal.TheVariants.{Memory}
-use Rattle.ec_console.specs.Capturing.{EndsCaptured}
 use Rattle.ec_console.specs.Given.{Given}
 use Rattle.ec_console.specs.Printing.{OutputState}
 use Rattle.ec_wire.specs.Wires.{LoopbackState, Traffic}
 use Rattle.ec_loop.specs.Looping.{RunsLoop}
-use Rattle.ec_commands.specs.Running.{Ends, EndsAlone, EndsGiven, EndsUnread, RunsLoopWith, Stream, Tells, TellsWith, given_words}
+use Rattle.ec_commands.specs.Running.{Ends, EndsAlone, EndsGiven, EndsUnread, Stream, Tells, TellsWith, given_words}
 use Rattle.ec_args.specs.Requests.{Reads}
 use Rattle.ec_args.specs.declared.request.Notice.{Notice}
 use Rattle.ec_args.specs.declared.request.Request.{Request}
@@ -62,22 +61,8 @@ pub given_lost : {R : Type 0} (given : Result (IntoIter (String Global) Global) 
 given_lost given words known input output faults status is told =
     subst (λ g. EndsGiven g known input input (record { old = output; new = output }) faults status) (sym is) (inr (refl, refl, told))
 
-captured_unsent : {A : Type 0} (P : Result Unit Refusal → Type 0) (Blank Quiet : Type 0) (old new : LoopbackState A) (r : Result Unit Refusal)
-    → EndsCaptured P (Blank × Quiet × (new ≡ old)) r → EndsCaptured P (Blank × Quiet × (new.traffic ≡ old.traffic)) r
-captured_unsent P Blank Quiet old new r (inl ends) = inl ends
-captured_unsent P Blank Quiet old new r (inr (inl cut)) = inr (inl cut)
-captured_unsent {A} P Blank Quiet old new r (inr (inr (refusal, is, why, (blank, quiet, same)))) = inr (inr (refusal, is, why, (blank, quiet, ap (λ (l : LoopbackState A). l.traffic) same)))
-
--- a loop with a capture: where its file couldn't be opened, nothing went over sockets
-pub loop_captured : {A : Type 0} (file : Option (List ℕ)) (text : List ℕ) (cycles : ℕ) (given : Given) (output told : Stream) (old new : LoopbackState A) (r : Result Unit Refusal) → file ≡ Some text
-    → EndsCaptured (λ ended. RunsLoop cycles given output.old output.new told.old told.new old.traffic new.traffic ended) ((output.new ≡ output.old) × (told.new ≡ told.old) × (new ≡ old)) r
-    → RunsLoopWith cycles file given output told old.traffic new.traffic r
-loop_captured file text cycles given output told old new r is ends =
-    subst (λ (f : Option (List ℕ)). RunsLoopWith cycles f given output told old.traffic new.traffic r) (sym is)
-    (captured_unsent (λ ended. RunsLoop cycles given output.old output.new told.old told.new old.traffic new.traffic ended) (output.new ≡ output.old) (told.new ≡ told.old) old new r ends)
-
 -- a loop from a loopback to whose slaves nothing was sent
-pub loop_from_nothing : {A : Type 0} (cycles : ℕ) (file : Option (List ℕ)) (given : Given) (output told : Stream) (old new began : LoopbackState A) (r : Result Unit Refusal) → old ≡ began
-    → RunsLoopWith cycles file given output told old.traffic new.traffic r → (after : Traffic) × RunsLoopWith cycles file given output told began.traffic after r
-loop_from_nothing {A} cycles file given output told old new began r is runs =
-    (new.traffic, subst (λ (l : LoopbackState A). RunsLoopWith cycles file given output told l.traffic new.traffic r) is runs)
+pub loop_from_nothing : {A : Type 0} (cycles : ℕ) (file : Option (List ℕ)) (given : Given) (output : Stream) (old new began : LoopbackState A) (r : Result Unit Refusal) → old ≡ began
+    → RunsLoop cycles file given output.old output.new old.traffic new.traffic r → (after : Traffic) × RunsLoop cycles file given output.old output.new began.traffic after r
+loop_from_nothing {A} cycles file given output old new began r is runs =
+    (new.traffic, subst (λ (l : LoopbackState A). RunsLoop cycles file given output.old output.new l.traffic new.traffic r) is runs)

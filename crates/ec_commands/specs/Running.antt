@@ -21,7 +21,6 @@ use Rattle.ec_commands.specs.Planning.{RunsPlan, form_of}
 use Rattle.ec_console.specs.Given.{Given}
 use Rattle.ec_console.specs.Printing.{IsTold, OutputState, Shows}
 use Rattle.ec_console.specs.Refusals.{line_of, status_of}
-use Rattle.ec_console.specs.Capturing.{EndsWith}
 use Rattle.ec_live.specs.Living.{RunsLive}
 use Rattle.ec_master.specs.Mastering.{RunsMaster}
 use Rattle.ec_segment.specs.declared.form.SlaveForm.{SlaveForm}
@@ -39,32 +38,15 @@ pub record Stream : Type 0 where
   pub old : OutputState
   pub new : OutputState
 
--- nothing is printed
-abbrev pub IsBlank : Stream → Type 0
-IsBlank output = output.new ≡ output.old
-
 -- nothing is told of a command while it runs
 abbrev pub IsQuiet : Stream → Type 0
 IsQuiet told = told.new ≡ told.old
 
--- `ecat segment` on a port; or on the card whose socket has a descriptor, where one is given, and nothing is told
-abbrev pub RunsSegmentOn : (descriptor : Option ℕ) → (frames port : ℕ) → SlaveForm → (given : Given) → (output told : Stream) → Result Unit Refusal → Type 0
-RunsSegmentOn None frames port form given output told ended = RunsSegment frames port form given output.old output.new told.old told.new ended
-RunsSegmentOn (Some descriptor) frames port form given output told ended = RunsCardSegment frames form given output.old output.new ended × IsQuiet told
-
--- nothing is printed or told
-abbrev pub IsStill : Stream → Stream → Type 0
-IsStill output told = IsBlank output × IsQuiet told
-
--- and with a capture, if its file is named
-abbrev pub RunsSegmentAt : (descriptor : Option ℕ) → (frames port : ℕ) → SlaveForm → (file : Option (List ℕ)) → (given : Given) → (output told : Stream) → Result Unit Refusal → Type 0
-RunsSegmentAt descriptor frames port form file given output told ended =
-    EndsWith file (RunsSegmentOn descriptor frames port form given output told) (IsStill output told) ended
-
--- `ecat loop`, with a capture if its file is named, by what went over sockets before and after
-abbrev pub RunsLoopWith : ℕ → (file : Option (List ℕ)) → (given : Given) → (output told : Stream) → (before after : Traffic) → Result Unit Refusal → Type 0
-RunsLoopWith cycles file given output told before after ended =
-    EndsWith file (λ ended. RunsLoop cycles given output.old output.new told.old told.new before after ended) (IsBlank output × IsQuiet told × (after ≡ before)) ended
+-- `ecat segment` on a port; or on the card whose socket has a descriptor, where one is given, and nothing is told; with a capture if
+-- its file is named
+abbrev pub RunsSegmentOn : (descriptor : Option ℕ) → (frames port : ℕ) → SlaveForm → (file : Option (List ℕ)) → (given : Given) → (output told : Stream) → Result Unit Refusal → Type 0
+RunsSegmentOn None frames port form file given output told ended = RunsSegment frames port form file given output.old output.new told.old told.new ended
+RunsSegmentOn (Some descriptor) frames port form file given output told ended = RunsCardSegment frames form file given output.old output.new ended × IsQuiet told
 
 -- what a command begins with: nothing went over sockets yet
 abbrev pub nothing_sent : Traffic
@@ -76,10 +58,6 @@ abbrev pub RunsLines : (live : Bool) → (file : Option (List ℕ)) → (explain
 RunsLines false file explained given output ended = RunsSim (reasons_of explained) (is_some file) given output.old output.new ended
 RunsLines true file explained given output ended = RunsLive (reasons_of explained) (is_some file) given output.old output.new ended
 
--- `ecat master`, which tells why lines can't be done, where reasons are told, with a capture if its file is named
-abbrev pub RunsMasterWith : Reasons → (file : Option (List ℕ)) → (given : Given) → (output : Stream) → Result Unit Refusal → Type 0
-RunsMasterWith reasons file given output ended = EndsWith file (λ ended. RunsMaster reasons given output.old output.new ended) (IsBlank output) ended
-
 -- what a command does with the output, and what is told of it while it runs, by what the input gives, where that is known
 abbrev pub Runs : Command → (given : Given) → (output told : Stream) → Result Unit Refusal → Type 0
 Runs (PassOf slaves text) given output told ended = RunsPass slaves text output.old output.new ended × IsQuiet told
@@ -87,10 +65,12 @@ Runs (PlanOf header explained) given output told ended = RunsPlan (form_of heade
 Runs (DecodeOf table explained) given output told ended = RunsDecodeWith table (names_of explained) given output.old output.new ended × IsQuiet told
 Runs EncodeOf given output told ended = RunsEncode given output.old output.new ended × IsQuiet told
 Runs (SimOf live capture explained) given output told ended = RunsLines live capture explained given output ended × IsQuiet told
-Runs (LoopOf cycles capture explained) given output told ended = (after : Traffic) × RunsLoopWith cycles capture given output told nothing_sent after ended
+Runs (LoopOf cycles capture explained) given output told ended =
+    ((after : Traffic) × RunsLoop cycles capture given output.old output.new nothing_sent after ended) × IsQuiet told
 Runs (SegmentOf frames port descriptor full idle capture explained) given output told ended =
-    RunsSegmentAt descriptor frames port (slave_form full) capture given output told ended
-Runs (MasterOf to descriptor patience capture explained) given output told ended = RunsMasterWith (reasons_of explained) capture given output ended × IsQuiet told
+    RunsSegmentOn descriptor frames port (slave_form full) capture given output told ended
+Runs (MasterOf to descriptor patience capture explained) given output told ended =
+    RunsMaster (reasons_of explained) capture given output.old output.new ended × IsQuiet told
 
 -- what a command leaves alone: one that reads no input leaves it as it is, and one with no simulated application steps
 -- none

@@ -6,7 +6,7 @@ ghost use Rattle.ec_args.specs.declared.request.Request.{Request as RequestValue
 ghost use Rattle.ec_console.specs.Explaining.{IsLeft};
 ghost use Rattle.ec_commands.specs.Connecting.{Connects};
 ghost use Rattle.ec_commands.specs.Explaining.{is_explained};
-ghost use Rattle.ec_commands.specs.Running.{Ends, EndsAlone, LeavesAlone, Runs, RunsLoopWith, RunsMasterWith, RunsSegmentAt, Tells, TellsWith};
+ghost use Rattle.ec_commands.specs.Running.{Ends, EndsAlone, LeavesAlone, Runs, RunsSegmentOn, Tells, TellsWith};
 ghost use Rattle.ec_console.specs.Given.{given_by};
 
 use crate::pass::print_pass;
@@ -15,11 +15,9 @@ use ec_annotate::Names;
 use ec_args::{Notice, Request, read_args};
 use ec_console::{Explanation, InputStream, OutputStream, Refusal, print_text};
 use ec_live::print_live;
-use ec_loop::{capture_loop, print_loop};
-use ec_master::{Connection, capture_master, print_master};
-use ec_segment::{
-    SlaveForm, capture_card_segment, capture_segment, print_card_segment, print_segment,
-};
+use ec_loop::print_loop;
+use ec_master::{Connection, print_master};
+use ec_segment::{SlaveForm, print_card_segment, print_segment};
 use ec_sim::print_sim;
 use ec_translate::{print_encode, print_payloads};
 use ec_why::Reasons;
@@ -211,48 +209,11 @@ fn run_request<
             ..
         } => {
             let mut loopback = Loopback::new(app);
-            run_loop_with(
-                rt,
-                cycles,
-                capture,
-                input,
-                output,
-                faults,
-                &mut loopback,
-                behind,
-            )
+            print_loop(rt, cycles, capture, input, output, &mut loopback, behind)
         }
         Request::Segment { .. } | Request::Master { .. } => {
             run_connected(rt, request, input, output, faults, app, behind)
         }
-    }
-}
-
-/// Runs `ecat loop`, with a capture or without.
-fn run_loop_with<
-    H: AllocGlobal + Net + Files + Clock,
-    R: Read + Drop,
-    W: Write + Drop,
-    F: Write + Drop,
-    A: App + Drop,
->(
-    rt: &H,
-    cycles: u16,
-    capture: Option<&str>,
-    input: &mut InputStream<R>,
-    output: &mut OutputStream<W>,
-    faults: &mut OutputStream<F>,
-    loopback: &mut Loopback<A>,
-    behind: &mut Explanation,
-) -> Result<(), Refusal>
-    ensures runs { RunsLoopWith cycles (option_map (λ file. file.now) capture.entry) (given_by R.remaining input.old input.new)
-        (record { old = output.old; new = output.new }) (record { old = faults.old; new = faults.new })
-        loopback.old.traffic loopback.new.traffic result }
-    ensures explains { IsLeft behind.old behind.new }
-{
-    match capture {
-        None => print_loop(rt, cycles, input, output, faults, loopback, behind),
-        Some(file) => capture_loop(rt, cycles, file, input, output, faults, loopback, behind),
     }
 }
 
@@ -311,29 +272,9 @@ fn run_connected<
                 descriptor,
                 patience,
             };
-            run_master(rt, reasons, way, capture, input, output, behind)
+            print_master(rt, reasons, way, capture, input, output, behind)
         }
         _ => unreachable!(),
-    }
-}
-
-/// Runs `ecat master`, with a capture or without.
-fn run_master<H: AllocGlobal + Net + Files + Clock, R: Read + Drop, W: Write + Drop>(
-    rt: &H,
-    reasons: Reasons,
-    way: Connection<'_>,
-    capture: Option<&str>,
-    input: &mut InputStream<R>,
-    output: &mut OutputStream<W>,
-    behind: &mut Explanation,
-) -> Result<(), Refusal>
-    ensures runs { RunsMasterWith reasons (option_map (λ file. file.now) capture.entry) (given_by R.remaining input.old input.new)
-        (record { old = output.old; new = output.new }) result }
-    ensures explains { IsLeft behind.old behind.new }
-{
-    match capture {
-        None => print_master(rt, reasons, way, input, output, behind),
-        Some(file) => capture_master(rt, reasons, way, file, input, output, behind),
     }
 }
 
@@ -354,29 +295,21 @@ fn run_segment<
     app: &mut dyn App,
     behind: &mut Explanation,
 ) -> Result<(), Refusal>
-    ensures runs { RunsSegmentAt place.descriptor frames place.port place.form (option_map (λ file. file.now) capture.entry)
+    ensures runs { RunsSegmentOn place.descriptor frames place.port place.form (option_map (λ file. file.now) capture.entry)
         (given_by R.remaining input.old input.new) (record { old = output.old; new = output.new })
         (record { old = faults.old; new = faults.new }) result }
     ensures explains { IsLeft behind.old behind.new }
 {
     let (port, form, idle) = (place.port, place.form, place.idle);
-    match (place.descriptor, capture) {
-        (None, None) => {
+    match place.descriptor {
+        None => {
             print_segment(
-                rt, frames, port, form, idle, input, output, faults, app, behind,
+                rt, frames, port, form, idle, capture, input, output, faults, app, behind,
             )
         }
-        (None, Some(file)) => {
-            capture_segment(
-                rt, frames, port, form, idle, file, input, output, faults, app, behind,
-            )
-        }
-        (Some(card), None) => {
-            print_card_segment(rt, frames, card, form, idle, input, output, app, behind)
-        }
-        (Some(card), Some(file)) => {
-            capture_card_segment(
-                rt, frames, card, form, idle, file, input, output, app, behind,
+        Some(card) => {
+            print_card_segment(
+                rt, frames, card, form, idle, capture, input, output, app, behind,
             )
         }
     }

@@ -1,6 +1,7 @@
 //! What needs streams that fail, sockets that are held, another application, arguments of a system, or calls of parts of the program. What a run over
 //! memory prints and tells, and what the helps list, stands as cases in `tools/cases/data/`.
 
+mod captures;
 mod loops;
 mod programs;
 mod serials;

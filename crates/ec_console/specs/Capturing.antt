@@ -1,5 +1,6 @@
 -- What a capture adds to a command (this project's profile). Nothing can be known of a file but that it was refused.
-use Rattle.std.specs.Prelude.{◌≡◌, ◌⊎◌, ℕ, Bool, true, List, Option, None, Some, Result, Ok, Err}
+use Rattle.std.specs.Prelude.{◌≡◌, ◌⊎◌, ℕ, Bool, true, false, List, Option, None, Some, Result, Ok, Err}
+use Rattle.ec_capture.specs.Recordings.{Recording}
 use Rattle.ec_console.specs.declared.refusal.Refusal.{Refusal}
 use Rattle.ec_console.specs.declared.refusal.Refusal.TheVariants.{Memory, Output}
 use Rattle.ec_console.specs.Printing.{OutputState}
@@ -12,12 +13,19 @@ IsUnwritten captured output = (output.is_refused ≡ true) ⊎ (captured ≡ tru
 abbrev pub IsUnopened : Refusal → Type 0
 IsUnopened refusal = (refusal ≡ Output) ⊎ (refusal ≡ Memory)
 
--- what was captured ends as it ended; or it was through, and the file couldn't be written to the end
-abbrev pub Finishes : {T : Type 0} → (ended result : Result T Refusal) → Type 0
-Finishes {T} ended result = (result ≡ ended) ⊎ ((value : T) × (ended ≡ Ok value) × (result ≡ Err Output))
+-- whether all of a capture is written and handed on, if there is one
+abbrev pub is_complete : Option Recording → Bool
+is_complete None = true
+is_complete (Some recording) = recording.is_whole
 
--- A command ends as it does without a capture; or it was through, and the file couldn't be written to the end; or the file
--- couldn't be opened, and nothing was done.
+-- what was captured ends as it ended; but what was through ends by `Output`, where the capture isn't whole
+abbrev pub finished : {T : Type 0} → (is_whole : Bool) → Result T Refusal → Result T Refusal
+finished {T} true ended = ended
+finished {T} false (Ok value) = Err Output
+finished {T} false (Err refusal) = Err refusal
+
+-- A command ends as it does without a capture; or it was through, and the capture isn't whole; or the file couldn't be opened, and
+-- nothing was done.
 abbrev pub EndsCaptured : (Result Unit Refusal → Type 0) → (Nothing : Type 0) → Result Unit Refusal → Type 0
 EndsCaptured Ends Nothing ended =
     Ends ended ⊎ (((ended ≡ Err Output) × Ends (Ok tt)) ⊎ ((refusal : Refusal) × (ended ≡ Err refusal) × IsUnopened refusal × Nothing))

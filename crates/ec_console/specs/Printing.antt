@@ -1,5 +1,5 @@
 -- What a command leaves on the output, and what is told on the fault stream.
-use Rattle.std.specs.Prelude.{◌≡◌, ◌⊎◌, ℕ, ◌==◌, Bool, true, false, List, take, Option, Result, Ok, Err}
+use Rattle.std.specs.Prelude.{◌≡◌, ◌⊎◌, ℕ, ◌+◌, ◌-◌, ◌^◌, ◌≤◌, ◌==◌, min, Bool, true, false, List, take, Option, Result, Ok, Err}
 use Rattle.std.specs.Io.KnownBytes.{Appends}
 use Rattle.std.specs.IoError.{error_kind}
 use Rattle.std.specs.declared.io.Error.{Error}
@@ -10,12 +10,21 @@ use Rattle.ec_console.specs.declared.refusal.Refusal.TheVariants.{Output}
 
 -- ---- a stream that is written
 
--- what it holds, where that is known; whether a write or a flush of it was ever refused; and whether all that was written is
--- handed on, which a flush does
+-- what it holds, where that is known; whether a write or a flush of it was ever refused, or it was given up; whether all that
+-- was written is handed on, which a flush does; and how often it was written
 pub record OutputState : Type 0 where
   pub holds : Option (List ℕ)
   pub is_refused : Bool
   pub is_flushed : Bool
+  pub writes : ℕ
+
+-- one write more, as far as 64 bits count
+abbrev pub one_more : ℕ → ℕ
+one_more writes = min (writes + 1) (2 ^ 64 - 1)
+
+-- it was written so often that it may be given up
+abbrev pub IsSpent : ℕ → Type 0
+IsSpent writes = 2 ^ 64 - 1 ≤ writes
 
 -- a write that gave an error is refused, unless it was interrupted, after which it is made again
 abbrev pub is_refusal : ErrorKind → Bool

@@ -1,7 +1,7 @@
 //! A capture in a file of the system, and how a command ends that has one.
-ghost use Rattle.std.specs.Prelude.{◌≡◌, All, IfErr, IfOk, is_some, map, true};
+ghost use Rattle.std.specs.Prelude.{◌≡◌, All, IfErr, IfOk, is_some, map, option_map, true};
 ghost use Rattle.ec_capture.specs.Captures.{IsText};
-ghost use Rattle.ec_console.specs.Capturing.{Finishes, IsUnopened};
+ghost use Rattle.ec_console.specs.Capturing.{IsUnopened, finished, is_complete};
 
 use crate::refusal::Refusal;
 use ec_capture::{MAX_TEXT, Recorder};
@@ -16,20 +16,23 @@ pub type Recording<F> = Recorder<BufWriter<F>>;
 /// The capture of a command, if there is to be one.
 pub type Capture<F> = Option<Recording<F>>;
 
-/// Opens the file of a capture with one interface, of this name. There is a capture then.
+/// Opens the file of a capture with one interface, of this name, if a file is named. There is a capture then.
 ///
 /// # Errors
 ///
 /// `Refusal::Output` where it can't be opened or begun, `Refusal::Memory` where there is no memory for it.
 pub fn open_capture<H: AllocGlobal + Files>(
     rt: &H,
-    path: &str,
+    file: Option<&str>,
     name: &'static str,
 ) -> Result<Capture<H::File>, Refusal>
-    ensures refused { IfErr result IsUnopened }
-    ensures opened { IfOk result (λ capture. is_some capture ≡ true) }
+    ensures refused { IfErr result (λ refusal. (is_some (option_map (λ x. x.now) file.entry) ≡ true) × IsUnopened refusal) }
+    ensures opened { IfOk result (λ capture. is_some capture ≡ is_some (option_map (λ x. x.now) file.entry)) }
 {
-    Ok(Some(open_recorder(rt, path, &[short(name)])?))
+    match file {
+        Some(path) => Ok(Some(open_recorder(rt, path, &[short(name)])?)),
+        None => Ok(None),
+    }
 }
 
 /// Opens the file of a capture of the frames of a table's segment: an interface `master`, and one behind each slave.
@@ -48,29 +51,26 @@ pub fn open_segment<H: AllocGlobal + Files>(
     open_recorder(rt, path, names.as_slice())
 }
 
-/// What came of what was captured, once the capture is written to the end: where that can't be done, what was through ends
-/// with `Refusal::Output`.
+/// How what was captured ends: as it ended, but for what was through and whose capture isn't whole, which ends with
+/// `Refusal::Output`.
 pub fn finish_recording<T: Copy + Drop, F: Write + Drop>(
     ended: Result<T, Refusal>,
-    recording: Recording<F>,
+    recording: &Recorder<F>,
 ) -> Result<T, Refusal>
-    ensures { Finishes ended result }
+    ensures { result ≡ finished recording.now.is_whole ended }
 {
-    let mut recording = recording;
-    let written = recording.finish();
-    match (ended, written) {
-        (Ok(_), Err(_)) => Err(Refusal::Output),
+    match ended {
+        Ok(_) if !recording.is_whole() => Err(Refusal::Output),
         _ => ended,
     }
 }
 
-/// How a command that may have a capture ends: as what was through, or with `Refusal::Output` where the capture can't be written to
-/// its end.
+/// How a command that may have a capture ends: as [`finish_recording`] says, if there is one.
 pub fn close_capture<F: Write + Drop>(
     ended: Result<(), Refusal>,
-    capture: Capture<F>,
+    capture: &Capture<F>,
 ) -> Result<(), Refusal>
-    ensures { Finishes ended result }
+    ensures { result ≡ finished (is_complete capture.now) ended }
 {
     match capture {
         Some(recording) => finish_recording(ended, recording),

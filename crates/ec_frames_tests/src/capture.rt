@@ -57,17 +57,30 @@ impl Write for Narrow {
     }
 }
 
-/// A writer that takes all bytes and refuses to hand them on.
+/// A writer that takes all bytes, and hands them on so many times.
 #[derive(Drop)]
-struct Stuck;
+struct Stuck {
+    taken: usize,
+    flushes: u32,
+}
+
+/// One that hands them on so many times.
+fn stuck_behind(flushes: u32) -> Stuck {
+    Stuck { taken: 0, flushes }
+}
 
 impl Write for Stuck {
     fn write(&mut self, bytes: &[u8]) -> io::Result<usize> {
+        self.taken = self.taken.saturating_add(bytes.len());
         Ok(bytes.len())
     }
 
     fn flush(&mut self) -> io::Result<()> {
-        Err(io::Error::from(ErrorKind::StorageFull))
+        if self.flushes == 0 {
+            return Err(io::Error::from(ErrorKind::StorageFull));
+        }
+        self.flushes -= 1;
+        Ok(())
     }
 }
 
@@ -114,9 +127,11 @@ fn captures_are_spelled(rt: HostRuntime) -> Result<(), Fail> {
     let mut capture = Recorder::open(Vec::new(rt.alloc()), &["master", "behind io"])?;
     capture.note(&sent());
     capture.note(&lost());
-    capture.finish()?;
     let want = bytes_of(&rt, &[SECTION, MASTER, BEHIND, SENT, PASSED])?;
-    assert_eq!(rt; capture.file().as_slice(), want.as_slice());
+    assert_eq!(rt;
+        (capture.is_whole(), capture.file().as_slice()),
+        (true, want.as_slice())
+    );
     Ok(())
 }
 
@@ -144,7 +159,6 @@ fn an_interface_that_is_not_there_cuts_the_capture(rt: HostRuntime) -> Result<()
     assert!(rt; !capture.is_whole(), "there is no interface 1");
     capture.note(&sent());
     assert_eq!(rt; capture.file().len(), size, "and nothing is noted any more");
-    assert_eq!(rt; capture.finish(), Err(WriteFault));
     Ok(())
 }
 
@@ -180,12 +194,25 @@ fn refused_writes_leave_a_first_part(rt: HostRuntime) -> Result<(), Fail> {
 }
 
 #[test]
-fn a_refused_flush_is_told(rt: HostRuntime) -> Result<(), Fail> {
-    let mut capture = Recorder::open(Stuck, &["master"])?;
+fn a_refused_flush_cuts_the_capture(rt: HostRuntime) -> Result<(), Fail> {
+    let mut capture = Recorder::open(stuck_behind(2), &["master"])?;
     capture.note(&sent());
-    assert!(rt; capture.is_whole());
-    assert_eq!(rt; capture.finish(), Err(WriteFault));
+    assert_eq!(rt;
+        (capture.is_whole(), capture.file().taken),
+        (true, 128),
+        "head and packet have 64 bytes each"
+    );
+    capture.note(&sent());
+    assert_eq!(rt; (capture.is_whole(), capture.file().taken), (false, 192));
+    capture.note(&sent());
+    assert_eq!(rt; capture.file().taken, 192, "and nothing is noted any more");
     Ok(())
+}
+
+#[test]
+fn a_head_that_is_not_handed_on_is_no_capture(rt: HostRuntime) {
+    let opened = Recorder::open(stuck_behind(0), &["master"]);
+    assert!(rt; opened.is_err());
 }
 
 #[test]

@@ -184,21 +184,38 @@ unopened_late is_unread output x (inl is) = subst (IsLiveLate true is_unread out
 unopened_late is_unread output x (inr is) = subst (IsLiveLate true is_unread output) (sym is) tt
 
 -- what ends a run without one ends a run with one
-pub late_captured : {T : Type 0} (r : Result T Refusal) (is_unread : Bool) (output : OutputState) → IfErr r (IsLiveLate false is_unread output) → IfErr r (IsLiveLate true is_unread output)
-late_captured (Ok x) is_unread output late = tt
-late_captured (Err Memory) is_unread output late = tt
-late_captured (Err Input) is_unread output late = late
-late_captured (Err Output) is_unread output (inl refused) = inl refused
-late_captured (Err Output) is_unread output (inr none) = inr refl
-late_captured (Err (refusal.Frame e)) is_unread output late = absurd late
-late_captured (Err (refusal.Table e)) is_unread output late = absurd late
-late_captured (Err (refusal.Link e)) is_unread output late = absurd late
-late_captured (Err (refusal.Start e)) is_unread output late = absurd late
-late_captured (Err (refusal.Run e)) is_unread output late = absurd late
-late_captured (Err refusal.Socket) is_unread output late = absurd late
-late_captured (Err (refusal.Script e)) is_unread output late = absurd late
-late_captured (Err refusal.BadHex) is_unread output late = absurd late
-late_captured (Err (refusal.Unmet n)) is_unread output late = absurd late
+pub late_captured : {T : Type 0} (captured : Bool) (r : Result T Refusal) (is_unread : Bool) (output : OutputState) → IfErr r (IsLiveLate false is_unread output) → IfErr r (IsLiveLate captured is_unread output)
+late_captured captured (Ok x) is_unread output late = tt
+late_captured captured (Err Memory) is_unread output late = tt
+late_captured captured (Err Input) is_unread output late = late
+late_captured captured (Err Output) is_unread output (inl refused) = inl refused
+late_captured captured (Err Output) is_unread output (inr none) = let bad : false ≡ true = none in cc
+late_captured captured (Err (refusal.Frame e)) is_unread output late = absurd late
+late_captured captured (Err (refusal.Table e)) is_unread output late = absurd late
+late_captured captured (Err (refusal.Link e)) is_unread output late = absurd late
+late_captured captured (Err (refusal.Start e)) is_unread output late = absurd late
+late_captured captured (Err (refusal.Run e)) is_unread output late = absurd late
+late_captured captured (Err refusal.Socket) is_unread output late = absurd late
+late_captured captured (Err (refusal.Script e)) is_unread output late = absurd late
+late_captured captured (Err refusal.BadHex) is_unread output late = absurd late
+late_captured captured (Err (refusal.Unmet n)) is_unread output late = absurd late
+
+-- and what ends one whose capture may be cut ends one with a capture
+pub cut_late : {T : Type 0} (captured : Bool) (r : Result T Refusal) (is_unread : Bool) (output : OutputState) → IfErr r (IsLiveLate captured is_unread output) → IfErr r (IsLiveLate true is_unread output)
+cut_late captured (Ok x) is_unread output late = tt
+cut_late captured (Err Memory) is_unread output late = tt
+cut_late captured (Err Input) is_unread output late = late
+cut_late captured (Err Output) is_unread output (inl refused) = inl refused
+cut_late captured (Err Output) is_unread output (inr cut) = inr refl
+cut_late captured (Err (refusal.Frame e)) is_unread output late = absurd late
+cut_late captured (Err (refusal.Table e)) is_unread output late = absurd late
+cut_late captured (Err (refusal.Link e)) is_unread output late = absurd late
+cut_late captured (Err (refusal.Start e)) is_unread output late = absurd late
+cut_late captured (Err (refusal.Run e)) is_unread output late = absurd late
+cut_late captured (Err refusal.Socket) is_unread output late = absurd late
+cut_late captured (Err (refusal.Script e)) is_unread output late = absurd late
+cut_late captured (Err refusal.BadHex) is_unread output late = absurd late
+cut_late captured (Err (refusal.Unmet n)) is_unread output late = absurd late
 
 -- ---- what ends a run of lines
 

@@ -1,6 +1,6 @@
 //! `ecat sim --live`: a link table on the input, and behind its line `%%` the lines of a script, each run as it comes.
 
-ghost use Rattle.std.specs.Prelude.{◌≡◌, ◌++◌, ℕ, List, IfOk, IfErr, OnOk, OnErr, codes, false, is_some, option_map, true};
+ghost use Rattle.std.specs.Prelude.{◌≡◌, ◌++◌, ℕ, List, IfOk, IfErr, OnOk, OnErr, codes, false, is_some, not, option_map, true};
 ghost use Rattle.std.specs.Fmt.{decimal};
 ghost use Rattle.ec_text.specs.PlanText.{newline};
 ghost use Rattle.ec_live.specs.Living.{IsLiveLate, LivesOut, LivesPart, RunsLive, RunsLiveTable, SaysPart, SaysReading};
@@ -12,8 +12,8 @@ ghost use Rattle.ec_console.specs.Unmet.{counted};
 ghost use Rattle.ec_live.specs.Stages.{RunsLiveText, taken_reading};
 
 use ec_console::{
-    Explanation, InputStream, OutputStream, Recording, Refusal, end_of, finish_recording,
-    open_segment, print_text, read_machine,
+    Explanation, InputStream, OutputStream, Refusal, end_of, finish_recording, open_segment,
+    print_text, read_machine,
 };
 use ec_lines::{NextLine, take_line, take_text};
 use ec_link::Machine;
@@ -92,7 +92,7 @@ fn run_live_machine<H: AllocGlobal + Files, R: Read + Drop, W: Write + Drop>(
 
 /// Runs the lines that an input gives as `print_live_lines` does; the frames of the world go into a capture, if a file is
 /// named.
-#[tactic(auto, using(crate::proofs::LiveLemmas::none_part, crate::proofs::LiveLemmas::unopened_late))]
+#[tactic(auto, using(crate::proofs::LiveLemmas::none_part, crate::proofs::LiveLemmas::unopened_late, crate::proofs::LiveLemmas::cut_late))]
 fn print_live_watched<H: AllocGlobal + Files, R: Read + Drop, W: Write + Drop>(
     rt: &H,
     table: &Table,
@@ -120,18 +120,18 @@ fn print_live_watched<H: AllocGlobal + Files, R: Read + Drop, W: Write + Drop>(
             output,
         );
     };
-    let recording = open_segment(rt, file, table)?;
-    print_live_captured(rt.alloc(), table, reasons, world, recording, input, output)
+    let mut watch = Watch::new(open_segment(rt, file, table)?);
+    print_live_captured(rt.alloc(), table, reasons, world, &mut watch, input, output)
 }
 
-/// Runs the lines that an input gives as `print_live_lines` does; the frames of the world go into a capture that is open, which
-/// is then written to the end.
+/// Runs the lines that an input gives as `print_live_lines` does; the frames of the world go into a capture that is open. Where
+/// the lines are through, the capture is whole: all of it is written and handed on.
 fn print_live_captured<F: Write + Drop, R: Read + Drop, W: Write + Drop>(
     alloc: Global,
     table: &Table,
     reasons: Reasons,
     world: &mut World<'_>,
-    recording: Recording<F>,
+    watch: &mut Watch<F>,
     input: &mut InputStream<R>,
     output: &mut OutputStream<W>,
 ) -> Result<u64, Refusal>
@@ -140,11 +140,11 @@ fn print_live_captured<F: Write + Drop, R: Read + Drop, W: Write + Drop>(
         output.old output.new) }
     ensures part { OnErr result (LivesPart reasons table.now world.old (R.remaining input.old.stream)
         output.old output.new) }
-    ensures late { IfErr result (IsLiveLate true input.new.is_refused output.new) }
+    ensures late { IfErr result (IsLiveLate (not watch.new.capture.is_whole) input.new.is_refused output.new) }
+    ensures whole { OnOk result (watch.new.capture.is_whole ≡ true) }
 {
-    let mut watch = Watch::new(recording);
-    let ended = print_live_lines(alloc, table, reasons, world, &mut watch, input, output);
-    finish_recording(ended, watch.into_capture())
+    let ended = print_live_lines(alloc, table, reasons, world, watch, input, output);
+    finish_recording(ended, watch.capture())
 }
 
 /// Runs the lines that an input gives over a world of a table, and prints of each what there is to say before the next one is

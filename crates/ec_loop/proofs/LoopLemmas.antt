@@ -5,7 +5,6 @@ use Rattle.std.proofs.lemmas.Bool.{eq-eqb, eqb-true, lt-ltb, ltb-false}
 use Rattle.std.proofs.lemmas.List.{take_more}
 use Rattle.std.proofs.lemmas.Nat.{pow_pos}
 use Rattle.std.specs.Result.{IsErrAnd}
-use Rattle.std.specs.Fmt.{decimal}
 use Rattle.std.specs.List.{flat_map}
 use Rattle.std.proofs.lemmas.List.Concat.{flat_map-append}
 use Rattle.ec_frame.specs.Frame.{Payload}
@@ -25,7 +24,7 @@ use Rattle.ec_cycle.specs.Closing.{ReportState}
 use Rattle.ec_cycle.specs.Master.{MasterState, OpenCycle, IsAnswer, IsClosed, IsTaken, begin_refusal, cycle_limit, holds_value, new_master, readied, value_put, variable_set}
 use Rattle.ec_cycle.specs.declared.error.CycleError.{CycleError}
 use Rattle.ec_cycle.specs.declared.error.CycleError.TheVariants.{NumbersSpent}
-use Rattle.ec_wire.specs.Wires.{LoopbackState, Ports, Traffic, WireState, counted}
+use Rattle.ec_wire.specs.Wires.{LoopbackState, Traffic, WireState, counted}
 use Rattle.ec_slave.specs.State.{SlaveState}
 use Rattle.ec_bringup.specs.SwitchedOn.{AreSlavesOf}
 use Rattle.ec_wire.specs.Running.{AreTaken, IsEnded, IsRun}
@@ -36,10 +35,11 @@ use Rattle.ec_text.specs.InputText.{inputs_text, shown}
 use Rattle.ec_text.specs.ReportText.{report_text}
 use Rattle.ec_console.specs.declared.refusal.Refusal.{Refusal}
 use Rattle.ec_console.specs.declared.refusal.Refusal.TheVariants as refusal
-use Rattle.ec_loop.specs.Looping.{AreRun, CanCycle, EndsEarly, EndsUnwritten, IsCycleRefusal, IsNeverRun, IsRunEnd, IsSoFar, IsStartRefusal, IsUnbound, IsUp, Loops, LoopsText, RunsCycles, cycles_text, output_put, outputs_put, ports_line, ready_line, with_outputs}
-use Rattle.ec_loop.specs.Stages.{IsCut, LoopsOnSockets}
+use Rattle.ec_loop.specs.Looping.{AreRun, CanCycle, EndsEarly, EndsUnwritten, IsCycleRefusal, IsNeverRun, IsRunEnd, IsSoFar, IsStartRefusal, IsUnbound, IsUp, Loops, LoopsOnSockets, LoopsText, RunsCycles, cycles_text, output_put, outputs_put, ready_line, with_outputs}
+use Rattle.ec_loop.specs.Stages.{IsCut}
+use Rattle.ec_console.specs.Capturing.{EndsWith}
 use Rattle.ec_console.specs.Given.{IsTableRefusal}
-use Rattle.ec_console.specs.Printing.{IsCutOff, IsPrinted, IsTold, OutputState}
+use Rattle.ec_console.specs.Printing.{IsCutOff, IsPrinted, OutputState}
 use Rattle.ec_console.proofs.PrintLemmas.{texts}
 
 -- ---- start-ups
@@ -473,56 +473,41 @@ loop_started r cycles t p first before between after old new plan up runs = inl 
 
 -- ---- over sockets
 
--- a refusal before anything is told, also where a call passes it on
-pub never_run : (r : Result Unit Refusal) (x : Refusal) (Refuses : Refusal → Type 0) (known quiet : OutputState) (before after : Traffic) → IsErrAnd r (λ e. e ≡ x) → Refuses x → after ≡ before
-    → IsNeverRun Refuses known known quiet quiet before after r
-never_run (Ok done) x Refuses known quiet before after is h kept = absurd is
-never_run (Err e) x Refuses known quiet before after is h kept = (e, refl, subst Refuses (sym is) h, refl, refl, kept)
+-- a refusal before anything is sent, also where a call passes it on
+pub never_run : (r : Result Unit Refusal) (x : Refusal) (Refuses : Refusal → Type 0) (known : OutputState) (before after : Traffic) → IsErrAnd r (λ e. e ≡ x) → Refuses x → after ≡ before
+    → IsNeverRun Refuses known known before after r
+never_run (Ok done) x Refuses known before after is h kept = absurd is
+never_run (Err e) x Refuses known before after is h kept = (e, refl, subst Refuses (sym is) h, refl, kept)
 
 pub if_unbound : {T : Type 0} (r : Result T Refusal) (x : Refusal) → IsErrAnd r (λ e. e ≡ x) → IsUnbound x → IfErr r IsUnbound
 if_unbound (Ok v) x is h = tt
 if_unbound (Err e) x is h = subst IsUnbound (sym is) h
 
--- the line of the ports, piece by piece
-pub ports_spelled : (b0 b1 b2 b3 b4 b5 one two end : List ℕ) (m s master segment : ℕ) → b0 ≡ [] → b1 ≡ b0 ++ one → b2 ≡ b1 ++ decimal m → b3 ≡ b2 ++ two → b4 ≡ b3 ++ decimal s → b5 ≡ b4 ++ end
-    → m ≡ master → s ≡ segment → b5 ≡ one ++ (decimal master ++ (two ++ (decimal segment ++ end)))
-ports_spelled b0 b1 b2 b3 b4 b5 one two end m s master segment e0 e1 e2 e3 e4 e5 first second =
-    let first_part : b1 ≡ one = e1 ∙ ap (λ (x : List ℕ). x ++ one) e0 in
-    let second_part : b2 ≡ one ++ decimal master = e2 ∙ (ap (λ (x : List ℕ). x ++ decimal m) first_part ∙ ap (λ (n : ℕ). one ++ decimal n) first) in
-    let third_part : b3 ≡ (one ++ decimal master) ++ two = e3 ∙ ap (λ (x : List ℕ). x ++ two) second_part in
-    let fourth_part : b4 ≡ ((one ++ decimal master) ++ two) ++ decimal segment =
-    e4 ∙ (ap (λ (x : List ℕ). x ++ decimal s) third_part ∙ ap (λ (n : ℕ). ((one ++ decimal master) ++ two) ++ decimal n) second) in
-    e5 ∙ (ap (λ (x : List ℕ). x ++ end) fourth_part ∙ (append_assoc ((one ++ decimal master) ++ two) (decimal segment) end
-    ∙ (append_assoc (one ++ decimal master) two (decimal segment ++ end) ∙ append_assoc one (decimal master) (two ++ (decimal segment ++ end)))))
+pub no_wire : {A : Type 0} (r : Result Unit Refusal) (x : Refusal) (cycles : ℕ) (t : Contents) (known : OutputState) (before after : LoopbackState A) → IsErrAnd r (λ e. e ≡ x) → IsUnbound x → after ≡ before
+    → LoopsOnSockets cycles t known known before.traffic after.traffic r
+no_wire {A} r x cycles t known before after is h kept =
+    inr (never_run r x IsUnbound known before.traffic after.traffic is h (ap (λ (l : LoopbackState A). l.traffic) kept))
 
-pub no_wire : {A : Type 0} (r : Result Unit Refusal) (x : Refusal) (cycles : ℕ) (t : Contents) (known quiet : OutputState) (before after : LoopbackState A) → IsErrAnd r (λ e. e ≡ x) → IsUnbound x → after ≡ before
-    → LoopsOnSockets cycles t known known quiet quiet before.traffic after.traffic r
-no_wire {A} r x cycles t known quiet before after is h kept =
-    inr (never_run r x IsUnbound known quiet before.traffic after.traffic is h (ap (λ (l : LoopbackState A). l.traffic) kept))
-
-pub looped_between : (r : Result Unit Refusal) (cycles : ℕ) (t : Contents) (slaves : List SlaveState) (sockets : Ports) (ports : ℕ × ℕ) (before began ended after : Traffic) (first failed : ℕ)
-    (old new quiet told : OutputState) → AreSlavesOf t slaves → ports ≡ (sockets.master, sockets.segment) → IsTold (ports_line ports.0 ports.1) quiet told → began ≡ before → first ≡ 0
-    → Loops cycles t (counted began first) (counted ended failed) old new r → after ≡ ended → LoopsOnSockets cycles t old new quiet told before after r
-looped_between r cycles t slaves sockets ports before began ended after first failed old new quiet told are same line starts fine runs ends = inl (record {
+pub looped_between : (r : Result Unit Refusal) (cycles : ℕ) (t : Contents) (slaves : List SlaveState) (before began ended after : Traffic) (first failed : ℕ)
+    (old new : OutputState) → AreSlavesOf t slaves → began ≡ before → first ≡ 0
+    → Loops cycles t (counted began first) (counted ended failed) old new r → after ≡ ended → LoopsOnSockets cycles t old new before after r
+looped_between r cycles t slaves before began ended after first failed old new are starts fine runs ends = inl (record {
   slaves = slaves;
   are = are;
-  ports = sockets;
-  tells = subst (λ (p : ℕ × ℕ). IsTold (ports_line p.0 p.1) quiet told) same line;
   failed = failed;
   runs = subst (λ (x : Traffic). Loops cycles t (counted before 0) (counted x failed) old new r) (sym ends)
       (subst (λ (n : ℕ). Loops cycles t (counted before n) (counted ended failed) old new r) fine
       (subst (λ (x : Traffic). Loops cycles t (counted x first) (counted ended failed) old new r) starts runs));
 })
 
-pub looped : (cycles : ℕ) (text : List ℕ) (t : Contents) (old new quiet told : OutputState) (before after : Traffic) (r : Result Unit Refusal) → StatesMachine text t
-    → LoopsOnSockets cycles t old new quiet told before after r → LoopsText cycles text old new quiet told before after r
-looped cycles text t old new quiet told before after r states (inl loops) = inl (t, states, loops)
-looped cycles text t old new quiet told before after r states (inr (x, is, why, kept, mute, unsent)) = inr (x, is, inr why, kept, mute, unsent)
+pub looped : (cycles : ℕ) (file : Option (List ℕ)) (text : List ℕ) (t : Contents) (old new : OutputState) (before after : Traffic) (r : Result Unit Refusal) → StatesMachine text t
+    → EndsWith file (LoopsOnSockets cycles t old new before after) ((new ≡ old) × (after ≡ before)) r → LoopsText cycles file text old new before after r
+looped cycles file text t old new before after r states ends = inl (t, states, ends)
 
 -- a text that states none
-pub unstated : (r : Result Unit Refusal) (x : Refusal) (cycles : ℕ) (text : List ℕ) (known quiet : OutputState) (before : Traffic) → IsErrAnd r (λ e. e ≡ x) → IsTableRefusal text x
-    → LoopsText cycles text known known quiet quiet before before r
-unstated r x cycles text known quiet before is why = inr (never_run r x (λ refusal. IsTableRefusal text refusal ⊎ IsUnbound refusal) known quiet before before is (inl why) refl)
+pub unstated : (r : Result Unit Refusal) (x : Refusal) (cycles : ℕ) (file : Option (List ℕ)) (text : List ℕ) (known : OutputState) (before : Traffic) → IsErrAnd r (λ e. e ≡ x) → IsTableRefusal text x
+    → LoopsText cycles file text known known before before r
+unstated r x cycles file text known before is why = inr (never_run r x (IsTableRefusal text) known before before is why refl)
 
 -- cycles over a wire whose payloads are noted are cycles over the wire
 pub tapped_loops : (cycles : ℕ) (t : Contents) (first began after last : WireState) (old new : OutputState) (r : Result Unit Refusal)

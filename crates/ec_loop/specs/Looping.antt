@@ -1,6 +1,5 @@
 -- What `ecat loop` prints (this project's profile).
-use Rattle.std.specs.Prelude.{◌≡◌, ◌⊎◌, ◌≤◌, ◌<◌, ◌+◌, ◌%◌, ◌^◌, ℕ, List, [], ◌∷◌, ◌++◌, length, true, if◌then◌else◌, None, Some, Result, Ok, Err, codes}
-use Rattle.std.specs.Fmt.{decimal}
+use Rattle.std.specs.Prelude.{◌≡◌, ◌⊎◌, ◌≤◌, ◌<◌, ◌+◌, ◌%◌, ◌^◌, ℕ, List, [], ◌∷◌, ◌++◌, length, true, if◌then◌else◌, Option, None, Some, Result, Ok, Err, codes}
 use Rattle.std.specs.List.{flat_map}
 use Rattle.ec_table.specs.Contents.{Contents}
 use Rattle.ec_link.specs.Machine.{StatesMachine}
@@ -14,7 +13,7 @@ use Rattle.ec_start.specs.declared.error.StartError.{StartError}
 use Rattle.ec_start.specs.declared.phase.Phase.TheVariants.{Ready, Failed}
 use Rattle.ec_start.specs.Running.{StartState, begun}
 use Rattle.ec_bringup.specs.SwitchedOn.{AreSlavesOf}
-use Rattle.ec_wire.specs.Wires.{Ports, Traffic, WireState, counted}
+use Rattle.ec_wire.specs.Wires.{Traffic, WireState, counted}
 use Rattle.ec_wire.specs.BringingUp.{IsBroughtUp}
 use Rattle.ec_slave.specs.State.{SlaveState}
 use Rattle.ec_wire.specs.Running.{IsRun}
@@ -26,7 +25,8 @@ use Rattle.ec_text.specs.ReportText.{report_text}
 use Rattle.ec_console.specs.declared.refusal.Refusal.{Refusal}
 use Rattle.ec_console.specs.declared.refusal.Refusal.TheVariants.{Memory, Start, Run, Socket, Output}
 use Rattle.ec_console.specs.Given.{Given, GivesText, IsInputRefusal, IsTableRefusal}
-use Rattle.ec_console.specs.Printing.{IsCutOff, IsPrinted, IsTold, OutputState}
+use Rattle.ec_console.specs.Capturing.{EndsWith}
+use Rattle.ec_console.specs.Printing.{IsCutOff, IsPrinted, OutputState}
 
 -- ---- lines
 
@@ -152,39 +152,37 @@ Loops cycles t before after old new ended =
 
 -- ---- over sockets
 
--- between which ports it runs
-abbrev pub ports_line : ℕ → ℕ → List ℕ
-ports_line master segment = codes "ecat: loop between 127.0.0.1:" ++ (decimal master ++ (codes " and 127.0.0.1:" ++ (decimal segment ++ 10 ∷ [])))
-
--- Two sockets of this process, with the table's slaves at one of them, just switched on: the ports are told, and then the
--- cycles run over them. Sockets tell no payload, so what they carried is any; but as many are sent and received as went over
--- sockets to slaves of the application that it was given.
-pub record LoopsBetween (cycles : ℕ) (t : Contents) (old new quiet told : OutputState) (before after : Traffic) (ended : Result Unit Refusal) : Type 0 where
+-- Two sockets of this process, with the table's slaves at one of them, just switched on: the cycles run over them. Sockets tell no
+-- payload, so what they carried is any; but as many are sent and received as went over sockets to slaves of the application that it
+-- was given.
+pub record LoopsBetween (cycles : ℕ) (t : Contents) (old new : OutputState) (before after : Traffic) (ended : Result Unit Refusal) : Type 0 where
   pub slaves : List SlaveState
   pub are : AreSlavesOf t slaves
-  pub ports : Ports
-  pub tells : IsTold (ports_line ports.master ports.segment) quiet told
   -- how many calls of its wire were faults
   pub failed : ℕ
   pub runs : Loops cycles t (counted before 0) (counted after failed) old new ended
 
--- it is refused, and nothing is printed, told or sent
-abbrev pub IsNeverRun : (Refusal → Type 0) → (old new quiet told : OutputState) → (before after : Traffic) → Result Unit Refusal → Type 0
-IsNeverRun Refuses old new quiet told before after ended =
-    (refusal : Refusal) × (ended ≡ Err refusal) × Refuses refusal × (new ≡ old) × (told ≡ quiet) × (after ≡ before)
+-- it is refused, and nothing is printed or sent
+abbrev pub IsNeverRun : (Refusal → Type 0) → (old new : OutputState) → (before after : Traffic) → Result Unit Refusal → Type 0
+IsNeverRun Refuses old new before after ended =
+    (refusal : Refusal) × (ended ≡ Err refusal) × Refuses refusal × (new ≡ old) × (after ≡ before)
 
 -- no memory for the slaves, or no sockets
 abbrev pub IsUnbound : Refusal → Type 0
 IsUnbound refusal = (refusal ≡ Memory) ⊎ (refusal ≡ Socket)
 
--- cycles of the table that a text states; or it is refused, or there are no sockets
-abbrev pub LoopsText : ℕ → List ℕ → (old new quiet told : OutputState) → (before after : Traffic) → Result Unit Refusal → Type 0
-LoopsText cycles text old new quiet told before after ended =
-    ((t : Contents) × StatesMachine text t × LoopsBetween cycles t old new quiet told before after ended)
-    ⊎ IsNeverRun (λ refusal. IsTableRefusal text refusal ⊎ IsUnbound refusal) old new quiet told before after ended
+-- the cycles of a table; or there is no memory for its slaves, or no sockets
+abbrev pub LoopsOnSockets : ℕ → Contents → (old new : OutputState) → (before after : Traffic) → Result Unit Refusal → Type 0
+LoopsOnSockets cycles t old new before after ended = LoopsBetween cycles t old new before after ended ⊎ IsNeverRun IsUnbound old new before after ended
+
+-- cycles of the table that a text states, with a capture if its file is named; or the text is refused, and no file is opened
+abbrev pub LoopsText : ℕ → (file : Option (List ℕ)) → List ℕ → (old new : OutputState) → (before after : Traffic) → Result Unit Refusal → Type 0
+LoopsText cycles file text old new before after ended =
+    ((t : Contents) × StatesMachine text t × EndsWith file (LoopsOnSockets cycles t old new before after) ((new ≡ old) × (after ≡ before)) ended)
+    ⊎ IsNeverRun (IsTableRefusal text) old new before after ended
 
 -- the same of what the input gives; or the input is refused
-abbrev pub RunsLoop : ℕ → (given : Given) → (old new quiet told : OutputState) → (before after : Traffic) → Result Unit Refusal → Type 0
-RunsLoop cycles given old new quiet told before after ended =
-    ((text : List ℕ) × GivesText given text × LoopsText cycles text old new quiet told before after ended)
-    ⊎ IsNeverRun (IsInputRefusal given) old new quiet told before after ended
+abbrev pub RunsLoop : ℕ → (file : Option (List ℕ)) → (given : Given) → (old new : OutputState) → (before after : Traffic) → Result Unit Refusal → Type 0
+RunsLoop cycles file given old new before after ended =
+    ((text : List ℕ) × GivesText given text × LoopsText cycles file text old new before after ended)
+    ⊎ IsNeverRun (IsInputRefusal given) old new before after ended

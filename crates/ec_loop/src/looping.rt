@@ -1,5 +1,5 @@
 //! `ecat loop`: cycles of a link table over two sockets of this process.
-ghost use Rattle.std.specs.Prelude.{◌≡◌, ◌≤◌, ◌<◌, ◌%◌, ◌^◌, List, [], All, None, Some, Ok, Result, IfErr, IfOk, OnErr, OnOk, length, slice_get};
+ghost use Rattle.std.specs.Prelude.{◌≡◌, ◌≤◌, ◌<◌, ◌%◌, ◌^◌, List, [], All, None, Some, Ok, Result, IfErr, IfOk, OnErr, OnOk, is_some, length, option_map, slice_get};
 ghost use Rattle.std.specs.String.{string_bytes};
 ghost use Rattle.ec_link.specs.Plan.{plan_of};
 ghost use Rattle.ec_start.specs.Planned.{HasFewAssigned};
@@ -11,15 +11,14 @@ ghost use Rattle.ec_wire.specs.Running.{IsRun};
 ghost use Rattle.ec_wire.specs.Wires.{IsBack};
 ghost use Rattle.ec_tap.specs.Taps.{Tells};
 ghost use Rattle.ec_text.specs.ReportText.{report_text};
-ghost use Rattle.ec_console.specs.Capturing.{EndsCaptured, Finishes};
+ghost use Rattle.ec_console.specs.Capturing.{EndsWith, finished, is_complete};
 ghost use Rattle.ec_console.specs.declared.refusal.Refusal.{Refusal as RefusalValue};
 ghost use Rattle.ec_console.specs.Explaining.{IsLeft};
-ghost use Rattle.ec_loop.specs.Looping.{AreRun, CanCycle, IsCycleRefusal, IsRunEnd, IsStartRefusal, IsUnbound, IsUp, Loops, LoopsText, RunsCycles, RunsLoop, cycles_text, output_put, ports_line, with_outputs};
-ghost use Rattle.ec_console.specs.Printing.{IsPrinted, IsTold};
-ghost use Rattle.ec_loop.specs.Stages.{IsCut, LoopsOnSockets};
+ghost use Rattle.ec_loop.specs.Looping.{AreRun, CanCycle, IsCycleRefusal, IsRunEnd, IsStartRefusal, IsUnbound, IsUp, Loops, LoopsOnSockets, LoopsText, RunsCycles, RunsLoop, cycles_text, output_put, with_outputs};
+ghost use Rattle.ec_console.specs.Printing.{IsPrinted};
+ghost use Rattle.ec_loop.specs.Stages.{IsCut};
 ghost use Rattle.ec_console.specs.Given.{given_by};
 
-use arrayvec::ArrayString;
 use ec_bringup::slaves_of_machine;
 use ec_console::{
     Capture, Explanation, InputStream, OutputStream, Refusal, close_capture, open_capture,
@@ -29,7 +28,7 @@ use ec_cycle::{Master, Report};
 use ec_link::{Machine, Plan, Variable};
 use ec_start::Startup;
 use ec_tap::{CapturedWire, Side};
-use ec_text::{input_lines, push_number, write_report};
+use ec_text::{input_lines, write_report};
 use ec_wire::{App, LoopWire, Loopback, RunError, Wire, bring_up_wire, run_cycle};
 use std::alloc::Global;
 use std::fs::Files;
@@ -39,9 +38,6 @@ use std::time::Clock;
 
 /// What is printed when the slaves are up.
 const READY: &str = "ready\n";
-
-/// As many bytes as the line of the ports may have.
-const LINE_SIZE: usize = 96;
 
 /// Brings the slaves on a wire up and runs so many cycles of a machine over it. In the n-th cycle each output
 /// variable is sent as n, as far as it has bits. It prints a line when the slaves are up, the report on each cycle before
@@ -66,71 +62,41 @@ pub fn run_loop<W: Wire, O: Write + Drop>(
 }
 
 /// Runs so many cycles of the table that the input states, master and slaves on two sockets of this process, where the slaves
-/// have the application of `loopback`, which counts what goes over the sockets. It tells the ports of the sockets on `faults`.
-/// In the n-th cycle each output variable is sent as n, as far as it has bits. It prints a line when the slaves are up, the
-/// report on each cycle before the next begins, and at the end the input variables. A refusal of the table, of its start-up or
-/// of a cycle is explained, where that is wanted.
+/// have the application of `loopback`, which counts what goes over the sockets. In the n-th cycle each output variable is sent as
+/// n, as far as it has bits. It prints a line when the slaves are up, the report on each cycle before the next begins, and at the
+/// end the input variables. What the master sends and receives goes into a capture, if a file is named, at the interface `loop`.
+/// A refusal of the table, of its start-up or of a cycle is explained, where that is wanted.
 ///
 /// # Errors
 ///
-/// The refusal of the input or of its table, `Refusal::Memory` where memory ran out, `Refusal::Socket` where there are no such
-/// sockets, and what [`run_loop`] ends by.
+/// The refusal of the input or of its table; then `Refusal::Output` where the file couldn't be opened, before anything is sent;
+/// `Refusal::Memory` where memory ran out, `Refusal::Socket` where there are no such sockets, and what [`run_loop`] ends by; and
+/// `Refusal::Output` where that was through and the capture isn't whole.
 pub fn print_loop<
     H: AllocGlobal + Net + Files + Clock,
     R: Read + Drop,
     W: Write + Drop,
-    F: Write + Drop,
     A: App + Drop,
 >(
     rt: &H,
     cycles: u16,
+    file: Option<&str>,
     input: &mut InputStream<R>,
     output: &mut OutputStream<W>,
-    faults: &mut OutputStream<F>,
     loopback: &mut Loopback<A>,
     behind: &mut Explanation,
 ) -> Result<(), Refusal>
-    ensures runs { RunsLoop cycles (given_by R.remaining input.old input.new) output.old output.new
-        faults.old faults.new loopback.old.traffic loopback.new.traffic result }
+    ensures runs { RunsLoop cycles (option_map (λ x. x.now) file.entry) (given_by R.remaining input.old input.new) output.old output.new
+        loopback.old.traffic loopback.new.traffic result }
     ensures back { IsBack loopback.old loopback.new }
     ensures explains { IsLeft behind.old behind.new }
 {
-    loop_input(
-        rt, cycles, &mut None, input, output, faults, loopback, behind,
-    )
-}
-
-/// The same with a capture: what the master sends and receives goes into a file, at the interface `loop`.
-///
-/// # Errors
-///
-/// Those of [`print_loop`]; `Refusal::Output` too where the file couldn't be opened, before anything is sent, or couldn't be
-/// written to the end.
-#[tactic(auto, using(ec_console::proofs::CaptureLemmas::captured_refused, ec_console::proofs::CaptureLemmas::captured_end))]
-pub fn capture_loop<
-    H: AllocGlobal + Net + Files + Clock,
-    R: Read + Drop,
-    W: Write + Drop,
-    F: Write + Drop,
-    A: App + Drop,
->(
-    rt: &H,
-    cycles: u16,
-    file: &str,
-    input: &mut InputStream<R>,
-    output: &mut OutputStream<W>,
-    faults: &mut OutputStream<F>,
-    loopback: &mut Loopback<A>,
-    behind: &mut Explanation,
-) -> Result<(), Refusal>
-    ensures runs { EndsCaptured (λ ended. RunsLoop cycles (given_by R.remaining input.old input.new) output.old
-        output.new faults.old faults.new loopback.old.traffic loopback.new.traffic ended)
-        ((output.new ≡ output.old) × (faults.new ≡ faults.old) × (loopback.new ≡ loopback.old)) result }
-    ensures back { IsBack loopback.old loopback.new }
-    ensures explains { IsLeft behind.old behind.new }
-{
-    let capture = open_capture(rt, file, "loop")?;
-    loop_captured(rt, cycles, capture, input, output, faults, loopback, behind)
+    let text = read_text(rt.alloc(), input)?;
+    let ended = loop_text(rt, cycles, file, text.as_str(), output, loopback);
+    if let Err(refusal) = &ended {
+        behind.explain(rt.alloc(), text.as_str(), refusal);
+    }
+    ended
 }
 
 /// Runs so many cycles with a master whose slaves are up, and prints what `run_loop` does.
@@ -279,77 +245,78 @@ fn cut_to(number: u64, bits: u8) -> u64
     }
 }
 
-/// Runs cycles of the table that the input states, as [`print_loop`] does, and notes what the master sends and receives in a
-/// capture, if there is one. A refusal is explained, where that is wanted.
-fn loop_input<
-    H: AllocGlobal + Net + Files + Clock,
-    R: Read + Drop,
-    W: Write + Drop,
-    F: Write + Drop,
-    A: App + Drop,
->(
-    rt: &H,
-    cycles: u16,
-    capture: &mut Capture<H::File>,
-    input: &mut InputStream<R>,
-    output: &mut OutputStream<W>,
-    faults: &mut OutputStream<F>,
-    loopback: &mut Loopback<A>,
-    behind: &mut Explanation,
-) -> Result<(), Refusal>
-    ensures runs { RunsLoop cycles (given_by R.remaining input.old input.new) output.old output.new
-        faults.old faults.new loopback.old.traffic loopback.new.traffic result }
-    ensures back { IsBack loopback.old loopback.new }
-    ensures explains { IsLeft behind.old behind.new }
-{
-    let text = read_text(rt.alloc(), input)?;
-    let ended = loop_text(rt, cycles, capture, text.as_str(), output, faults, loopback);
-    if let Err(refusal) = &ended {
-        behind.explain(rt.alloc(), text.as_str(), refusal);
-    }
-    ended
-}
-
 /// Runs cycles of the machine that a text states, over two sockets.
-fn loop_text<H: AllocGlobal + Net + Files + Clock, W: Write + Drop, F: Write + Drop, A: App + Drop>(
+fn loop_text<H: AllocGlobal + Net + Files + Clock, W: Write + Drop, A: App + Drop>(
     rt: &H,
     cycles: u16,
-    capture: &mut Capture<H::File>,
+    file: Option<&str>,
     text: &str,
     output: &mut OutputStream<W>,
-    faults: &mut OutputStream<F>,
     loopback: &mut Loopback<A>,
 ) -> Result<(), Refusal>
-    ensures loops { LoopsText cycles text.now output.old output.new
-        faults.old faults.new loopback.old.traffic loopback.new.traffic result }
+    ensures loops { LoopsText cycles (option_map (λ x. x.now) file.entry) text.now output.old output.new
+        loopback.old.traffic loopback.new.traffic result }
     ensures back { IsBack loopback.old loopback.new }
 {
     let machine = read_machine(rt.alloc(), text)?;
-    loop_machine(rt, &machine, cycles, capture, output, faults, loopback)
+    loop_machine(rt, &machine, cycles, file, output, loopback)
 }
 
-/// Runs cycles of a machine over two sockets.
-#[tactic(auto, using(crate::proofs::LoopLemmas::no_wire, crate::proofs::LoopLemmas::looped_between))]
-fn loop_machine<
-    H: AllocGlobal + Net + Files + Clock,
-    W: Write + Drop,
-    F: Write + Drop,
-    A: App + Drop,
->(
+/// Runs cycles of a machine over two sockets, and notes what the master sends and receives in a capture, if a file is named.
+fn loop_machine<H: AllocGlobal + Net + Files + Clock, W: Write + Drop, A: App + Drop>(
+    rt: &H,
+    machine: &Machine,
+    cycles: u16,
+    file: Option<&str>,
+    output: &mut OutputStream<W>,
+    loopback: &mut Loopback<A>,
+) -> Result<(), Refusal>
+    ensures loops { EndsWith (option_map (λ x. x.now) file.entry)
+        (LoopsOnSockets cycles machine.now output.old output.new loopback.old.traffic loopback.new.traffic)
+        ((output.new ≡ output.old) × (loopback.new.traffic ≡ loopback.old.traffic)) result }
+    ensures back { IsBack loopback.old loopback.new }
+{
+    let mut capture = open_capture(rt, file, "loop")?;
+    loop_captured(rt, machine, cycles, &mut capture, output, loopback)
+}
+
+/// Runs cycles of a machine over two sockets, and notes what the master sends and receives in a capture that is open, if there is
+/// one. Where they are through, it is whole: all of it is written and handed on.
+fn loop_captured<H: AllocGlobal + Net + Files + Clock, W: Write + Drop, A: App + Drop>(
     rt: &H,
     machine: &Machine,
     cycles: u16,
     capture: &mut Capture<H::File>,
     output: &mut OutputStream<W>,
-    faults: &mut OutputStream<F>,
+    loopback: &mut Loopback<A>,
+) -> Result<(), Refusal>
+    ensures loops { (ended : Result Unit RefusalValue)
+        × LoopsOnSockets cycles machine.now output.old output.new loopback.old.traffic loopback.new.traffic ended
+        × (result ≡ finished (is_complete capture.new) ended) }
+    ensures kept { is_some capture.new ≡ is_some capture.old }
+    ensures back { IsBack loopback.old loopback.new }
+{
+    let ended = loop_sockets(rt, machine, cycles, capture, output, loopback);
+    close_capture(ended, capture)
+}
+
+/// Runs cycles of a machine over two sockets, and notes what the master sends and receives in a capture that is open, if there is
+/// one.
+#[tactic(auto, using(crate::proofs::LoopLemmas::no_wire, crate::proofs::LoopLemmas::looped_between))]
+fn loop_sockets<H: AllocGlobal + Net + Files + Clock, W: Write + Drop, A: App + Drop>(
+    rt: &H,
+    machine: &Machine,
+    cycles: u16,
+    capture: &mut Capture<H::File>,
+    output: &mut OutputStream<W>,
     loopback: &mut Loopback<A>,
 ) -> Result<(), Refusal>
     ensures loops { LoopsOnSockets cycles machine.now output.old output.new
-        faults.old faults.new loopback.old.traffic loopback.new.traffic result }
+        loopback.old.traffic loopback.new.traffic result }
+    ensures kept { is_some capture.new ≡ is_some capture.old }
     ensures back { IsBack loopback.old loopback.new }
 {
     let wire = open_loop(rt, machine, loopback)?;
-    tell_ports(wire.ports(), faults);
     let (ended, wire) = run_tapped(rt, machine, wire, cycles, capture, output);
     loopback.close(wire);
     ended
@@ -368,8 +335,9 @@ fn run_tapped<H: AllocGlobal + Files + Clock, W: Wire + Drop, O: Write + Drop>(
 ) -> (Result<(), Refusal>, W)
     requires sent { Tells (W.state wire).sent [] }
     requires received { Tells (W.state wire).received [] }
-    ensures { Loops cycles machine.now (W.state wire) (W.state result.1)
+    ensures loops { Loops cycles machine.now (W.state wire) (W.state result.1)
         output.old output.new result.0 }
+    ensures kept { is_some capture.new ≡ is_some capture.old }
 {
     match capture.take() {
         None => {
@@ -387,27 +355,6 @@ fn run_tapped<H: AllocGlobal + Files + Clock, W: Wire + Drop, O: Write + Drop>(
     }
 }
 
-/// Tells between which ports a loop runs. A fault in telling it changes nothing.
-fn tell_ports<F: Write + Drop>(ports: (u16, u16), faults: &mut OutputStream<F>)
-    ensures { IsTold (ports_line ports.0 ports.1) faults.old faults.new }
-{
-    let line = between(ports);
-    faults.tell_text(line.as_bytes());
-}
-
-/// The line that says between which ports a loop runs.
-fn between(ports: (u16, u16)) -> ArrayString<LINE_SIZE>
-    ensures { result.bytes ≡ ports_line ports.0 ports.1 }
-{
-    let mut line = ArrayString::new();
-    line.push_str("ecat: loop between 127.0.0.1:");
-    push_number(&mut line, u64::from(ports.0));
-    line.push_str(" and 127.0.0.1:");
-    push_number(&mut line, u64::from(ports.1));
-    line.push_str("\n");
-    line
-}
-
 /// A wire between two sockets of this process, to the slaves of a machine, just switched on, and with the application that it
 /// takes away.
 fn open_loop<H: AllocGlobal + Net, A: App + Drop>(
@@ -423,41 +370,4 @@ fn open_loop<H: AllocGlobal + Net, A: App + Drop>(
     let slaves = slaves_of_machine(rt.alloc(), machine)?;
     let wire = loopback.open(rt, slaves)?;
     Ok(wire)
-}
-
-/// Runs cycles of the table that the input states, as [`print_loop`] does, with a capture that is open, which is then written
-/// to the end.
-fn loop_captured<
-    H: AllocGlobal + Net + Files + Clock,
-    R: Read + Drop,
-    W: Write + Drop,
-    F: Write + Drop,
-    A: App + Drop,
->(
-    rt: &H,
-    cycles: u16,
-    capture: Capture<H::File>,
-    input: &mut InputStream<R>,
-    output: &mut OutputStream<W>,
-    faults: &mut OutputStream<F>,
-    loopback: &mut Loopback<A>,
-    behind: &mut Explanation,
-) -> Result<(), Refusal>
-    ensures runs { (ended : Result Unit RefusalValue) × RunsLoop cycles (given_by R.remaining input.old input.new) output.old
-        output.new faults.old faults.new loopback.old.traffic loopback.new.traffic ended × Finishes ended result }
-    ensures back { IsBack loopback.old loopback.new }
-    ensures explains { IsLeft behind.old behind.new }
-{
-    let mut capture = capture;
-    let ended = loop_input(
-        rt,
-        cycles,
-        &mut capture,
-        input,
-        output,
-        faults,
-        loopback,
-        behind,
-    );
-    close_capture(ended, capture)
 }

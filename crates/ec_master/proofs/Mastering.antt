@@ -16,8 +16,7 @@ use Rattle.ec_console.specs.Printing.{OutputState}
 use Rattle.ec_master.specs.State.{ControlState}
 use Rattle.ec_master.specs.Controls.{new_control}
 use Rattle.ec_master.specs.Saying.{IsLate, Moment, ObeysAll, ObeysSome}
-use Rattle.ec_master.specs.Mastering.{IsNeverRun, IsTextRefusal, RunsMaster, RunsOver, RunsToEnd, begun_over}
-use Rattle.ec_master.specs.Stages.{RunsMachine}
+use Rattle.ec_master.specs.Mastering.{IsNeverRun, IsTextRefusal, RunsMachine, RunsMaster, RunsOver, RunsToEnd, begun_over}
 
 -- ---- over a wire
 
@@ -83,5 +82,5 @@ never_run (Ok done) x Refuses old is h = absurd is
 never_run (Err e) x Refuses old is h = (e, refl, subst Refuses (sym is) h, refl)
 
 -- no text stands before a line `%%`
-pub no_text : (r : Result Unit Refusal) (reasons : Reasons) (x : Refusal) (error : LinesError) (input : Given) (left : Option (List ℕ)) (old : OutputState) → IsErrAnd r (λ e. e ≡ x) → x ≡ lines_refusal error → RefusesText input.is_refused input.bytes left error → RunsMaster reasons input old old r
-no_text r reasons x error input left old is named why = inr (never_run r x (IsTextRefusal input) old is (error, left, why, named))
+pub no_text : (r : Result Unit Refusal) (reasons : Reasons) (file : Option (List ℕ)) (x : Refusal) (error : LinesError) (input : Given) (left : Option (List ℕ)) (old : OutputState) → IsErrAnd r (λ e. e ≡ x) → x ≡ lines_refusal error → RefusesText input.is_refused input.bytes left error → RunsMaster reasons file input old old r
+no_text r reasons file x error input left old is named why = inr (never_run r x (IsTextRefusal input) old is (error, left, why, named))

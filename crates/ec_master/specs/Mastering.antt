@@ -11,6 +11,7 @@ use Rattle.ec_why.specs.declared.wanted.Reasons.{Reasons}
 use Rattle.ec_console.specs.declared.refusal.Refusal.{Refusal}
 use Rattle.ec_console.specs.declared.refusal.Refusal.TheVariants.{Memory, Socket}
 use Rattle.ec_console.specs.Given.{Given, IsTableRefusal, lines_refusal}
+use Rattle.ec_console.specs.Capturing.{EndsWith}
 use Rattle.ec_console.specs.Printing.{OutputState}
 use Rattle.ec_master.specs.Controls.{new_control}
 use Rattle.ec_master.specs.Saying.{IsLate, Moment, ObeysAll, ObeysSome}
@@ -42,18 +43,23 @@ RunsOnWire reasons t input old new ended = (after : WireState) × RunsOver reaso
 abbrev pub IsNeverRun : (Refusal → Type 0) → (old new : OutputState) → Result Unit Refusal → Type 0
 IsNeverRun Refuses old new ended = (refusal : Refusal) × (ended ≡ Err refusal) × Refuses refusal × (new ≡ old)
 
--- a text states a machine, and lines behind it are done; or it is refused, or there is no such socket
-abbrev pub RunsText : Reasons → List ℕ → (input : Given) → (old new : OutputState) → Result Unit Refusal → Type 0
-RunsText reasons text input old new ended =
-    ((t : Contents) × StatesMachine text t × RunsOnWire reasons t input old new ended)
-    ⊎ IsNeverRun (λ refusal. IsTableRefusal text refusal ⊎ (refusal ≡ Socket)) old new ended
+-- over a socket or a card; or there is none
+abbrev pub RunsMachine : Reasons → Contents → (input : Given) → (old new : OutputState) → Result Unit Refusal → Type 0
+RunsMachine reasons t input old new ended = RunsOnWire reasons t input old new ended ⊎ IsNeverRun (λ refusal. refusal ≡ Socket) old new ended
+
+-- a text states a machine, and lines behind it are done, with a capture if its file is named; or the text is refused, and no file is
+-- opened
+abbrev pub RunsText : Reasons → (file : Option (List ℕ)) → List ℕ → (input : Given) → (old new : OutputState) → Result Unit Refusal → Type 0
+RunsText reasons file text input old new ended =
+    ((t : Contents) × StatesMachine text t × EndsWith file (RunsMachine reasons t input old new) (new ≡ old) ended)
+    ⊎ IsNeverRun (IsTableRefusal text) old new ended
 
 -- no text stands before a line `%%`
 abbrev pub IsTextRefusal : Given → Refusal → Type 0
 IsTextRefusal input refusal = (error : LinesError) × (left : Option (List ℕ)) × RefusesText input.is_refused input.bytes left error × (refusal ≡ lines_refusal error)
 
 -- the same of what an input gives up to a line `%%`, and of the lines behind that
-abbrev pub RunsMaster : Reasons → (input : Given) → (old new : OutputState) → Result Unit Refusal → Type 0
-RunsMaster reasons input old new ended =
-    ((text : List ℕ) × (rest : Option (List ℕ)) × TakesText input.bytes rest text × RunsText reasons text (record input { bytes = rest }) old new ended)
+abbrev pub RunsMaster : Reasons → (file : Option (List ℕ)) → (input : Given) → (old new : OutputState) → Result Unit Refusal → Type 0
+RunsMaster reasons file input old new ended =
+    ((text : List ℕ) × (rest : Option (List ℕ)) × TakesText input.bytes rest text × RunsText reasons file text (record input { bytes = rest }) old new ended)
     ⊎ IsNeverRun (IsTextRefusal input) old new ended

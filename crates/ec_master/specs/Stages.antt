@@ -1,20 +1,11 @@
 -- What private code answers once a table was read; none of it is needed to read what `ecat master` does.
-use Rattle.std.specs.Prelude.{◌≡◌, ◌⊎◌, ◌++◌, ℕ, List, Result}
+use Rattle.std.specs.Prelude.{◌≡◌, ◌++◌, ℕ, List}
 use Rattle.ec_table.specs.Contents.{Contents}
 use Rattle.ec_why.specs.declared.wanted.Reasons.{Reasons}
-use Rattle.ec_console.specs.declared.refusal.Refusal.{Refusal}
-use Rattle.ec_console.specs.declared.refusal.Refusal.TheVariants.{Socket}
-use Rattle.ec_console.specs.Given.{Given}
-use Rattle.ec_console.specs.Printing.{OutputState}
 use Rattle.ec_master.specs.declared.answer.Answer.{Answer}
 use Rattle.ec_master.specs.State.{ControlState}
 use Rattle.ec_master.specs.Texts.{IsWhy, answer_text}
-use Rattle.ec_master.specs.Mastering.{IsNeverRun, RunsOnWire}
 
 -- what is printed of an answer, with why behind it
 abbrev pub IsToldText : Reasons → Contents → ℕ → ControlState → Answer → List ℕ → Type 0
 IsToldText reasons t n s told text = (why : List ℕ) × IsWhy reasons s told why × (text ≡ answer_text t n s told ++ why)
-
--- over a socket or a card; or there is none
-abbrev pub RunsMachine : Reasons → Contents → (input : Given) → (old new : OutputState) → Result Unit Refusal → Type 0
-RunsMachine reasons t input old new ended = RunsOnWire reasons t input old new ended ⊎ IsNeverRun (λ refusal. refusal ≡ Socket) old new ended

@@ -1,11 +1,10 @@
 //! `ecat master`: a link table on the input, and behind it lines that move its master over a socket or a card.
-ghost use Rattle.std.specs.Prelude.{◌≡◌, [], IfOk, Result};
+ghost use Rattle.std.specs.Prelude.{◌≡◌, [], IfOk, Result, is_some, option_map};
 ghost use Rattle.ec_tap.specs.Taps.{Tells};
-ghost use Rattle.ec_console.specs.Capturing.{EndsCaptured, Finishes};
+ghost use Rattle.ec_console.specs.Capturing.{EndsWith, finished, is_complete};
 ghost use Rattle.ec_console.specs.declared.refusal.Refusal.{Refusal as RefusalValue};
 ghost use Rattle.ec_console.specs.Explaining.{IsLeft};
-ghost use Rattle.ec_master.specs.Mastering.{RunsMaster, RunsOver, RunsText};
-ghost use Rattle.ec_master.specs.Stages.{RunsMachine};
+ghost use Rattle.ec_master.specs.Mastering.{RunsMachine, RunsMaster, RunsOver, RunsText};
 ghost use Rattle.ec_console.specs.Given.{given_by};
 
 use crate::control::Control;
@@ -60,91 +59,74 @@ pub fn run_master<W: Wire, R: Read + Drop, O: Write + Drop>(
 
 /// Reads a link table from the input up to a line `%%`, and then line after line as they come; each moves the table's master
 /// over a socket or a card, and what it tells is printed before the next is read, with why it can't be done or has failed behind
-/// it, where reasons are told.
+/// it, where reasons are told. What the master sends and receives goes into a capture, if a file is named, at the interface
+/// `master`. A refusal of the table is explained, where that is wanted.
 ///
 /// # Errors
 ///
-/// The refusal of the table; `Refusal::Socket` where there is no such socket, also where `to` is no address with a port; what
-/// cuts the lines short, `Refusal::Memory`, `Refusal::Input` or `Refusal::Output`; and `Refusal::Unmet` where what lines expect
-/// isn't so.
+/// The refusal of the table; then `Refusal::Output` or `Memory` where the file couldn't be opened, before a line is read or anything
+/// is sent; `Refusal::Socket` where there is no such socket, also where `to` is no address with a port; what cuts the lines short,
+/// `Refusal::Memory`, `Refusal::Input` or `Refusal::Output`; `Refusal::Unmet` where what lines expect isn't so; and
+/// `Refusal::Output` where all was through and the capture isn't whole.
 pub fn print_master<H: AllocGlobal + Net + Files + Clock, R: Read + Drop, O: Write + Drop>(
     rt: &H,
     reasons: Reasons,
     way: Connection<'_>,
+    file: Option<&str>,
     input: &mut InputStream<R>,
     output: &mut OutputStream<O>,
     behind: &mut Explanation,
 ) -> Result<(), Refusal>
-    ensures runs { RunsMaster reasons (given_by R.remaining input.old input.new) output.old output.new result }
-    ensures explains { IsLeft behind.old behind.new }
-{
-    run_input(rt, reasons, way, &mut None, input, output, behind)
-}
-
-/// The same with a capture: what the master sends and receives goes into a file, at the interface `master`.
-///
-/// # Errors
-///
-/// Those of [`print_master`]; `Refusal::Output` too where the file couldn't be opened, before anything is read or sent, or
-/// couldn't be written to the end.
-#[tactic(auto, using(ec_console::proofs::CaptureLemmas::captured_refused, ec_console::proofs::CaptureLemmas::captured_end))]
-pub fn capture_master<H: AllocGlobal + Net + Files + Clock, R: Read + Drop, O: Write + Drop>(
-    rt: &H,
-    reasons: Reasons,
-    way: Connection<'_>,
-    file: &str,
-    input: &mut InputStream<R>,
-    output: &mut OutputStream<O>,
-    behind: &mut Explanation,
-) -> Result<(), Refusal>
-    ensures runs { EndsCaptured (λ ended. RunsMaster reasons (given_by R.remaining input.old input.new) output.old
-        output.new ended) (output.new ≡ output.old) result }
-    ensures explains { IsLeft behind.old behind.new }
-{
-    let capture = open_capture(rt, file, "master")?;
-    run_captured(rt, reasons, way, capture, input, output, behind)
-}
-
-/// Does the lines of an input behind its table, as [`print_master`] does, and notes what the master sends and receives in a
-/// capture, if there is one. A refusal of the table is explained, where that is wanted.
-fn run_input<H: AllocGlobal + Net + Files + Clock, R: Read + Drop, O: Write + Drop>(
-    rt: &H,
-    reasons: Reasons,
-    way: Connection<'_>,
-    capture: &mut Capture<H::File>,
-    input: &mut InputStream<R>,
-    output: &mut OutputStream<O>,
-    behind: &mut Explanation,
-) -> Result<(), Refusal>
-    ensures runs { RunsMaster reasons (given_by R.remaining input.old input.new) output.old output.new result }
+    ensures runs { RunsMaster reasons (option_map (λ x. x.now) file.entry) (given_by R.remaining input.old input.new) output.old
+        output.new result }
     ensures explains { IsLeft behind.old behind.new }
 {
     let text = take_text(rt.alloc(), input)?;
-    let ended = run_text(rt, text.as_str(), reasons, way, capture, input, output);
+    let ended = run_text(rt, text.as_str(), reasons, way, file, input, output);
     if let Err(refusal) = &ended {
         behind.explain(rt.alloc(), text.as_str(), refusal);
     }
     ended
 }
 
-/// Does the lines of an input with a new master of the machine that a text states.
+/// Does the lines of an input with a new master of the machine that a text states, with a capture if a file is named.
 fn run_text<H: AllocGlobal + Net + Files + Clock, R: Read + Drop, O: Write + Drop>(
     rt: &H,
     text: &str,
     reasons: Reasons,
     way: Connection<'_>,
-    capture: &mut Capture<H::File>,
+    file: Option<&str>,
     input: &mut InputStream<R>,
     output: &mut OutputStream<O>,
 ) -> Result<(), Refusal>
-    ensures { RunsText reasons text.now (given_by R.remaining input.old input.new) output.old output.new result }
+    ensures { RunsText reasons (option_map (λ x. x.now) file.entry) text.now (given_by R.remaining input.old input.new) output.old
+        output.new result }
 {
     let machine = read_machine(rt.alloc(), text)?;
-    run_machine(rt, &machine, reasons, way, capture, input, output)
+    run_machine(rt, &machine, reasons, way, file, input, output)
 }
 
-/// Does the lines of an input with a new master of a machine.
+/// Does the lines of an input with a new master of a machine, with a capture if a file is named.
 fn run_machine<H: AllocGlobal + Net + Files + Clock, R: Read + Drop, O: Write + Drop>(
+    rt: &H,
+    machine: &Machine,
+    reasons: Reasons,
+    way: Connection<'_>,
+    file: Option<&str>,
+    input: &mut InputStream<R>,
+    output: &mut OutputStream<O>,
+) -> Result<(), Refusal>
+    ensures { EndsWith (option_map (λ x. x.now) file.entry)
+        (RunsMachine reasons machine.now (given_by R.remaining input.old input.new) output.old output.new)
+        (output.new ≡ output.old) result }
+{
+    let mut capture = open_capture(rt, file, "master")?;
+    run_captured(rt, machine, reasons, way, &mut capture, input, output)
+}
+
+/// Does the lines of an input with a new master of a machine, and notes what it sends and receives in a capture that is open, if
+/// there is one. Where they are through, it is whole: all of it is written and handed on.
+fn run_captured<H: AllocGlobal + Net + Files + Clock, R: Read + Drop, O: Write + Drop>(
     rt: &H,
     machine: &Machine,
     reasons: Reasons,
@@ -153,7 +135,28 @@ fn run_machine<H: AllocGlobal + Net + Files + Clock, R: Read + Drop, O: Write + 
     input: &mut InputStream<R>,
     output: &mut OutputStream<O>,
 ) -> Result<(), Refusal>
-    ensures { RunsMachine reasons machine.now (given_by R.remaining input.old input.new) output.old output.new result }
+    ensures runs { (ended : Result Unit RefusalValue)
+        × RunsMachine reasons machine.now (given_by R.remaining input.old input.new) output.old output.new ended
+        × (result ≡ finished (is_complete capture.new) ended) }
+    ensures kept { is_some capture.new ≡ is_some capture.old }
+{
+    let ended = run_connected(rt, machine, reasons, way, capture, input, output);
+    close_capture(ended, capture)
+}
+
+/// Does the lines of an input with a new master of a machine over a socket or a card, and notes what it sends and receives in a
+/// capture that is open, if there is one.
+fn run_connected<H: AllocGlobal + Net + Files + Clock, R: Read + Drop, O: Write + Drop>(
+    rt: &H,
+    machine: &Machine,
+    reasons: Reasons,
+    way: Connection<'_>,
+    capture: &mut Capture<H::File>,
+    input: &mut InputStream<R>,
+    output: &mut OutputStream<O>,
+) -> Result<(), Refusal>
+    ensures runs { RunsMachine reasons machine.now (given_by R.remaining input.old input.new) output.old output.new result }
+    ensures kept { is_some capture.new ≡ is_some capture.old }
 {
     match way.descriptor {
         None => {
@@ -196,8 +199,9 @@ fn run_tapped<H: AllocGlobal + Files + Clock, W: Wire + Drop, R: Read + Drop, O:
 ) -> Result<(), Refusal>
     requires sent { Tells (W.state wire).sent [] }
     requires received { Tells (W.state wire).received [] }
-    ensures { (last : W) × RunsOver reasons machine.now (W.state wire) (W.state last) (given_by R.remaining input.old input.new)
+    ensures runs { (last : W) × RunsOver reasons machine.now (W.state wire) (W.state last) (given_by R.remaining input.old input.new)
         output.old output.new result }
+    ensures kept { is_some capture.new ≡ is_some capture.old }
 {
     match capture.take() {
         None => {
@@ -212,24 +216,4 @@ fn run_tapped<H: AllocGlobal + Files + Clock, W: Wire + Drop, R: Read + Drop, O:
             ended
         }
     }
-}
-
-/// Does the lines of an input behind its table, as [`print_master`] does, with a capture that is open, which is then written to
-/// the end.
-fn run_captured<H: AllocGlobal + Net + Files + Clock, R: Read + Drop, O: Write + Drop>(
-    rt: &H,
-    reasons: Reasons,
-    way: Connection<'_>,
-    capture: Capture<H::File>,
-    input: &mut InputStream<R>,
-    output: &mut OutputStream<O>,
-    behind: &mut Explanation,
-) -> Result<(), Refusal>
-    ensures runs { (ended : Result Unit RefusalValue) × RunsMaster reasons (given_by R.remaining input.old input.new) output.old
-        output.new ended × Finishes ended result }
-    ensures explains { IsLeft behind.old behind.new }
-{
-    let mut capture = capture;
-    let ended = run_input(rt, reasons, way, &mut capture, input, output, behind);
-    close_capture(ended, capture)
 }

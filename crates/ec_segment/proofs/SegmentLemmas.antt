@@ -1,5 +1,5 @@
 -- Slaves of an input, and a segment that is served.
-use Rattle.std.proofs.Common.{◌≡◌, ◌∙◌, ap, inl, inr, ℕ, List, refl, sym, subst, Result, Ok, Err, IfOk, IfErr}
+use Rattle.std.proofs.Common.{◌≡◌, ◌∙◌, ap, inl, inr, ℕ, List, refl, sym, subst, Option, Result, Ok, Err, IfOk, IfErr}
 use Rattle.std.specs.Result.{IsErrAnd}
 use Rattle.ec_slave.specs.State.{SlaveState}
 use Rattle.ec_table.specs.Reading.{table_of}
@@ -8,14 +8,14 @@ use Rattle.ec_wire.specs.Segments.{HasServed, WasCutOff}
 use Rattle.ec_wire.proofs.Serving.{all_treated_by}
 use Rattle.ec_console.specs.declared.refusal.Refusal.{Refusal}
 use Rattle.ec_console.specs.declared.refusal.Refusal.TheVariants as refusal
-use Rattle.ec_console.specs.Given.{Given, GivesText, IsLinkRefusal, IsTableRefusal}
+use Rattle.ec_console.specs.Given.{Given, GivesText, IsLinkRefusal, IsTableRefusal, RefusesTable}
 use Rattle.ec_console.specs.Printing.{IsPrinted, IsTold, OutputState, Shows}
 use Rattle.ec_table.specs.Contents.{Contents}
 use Rattle.ec_link.specs.Faults.{Fails as LinkFails, compile_fault}
 use Rattle.ec_link.proofs.FacesShown.{faces}
 use Rattle.ec_segment.specs.declared.form.SlaveForm.{SlaveForm}
 use Rattle.ec_segment.specs.declared.form.SlaveForm.TheVariants.{Full, Plain}
-use Rattle.ec_segment.specs.Serving.{GivesSlaves, HasSlaves, RefusesSegment, RunsCardSegment, RunsSegment, ServesSegment, StatesSlaves, any_inputs, listening_line, served_line, shown_in}
+use Rattle.ec_segment.specs.Serving.{GivesSlaves, HasSlaves, RunsCardSegment, RunsSegment, ServesOnCard, ServesOnPort, ServesSegment, StatesSlaves, any_inputs, listening_line, served_line, shown_in}
 
 -- ---- slaves
 
@@ -125,44 +125,44 @@ serves-any (Err (refusal.Unmet n)) frames shows first last before after old new 
 
 -- ---- the whole
 
-pub segment_refused : (r : Result Unit Refusal) (x : Refusal) (frames port : ℕ) (form : SlaveForm) (given : Given) (old quiet : OutputState) → IsErrAnd r (λ e. e ≡ x) → RefusesSegment given x
-    → RunsSegment frames port form given old old quiet quiet r
-segment_refused (Ok done) x frames port form given old quiet is h = absurd is
-segment_refused (Err e) x frames port form given old quiet is h = inr (e, refl, subst (RefusesSegment given) (sym is) h, refl, refl)
+pub segment_refused : (r : Result Unit Refusal) (x : Refusal) (frames port : ℕ) (form : SlaveForm) (file : Option (List ℕ)) (given : Given) (old quiet : OutputState) → IsErrAnd r (λ e. e ≡ x)
+    → RefusesTable given x → RunsSegment frames port form file given old old quiet quiet r
+segment_refused (Ok done) x frames port form file given old quiet is h = absurd is
+segment_refused (Err e) x frames port form file given old quiet is h = inr (e, refl, subst (RefusesTable given) (sym is) h, refl, refl)
 
--- it is refused after a call that told nothing
-pub segment_unbound : (r : Result Unit Refusal) (x : Refusal) (frames port : ℕ) (form : SlaveForm) (given : Given) (old quiet told : OutputState) → IsErrAnd r (λ e. e ≡ x) → RefusesSegment given x
-    → told ≡ quiet → RunsSegment frames port form given old old quiet told r
-segment_unbound (Ok done) x frames port form given old quiet told is h same = absurd is
-segment_unbound (Err e) x frames port form given old quiet told is h same = inr (e, refl, subst (RefusesSegment given) (sym is) h, refl, same)
+-- there is no such socket, and nothing was told
+pub port_unbound : (r : Result Unit Refusal) (frames port : ℕ) (first : List SlaveState) (old quiet told : OutputState) → IsErrAnd r (λ e. e ≡ refusal.Socket) → told ≡ quiet
+    → ServesOnPort frames port first old old quiet told r
+port_unbound (Ok done) frames port first old quiet told is same = absurd is
+port_unbound (Err e) frames port first old quiet told is same = inr (ap (λ (x : Refusal). Err x) is, refl, same)
 
-pub segment_served : (r : Result Unit Refusal) (frames port : ℕ) (form : SlaveForm) (opened closed : SocketState) (given : Given) (old new quiet told : OutputState) (shows : List ℕ → List ℕ → Type 0) (first last : List SlaveState)
-    → GivesSlaves form given first → IsOpened port opened → IsTold (listening_line opened.port) quiet told
-    → ServesSegment frames shows first last (silent opened.failed) (silent closed.failed) old new r → RunsSegment frames port form given old new quiet told r
-segment_served r frames port form opened closed given old new quiet told shows first last slaves socket line serves = inl (record {
+pub port_served : (r : Result Unit Refusal) (frames port : ℕ) (opened closed : SocketState) (old new quiet told : OutputState) (shows : List ℕ → List ℕ → Type 0) (first last : List SlaveState)
+    → IsOpened port opened → IsTold (listening_line opened.port) quiet told
+    → ServesSegment frames shows first last (silent opened.failed) (silent closed.failed) old new r → ServesOnPort frames port first old new quiet told r
+port_served r frames port opened closed old new quiet told shows first last socket line serves = inl (record {
   opened = opened;
   closed = closed;
-  first = first;
   last = last;
-  slaves = slaves;
   socket = socket;
   tells = line;
   serves = serves-any r frames shows first last (silent opened.failed) (silent closed.failed) old new serves;
 })
 
 -- the same on a card
-pub card_refused : (r : Result Unit Refusal) (x : Refusal) (frames : ℕ) (form : SlaveForm) (given : Given) (old : OutputState) → IsErrAnd r (λ e. e ≡ x) → RefusesSegment given x
-    → RunsCardSegment frames form given old old r
-card_refused (Ok done) x frames form given old is h = absurd is
-card_refused (Err e) x frames form given old is h = inr (e, refl, subst (RefusesSegment given) (sym is) h, refl)
+pub card_segment_refused : (r : Result Unit Refusal) (x : Refusal) (frames : ℕ) (form : SlaveForm) (file : Option (List ℕ)) (given : Given) (old : OutputState) → IsErrAnd r (λ e. e ≡ x)
+    → RefusesTable given x → RunsCardSegment frames form file given old old r
+card_segment_refused (Ok done) x frames form file given old is h = absurd is
+card_segment_refused (Err e) x frames form file given old is h = inr (e, refl, subst (RefusesTable given) (sym is) h, refl)
 
-pub card_served : (r : Result Unit Refusal) (frames : ℕ) (form : SlaveForm) (opened closed : WireState) (given : Given) (old new : OutputState) (shows : List ℕ → List ℕ → Type 0) (first last : List SlaveState)
-    → GivesSlaves form given first → opened ≡ silent 0 → ServesSegment frames shows first last opened closed old new r → RunsCardSegment frames form given old new r
-card_served r frames form opened closed given old new shows first last slaves fresh serves = inl (record {
+pub card_unbound : (r : Result Unit Refusal) (frames : ℕ) (first : List SlaveState) (old : OutputState) → IsErrAnd r (λ e. e ≡ refusal.Socket) → ServesOnCard frames first old old r
+card_unbound (Ok done) frames first old is = absurd is
+card_unbound (Err e) frames first old is = inr (ap (λ (x : Refusal). Err x) is, refl)
+
+pub card_served : (r : Result Unit Refusal) (frames : ℕ) (opened closed : WireState) (old new : OutputState) (shows : List ℕ → List ℕ → Type 0) (first last : List SlaveState)
+    → opened ≡ silent 0 → ServesSegment frames shows first last opened closed old new r → ServesOnCard frames first old new r
+card_served r frames opened closed old new shows first last fresh serves = inl (record {
   closed = closed;
-  first = first;
   last = last;
-  slaves = slaves;
   serves = subst (λ (w : WireState). ServesSegment frames any_inputs first last w closed old new r) fresh (serves-any r frames shows first last opened closed old new serves);
 })
 

@@ -1,5 +1,5 @@
 -- What `ecat segment` prints and tells (this project's profile).
-use Rattle.std.specs.Prelude.{◌≡◌, ◌⊎◌, ℕ, Bool, true, false, List, ◌∷◌, [], ◌++◌, None, Result, Ok, Err, codes}
+use Rattle.std.specs.Prelude.{◌≡◌, ◌⊎◌, ℕ, Bool, true, false, List, ◌∷◌, [], ◌++◌, Option, None, Result, Ok, Err, codes}
 use Rattle.std.specs.Fmt.{decimal}
 use Rattle.ec_slave.specs.State.{SlaveState}
 use Rattle.ec_table.specs.Contents.{Contents, shown_full}
@@ -11,6 +11,7 @@ use Rattle.ec_wire.specs.Segments.{HasServed, WasCutOff}
 use Rattle.ec_console.specs.declared.refusal.Refusal.{Refusal}
 use Rattle.ec_console.specs.declared.refusal.Refusal.TheVariants.{Output, Socket}
 use Rattle.ec_console.specs.Given.{Given, GivesText, RefusesTable}
+use Rattle.ec_console.specs.Capturing.{EndsWith}
 use Rattle.ec_console.specs.Printing.{IsCutOff, IsPrinted, IsTold, OutputState}
 use Rattle.ec_segment.specs.declared.form.SlaveForm.{SlaveForm}
 use Rattle.ec_segment.specs.declared.form.SlaveForm.TheVariants.{Full, Plain}
@@ -72,39 +73,44 @@ ServesSegment frames shows first last before after old new (Err _) = ⊥
 abbrev pub any_inputs : List ℕ → List ℕ → Type 0
 any_inputs outputs inputs = Unit {0}
 
--- A socket on this port, and at it the slaves of the table that the input states, in a form, just switched on: it is told that they
--- listen there, and then they are served. A socket tells no payload, so what it carried is any.
-pub record ListensOn (frames port : ℕ) (form : SlaveForm) (given : Given) (old new quiet told : OutputState) (ended : Result Unit Refusal) : Type 0 where
+-- A socket on this port, and slaves at it: it is told that they listen there, and then they are served. A socket tells no payload, so
+-- what it carried is any.
+pub record ListensOn (frames port : ℕ) (first : List SlaveState) (old new quiet told : OutputState) (ended : Result Unit Refusal) : Type 0 where
   pub opened : SocketState
   pub closed : SocketState
-  pub first : List SlaveState
   pub last : List SlaveState
-  pub slaves : GivesSlaves form given first
   pub socket : IsOpened port opened
   pub tells : IsTold (listening_line opened.port) quiet told
   pub serves : ServesSegment frames any_inputs first last (silent opened.failed) (silent closed.failed) old new ended
 
--- a fault of the input or its table, or there is no such socket
-abbrev pub RefusesSegment : Given → Refusal → Type 0
-RefusesSegment given refusal = RefusesTable given refusal ⊎ (refusal ≡ Socket)
+-- they are served; or there is no such socket, and nothing is printed or told
+abbrev pub ServesOnPort : (frames port : ℕ) → List SlaveState → (old new quiet told : OutputState) → Result Unit Refusal → Type 0
+ServesOnPort frames port first old new quiet told ended =
+    ListensOn frames port first old new quiet told ended ⊎ ((ended ≡ Err Socket) × (new ≡ old) × (told ≡ quiet))
 
--- how it ends, by what the input gives, and what the output holds and the fault stream is before and after
-abbrev pub RunsSegment : (frames port : ℕ) → SlaveForm → (given : Given) → (old new : OutputState) → (quiet told : OutputState) → Result Unit Refusal → Type 0
-RunsSegment frames port form given old new quiet told ended =
-    ListensOn frames port form given old new quiet told ended
-    ⊎ ((refusal : Refusal) × (ended ≡ Err refusal) × RefusesSegment given refusal × (new ≡ old) × (told ≡ quiet))
+-- How it ends, by what the input gives, and what the output holds and the fault stream is before and after: the slaves of its table,
+-- in a form, just switched on, are served, with a capture if its file is named; or the input or its table is refused, and no file is
+-- opened.
+abbrev pub RunsSegment : (frames port : ℕ) → SlaveForm → (file : Option (List ℕ)) → (given : Given) → (old new : OutputState) → (quiet told : OutputState) → Result Unit Refusal → Type 0
+RunsSegment frames port form file given old new quiet told ended =
+    ((first : List SlaveState) × GivesSlaves form given first
+    × EndsWith file (ServesOnPort frames port first old new quiet told) ((new ≡ old) × (told ≡ quiet)) ended)
+    ⊎ ((refusal : Refusal) × (ended ≡ Err refusal) × RefusesTable given refusal × (new ≡ old) × (told ≡ quiet))
 
 -- ---- on a card
 
--- A card's socket, and at it the slaves of the table that the input states, in a form, just switched on, which are served.
-pub record AnswersOnCard (frames : ℕ) (form : SlaveForm) (given : Given) (old new : OutputState) (ended : Result Unit Refusal) : Type 0 where
+-- A card's socket, and slaves at it, which are served.
+pub record AnswersOnCard (frames : ℕ) (first : List SlaveState) (old new : OutputState) (ended : Result Unit Refusal) : Type 0 where
   pub closed : WireState
-  pub first : List SlaveState
   pub last : List SlaveState
-  pub slaves : GivesSlaves form given first
   pub serves : ServesSegment frames any_inputs first last (silent 0) closed old new ended
 
--- or a fault of the input or its table, or the descriptor is no socket's
-abbrev pub RunsCardSegment : (frames : ℕ) → SlaveForm → (given : Given) → (old new : OutputState) → Result Unit Refusal → Type 0
-RunsCardSegment frames form given old new ended =
-    AnswersOnCard frames form given old new ended ⊎ ((refusal : Refusal) × (ended ≡ Err refusal) × RefusesSegment given refusal × (new ≡ old))
+-- they are served; or the descriptor is no socket's, and nothing is printed
+abbrev pub ServesOnCard : (frames : ℕ) → List SlaveState → (old new : OutputState) → Result Unit Refusal → Type 0
+ServesOnCard frames first old new ended = AnswersOnCard frames first old new ended ⊎ ((ended ≡ Err Socket) × (new ≡ old))
+
+-- the slaves of the input's table, in a form, just switched on, are served; or the input or its table is refused
+abbrev pub RunsCardSegment : (frames : ℕ) → SlaveForm → (file : Option (List ℕ)) → (given : Given) → (old new : OutputState) → Result Unit Refusal → Type 0
+RunsCardSegment frames form file given old new ended =
+    ((first : List SlaveState) × GivesSlaves form given first × EndsWith file (ServesOnCard frames first old new) (new ≡ old) ended)
+    ⊎ ((refusal : Refusal) × (ended ≡ Err refusal) × RefusesTable given refusal × (new ≡ old))

@@ -6,6 +6,4 @@ mod machine;
 mod segment;
 
 pub use crate::form::SlaveForm;
-pub use crate::segment::{
-    capture_card_segment, capture_segment, print_card_segment, print_segment, print_served_segment,
-};
+pub use crate::segment::{print_card_segment, print_segment, print_served_segment};

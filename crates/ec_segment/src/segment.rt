@@ -1,12 +1,12 @@
 //! `ecat segment`: the slaves of a link table, on a socket or a card.
-ghost use Rattle.std.specs.Prelude.{◌≡◌, [], IfErr, IfOk, Result};
+ghost use Rattle.std.specs.Prelude.{◌≡◌, [], IfErr, IfOk, Result, is_some, option_map};
 ghost use Rattle.ec_console.specs.Explaining.{IsLeft};
 ghost use Rattle.ec_console.specs.Printing.{IsTold, Shows};
 ghost use Rattle.ec_tap.specs.Taps.{Tells};
 ghost use Rattle.ec_wire.specs.Wires.{IsOpened};
-ghost use Rattle.ec_console.specs.Capturing.{EndsCaptured, Finishes};
+ghost use Rattle.ec_console.specs.Capturing.{finished, is_complete};
 ghost use Rattle.ec_console.specs.declared.refusal.Refusal.{Refusal as RefusalValue};
-ghost use Rattle.ec_segment.specs.Serving.{RunsCardSegment, RunsSegment, ServesSegment, listening_line, served_line};
+ghost use Rattle.ec_segment.specs.Serving.{RunsCardSegment, RunsSegment, ServesOnCard, ServesOnPort, ServesSegment, listening_line, served_line};
 ghost use Rattle.ec_console.specs.Given.{given_by};
 
 use crate::form::SlaveForm;
@@ -58,12 +58,14 @@ pub fn print_served_segment<W: Wire, O: Write + Drop>(
 /// Answers payloads on a port of 127.0.0.1, so many in all, as the slaves of the table that the input states, in a form, whose
 /// applications are `app`. Once it listens it says so on `faults`; at every end from then on it prints how many payloads were
 /// frames, which were answered, and how many were not. Where no payload comes for `idle` seconds it ends as by a fault of
-/// the socket; with 0 it waits on. A refusal of the table is explained, where that is wanted.
+/// the socket; with 0 it waits on. What the segment receives and sends goes into a capture, if a file is named, at the interface
+/// `segment`. A refusal of the table is explained, where that is wanted.
 ///
 /// # Errors
 ///
-/// The refusal of the input or of its table, `Refusal::Socket` where there is no such socket, and what
-/// [`print_served_segment`] ends by.
+/// The refusal of the input or of its table; then `Refusal::Output` or `Memory` where the file couldn't be opened, before it
+/// listens; `Refusal::Socket` where there is no such socket, and what [`print_served_segment`] ends by; and `Refusal::Output`
+/// where that was through and the capture isn't whole.
 pub fn print_segment<
     H: AllocGlobal + Net + Files + Clock,
     R: Read + Drop,
@@ -75,113 +77,70 @@ pub fn print_segment<
     port: u16,
     form: SlaveForm,
     idle: u32,
+    file: Option<&str>,
     input: &mut InputStream<R>,
     output: &mut OutputStream<W>,
     faults: &mut OutputStream<F>,
     app: &mut dyn App,
     behind: &mut Explanation,
 ) -> Result<(), Refusal>
-    ensures runs { RunsSegment frames port form (given_by R.remaining input.old input.new) output.old output.new
-        faults.old faults.new result }
+    ensures runs { RunsSegment frames port form (option_map (λ x. x.now) file.entry) (given_by R.remaining input.old input.new)
+        output.old output.new faults.old faults.new result }
     ensures explains { IsLeft behind.old behind.new }
 {
-    serve_port(
-        rt, frames, port, form, idle, &mut None, input, output, faults, app, behind,
-    )
-}
-
-/// What [`print_segment`] does, with a capture: what the segment receives and sends goes into a file, at the
-/// interface `segment`.
-///
-/// # Errors
-///
-/// Those of [`print_segment`]; `Refusal::Output` too where the file couldn't be opened, before anything is received, or
-/// couldn't be written to the end.
-#[tactic(auto, using(ec_console::proofs::CaptureLemmas::captured_refused, ec_console::proofs::CaptureLemmas::captured_end))]
-pub fn capture_segment<
-    H: AllocGlobal + Net + Files + Clock,
-    R: Read + Drop,
-    W: Write + Drop,
-    F: Write + Drop,
->(
-    rt: &H,
-    frames: u32,
-    port: u16,
-    form: SlaveForm,
-    idle: u32,
-    file: &str,
-    input: &mut InputStream<R>,
-    output: &mut OutputStream<W>,
-    faults: &mut OutputStream<F>,
-    app: &mut dyn App,
-    behind: &mut Explanation,
-) -> Result<(), Refusal>
-    ensures runs { EndsCaptured (λ ended. RunsSegment frames port form (given_by R.remaining input.old input.new) output.old
-        output.new faults.old faults.new ended)
-        ((output.new ≡ output.old) × (faults.new ≡ faults.old)) result }
-    ensures explains { IsLeft behind.old behind.new }
-{
-    let capture = open_capture(rt, file, "segment")?;
+    let mut slaves = slaves_of_input(rt.alloc(), input, form, behind)?;
+    let mut capture = open_capture(rt, file, "segment")?;
     port_captured(
-        rt, frames, port, form, idle, capture, input, output, faults, app, behind,
+        rt,
+        &mut slaves,
+        app,
+        frames,
+        port,
+        idle,
+        &mut capture,
+        output,
+        faults,
     )
 }
 
 /// Answers Ethernet frames on the card whose raw socket has a descriptor, so many in all, as the slaves of the table that the
 /// input states, in a form, whose applications are `app`, with bit 1 of the source set. At every end it prints how many payloads were
 /// frames, which were answered, and how many were not. Where no payload comes for `idle` seconds it ends as by a fault of the
-/// socket; with 0 it waits on. A refusal of the table is explained, where that is wanted.
+/// socket; with 0 it waits on. What the segment receives and sends goes into a capture, if a file is named, at the interface
+/// `segment`. A refusal of the table is explained, where that is wanted.
 ///
 /// # Errors
 ///
-/// The refusal of the input or of its table, `Refusal::Socket` where the descriptor isn't that of a socket, and what
-/// [`print_served_segment`] ends by.
+/// The refusal of the input or of its table; then `Refusal::Output` or `Memory` where the file couldn't be opened, before anything
+/// is received; `Refusal::Socket` where the descriptor isn't that of a socket, and what [`print_served_segment`] ends by; and
+/// `Refusal::Output` where that was through and the capture isn't whole.
 pub fn print_card_segment<H: AllocGlobal + Files + Clock, R: Read + Drop, W: Write + Drop>(
     rt: &H,
     frames: u32,
     descriptor: u16,
     form: SlaveForm,
     idle: u32,
+    file: Option<&str>,
     input: &mut InputStream<R>,
     output: &mut OutputStream<W>,
     app: &mut dyn App,
     behind: &mut Explanation,
 ) -> Result<(), Refusal>
-    ensures runs { RunsCardSegment frames form (given_by R.remaining input.old input.new) output.old output.new result }
+    ensures runs { RunsCardSegment frames form (option_map (λ x. x.now) file.entry) (given_by R.remaining input.old input.new)
+        output.old output.new result }
     ensures explains { IsLeft behind.old behind.new }
 {
-    serve_card(
-        rt, frames, descriptor, form, idle, &mut None, input, output, app, behind,
-    )
-}
-
-/// What [`print_card_segment`] does, with a capture: what the segment receives and sends goes into a file, at the
-/// interface `segment`.
-///
-/// # Errors
-///
-/// Those of [`print_card_segment`]; `Refusal::Output` too where the file couldn't be opened, before anything is received, or
-/// couldn't be written to the end.
-#[tactic(auto, using(ec_console::proofs::CaptureLemmas::captured_refused, ec_console::proofs::CaptureLemmas::captured_end))]
-pub fn capture_card_segment<H: AllocGlobal + Files + Clock, R: Read + Drop, W: Write + Drop>(
-    rt: &H,
-    frames: u32,
-    descriptor: u16,
-    form: SlaveForm,
-    idle: u32,
-    file: &str,
-    input: &mut InputStream<R>,
-    output: &mut OutputStream<W>,
-    app: &mut dyn App,
-    behind: &mut Explanation,
-) -> Result<(), Refusal>
-    ensures runs { EndsCaptured (λ ended. RunsCardSegment frames form (given_by R.remaining input.old input.new) output.old
-        output.new ended) (output.new ≡ output.old) result }
-    ensures explains { IsLeft behind.old behind.new }
-{
-    let capture = open_capture(rt, file, "segment")?;
+    let mut slaves = slaves_of_input(rt.alloc(), input, form, behind)?;
+    let mut capture = open_capture(rt, file, "segment")?;
     card_captured(
-        rt, frames, descriptor, form, idle, capture, input, output, app, behind,
+        rt,
+        &mut slaves,
+        app,
+        frames,
+        descriptor,
+        idle,
+        &mut capture,
+        output,
     )
 }
 
@@ -244,33 +203,45 @@ fn listening(port: u16) -> ArrayString<LINE_SIZE>
     line
 }
 
-/// Answers payloads on a port, as [`print_segment`] does, and notes them in a capture, if there is one.
-#[tactic(auto, using(crate::proofs::SegmentLemmas::segment_refused, crate::proofs::SegmentLemmas::segment_served))]
-fn serve_port<
-    H: AllocGlobal + Net + Files + Clock,
-    R: Read + Drop,
-    W: Write + Drop,
-    F: Write + Drop,
->(
+/// Answers payloads on a port, as [`print_segment`] does, and notes them in a capture that is open, if there is one. Where that is
+/// through, it is whole: all of it is written and handed on.
+fn port_captured<H: AllocGlobal + Net + Files + Clock, W: Write + Drop, F: Write + Drop>(
     rt: &H,
+    slaves: &mut Ring,
+    app: &mut dyn App,
     frames: u32,
     port: u16,
-    form: SlaveForm,
     idle: u32,
     capture: &mut Capture<H::File>,
-    input: &mut InputStream<R>,
     output: &mut OutputStream<W>,
     faults: &mut OutputStream<F>,
-    app: &mut dyn App,
-    behind: &mut Explanation,
 ) -> Result<(), Refusal>
-    ensures runs { RunsSegment frames port form (given_by R.remaining input.old input.new) output.old output.new
-        faults.old faults.new result }
-    ensures explains { IsLeft behind.old behind.new }
+    ensures serves { (ended : Result Unit RefusalValue)
+        × ServesOnPort frames port slaves.old output.old output.new faults.old faults.new ended
+        × (result ≡ finished (is_complete capture.new) ended) }
+    ensures kept { is_some capture.new ≡ is_some capture.old }
 {
-    let mut slaves = slaves_of_input(rt.alloc(), input, form, behind)?;
+    let ended = serve_port(rt, slaves, app, frames, port, idle, capture, output, faults);
+    close_capture(ended, capture)
+}
+
+/// Answers payloads on a port, as [`print_segment`] does, and notes them in a capture that is open, if there is one.
+fn serve_port<H: AllocGlobal + Net + Files + Clock, W: Write + Drop, F: Write + Drop>(
+    rt: &H,
+    slaves: &mut Ring,
+    app: &mut dyn App,
+    frames: u32,
+    port: u16,
+    idle: u32,
+    capture: &mut Capture<H::File>,
+    output: &mut OutputStream<W>,
+    faults: &mut OutputStream<F>,
+) -> Result<(), Refusal>
+    ensures serves { ServesOnPort frames port slaves.old output.old output.new faults.old faults.new result }
+    ensures kept { is_some capture.new ≡ is_some capture.old }
+{
     let wire = listen(rt, port, idle, faults)?;
-    serve_tapped(rt, &mut slaves, app, wire, frames, capture, output)
+    serve_tapped(rt, slaves, app, wire, frames, capture, output)
 }
 
 /// Answers payloads on a wire that has carried nothing yet, as [`print_served_segment`] does, and notes them in a capture, if
@@ -287,8 +258,9 @@ fn serve_tapped<H: AllocGlobal + Files + Clock, W: Wire + Drop, O: Write + Drop>
 ) -> Result<(), Refusal>
     requires sent { Tells (W.state wire).sent [] }
     requires received { Tells (W.state wire).received [] }
-    ensures { (last : W) × ServesSegment frames (shows app.old) slaves.old slaves.new (W.state wire) (W.state last)
+    ensures serves { (last : W) × ServesSegment frames (shows app.old) slaves.old slaves.new (W.state wire) (W.state last)
         output.old output.new result }
+    ensures kept { is_some capture.new ≡ is_some capture.old }
 {
     match capture.take() {
         None => {
@@ -305,66 +277,43 @@ fn serve_tapped<H: AllocGlobal + Files + Clock, W: Wire + Drop, O: Write + Drop>
     }
 }
 
-/// Answers payloads on a port, as [`print_segment`] does, with a capture that is open, which is then written to the end.
-fn port_captured<
-    H: AllocGlobal + Net + Files + Clock,
-    R: Read + Drop,
-    W: Write + Drop,
-    F: Write + Drop,
->(
+/// Answers payloads on a card, as [`print_card_segment`] does, and notes them in a capture that is open, if there is one. Where
+/// that is through, it is whole: all of it is written and handed on.
+fn card_captured<H: AllocGlobal + Files + Clock, W: Write + Drop>(
     rt: &H,
-    frames: u32,
-    port: u16,
-    form: SlaveForm,
-    idle: u32,
-    capture: Capture<H::File>,
-    input: &mut InputStream<R>,
-    output: &mut OutputStream<W>,
-    faults: &mut OutputStream<F>,
+    slaves: &mut Ring,
     app: &mut dyn App,
-    behind: &mut Explanation,
+    frames: u32,
+    descriptor: u16,
+    idle: u32,
+    capture: &mut Capture<H::File>,
+    output: &mut OutputStream<W>,
 ) -> Result<(), Refusal>
-    ensures runs { (ended : Result Unit RefusalValue) × RunsSegment frames port form (given_by R.remaining input.old input.new) output.old
-        output.new faults.old faults.new ended × Finishes ended result }
-    ensures explains { IsLeft behind.old behind.new }
+    ensures serves { (ended : Result Unit RefusalValue)
+        × ServesOnCard frames slaves.old output.old output.new ended
+        × (result ≡ finished (is_complete capture.new) ended) }
+    ensures kept { is_some capture.new ≡ is_some capture.old }
 {
-    let mut capture = capture;
-    let ended = serve_port(
-        rt,
-        frames,
-        port,
-        form,
-        idle,
-        &mut capture,
-        input,
-        output,
-        faults,
-        app,
-        behind,
-    );
+    let ended = serve_card(rt, slaves, app, frames, descriptor, idle, capture, output);
     close_capture(ended, capture)
 }
 
-/// Answers payloads on a card, as [`print_card_segment`] does, and notes them in a capture, if there is one.
-#[tactic(auto, using(crate::proofs::SegmentLemmas::card_refused, crate::proofs::SegmentLemmas::card_served))]
-fn serve_card<H: AllocGlobal + Files + Clock, R: Read + Drop, W: Write + Drop>(
+/// Answers payloads on a card, as [`print_card_segment`] does, and notes them in a capture that is open, if there is one.
+fn serve_card<H: AllocGlobal + Files + Clock, W: Write + Drop>(
     rt: &H,
+    slaves: &mut Ring,
+    app: &mut dyn App,
     frames: u32,
     descriptor: u16,
-    form: SlaveForm,
     idle: u32,
     capture: &mut Capture<H::File>,
-    input: &mut InputStream<R>,
     output: &mut OutputStream<W>,
-    app: &mut dyn App,
-    behind: &mut Explanation,
 ) -> Result<(), Refusal>
-    ensures runs { RunsCardSegment frames form (given_by R.remaining input.old input.new) output.old output.new result }
-    ensures explains { IsLeft behind.old behind.new }
+    ensures serves { ServesOnCard frames slaves.old output.old output.new result }
+    ensures kept { is_some capture.new ≡ is_some capture.old }
 {
-    let mut slaves = slaves_of_input(rt.alloc(), input, form, behind)?;
     let wire = CardWire::of_descriptor(i32::from(descriptor), Sender::Segment, patience_of(idle))?;
-    serve_tapped(rt, &mut slaves, app, wire, frames, capture, output)
+    serve_tapped(rt, slaves, app, wire, frames, capture, output)
 }
 
 /// How long a segment on a card waits for a payload; with 0 seconds it waits on.
@@ -374,37 +323,4 @@ fn patience_of(seconds: u32) -> Patience {
     } else {
         Patience::For(Duration::from_secs(u64::from(seconds)))
     }
-}
-
-/// Answers payloads on a card, as [`print_card_segment`] does, with a capture that is open, which is then written to the end.
-fn card_captured<H: AllocGlobal + Files + Clock, R: Read + Drop, W: Write + Drop>(
-    rt: &H,
-    frames: u32,
-    descriptor: u16,
-    form: SlaveForm,
-    idle: u32,
-    capture: Capture<H::File>,
-    input: &mut InputStream<R>,
-    output: &mut OutputStream<W>,
-    app: &mut dyn App,
-    behind: &mut Explanation,
-) -> Result<(), Refusal>
-    ensures runs { (ended : Result Unit RefusalValue) × RunsCardSegment frames form (given_by R.remaining input.old input.new) output.old
-        output.new ended × Finishes ended result }
-    ensures explains { IsLeft behind.old behind.new }
-{
-    let mut capture = capture;
-    let ended = serve_card(
-        rt,
-        frames,
-        descriptor,
-        form,
-        idle,
-        &mut capture,
-        input,
-        output,
-        app,
-        behind,
-    );
-    close_capture(ended, capture)
 }

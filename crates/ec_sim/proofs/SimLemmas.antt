@@ -358,21 +358,38 @@ unopened_late output x (inl is) = subst (IsLate true output) (sym is) (inr refl)
 unopened_late output x (inr is) = subst (IsLate true output) (sym is) tt
 
 -- what ends a run without one ends a run with one
-pub late_captured : {T : Type 0} (r : Result T Refusal) (output : OutputState) → IfErr r (IsLate false output) → IfErr r (IsLate true output)
-late_captured (Ok x) output late = tt
-late_captured (Err Memory) output late = tt
-late_captured (Err refusal.Output) output (inl refused) = inl refused
-late_captured (Err refusal.Output) output (inr none) = inr refl
-late_captured (Err (refusal.Frame e)) output late = absurd late
-late_captured (Err (refusal.Table e)) output late = absurd late
-late_captured (Err (refusal.Link e)) output late = absurd late
-late_captured (Err (refusal.Start e)) output late = absurd late
-late_captured (Err (refusal.Run e)) output late = absurd late
-late_captured (Err refusal.Socket) output late = absurd late
-late_captured (Err (refusal.Script e)) output late = absurd late
-late_captured (Err refusal.BadHex) output late = absurd late
-late_captured (Err refusal.Input) output late = absurd late
-late_captured (Err (refusal.Unmet n)) output late = absurd late
+pub late_captured : {T : Type 0} (captured : Bool) (r : Result T Refusal) (output : OutputState) → IfErr r (IsLate false output) → IfErr r (IsLate captured output)
+late_captured captured (Ok x) output late = tt
+late_captured captured (Err Memory) output late = tt
+late_captured captured (Err refusal.Output) output (inl refused) = inl refused
+late_captured captured (Err refusal.Output) output (inr none) = let bad : false ≡ true = none in cc
+late_captured captured (Err (refusal.Frame e)) output late = absurd late
+late_captured captured (Err (refusal.Table e)) output late = absurd late
+late_captured captured (Err (refusal.Link e)) output late = absurd late
+late_captured captured (Err (refusal.Start e)) output late = absurd late
+late_captured captured (Err (refusal.Run e)) output late = absurd late
+late_captured captured (Err refusal.Socket) output late = absurd late
+late_captured captured (Err (refusal.Script e)) output late = absurd late
+late_captured captured (Err refusal.BadHex) output late = absurd late
+late_captured captured (Err refusal.Input) output late = absurd late
+late_captured captured (Err (refusal.Unmet n)) output late = absurd late
+
+-- and what ends one whose capture may be cut ends one with a capture
+pub cut_late : {T : Type 0} (captured : Bool) (r : Result T Refusal) (output : OutputState) → IfErr r (IsLate captured output) → IfErr r (IsLate true output)
+cut_late captured (Ok x) output late = tt
+cut_late captured (Err Memory) output late = tt
+cut_late captured (Err refusal.Output) output (inl refused) = inl refused
+cut_late captured (Err refusal.Output) output (inr cut) = inr refl
+cut_late captured (Err (refusal.Frame e)) output late = absurd late
+cut_late captured (Err (refusal.Table e)) output late = absurd late
+cut_late captured (Err (refusal.Link e)) output late = absurd late
+cut_late captured (Err (refusal.Start e)) output late = absurd late
+cut_late captured (Err (refusal.Run e)) output late = absurd late
+cut_late captured (Err refusal.Socket) output late = absurd late
+cut_late captured (Err (refusal.Script e)) output late = absurd late
+cut_late captured (Err refusal.BadHex) output late = absurd late
+cut_late captured (Err refusal.Input) output late = absurd late
+cut_late captured (Err (refusal.Unmet n)) output late = absurd late
 
 -- a refused write ends one
 pub refused_late : (output : OutputState) (x : Refusal) → output.is_refused ≡ true → x ≡ refusal.Output → IsLate false output x

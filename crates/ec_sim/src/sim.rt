@@ -1,5 +1,5 @@
 //! `ecat sim`: a link table and a script on the input, and what the script does to a simulated segment of the table.
-ghost use Rattle.std.specs.Prelude.{◌≡◌, ◌∷◌, [], ℕ, IfErr, IfOk, OnErr, false, is_some, option_map, string_bytes, true, if◌then◌else◌, replicate};
+ghost use Rattle.std.specs.Prelude.{◌≡◌, ◌∷◌, [], ℕ, IfErr, IfOk, OnErr, OnOk, false, is_some, not, option_map, string_bytes, true, if◌then◌else◌, replicate};
 ghost use Rattle.ec_console.specs.Explaining.{IsLeft};
 ghost use Rattle.ec_sim.specs.Simulating.{IsLate, PrintsAll, PrintsLines, PrintsPart, PrintsSome, RunsLines, RunsSim, RunsText};
 ghost use Rattle.ec_console.specs.Unmet.{counted};
@@ -9,8 +9,8 @@ ghost use Rattle.ec_sim.specs.Stages.{IsLineText, RunsScript};
 ghost use Rattle.ec_console.specs.Given.{given_by};
 
 use ec_console::{
-    Explanation, InputStream, OutputStream, Recording, Refusal, end_of, finish_recording,
-    open_segment, print_text, read_machine, read_text,
+    Explanation, InputStream, OutputStream, Refusal, end_of, finish_recording, open_segment,
+    print_text, read_machine, read_text,
 };
 use ec_link::Machine;
 use ec_script::{Line, LineOutput, output_text, read_script, split_script, watch_act};
@@ -81,6 +81,34 @@ pub fn print_noted<F: Write + Drop, W: Write + Drop>(
     ensures noted { NotesRun watch.old world.old world.new watch.new }
 {
     print_lines(alloc, table, reasons, world, watch, lines, output)
+}
+
+/// Runs the lines of a script as [`print_noted`] does. Where they are through, the capture is whole: all of it is written and
+/// handed on.
+///
+/// # Errors
+///
+/// Those of [`print_noted`]; and `Refusal::Output` where the lines are through and the capture isn't whole.
+pub fn print_captured<F: Write + Drop, W: Write + Drop>(
+    alloc: Global,
+    table: &Table,
+    reasons: Reasons,
+    world: &mut World<'_>,
+    watch: &mut Watch<F>,
+    lines: &[Line],
+    output: &mut OutputStream<W>,
+) -> Result<u64, Refusal>
+    ensures all { IfOk result (λ count. (unmet : ℕ) × (count ≡ counted unmet)
+        × PrintsLines reasons table.now world.old lines.now unmet
+        output.old output.new) }
+    ensures part { OnErr result (PrintsSome reasons table.now world.old lines.now
+        output.old output.new) }
+    ensures late { IfErr result (IsLate (not watch.new.capture.is_whole) output.new) }
+    ensures noted { NotesRun watch.old world.old world.new watch.new }
+    ensures whole { OnOk result (watch.new.capture.is_whole ≡ true) }
+{
+    let ended = print_noted(alloc, table, reasons, world, watch, lines, output);
+    finish_recording(ended, watch.capture())
 }
 
 /// Runs the script that the input gives behind a link table and a line `%%`. Its slaves begin at power-on, with the
@@ -192,7 +220,7 @@ fn print_lines<S: Watcher, W: Write + Drop>(
 }
 
 /// Runs the lines of a script as `print_lines` does; the frames of the world go into a capture, if a file is named.
-#[tactic(auto, using(crate::proofs::SimLemmas::none_some, crate::proofs::SimLemmas::unopened_late))]
+#[tactic(auto, using(crate::proofs::SimLemmas::none_some, crate::proofs::SimLemmas::unopened_late, crate::proofs::SimLemmas::cut_late))]
 fn print_watched<H: AllocGlobal + Files, W: Write + Drop>(
     rt: &H,
     table: &Table,
@@ -220,31 +248,8 @@ fn print_watched<H: AllocGlobal + Files, W: Write + Drop>(
             output,
         );
     };
-    let recording = open_segment(rt, file, table)?;
-    print_captured(rt.alloc(), table, reasons, world, recording, lines, output)
-}
-
-/// Runs the lines of a script as `print_lines` does; the frames of the world go into a capture that is open, which is then
-/// written to the end.
-fn print_captured<F: Write + Drop, W: Write + Drop>(
-    alloc: Global,
-    table: &Table,
-    reasons: Reasons,
-    world: &mut World<'_>,
-    recording: Recording<F>,
-    lines: &[Line],
-    output: &mut OutputStream<W>,
-) -> Result<u64, Refusal>
-    ensures all { IfOk result (λ count. (unmet : ℕ) × (count ≡ counted unmet)
-        × PrintsLines reasons table.now world.old lines.now unmet
-        output.old output.new) }
-    ensures part { OnErr result (PrintsSome reasons table.now world.old lines.now
-        output.old output.new) }
-    ensures late { IfErr result (IsLate true output.new) }
-{
-    let mut watch = Watch::new(recording);
-    let ended = print_noted(alloc, table, reasons, world, &mut watch, lines, output);
-    finish_recording(ended, watch.into_capture())
+    let mut watch = Watch::new(open_segment(rt, file, table)?);
+    print_captured(rt.alloc(), table, reasons, world, &mut watch, lines, output)
 }
 
 /// Runs the script of a text over a segment of its machine, and prints what it says.

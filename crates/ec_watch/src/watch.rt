@@ -49,10 +49,10 @@ impl<W: Write + Drop> Watch<W> {
     }
 
     /// The capture.
-    pub fn into_capture(self) -> Recorder<W>
-        ensures { result ≡ self.capture }
+    pub fn capture(&self) -> &Recorder<W>
+        ensures { result.now ≡ self.now.capture }
     {
-        self.capture
+        &self.capture
     }
 }
 

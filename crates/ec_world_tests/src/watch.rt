@@ -94,9 +94,8 @@ fn seen_in(
     let head = capture.file().len();
     let mut watch = Watch::new(capture);
     let is_right = are_made(world, &mut watch);
-    let capture = watch.into_capture();
     if is_right {
-        packets_in(alloc, &capture, head)
+        packets_in(alloc, watch.capture(), head)
     } else {
         Ok(Vec::new(alloc))
     }

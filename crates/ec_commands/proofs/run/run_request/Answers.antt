@@ -1,4 +1,4 @@
-use Rattle.std.proofs.Common.{sym, subst}
+use Rattle.std.proofs.Common.{refl, sym, subst}
 use Rattle.ec_args.specs.Requests.{command_of}
 use Rattle.ec_console.specs.Given.{given_by}
 use Rattle.ec_commands.specs.Running.{Runs}
@@ -7,6 +7,6 @@ use Rattle.ec_commands.proofs.run.run_request.Goals as goal
 
 pub returns-in-Loop-clause-runs : goal.returns-in-Loop-clause-runs
 returns-in-Loop-clause-runs g c = subst
-    (λ request. Runs (command_of request) (given_by g.R.Read.remaining c.args.input.now c.run_loop_with.new.input) (record { old = c.args.output.now; new = c.run_loop_with.new.output })
-    (record { old = c.args.faults.now; new = c.run_loop_with.new.faults }) c.run_loop_with.result) (sym c.in-Loop.is)
-    (loop_from_nothing _ _ _ _ _ _ c.run_loop_with.new.loopback _ _ c.new-loopback.ensures c.run_loop_with.ensures.runs)
+    (λ request. Runs (command_of request) (given_by g.R.Read.remaining c.args.input.now c.print_loop.new.input) (record { old = c.args.output.now; new = c.print_loop.new.output })
+    (record { old = c.args.faults.now; new = c.args.faults.now }) c.print_loop.result) (sym c.in-Loop.is)
+    (loop_from_nothing _ _ _ (record { old = c.args.output.now; new = c.print_loop.new.output }) _ c.print_loop.new.loopback _ _ c.new-loopback.ensures c.print_loop.ensures.runs, refl)

@@ -23,11 +23,13 @@ loop-preserved g c = elim c.match-write.branch [
         part = rw w.written-is after.0;
         within = rw w.written-is after.1;
         kept = not_refused _ _ _ w.in-Ok.ensures.refused (let none : (w.in-Ok.count == 0) ≡ false = grind (arith, nat_tests, w.in-Ok.count-test.1) in none) ∙ c.loop.invariant.kept;
+        counted = omega (arith, w.in-Ok.ensures.counted, c.loop.invariant.counted, c.loop-test.true);
       }
   | in-Err+else-ne w ↦ record {
     part = rw w.written-is (appends_kept _ c.loop.output.holds c.write.new.self.holds _ c.loop.invariant.part w.in-Err.ensures.bytes);
     within = rw w.written-is c.loop.invariant.within;
     kept = not_refused _ _ _ w.in-Err.ensures.refused
         (interrupted_only (error_kind w.in-Err.error) (w.if-ne.ensures ∙ ap (λ kind. not (sameb the_type kind Interrupted)) w.kind.ensures)) ∙ c.loop.invariant.kept;
+    counted = omega (arith, w.in-Err.ensures.counted, c.loop.invariant.counted, c.loop-test.true);
   }
 ]

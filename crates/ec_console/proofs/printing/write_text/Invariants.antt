@@ -8,4 +8,5 @@ invariant-loop g l = record {
   part : Appends l.initial.output.holds l.output.holds (take l.written l.text);
   kept : l.output.is_refused ≡ l.initial.output.is_refused;
   within : l.written ≤ length l.text;
+  counted : l.counter ≤ l.output.writes;
 }

@@ -1,10 +1,12 @@
-use Rattle.ec_loop.proofs.LoopLemmas.{looped_between, no_wire}
+use Rattle.std.proofs.Common.{◌∙◌, refl}
+use Rattle.ec_console.proofs.CaptureLemmas.{captured_end, captured_refused}
 use Rattle.ec_loop.proofs.looping.loop_machine.Goals as goal
 
-pub returns-in_err-wire-clause-loops : goal.returns-in_err-wire-clause-loops
-returns-in_err-wire-clause-loops g c = no_wire _ _ _ _ _ _ _ _ c.from_residual.ensures.1 c.in_err-wire.ensures.refused c.in_err-wire.ensures.kept
+pub returns-in_err-capture-clause-loops : goal.returns-in_err-capture-clause-loops
+returns-in_err-capture-clause-loops g c =
+    captured_refused _ _ _ _ _ c.from_residual.ensures.1 c.in_err-capture.ensures.refused.0 c.in_err-capture.ensures.refused.1 (refl, refl)
 
 pub returns-clause-loops : goal.returns-clause-loops
 returns-clause-loops g c =
-    looped_between _ c.args.cycles c.args.machine.now c.in_ok-wire.ensures.slaves.0 c.in_ok-wire.wire.ports c.ports.result _ _ _ _ _ _ _ _ _ _ c.in_ok-wire.ensures.slaves.1 c.ports.ensures
-    c.tell_ports.ensures c.in_ok-wire.ensures.opened.0 c.in_ok-wire.ensures.opened.1 c.run_tapped-ended.ensures c.close.ensures.counts
+    let loops = c.loop_captured.ensures.loops in
+    captured_end _ c.loop_captured.new.capture _ _ loops.0 _ (c.loop_captured.ensures.kept ∙ c.in_ok-capture.ensures.opened) loops.2 loops.1

@@ -1,0 +1,10 @@
+use Rattle.ec_loop.proofs.LoopLemmas.{looped_between, no_wire}
+use Rattle.ec_loop.proofs.looping.loop_sockets.Goals as goal
+
+pub returns-in_err-wire-clause-loops : goal.returns-in_err-wire-clause-loops
+returns-in_err-wire-clause-loops g c = no_wire _ _ _ _ _ _ _ c.from_residual.ensures.1 c.in_err-wire.ensures.refused c.in_err-wire.ensures.kept
+
+pub returns-clause-loops : goal.returns-clause-loops
+returns-clause-loops g c =
+    looped_between _ c.args.cycles c.args.machine.now c.in_ok-wire.ensures.slaves.0 _ _ _ _ _ _ _ _ c.in_ok-wire.ensures.slaves.1
+    c.in_ok-wire.ensures.opened.0 c.in_ok-wire.ensures.opened.1 c.run_tapped-ended.ensures.loops c.close.ensures.counts
