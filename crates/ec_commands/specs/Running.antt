@@ -32,7 +32,7 @@ use Rattle.ec_translate.specs.Translating.{RunsEncode}
 use Rattle.ec_sim.specs.Simulating.{RunsSim}
 use Rattle.ec_why.specs.declared.wanted.Reasons.{Reasons}
 use Rattle.ec_why.specs.Reasons.{reasons_of}
-use Rattle.ec_wire.specs.Wires.{Traffic}
+use Rattle.ec_wire.specs.Wires.{Traffic, nothing_sent}
 
 -- what the output, or the fault stream, is before and after
 pub record Stream : Type 0 where
@@ -65,10 +65,6 @@ RunsSegmentAt descriptor frames port form file given output told ended =
 abbrev pub RunsLoopWith : ℕ → (file : Option (List ℕ)) → (given : Given) → (output told : Stream) → (before after : Traffic) → Result Unit Refusal → Type 0
 RunsLoopWith cycles file given output told before after ended =
     EndsWith file (λ ended. RunsLoop cycles given output.old output.new told.old told.new before after ended) (IsBlank output × IsQuiet told × (after ≡ before)) ended
-
--- what a command begins with: nothing went over sockets yet
-abbrev pub nothing_sent : Traffic
-nothing_sent = record { sent = 0; received = 0 }
 
 -- `ecat sim`, whose lines are run as a script, or as they come, with a capture if its file is named, and which tells why they say
 -- `no`, where it explains

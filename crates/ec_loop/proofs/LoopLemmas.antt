@@ -25,7 +25,7 @@ use Rattle.ec_cycle.specs.Closing.{ReportState}
 use Rattle.ec_cycle.specs.Master.{MasterState, OpenCycle, IsAnswer, IsClosed, IsTaken, begin_refusal, cycle_limit, holds_value, new_master, readied, value_put, variable_set}
 use Rattle.ec_cycle.specs.declared.error.CycleError.{CycleError}
 use Rattle.ec_cycle.specs.declared.error.CycleError.TheVariants.{NumbersSpent}
-use Rattle.ec_wire.specs.Wires.{LoopbackState, Ports, Traffic, WireState, counted}
+use Rattle.ec_wire.specs.Wires.{LoopbackState, Ports, Traffic, WireState, counted, opened_to}
 use Rattle.ec_slave.specs.State.{SlaveState}
 use Rattle.ec_bringup.specs.SwitchedOn.{AreSlavesOf}
 use Rattle.ec_wire.specs.Running.{AreTaken, IsEnded, IsRun}
@@ -500,18 +500,17 @@ pub no_wire : {A : Type 0} (r : Result Unit Refusal) (x : Refusal) (cycles : ℕ
 no_wire {A} r x cycles t known quiet before after is h kept =
     inr (never_run r x IsUnbound known quiet before.traffic after.traffic is h (ap (λ (l : LoopbackState A). l.traffic) kept))
 
-pub looped_between : (r : Result Unit Refusal) (cycles : ℕ) (t : Contents) (slaves : List SlaveState) (sockets : Ports) (ports : ℕ × ℕ) (before began ended after : Traffic) (first failed : ℕ)
-    (old new quiet told : OutputState) → AreSlavesOf t slaves → ports ≡ (sockets.master, sockets.segment) → IsTold (ports_line ports.0 ports.1) quiet told → began ≡ before → first ≡ 0
-    → Loops cycles t (counted began first) (counted ended failed) old new r → after ≡ ended → LoopsOnSockets cycles t old new quiet told before after r
-looped_between r cycles t slaves sockets ports before began ended after first failed old new quiet told are same line starts fine runs ends = inl (record {
+pub looped_between : (r : Result Unit Refusal) (cycles : ℕ) (t : Contents) (slaves : List SlaveState) (sockets : Ports) (ports : ℕ × ℕ) (before given began ended after : Traffic)
+    (old new quiet told : OutputState) → AreSlavesOf t slaves → ports ≡ (sockets.master, sockets.segment) → IsTold (ports_line ports.0 ports.1) quiet told → given ≡ opened_to (length slaves) before
+    → began ≡ given → Loops cycles t (counted began) (counted ended) old new r → after ≡ opened_to given.slaves ended → LoopsOnSockets cycles t old new quiet told before after r
+looped_between r cycles t slaves sockets ports before given began ended after old new quiet told are same line opens starts runs ends = inl (record {
   slaves = slaves;
   are = are;
   ports = sockets;
   tells = subst (λ (p : ℕ × ℕ). IsTold (ports_line p.0 p.1) quiet told) same line;
-  failed = failed;
-  runs = subst (λ (x : Traffic). Loops cycles t (counted before 0) (counted x failed) old new r) (sym ends)
-      (subst (λ (n : ℕ). Loops cycles t (counted before n) (counted ended failed) old new r) fine
-      (subst (λ (x : Traffic). Loops cycles t (counted x first) (counted ended failed) old new r) starts runs));
+  opened = ap (λ (x : Traffic). x.slaves) ends ∙ ap (λ (x : Traffic). x.slaves) opens;
+  runs = subst (λ (x : Traffic). Loops cycles t (counted before) (counted x) old new r) (sym ends)
+      (subst (λ (x : Traffic). Loops cycles t (counted x) (counted ended) old new r) (starts ∙ opens) runs);
 })
 
 pub looped : (cycles : ℕ) (text : List ℕ) (t : Contents) (old new quiet told : OutputState) (before after : Traffic) (r : Result Unit Refusal) → StatesMachine text t

@@ -157,16 +157,15 @@ abbrev pub ports_line : ℕ → ℕ → List ℕ
 ports_line master segment = codes "ecat: loop between 127.0.0.1:" ++ (decimal master ++ (codes " and 127.0.0.1:" ++ (decimal segment ++ 10 ∷ [])))
 
 -- Two sockets of this process, with the table's slaves at one of them, just switched on: the ports are told, and then the
--- cycles run over them. Sockets tell no payload, so what they carried is any; but as many are sent and received as went over
--- sockets to slaves of the application that it was given.
+-- cycles run over them. Sockets tell no payload, so what they carried is any; but as many are sent and received, as many calls
+-- are faults, and the wire is to as many slaves, as the loopback that it was given counts.
 pub record LoopsBetween (cycles : ℕ) (t : Contents) (old new quiet told : OutputState) (before after : Traffic) (ended : Result Unit Refusal) : Type 0 where
   pub slaves : List SlaveState
   pub are : AreSlavesOf t slaves
   pub ports : Ports
   pub tells : IsTold (ports_line ports.master ports.segment) quiet told
-  -- how many calls of its wire were faults
-  pub failed : ℕ
-  pub runs : Loops cycles t (counted before 0) (counted after failed) old new ended
+  pub opened : after.slaves ≡ length slaves
+  pub runs : Loops cycles t (counted before) (counted after) old new ended
 
 -- it is refused, and nothing is printed, told or sent
 abbrev pub IsNeverRun : (Refusal → Type 0) → (old new quiet told : OutputState) → (before after : Traffic) → Result Unit Refusal → Type 0
