@@ -4,12 +4,11 @@ ghost use Rattle.ec_wire.specs.Wires.{silent};
 
 use crate::ethernet::{Sender, framed, payload_of};
 use ec_frame::field::MAX_FRAME_LEN;
-use ec_wire::{SocketFault, Wire};
+use ec_wire::{Patience, PatientSocket, SocketFault, Wire};
 use os::FromRawFd;
 use std::marker::Model;
 use std::net::UdpSocket;
 use std::os::fd::IntoRawFd;
-use std::time::Duration;
 
 /// As many bytes of a frame that comes as are read.
 const ROOM: usize = 1514;
@@ -25,7 +24,7 @@ const MAX_FOREIGN: u64 = 1000;
 /// from one's own source is dropped too.
 #[derive(Drop)]
 pub struct CardWire {
-    socket: UdpSocket,
+    socket: PatientSocket,
     own: Sender,
     // so many frames are read in one receive
     reads: u64,
@@ -40,18 +39,9 @@ impl Model for CardWire {
     ghost view = { λ w. silent w.failures };
 }
 
-/// How long a receive waits for a frame.
-#[derive(Clone, Copy, Debug, PartialEq, Eq, Drop)]
-pub enum Patience {
-    /// Without an end.
-    Endless,
-    /// So long for each frame. It is more than nothing.
-    For(Duration),
-}
-
 impl CardWire {
     /// A wire over a raw socket of a network card that was opened elsewhere and is bound to the card and to the type 0x88A4.
-    /// Frames go from `own`, and it closes the socket in the end.
+    /// Frames go from `own`, each is waited for with `patience`, and it closes the socket in the end.
     ///
     /// # Errors
     ///
@@ -64,17 +54,24 @@ impl CardWire {
         requires { pos 0 ≤ℤ descriptor }
         ensures { IfOk result (λ w. w ≡ silent 0) }
     {
+        // std has no type for a raw packet socket. It is held as a `UdpSocket`, whose timeouts, `send` and `recv` are calls that
+        // each socket has; no other is made.
+        //
+        // SAFETY: a descriptor of 0 or more is a number of this process's table. The caller opened it for this wire, which closes
+        // it once, unless it is given back here; a number that is no socket is refused by the system, as any call on it is.
         let socket = unsafe { UdpSocket::from_raw_fd(descriptor) };
-        if !set_patience(&socket, patience) {
-            let _ = socket.into_raw_fd();
-            return Err(SocketFault);
+        match PatientSocket::new(socket, patience) {
+            Ok(socket) => Ok(CardWire {
+                socket,
+                own,
+                reads: reads_of(own, patience),
+                failures: 0,
+            }),
+            Err(socket) => {
+                let _ = socket.into_raw_fd();
+                Err(SocketFault)
+            }
         }
-        Ok(CardWire {
-            socket,
-            own,
-            reads: reads_of(own, patience),
-            failures: 0,
-        })
     }
 
     /// Sends a payload in a frame, and answers whether all of it was sent.
@@ -83,10 +80,7 @@ impl CardWire {
             return false;
         }
         let frame = framed(self.own, payload);
-        match self.socket.send(&frame) {
-            Ok(sent) => sent == frame.len(),
-            Err(_) => false,
-        }
+        self.socket.has_sent(&frame, None)
     }
 
     /// Reads frames until one is handed on, and answers how many bytes of its payload are in the
@@ -96,7 +90,7 @@ impl CardWire {
     {
         let mut frame = [0; ROOM];
         for _ in 0..self.reads {
-            let Ok(count) = self.socket.recv(&mut frame) else {
+            let Ok(count) = self.socket.receive(&mut frame) else {
                 return None;
             };
             if let Some(payload) = payload_of(self.own, &frame[..count]) {
@@ -140,13 +134,4 @@ fn reads_of(own: Sender, patience: Patience) -> u64 {
         (Sender::Master, Patience::For(_)) => MAX_FOREIGN,
         _ => u64::MAX,
     }
-}
-
-/// A socket waits so long from now on.
-fn set_patience(socket: &UdpSocket, patience: Patience) -> bool {
-    let wait = match patience {
-        Patience::Endless => None,
-        Patience::For(wait) => Some(wait),
-    };
-    socket.set_read_timeout(wait).is_ok()
 }

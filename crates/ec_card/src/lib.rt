@@ -8,5 +8,6 @@ mod card;
 mod ethernet;
 pub mod laws;
 
-pub use crate::card::{CardWire, Patience};
+pub use crate::card::CardWire;
 pub use crate::ethernet::{EthernetFrame, Sender, framed, payload_of};
+pub use ec_wire::Patience;

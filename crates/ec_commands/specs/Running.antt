@@ -31,7 +31,7 @@ use Rattle.ec_translate.specs.Translating.{RunsEncode}
 use Rattle.ec_sim.specs.Simulating.{RunsSim}
 use Rattle.ec_why.specs.declared.wanted.Reasons.{Reasons}
 use Rattle.ec_why.specs.Reasons.{reasons_of}
-use Rattle.ec_wire.specs.Wires.{Traffic}
+use Rattle.ec_wire.specs.Wires.{Traffic, nothing_sent}
 
 -- what the output, or the fault stream, is before and after
 pub record Stream : Type 0 where
@@ -47,10 +47,6 @@ IsQuiet told = told.new ≡ told.old
 abbrev pub RunsSegmentOn : (descriptor : Option ℕ) → (frames port : ℕ) → SlaveForm → (file : Option (List ℕ)) → (given : Given) → (output told : Stream) → Result Unit Refusal → Type 0
 RunsSegmentOn None frames port form file given output told ended = RunsSegment frames port form file given output.old output.new told.old told.new ended
 RunsSegmentOn (Some descriptor) frames port form file given output told ended = RunsCardSegment frames form file given output.old output.new ended × IsQuiet told
-
--- what a command begins with: nothing went over sockets yet
-abbrev pub nothing_sent : Traffic
-nothing_sent = record { sent = 0; received = 0 }
 
 -- `ecat sim`, whose lines are run as a script, or as they come, with a capture if its file is named, and which tells why they say
 -- `no`, where it explains

@@ -5,6 +5,7 @@ mod captures;
 mod loops;
 mod programs;
 mod serials;
+mod sockets;
 mod streams;
 
 use self::streams::{Sink, Source, sink_of, source_of};
@@ -24,7 +25,7 @@ impl App for Idle {
 }
 
 /// A run: what is wrong with its streams, its arguments, its input, its exit status, what it prints, and what it tells. The last two
-/// may be cut short by `..`, which then stands at their ends. Among the arguments `PORT` is a port.
+/// may be cut short by `..`, which then stands at their ends. In the arguments and in what it tells `PORT` is a port.
 type Run<'a> = (&'a str, &'a str, &'a str, u8, &'a str, &'a str);
 
 /// How many writes an output takes.
@@ -137,10 +138,10 @@ fn run_args<H: AllocGlobal + Net + Files + Clock>(
     run_command(rt, args, input, output, faults, &mut Idle)
 }
 
-/// The arguments of a run.
-fn with_port(rt: &(impl AllocGlobal + Abort), args: &str, port: u16) -> String {
+/// A text with a port in it.
+fn with_port(rt: &(impl AllocGlobal + Abort), text: &str, port: u16) -> String {
     let port = format!(in rt.alloc(); "{port}").expect(rt, "memory");
-    args.replace(rt.alloc(), "PORT", port.as_str())
+    text.replace(rt.alloc(), "PORT", port.as_str())
         .expect(rt, "memory")
 }
 
@@ -151,16 +152,16 @@ fn words_of<'a>(rt: &(impl AllocGlobal + Abort), text: &'a str) -> Vec<&'a str> 
 
 /// Runs the program with a port, and compares how that ends.
 fn expect_run<H: AllocGlobal + Net + Files + Clock + Abort>(rt: &H, run: &Run, port: u16) {
-    let text = with_port(rt, run.1, port);
+    let (wrong, args, input, status, printed, told) = *run;
+    let text = with_port(rt, args, port);
+    let told = with_port(rt, told, port);
     let args = words_of(rt, text.as_str());
-    expect_args(rt, args.as_slice(), run);
+    let run = (wrong, text.as_str(), input, status, printed, told.as_str());
+    expect_args(rt, args.as_slice(), &run);
 }
 
-/// What a segment tells first.
-const LISTENING: &str = "ecat: listening on 127.0.0.1:..";
-
 /// Runs with a port that is free. Where what is told, or printed, is `..` alone, it isn't compared.
-const RUNS: [Run; 15] = [
+const RUNS: [Run; 14] = [
     // An output that takes nothing. Where that is explained, a command has printed something.
     (
         "full output",
@@ -242,22 +243,14 @@ const RUNS: [Run; 15] = [
     // An input that has no end, and one that can't be read.
     ("endless input", "ecat plan", "", 4, "", "ecat: 42 Input\n"),
     ("failing input", "ecat plan", " ", 4, "", "ecat: 42 Input\n"),
-    // Segments, the second of which nothing reaches for a second.
+    // A segment that waits for no payload.
     (
         "nothing",
         "ecat segment --frames 0 --port PORT --idle 1",
         THREE_SLAVES,
         0,
         "served 0 refused 0\n",
-        LISTENING,
-    ),
-    (
-        "nothing",
-        "ecat segment --frames 1 --port PORT --idle 1",
-        THREE_SLAVES,
-        4,
-        "served 0 refused 0\n",
-        LISTENING,
+        "ecat: listening on 127.0.0.1:PORT\n",
     ),
 ];
 

@@ -33,6 +33,7 @@ impl<T> Kept<T> {
         ensures { result.value ≡ self.value }
     {
         let Kept { at } = self;
+        // SAFETY: `at` came from `Box::into_raw`, and a `Kept` is moved and never copied, so its box is made again once.
         unsafe { Box::from_raw(alloc, at) }
     }
 }

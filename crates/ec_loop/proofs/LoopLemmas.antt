@@ -24,7 +24,7 @@ use Rattle.ec_cycle.specs.Closing.{ReportState}
 use Rattle.ec_cycle.specs.Master.{MasterState, OpenCycle, IsAnswer, IsClosed, IsTaken, begin_refusal, cycle_limit, holds_value, new_master, readied, value_put, variable_set}
 use Rattle.ec_cycle.specs.declared.error.CycleError.{CycleError}
 use Rattle.ec_cycle.specs.declared.error.CycleError.TheVariants.{NumbersSpent}
-use Rattle.ec_wire.specs.Wires.{LoopbackState, Traffic, WireState, counted}
+use Rattle.ec_wire.specs.Wires.{LoopbackState, Traffic, WireState, counted, opened_to}
 use Rattle.ec_slave.specs.State.{SlaveState}
 use Rattle.ec_bringup.specs.SwitchedOn.{AreSlavesOf}
 use Rattle.ec_wire.specs.Running.{AreTaken, IsEnded, IsRun}
@@ -488,16 +488,15 @@ pub no_wire : {A : Type 0} (r : Result Unit Refusal) (x : Refusal) (cycles : ℕ
 no_wire {A} r x cycles t known before after is h kept =
     inr (never_run r x IsUnbound known before.traffic after.traffic is h (ap (λ (l : LoopbackState A). l.traffic) kept))
 
-pub looped_between : (r : Result Unit Refusal) (cycles : ℕ) (t : Contents) (slaves : List SlaveState) (before began ended after : Traffic) (first failed : ℕ)
-    (old new : OutputState) → AreSlavesOf t slaves → began ≡ before → first ≡ 0
-    → Loops cycles t (counted began first) (counted ended failed) old new r → after ≡ ended → LoopsOnSockets cycles t old new before after r
-looped_between r cycles t slaves before began ended after first failed old new are starts fine runs ends = inl (record {
+pub looped_between : (r : Result Unit Refusal) (cycles : ℕ) (t : Contents) (slaves : List SlaveState) (before given began ended after : Traffic)
+    (old new : OutputState) → AreSlavesOf t slaves → given ≡ opened_to (length slaves) before
+    → began ≡ given → Loops cycles t (counted began) (counted ended) old new r → after ≡ opened_to given.slaves ended → LoopsOnSockets cycles t old new before after r
+looped_between r cycles t slaves before given began ended after old new are opens starts runs ends = inl (record {
   slaves = slaves;
   are = are;
-  failed = failed;
-  runs = subst (λ (x : Traffic). Loops cycles t (counted before 0) (counted x failed) old new r) (sym ends)
-      (subst (λ (n : ℕ). Loops cycles t (counted before n) (counted ended failed) old new r) fine
-      (subst (λ (x : Traffic). Loops cycles t (counted x first) (counted ended failed) old new r) starts runs));
+  opened = ap (λ (x : Traffic). x.slaves) ends ∙ ap (λ (x : Traffic). x.slaves) opens;
+  runs = subst (λ (x : Traffic). Loops cycles t (counted before) (counted x) old new r) (sym ends)
+      (subst (λ (x : Traffic). Loops cycles t (counted x) (counted ended) old new r) (starts ∙ opens) runs);
 })
 
 pub looped : (cycles : ℕ) (file : Option (List ℕ)) (text : List ℕ) (t : Contents) (old new : OutputState) (before after : Traffic) (r : Result Unit Refusal) → StatesMachine text t

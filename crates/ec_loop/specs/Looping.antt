@@ -153,14 +153,13 @@ Loops cycles t before after old new ended =
 -- ---- over sockets
 
 -- Two sockets of this process, with the table's slaves at one of them, just switched on: the cycles run over them. Sockets tell no
--- payload, so what they carried is any; but as many are sent and received as went over sockets to slaves of the application that it
--- was given.
+-- payload, so what they carried is any; but as many are sent and received, as many calls are faults, and the wire is to as many
+-- slaves, as the loopback that it was given counts.
 pub record LoopsBetween (cycles : ℕ) (t : Contents) (old new : OutputState) (before after : Traffic) (ended : Result Unit Refusal) : Type 0 where
   pub slaves : List SlaveState
   pub are : AreSlavesOf t slaves
-  -- how many calls of its wire were faults
-  pub failed : ℕ
-  pub runs : Loops cycles t (counted before 0) (counted after failed) old new ended
+  pub opened : after.slaves ≡ length slaves
+  pub runs : Loops cycles t (counted before) (counted after) old new ended
 
 -- it is refused, and nothing is printed or sent
 abbrev pub IsNeverRun : (Refusal → Type 0) → (old new : OutputState) → (before after : Traffic) → Result Unit Refusal → Type 0

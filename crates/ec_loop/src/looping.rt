@@ -8,7 +8,7 @@ ghost use Rattle.ec_cycle.specs.Master.{new_master};
 ghost use Rattle.ec_bringup.specs.SwitchedOn.{AreSlavesOf};
 ghost use Rattle.ec_slave.specs.State.{SlaveState};
 ghost use Rattle.ec_wire.specs.Running.{IsRun};
-ghost use Rattle.ec_wire.specs.Wires.{IsBack};
+ghost use Rattle.ec_wire.specs.Wires.{IsBack, opened_to};
 ghost use Rattle.ec_tap.specs.Taps.{Tells};
 ghost use Rattle.ec_text.specs.ReportText.{report_text};
 ghost use Rattle.ec_console.specs.Capturing.{EndsWith, finished, is_complete};
@@ -362,8 +362,9 @@ fn open_loop<H: AllocGlobal + Net, A: App + Drop>(
     machine: &Machine,
     loopback: &mut Loopback<A>,
 ) -> Result<LoopWire<A>, Refusal>
-    ensures slaves { OnOk result ((slaves : List SlaveState) × AreSlavesOf machine.now slaves) }
-    ensures opened { IfOk result (λ wire. (wire.traffic ≡ loopback.old.traffic) × (wire.failed ≡ 0)) }
+    ensures slaves { OnOk result ((slaves : List SlaveState) × AreSlavesOf machine.now slaves
+        × (loopback.new.traffic ≡ opened_to (length slaves) loopback.old.traffic)) }
+    ensures opened { IfOk result (λ wire. wire.traffic ≡ loopback.new.traffic) }
     ensures refused { IfErr result IsUnbound }
     ensures kept { OnErr result (loopback.new ≡ loopback.old) }
 {

@@ -9,7 +9,7 @@ ghost use Rattle.ec_console.specs.Given.{given_by};
 
 use crate::control::Control;
 use crate::saying::print_lines;
-use ec_card::{CardWire, Patience, Sender};
+use ec_card::{CardWire, Sender};
 use ec_console::{
     Capture, Explanation, InputStream, OutputStream, Refusal, close_capture, end_of, open_capture,
     read_machine,
@@ -18,12 +18,12 @@ use ec_lines::take_text;
 use ec_link::Machine;
 use ec_tap::{CapturedWire, Side};
 use ec_why::Reasons;
-use ec_wire::{SocketFault, UdpWire, Wire};
+use ec_wire::{Patience, SocketFault, UdpWire, Wire};
 use std::alloc::Global;
 use std::fs::Files;
 use std::io::{Read, Write};
 use std::net::{Net, SocketAddrV4};
-use std::time::{Clock, Duration};
+use std::time::Clock;
 
 /// Where a master's frames go, and how long it waits for an answer, in milliseconds.
 #[derive(Clone, Copy, Debug, PartialEq, Eq, Drop)]
@@ -164,16 +164,11 @@ fn run_connected<H: AllocGlobal + Net + Files + Clock, R: Read + Drop, O: Write 
             run_tapped(rt, machine, reasons, wire, capture, input, output)
         }
         Some(descriptor) => {
-            let own = Sender::Master;
-            let wire = CardWire::of_descriptor(i32::from(descriptor), own, patience_of(way))?;
+            let patience = Patience::of_millis(way.patience);
+            let wire = CardWire::of_descriptor(i32::from(descriptor), Sender::Master, patience)?;
             run_tapped(rt, machine, reasons, wire, capture, input, output)
         }
     }
-}
-
-/// How long a card waits for a frame.
-fn patience_of(way: Connection<'_>) -> Patience {
-    Patience::For(Duration::from_millis(u64::from(way.patience)))
 }
 
 /// A socket that is connected with the segment at an address.

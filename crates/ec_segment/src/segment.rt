@@ -12,7 +12,7 @@ ghost use Rattle.ec_console.specs.Given.{given_by};
 use crate::form::SlaveForm;
 use crate::machine::slaves_of_input;
 use arrayvec::ArrayString;
-use ec_card::{CardWire, Patience, Sender};
+use ec_card::{CardWire, Sender};
 use ec_console::{
     Capture, Explanation, InputStream, OutputStream, Refusal, close_capture, open_capture,
     print_text,
@@ -20,11 +20,11 @@ use ec_console::{
 use ec_ring::Ring;
 use ec_tap::{CapturedWire, Side};
 use ec_text::push_number;
-use ec_wire::{App, Served, SocketFault, UdpWire, Wire, serve_counted};
+use ec_wire::{App, Patience, Served, SocketFault, UdpWire, Wire, serve_counted};
 use std::fs::Files;
 use std::io::{Read, Write};
 use std::net::Net;
-use std::time::{Clock, Duration};
+use std::time::Clock;
 
 /// As many bytes as one of these lines may have.
 const LINE_SIZE: usize = 80;
@@ -312,15 +312,7 @@ fn serve_card<H: AllocGlobal + Files + Clock, W: Write + Drop>(
     ensures serves { ServesOnCard frames slaves.old output.old output.new result }
     ensures kept { is_some capture.new ≡ is_some capture.old }
 {
-    let wire = CardWire::of_descriptor(i32::from(descriptor), Sender::Segment, patience_of(idle))?;
+    let patience = Patience::of_seconds(idle);
+    let wire = CardWire::of_descriptor(i32::from(descriptor), Sender::Segment, patience)?;
     serve_tapped(rt, slaves, app, wire, frames, capture, output)
-}
-
-/// How long a segment on a card waits for a payload; with 0 seconds it waits on.
-fn patience_of(seconds: u32) -> Patience {
-    if seconds == 0 {
-        Patience::Endless
-    } else {
-        Patience::For(Duration::from_secs(u64::from(seconds)))
-    }
 }

@@ -1,3 +1,5 @@
+-- the parts of a wait
+pub mod Waiting
 -- calls of a wire one after the other
 pub mod Carrying
 -- payloads taken one after the other

@@ -2,6 +2,8 @@
 
 -- what a wire tells of itself, and what its calls make of that
 pub mod Wires
+-- how long sockets wait
+pub mod Waiting
 -- a cycle over a wire
 pub mod Running
 -- a start-up over a wire

@@ -43,14 +43,25 @@ pub record Carries (old new : WireState) (sent received : List (List ℕ)) : Typ
 abbrev pub silent : ℕ → WireState
 silent failed = record { sent = Nothing; received = Nothing; failed = failed }
 
--- How many payloads a master sent to slaves in its own process, and received from them.
+-- What went over the wires of a master to slaves in its own process: how many slaves the last wire was opened to, and how many
+-- payloads were sent and received and how many calls were faults, over all of them.
 pub record Traffic : Type 0 where
+  pub slaves : ℕ
   pub sent : ℕ
   pub received : ℕ
+  pub failed : ℕ
 
--- a wire that tells these two, with so many faults
-abbrev pub counted : Traffic → ℕ → WireState
-counted traffic failed = record { sent = Number traffic.sent; received = Number traffic.received; failed = failed }
+-- no wire was opened yet
+abbrev pub nothing_sent : Traffic
+nothing_sent = record { slaves = 0; sent = 0; received = 0; failed = 0 }
+
+-- a new wire to so many slaves
+abbrev pub opened_to : ℕ → Traffic → Traffic
+opened_to slaves traffic = record traffic { slaves = slaves }
+
+-- a wire that tells how many payloads it carried
+abbrev pub counted : Traffic → WireState
+counted traffic = record { sent = Number traffic.sent; received = Number traffic.received; failed = traffic.failed }
 
 -- What is known of a socket, which doesn't tell what it carried: its port, and how many of its calls were faults.
 pub record SocketState : Type 0 where
@@ -66,7 +77,6 @@ pub record Ports : Type 0 where
 pub record LoopState : Type 0 where
   pub ports : Ports
   pub traffic : Traffic
-  pub failed : ℕ
 
 -- An application of simulated slaves, while it is at no wire, and what went over sockets to slaves that had it.
 pub record LoopbackState (A : Type 0) : Type 0 where

@@ -1,6 +1,6 @@
 //! A master's wire and its segment on two sockets in one thread.
-ghost use Rattle.std.specs.Prelude.{◌≡◌, ◌≤◌, ◌<◌, None, Some, true, is_some, length, IfOk, IfSome, OnErr};
-ghost use Rattle.ec_wire.specs.Wires.{counted, max_failed, one_more};
+ghost use Rattle.std.specs.Prelude.{◌≡◌, ◌≤◌, ◌<◌, None, Some, true, is_some, length, IfOk, IfSome, OnErr, OnOk};
+ghost use Rattle.ec_wire.specs.Wires.{counted, max_failed, nothing_sent, one_more, opened_to};
 
 use crate::application::{App, answer};
 use crate::error::SocketFault;
@@ -29,16 +29,18 @@ impl Sockets {
     }
 }
 
-/// How many payloads a master sent and received.
+/// How many slaves the last wire was opened to, and how many payloads were sent and received and how many calls were faults.
 #[derive(Clone, Copy, Drop)]
 struct Counts {
+    slaves: usize,
     sent: u64,
     received: u64,
+    failed: u64,
 }
 
 /// An application of simulated slaves in this process, and how many payloads a master sent to slaves that have it, and received
-/// from them, over two sockets. The counts change by nothing but what a wire that was opened here carries, at whose slaves that
-/// application steps and no other.
+/// from them, over two sockets; how many calls were faults, and how many slaves the last wire was opened to. The counts change by
+/// nothing but what a wire that was opened here carries, at whose slaves that application steps and no other.
 #[derive(Drop)]
 pub struct Loopback<A: Drop> {
     /// None while a wire has it.
@@ -51,17 +53,22 @@ impl<A: Drop> Model for Loopback<A> {
 
     ghost Value = { LoopbackState A };
 
-    ghost view = { λ l. record { app = l.app; traffic = record { sent = l.counts.sent; received = l.counts.received } } };
+    ghost view = { λ l. record {
+      app = l.app;
+      traffic = record { slaves = l.counts.slaves; sent = l.counts.sent; received = l.counts.received; failed = l.counts.failed };
+    } };
 }
 
 impl<A: App + Drop> Loopback<A> {
     /// An application to whose slaves nothing was sent yet.
     pub fn new(app: A) -> Loopback<A>
-        ensures { result ≡ record { app = Some app; traffic = record { sent = 0; received = 0 } } }
+        ensures { result ≡ record { app = Some app; traffic = nothing_sent } }
     {
         let counts = Counts {
+            slaves: 0,
             sent: 0,
             received: 0,
+            failed: 0,
         };
         Loopback {
             app: Some(app),
@@ -74,6 +81,20 @@ impl<A: App + Drop> Loopback<A> {
         ensures { result ≡ self.now.traffic.sent }
     {
         self.counts.sent
+    }
+
+    /// How many calls of its wires were faults.
+    pub fn failures(&self) -> u64
+        ensures { result ≡ self.now.traffic.failed }
+    {
+        self.counts.failed
+    }
+
+    /// How many slaves the last wire was opened to.
+    pub fn slaves(&self) -> usize
+        ensures { result ≡ self.now.traffic.slaves }
+    {
+        self.counts.slaves
     }
 
     /// How many payloads came back from them.
@@ -90,9 +111,9 @@ impl<A: App + Drop> Loopback<A> {
     ///
     /// `SocketFault` where there are no such sockets, or another wire has the application. The slaves are lost then.
     pub fn open<R: Net>(&mut self, rt: &R, ring: Ring) -> Result<LoopWire<A>, SocketFault>
-        ensures opened { IfOk result (λ wire. (wire.traffic ≡ self.old.traffic) × (wire.failed ≡ 0)) }
+        ensures opened { IfOk result (λ wire. wire.traffic ≡ opened_to (length ring) self.old.traffic) }
         ensures taken { IfOk result (λ wire. (is_some self.old.app ≡ true) × (self.new.app ≡ None)) }
-        ensures counts { self.new.traffic ≡ self.old.traffic }
+        ensures counts { OnOk result (self.new.traffic ≡ opened_to (length ring) self.old.traffic) }
         ensures refused { OnErr result (self.new ≡ self.old) }
     {
         let sockets = Sockets::bind(rt)?;
@@ -100,34 +121,35 @@ impl<A: App + Drop> Loopback<A> {
         let Some(app) = self.app.take() else {
             return Err(SocketFault);
         };
+        self.counts.slaves = ring.len();
         Ok(LoopWire {
             sockets,
             ports,
             ring,
             app,
             counts: self.counts,
-            failures: 0,
             buffer: [0; MAX_FRAME_LEN],
         })
     }
 
-    /// Takes the application of a wire back, with what the wire carried, and answers its slaves.
-    pub fn close(&mut self, wire: LoopWire<A>) -> Ring
-        ensures counts { self.new.traffic ≡ wire.traffic }
+    /// Takes the application of a wire back, with what the wire carried.
+    pub fn close(&mut self, wire: LoopWire<A>)
+        ensures counts { self.new.traffic ≡ opened_to self.old.traffic.slaves wire.traffic }
         ensures back { is_some self.new.app ≡ true }
     {
         let LoopWire {
             sockets: _,
             ports: _,
-            ring,
+            ring: _,
             app,
             counts,
-            failures: _,
             buffer: _,
         } = wire;
         self.app = Some(app);
-        self.counts = counts;
-        ring
+        self.counts = Counts {
+            slaves: self.counts.slaves,
+            ..counts
+        };
     }
 }
 
@@ -141,7 +163,6 @@ pub struct LoopWire<A: Drop> {
     ring: Ring,
     app: A,
     counts: Counts,
-    failures: u64,
     buffer: [u8; MAX_FRAME_LEN],
 }
 
@@ -152,8 +173,7 @@ impl<A: Drop> Model for LoopWire<A> {
 
     ghost view = { λ w. record {
       ports = record { master = w.ports.0; segment = w.ports.1 };
-      traffic = record { sent = w.counts.sent; received = w.counts.received };
-      failed = w.failures;
+      traffic = record { slaves = w.counts.slaves; sent = w.counts.sent; received = w.counts.received; failed = w.counts.failed };
     } };
 }
 
@@ -167,9 +187,9 @@ impl<A: App + Drop> LoopWire<A> {
 
     /// Whether a call may carry a payload more than so many.
     fn may_count(&self, count: u64) -> bool
-        ensures { result ≡ true → (self.now.failed < max_failed) × (count < max_failed) }
+        ensures { result ≡ true → (self.now.traffic.failed < max_failed) × (count < max_failed) }
     {
-        self.failures != u64::MAX && count != u64::MAX
+        self.counts.failed != u64::MAX && count != u64::MAX
     }
 
     /// Sends a payload over the master's socket; the segment receives it, and answers it where it is a frame. Whether no call
@@ -196,9 +216,9 @@ impl<A: App + Drop> LoopWire<A> {
 
     /// Counts a fault.
     fn fail(&mut self)
-        ensures { self.new ≡ record self.old { failed = one_more self.old.failed } }
+        ensures { self.new ≡ record self.old { traffic = record self.old.traffic { failed = one_more self.old.traffic.failed } } }
     {
-        self.failures = self.failures.saturating_add(1);
+        self.counts.failed = self.counts.failed.saturating_add(1);
     }
 }
 
@@ -215,10 +235,10 @@ fn serve<A: App>(socket: &mut UdpWire, ring: &mut Ring, app: &mut A, buffer: &mu
 }
 
 impl<A: App + Drop> Wire for LoopWire<A> {
-    ghost state = { λ w. counted w.traffic w.failed };
+    ghost state = { λ w. counted w.traffic };
 
     fn failures(&self) -> u64 {
-        self.failures
+        self.counts.failed
     }
 
     fn send(&mut self, payload: &[u8]) {

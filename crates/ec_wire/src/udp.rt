@@ -1,21 +1,17 @@
 //! A wire over the system's UDP sockets.
-ghost use Rattle.std.specs.Prelude.{◌≡◌, ◌≤◌, length, IfOk, IfSome};
+ghost use Rattle.std.specs.Prelude.{◌≡◌, ◌≤◌, length, IfOk};
 ghost use Rattle.ec_wire.specs.Wires.{IsOpened, silent};
 
 use crate::error::SocketFault;
+use crate::patience::{Patience, PatientSocket};
 use crate::wire::Wire;
 use ec_frame::field::MAX_FRAME_LEN;
 use std::io;
-use std::io::ErrorKind;
 use std::marker::Model;
 use std::net::{Ipv4Addr, Net, SocketAddr, SocketAddrV4, UdpSocket};
-use std::time::Duration;
 
-/// A receive waits so long, in milliseconds.
-const PATIENCE: u64 = 500;
-
-/// So many of these waits are a second.
-const WAITS_PER_SECOND: u64 = 2;
+/// A master waits so long for a payload, in milliseconds, where nothing else is asked for.
+const PATIENCE: u16 = 500;
 
 /// A segment waits so many seconds for a payload, where nothing else is asked for.
 const MAX_IDLE: u32 = 60;
@@ -32,10 +28,9 @@ enum Peer {
 /// A UDP socket and its peer, on 127.0.0.1 unless the peer is elsewhere. It doesn't tell what it carried.
 #[derive(Drop)]
 pub struct UdpWire {
-    socket: UdpSocket,
+    socket: PatientSocket,
     port: u16,
     peer: Peer,
-    waits: u64,
     failures: u64,
 }
 
@@ -76,15 +71,15 @@ impl UdpWire {
     pub fn bind_idle<R: Net>(rt: &R, port: u16, seconds: u32) -> Result<UdpWire, SocketFault>
         ensures { IfOk result (IsOpened port) }
     {
-        UdpWire::new(rt, port, waits_of(seconds))
+        UdpWire::new(rt, port, Patience::of_seconds(seconds))
     }
 
-    /// A wire on a port that the system picks, which sends to whoever sent the last payload that it received. The first receive
-    /// that got nothing is a fault.
+    /// A wire on a port that the system picks, which sends to whoever sent the last payload that it received. A receive that got
+    /// nothing in half a second is a fault.
     pub(crate) fn bind_impatient<R: Net>(rt: &R) -> Result<UdpWire, SocketFault>
         ensures { IfOk result (λ w. w.failed ≡ 0) }
     {
-        UdpWire::new(rt, 0, 1)
+        UdpWire::new(rt, 0, Patience::of_millis(PATIENCE))
     }
 
     /// A master's wire to the segment on a port, from which alone it receives. A receive that got nothing in half a second
@@ -113,14 +108,11 @@ impl UdpWire {
         ensures { IfOk result (λ w. w.failed ≡ 0) }
     {
         let anywhere = SocketAddr::from((Ipv4Addr::UNSPECIFIED, 0));
-        let Ok((socket, port)) = open(rt, anywhere, u64::from(patience)) else {
-            return Err(SocketFault);
-        };
+        let (socket, port) = open(rt, anywhere, Patience::of_millis(patience))?;
         let wire = UdpWire {
             socket,
             port,
             peer: Peer::Last(None),
-            waits: 1,
             failures: 0,
         };
         wire.connected_with(SocketAddr::V4(peer))
@@ -148,12 +140,10 @@ impl UdpWire {
     }
 
     /// A wire on a port, which sends to whoever sent the last payload that it received.
-    fn new<R: Net>(rt: &R, port: u16, waits: u64) -> Result<UdpWire, SocketFault>
+    fn new<R: Net>(rt: &R, port: u16, patience: Patience) -> Result<UdpWire, SocketFault>
         ensures { IfOk result (IsOpened port) }
     {
-        let Ok((socket, found)) = open(rt, here(port), PATIENCE) else {
-            return Err(SocketFault);
-        };
+        let (socket, found) = open(rt, here(port), patience)?;
         if port != 0 && found != port {
             return Err(SocketFault);
         }
@@ -161,7 +151,6 @@ impl UdpWire {
             socket,
             port: found,
             peer: Peer::Last(None),
-            waits,
             failures: 0,
         })
     }
@@ -171,14 +160,10 @@ impl UdpWire {
         if payload.len() > MAX_FRAME_LEN {
             return false;
         }
-        let sent = match self.peer {
-            Peer::Connected => self.socket.send(payload),
-            Peer::Last(Some(peer)) => self.socket.send_to(payload, peer),
-            Peer::Last(None) => return false,
-        };
-        match sent {
-            Ok(count) => count == payload.len(),
-            Err(_) => false,
+        match self.peer {
+            Peer::Connected => self.socket.has_sent(payload, None),
+            Peer::Last(Some(peer)) => self.socket.has_sent(payload, Some(peer)),
+            Peer::Last(None) => false,
         }
     }
 
@@ -187,26 +172,12 @@ impl UdpWire {
         ensures { IfOk result (λ came. came.0 ≤ length buffer.new) }
     {
         match self.peer {
-            Peer::Connected => Ok((self.socket.recv(buffer)?, Peer::Connected)),
+            Peer::Connected => Ok((self.socket.receive(buffer)?, Peer::Connected)),
             Peer::Last(_) => {
-                let (count, sender) = self.socket.recv_from(buffer)?;
+                let (count, sender) = self.socket.receive_from(buffer)?;
                 Ok((count, Peer::Last(Some(sender))))
             }
         }
-    }
-
-    /// Waits for a payload, as often as it may, and answers the same.
-    fn await_payload(&self, buffer: &mut [u8]) -> Option<(usize, Peer)>
-        ensures { IfSome result (λ came. came.0 ≤ length buffer.new) }
-    {
-        for _ in 0..self.waits {
-            match self.receive(buffer) {
-                Ok(came) => return Some(came),
-                Err(error) if error.kind() == ErrorKind::WouldBlock => {}
-                Err(_) => return None,
-            }
-        }
-        None
     }
 }
 
@@ -226,7 +197,7 @@ impl Wire for UdpWire {
 
     fn recv(&mut self, buffer: &mut [u8]) -> usize {
         let room = buffer.len().min(MAX_FRAME_LEN);
-        let Some((count, peer)) = self.await_payload(&mut buffer[..room]) else {
+        let Ok((count, peer)) = self.receive(&mut buffer[..room]) else {
             self.failures = self.failures.saturating_add(1);
             return 0;
         };
@@ -235,21 +206,22 @@ impl Wire for UdpWire {
     }
 }
 
-/// How many waits in a row so many seconds are; of 0 seconds there is no end.
-fn waits_of(seconds: u32) -> u64 {
-    if seconds == 0 {
-        u64::MAX
-    } else {
-        u64::from(seconds) * WAITS_PER_SECOND
+/// A socket at an address, whose receives wait so long, and its port.
+fn open<R: Net>(
+    rt: &R,
+    at: SocketAddr,
+    patience: Patience,
+) -> Result<(PatientSocket, u16), SocketFault> {
+    let Ok(socket) = UdpSocket::bind(rt, at) else {
+        return Err(SocketFault);
+    };
+    let Ok(socket) = PatientSocket::new(socket, patience) else {
+        return Err(SocketFault);
+    };
+    match socket.port() {
+        Ok(port) => Ok((socket, port)),
+        Err(_) => Err(SocketFault),
     }
-}
-
-/// A socket at an address, whose receives wait so many milliseconds, and its port.
-fn open<R: Net>(rt: &R, at: SocketAddr, patience: u64) -> io::Result<(UdpSocket, u16)> {
-    let socket = UdpSocket::bind(rt, at)?;
-    socket.set_read_timeout(Some(Duration::from_millis(patience)))?;
-    let port = socket.local_addr()?.port();
-    Ok((socket, port))
 }
 
 /// A port on 127.0.0.1.

@@ -144,14 +144,17 @@ fn masters_with_a_patience(rt: HostRuntime) {
     );
 }
 
-// A segment waits as long as it is told to, and then the receive is a fault. Of a payload that is too long the rest is dropped.
+// A segment waits as long as it is told to, and then the receive is a fault. What is sent to its port on another address doesn't
+// reach it. Of a payload that is too long the rest is dropped.
 #[test]
 fn waits_a_second(rt: HostRuntime) {
     expect_calls(
         &rt,
         "idle",
         &[
+            ("client misses", 5, (0, 0, 0, 0)),
             ("segment receives", 0, (0, 0, 0, 1)),
+            ("nearby", 0, (1, 0, 0, 1)),
             ("client sends", 1550, (0, 0, 0, 1)),
             ("segment receives", 0, (1472, 1472, 0, 1)),
         ],

@@ -82,6 +82,8 @@ struct Ends {
 /// | `client asks`, `stranger asks`, `gone asks` | the broadcast is sent to the segment, also by a client that is gone then |
 /// | `client hears`, `stranger hears` | the answer to it comes back from the segment |
 /// | `serve` | the segment serves so many payloads |
+/// | `client misses` | so many sevens are sent to the segment's port on 127.0.0.2 |
+/// | `nearby` | a socket on that port of 127.0.0.2, which a segment on all addresses would hold |
 /// | `no patience`, `port in use` | a master that waits no time, and a second segment on that port, are no sockets |
 pub type Row = (&'static str, usize, (usize, usize, u64, u64));
 
@@ -90,14 +92,19 @@ fn here(port: u16) -> SocketAddr {
     SocketAddr::from((Ipv4Addr::LOCALHOST, port))
 }
 
+/// A port on 127.0.0.2, which is another address of the same machine.
+fn near(port: u16) -> SocketAddr {
+    SocketAddr::from((Ipv4Addr::new(127, 0, 0, 2), port))
+}
+
 /// A socket on a port that the system picks.
 fn socket_of(rt: &(impl Net + Abort)) -> UdpSocket {
     UdpSocket::bind(rt, here(0)).expect(rt, "a socket")
 }
 
-/// Sends a payload to a port.
-fn send_to(rt: &impl Abort, socket: &UdpSocket, port: u16, payload: &[u8]) -> (usize, usize) {
-    socket.send_to(payload, here(port)).expect(rt, "a payload");
+/// Sends a payload to an address.
+fn send_to(rt: &impl Abort, socket: &UdpSocket, to: SocketAddr, payload: &[u8]) -> (usize, usize) {
+    socket.send_to(payload, to).expect(rt, "a payload");
     (0, 0)
 }
 
@@ -151,13 +158,15 @@ fn seen_of_call(
 ) -> (usize, usize) {
     let port = ends.segment.port();
     match call {
-        "client sends" => send_to(rt, &ends.client, port, sevens),
-        "client asks" => send_to(rt, &ends.client, port, &READ),
+        "client sends" => send_to(rt, &ends.client, here(port), sevens),
+        "client misses" => send_to(rt, &ends.client, near(port), sevens),
+        "client asks" => send_to(rt, &ends.client, here(port), &READ),
         "client hears" => hear(rt, &ends.client, port),
-        "stranger disturbs" => send_to(rt, &ends.stranger, ends.master.port(), sevens),
-        "stranger asks" => send_to(rt, &ends.stranger, port, &READ),
+        "stranger disturbs" => send_to(rt, &ends.stranger, here(ends.master.port()), sevens),
+        "stranger asks" => send_to(rt, &ends.stranger, here(port), &READ),
         "stranger hears" => hear(rt, &ends.stranger, port),
-        "gone asks" => send_to(rt, &socket_of(rt), port, &READ),
+        "gone asks" => send_to(rt, &socket_of(rt), here(port), &READ),
+        "nearby" => (usize::from(UdpSocket::bind(rt, near(port)).is_ok()), 0),
         "no patience" => (usize::from(patient(rt, port, 0).is_ok()), 0),
         "port in use" => (usize::from(UdpWire::bind(rt, port).is_ok()), 0),
         _ => seen_of_wires(rt, ends, call, sevens),

@@ -11,7 +11,7 @@ use ec_cycle::{Master, Report};
 use ec_link::{ExpectedCounters, Machine};
 use ec_ring::Ring;
 use ec_wire::{Echo, LoopWire, Loopback, MemoryWire, RunError, Wire, run_cycle};
-use std::net::Net;
+use std::net::{Ipv4Addr, Net, SocketAddr, UdpSocket};
 use std::process::Abort;
 
 /// An output variable, and the input variable that shows what its slave got a frame before. The slave is of the last part.
@@ -142,6 +142,29 @@ fn expect_two(rt: &impl Abort, master: &mut Master<'_>, wire: &mut LoopWire<Echo
     assert_same(rt, &seen, &(0, 1, 0));
 }
 
+/// Whether a port of 127.0.0.1 is in use.
+fn is_held(rt: &impl Net, port: u16) -> bool {
+    UdpSocket::bind(rt, SocketAddr::from((Ipv4Addr::LOCALHOST, port))).is_err()
+}
+
+/// A wire has two sockets, on the ports that it says.
+fn expect_ports(rt: &(impl Net + Abort), wire: &LoopWire<Echo>) {
+    let (master, segment) = wire.ports();
+    let met = (is_held(rt, master), is_held(rt, segment), master == segment);
+    assert_same(rt, &met, &(true, true, false));
+}
+
+/// What a loopback counts: slaves, payloads sent and received, and faults.
+fn expect_counts(rt: &impl Abort, loopback: &Loopback<Echo>, wanted: (usize, u64, u64, u64)) {
+    let met = (
+        loopback.slaves(),
+        loopback.sent(),
+        loopback.received(),
+        loopback.failures(),
+    );
+    assert_same(rt, &met, &wanted);
+}
+
 /// Brings the slaves of a machine up over a loop of two sockets, and runs two cycles. As many payloads are counted as the
 /// start-up and the cycles have frames.
 pub fn expect_loop(
@@ -156,6 +179,7 @@ pub fn expect_loop(
         .open(rt, ring_of(rt, machine))
         .expect(rt, "sockets");
     assert!(rt; loopback.open(rt, ring_of(rt, machine)).is_err());
+    expect_ports(rt, &wire);
     let mut startup = startup_of(rt, machine, 0);
     bring_up(rt, &mut startup, &mut wire, master);
     expect_two(rt, master, &mut wire);
@@ -164,9 +188,5 @@ pub fn expect_loop(
     let frames = startup
         .next_number()
         .saturating_add(u64::try_from(sent).unwrap_or(0));
-    assert_same(
-        rt,
-        &(loopback.sent(), loopback.received()),
-        &(frames, frames),
-    );
+    expect_counts(rt, &loopback, (3, frames, frames, 0));
 }

@@ -1,0 +1,17 @@
+-- How long a receive on a socket waits. A choice of this project.
+use Rattle.std.specs.Prelude.{ℕ, ◌*◌, ◌≤◌, ◌≡◌, Option, None, Some}
+use Rattle.std.specs.Duration.{as_nanos}
+use Rattle.std.specs.declared.time.Duration.{Duration}
+use Rattle.ec_wire.specs.declared.patience.Patience.{Patience}
+use Rattle.ec_wire.specs.declared.patience.Patience.TheVariants.{Endless, For}
+
+-- how many nanoseconds a patience has, if it ends
+abbrev pub lasts : Patience → Option ℕ
+lasts Endless = None
+lasts (For whole) = Some (as_nanos whole)
+
+-- So many waits, each for one part, are no longer than the patience in all; where that has no end, neither has a wait.
+abbrev pub AreWithin : Patience → (part : Option Duration) → (count : ℕ) → Type 0
+AreWithin Endless part count = part ≡ None
+AreWithin (For whole) None count = ⊥
+AreWithin (For whole) (Some part) count = as_nanos part * count ≤ as_nanos whole

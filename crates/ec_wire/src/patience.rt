@@ -1,0 +1,168 @@
+//! How long a receive on a socket waits, and a socket whose calls no signal cuts short.
+ghost use Rattle.std.specs.Prelude.{◌≡◌, ◌==◌, ◌≤◌, ◌*◌, length, None, Some, IfOk, if◌then◌else◌};
+ghost use Rattle.ec_wire.specs.Waiting.{AreWithin, lasts};
+
+use std::io;
+use std::io::ErrorKind;
+use std::net::{SocketAddr, UdpSocket};
+use std::time::Duration;
+
+/// A patience has so many parts at least.
+const LEAST_PARTS: u32 = 2;
+
+/// One part of a long patience, in milliseconds.
+const LONG_PART: u128 = 250;
+
+/// How long a receive waits.
+#[derive(Clone, Copy, Debug, PartialEq, Eq, Drop)]
+pub enum Patience {
+    /// Without an end.
+    Endless,
+    /// So long, which is more than nothing.
+    For(Duration),
+}
+
+impl Patience {
+    /// So many seconds; with 0 there is no end.
+    pub fn of_seconds(seconds: u32) -> Patience
+        ensures { lasts result ≡ (if seconds == 0 then None else Some (seconds * 1_000_000_000)) }
+    {
+        if seconds == 0 {
+            Patience::Endless
+        } else {
+            Patience::For(Duration::from_secs(u64::from(seconds)))
+        }
+    }
+
+    /// So many milliseconds.
+    pub fn of_millis(millis: u16) -> Patience
+        ensures { lasts result ≡ Some (millis * 1_000_000) }
+    {
+        Patience::For(Duration::from_millis(u64::from(millis)))
+    }
+
+    /// How long one part of a wait is, if it ends, and how many parts there are.
+    #[tactic(auto, using(crate::proofs::Waiting::parts_within))]
+    fn parts(self) -> (Option<Duration>, u64)
+        ensures { AreWithin self result.0 result.1 }
+    {
+        match self {
+            Patience::Endless => (None, u64::MAX),
+            Patience::For(whole) => {
+                let parts = parts_of(whole);
+                (Some(whole / parts), u64::from(parts))
+            }
+        }
+    }
+}
+
+/// In how many parts a receive waits so long.
+fn parts_of(whole: Duration) -> u32
+    ensures { 2 ≤ result }
+{
+    match u32::try_from(whole.as_millis() / LONG_PART) {
+        Ok(parts) => parts.max(LEAST_PARTS),
+        Err(_) => u32::MAX,
+    }
+}
+
+/// A datagram socket whose calls are made again if a signal interrupts them, as when a process is stopped and goes on. A receive
+/// waits in parts, and a part that was interrupted counts as over. So it never waits longer than its patience, and the time
+/// during which the process is stopped doesn't count.
+#[derive(Drop)]
+pub struct PatientSocket {
+    socket: UdpSocket,
+    parts: u64,
+}
+
+impl PatientSocket {
+    /// A socket whose receives wait so long, also if it didn't wait before.
+    ///
+    /// # Errors
+    ///
+    /// The socket, if it has no such patience, as one of 0, or isn't a socket.
+    pub fn new(socket: UdpSocket, patience: Patience) -> Result<PatientSocket, UdpSocket> {
+        let (part, parts) = patience.parts();
+        if socket.set_read_timeout(part).is_err() || socket.set_nonblocking(false).is_err() {
+            return Err(socket);
+        }
+        Ok(PatientSocket { socket, parts })
+    }
+
+    /// The port of the socket.
+    pub(crate) fn port(&self) -> io::Result<u16> {
+        Ok(self.socket.local_addr()?.port())
+    }
+
+    /// Connects the socket with one peer, from which alone it receives from now on.
+    pub(crate) fn connect(&self, peer: SocketAddr) -> io::Result<()> {
+        self.socket.connect(peer)
+    }
+
+    /// Sends a datagram to an address, or else to the peer that the socket is connected with. It returns whether all of it was
+    /// sent.
+    pub fn has_sent(&self, datagram: &[u8], to: Option<SocketAddr>) -> bool {
+        for _ in 0..self.parts {
+            match self.send_once(datagram, to) {
+                Ok(count) => return count == datagram.len(),
+                Err(error) if error.kind() == ErrorKind::Interrupted => {}
+                Err(_) => return false,
+            }
+        }
+        false
+    }
+
+    /// Receives a datagram, of which the buffer gets as much as it has room for, and returns how many bytes that are. When the
+    /// patience is over it takes what has come by then.
+    ///
+    /// # Errors
+    ///
+    /// What the system says, and `ErrorKind::WouldBlock` if nothing came.
+    pub fn receive(&self, buffer: &mut [u8]) -> io::Result<usize>
+        ensures { IfOk result (λ count. count ≤ length buffer.new) }
+    {
+        for _ in 0..self.parts {
+            match self.socket.recv(buffer) {
+                Err(error) if is_over(&error) => {}
+                ended => return ended,
+            }
+        }
+        self.socket.set_nonblocking(true)?;
+        let ended = self.socket.recv(buffer);
+        self.socket.set_nonblocking(false)?;
+        ended
+    }
+
+    /// The same, with the address that the datagram came from.
+    ///
+    /// # Errors
+    ///
+    /// Those of [`PatientSocket::receive`].
+    pub(crate) fn receive_from(&self, buffer: &mut [u8]) -> io::Result<(usize, SocketAddr)>
+        ensures { IfOk result (λ came. came.0 ≤ length buffer.new) }
+    {
+        for _ in 0..self.parts {
+            match self.socket.recv_from(buffer) {
+                Err(error) if is_over(&error) => {}
+                ended => return ended,
+            }
+        }
+        self.socket.set_nonblocking(true)?;
+        let ended = self.socket.recv_from(buffer);
+        self.socket.set_nonblocking(false)?;
+        ended
+    }
+
+    /// Sends a datagram once.
+    fn send_once(&self, datagram: &[u8], to: Option<SocketAddr>) -> io::Result<usize> {
+        match to {
+            Some(peer) => self.socket.send_to(datagram, peer),
+            None => self.socket.send(datagram),
+        }
+    }
+}
+
+/// Whether one part of a wait is over: its time is, or a signal ended it.
+fn is_over(error: &io::Error) -> bool {
+    matches!(error.kind(), ErrorKind::WouldBlock | ErrorKind::Interrupted)
+}
