@@ -101,7 +101,7 @@ module _ (t : Contents) (ids : List Identity) (w : WorldState) (o : Comes t ids 
   as_many : length p.slots ≡ 64
   as_many =
       sym (length-map p.slots (λ o. option_map progress_of o)) ∙ (sym (ap length s.shown.progress) ∙ (length-map w.slots (λ o. option_map flight_progress o)
-      ∙ ((run_same o.old o.events w o.made o.reached).1 ∙ ap (λ (x : WorldState). length x.slots) o.new.is)))
+      ∙ ((run_same o.old o.events w o.made o.reached).slots ∙ ap (λ (x : WorldState). length x.slots) o.new.is)))
 
   all_free : p.slots ≡ replicate (length m.parts + z) None
   all_free = all_none p.slots slot_free ∙ ap (λ (y : ℕ). replicate y None) (let a = as_many in let b = parts in let c = few in omega (arith, a, b, c))

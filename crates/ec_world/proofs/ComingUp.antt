@@ -172,7 +172,7 @@ beginning t w s =
           none_awaited = a.none_awaited;
           few = omega (arith, room, long);
         };
-        free = free_slots 64 w.slots ((run_same s.first s.events w s.made s.reached).1 ∙ ap (λ (x : WorldState). length x.slots) new.is) s.no_frame;
+        free = free_slots 64 w.slots ((run_same s.first s.events w s.made s.reached).slots ∙ ap (λ (x : WorldState). length x.slots) new.is) s.no_frame;
         go = λ j l. let g = up.1 j (omega (arith, long, l)) in let x = g.next_number in record { idle = g.idle; few = omega (arith, x, l, room, long) };
         ends = works.ready;
       };

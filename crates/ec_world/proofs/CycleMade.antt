@@ -54,6 +54,6 @@ module _ (t : Contents) (ids : List Identity) (w : WorldState) (r : Rests t ids 
       record {
         slaves = b.shown.count ∙ (ap (λ (x : PlanState). length x.slaves) b.w_plan ∙ (plan_sound t r.new.sound r.new.accepted).as_many);
         parts = ap (λ (x : PlanState). length x.parts) (b.shown.same_plan ∙ b.w_plan);
-        slots = free_slots 64 w.slots ((run_same r.old r.events w r.made r.reached).1 ∙ ap (λ (x : WorldState). length x.slots) r.new.is) r.at_rest.no_frame;
+        slots = free_slots 64 w.slots ((run_same r.old r.events w r.made r.reached).slots ∙ ap (λ (x : WorldState). length x.slots) r.new.is) r.at_rest.no_frame;
         few = omega (arith, few, same);
       }

@@ -1,5 +1,5 @@
 -- The headline of a close, of what a world's calls show.
-use Rattle.ec_world.proofs.Words.{ℕ, zero, suc, ◌+◌, ◌*◌, ◌<◌, ◌≤◌, ◌≡◌, ◌≢◌, ◌==◌, ◌||◌, Bool, true, false, Option, Some, None, refl, sym, ◌∙◌, ap, subst, inl, inr, arith, List, [], ◌∷◌, ◌++◌, length, map, get_or, if◌then◌else◌, option_map, slice_get, option_map_or, AllByRecursion, bit_at, cases_Bool, cases_lt, cases_eq, and_from, or_left, or_right, or_cases, lt-ltb, ltb-true, eq-eqb, true≢false, append_assoc, list_get_or-map as get_or-map, length-map, length-replicate, slice_get-get_or, bit_at_above, bit, bytes_of_bits, if_true, if_false, bits_number-lt, bit_at-bits_number, Identity, Buffer, SlaveState, inputs_of, Direction, Out, In, SlaveRow, Contents, Variable, Share, SlavePlan, has_outs, has_ins, predicted, unit_of_part as unit_of_plain, IsLinked, is_out, image_from, IsPair, AreItsLinks, Meaning, Linked, meaning, share_of, in_source, slave_at as settings_of, PlanState, plan_of, part_of, part_at, IsUsable, IsInImage, HasBit, IsPlaced, linked_inputs, variables_are_placed, linked_bits_are_there, plan_sound, links_are_the_tables, lists_units, bits_are_apart, ReportState, MasterState, OpenCycle, value_at, value_of, Event, Begin, Pass, Lose, Close, Progress, Plain, PlainSlave, PlainFrame, Health, Faulted, Reset, Note, Short, Full, Cycle, unit_full, giving, step, run, frame_at, plain_slave, progress_of, met_note, WorldState, slave_of, is_up, ByStart, GivesUp, Closes, IsStep, IsAs, Shows, CyclesShow, IsRun, IsNew, plain_of, IsNoted, IsMissed as IsMissedPlain, NotBack, FellShort as FellShortAt, FallsShort, IsClosedAs, IsNotedAt, IsBegun as IsBegunPlain, PromisesIsQuiet as IsQuiet, unit_of_slave, is_of_unit, holds_of_unit, IsMade, HeadlineIsBegun as IsBegun, HasLost, IsUnderWay, HadTrouble, IsInOp, progress_at, variable_bit, output_bits, input_bits, GivesLess, unit_of, headline_unit_of_part as unit_of_part, Says, IsRead, HeadlineIsTaken as IsTaken, HeadlineFellShort as FellShort, Cause, ByLoss, ByEarlyClose, ByFallingShort, HeadlineIsMissed as IsMissed, ListsUnits, CloseShows, HeadlineLaw, EachIsPromised, same_progress, none_some, some_same, plain_frame, some_of, HeadlineShows}
+use Rattle.ec_world.proofs.Words.{ℕ, zero, suc, ◌+◌, ◌*◌, ◌<◌, ◌≤◌, ◌≡◌, ◌≢◌, ◌==◌, ◌||◌, Bool, true, false, Option, Some, None, refl, sym, ◌∙◌, ap, subst, inl, inr, arith, List, [], ◌∷◌, ◌++◌, length, map, get_or, if◌then◌else◌, option_map, option_and_then, slice_get, option_map_or, AllByRecursion, bit_at, cases_Bool, cases_lt, cases_eq, and_from, or_left, or_right, or_cases, lt-ltb, ltb-true, eq-eqb, true≢false, append_assoc, list_get_or-map as get_or-map, length-map, length-replicate, slice_get-get_or, bit_at_above, bit, bytes_of_bits, if_true, if_false, bits_number-lt, bit_at-bits_number, Identity, Buffer, SlaveState, inputs_of, published, Direction, Out, In, SlaveRow, Contents, Variable, Share, SlavePlan, has_outs, has_ins, predicted, unit_of_part as unit_of_plain, IsLinked, is_out, image_from, IsPair, AreItsLinks, Meaning, Linked, meaning, share_of, in_source, slave_at as settings_of, PlanState, plan_of, part_of, part_at, IsUsable, IsInImage, HasBit, IsPlaced, linked_inputs, variables_are_placed, linked_bits_are_there, plan_sound, links_are_the_tables, lists_units, bits_are_apart, ReportState, MasterState, OpenCycle, KeptPart, value_at, value_of, Event, StartNext, Set, Begin, Pass, Lose, Return, Close, Serve, AppPut, AppGet, Fault, ResetSlave, Progress, Plain, PlainSlave, PlainFrame, Health, Faulted, Reset, Note, Short, Full, Cycle, unit_full, giving, step, run, frame_at, plain_slave, progress_of, met_note, WorldState, slave_of, is_up, ByStart, GivesUp, Closes, IsStep, IsAs, Shows, CyclesShow, IsRun, IsNew, plain_of, IsNoted, IsMissed as IsMissedPlain, NotBack, FellShort as FellShortAt, FallsShort, IsClosedAs, IsNotedAt, IsBegun as IsBegunPlain, PromisesIsQuiet as IsQuiet, unit_of_slave, is_of_unit, holds_of_unit, IsMade, HeadlineIsBegun as IsBegun, HasLost, IsUnderWay, HadTrouble, IsInOp, progress_at, variable_bit, output_bits, input_bits, GivesLess, unit_of, headline_unit_of_part as unit_of_part, Says, IsRead, HeadlineIsTaken as IsTaken, HeadlineFellShort as FellShort, Cause, ByLoss, ByEarlyClose, ByFallingShort, HeadlineIsMissed as IsMissed, ListsUnits, CloseShows, HeadlineLaw, EachIsPromised, same_progress, none_some, some_same, plain_frame, some_of, HeadlineShows}
 use Rattle.ec_world.proofs.CloseLaws.{unit_is as part_unit}
 use Rattle.ec_world.proofs.Origins.{made_later, preceded}
 use Rattle.ec_link.specs.Sound as link
@@ -14,6 +14,8 @@ use Rattle.ec_world.proofs.Disturbed.{in_parts, quiet_law, spoiled_not_full, in_
 use Rattle.ec_world.proofs.Quiet.{Away}
 use Rattle.ec_world.proofs.Located.{Place, IsKept, OnItsWay, Lost, LostAt, located}
 use Rattle.ec_world.proofs.Sized.{run_same}
+use Rattle.ec_world.proofs.Buffers.{published_is}
+use Rattle.ec_world.proofs.OtherEvents.{never_starts, set_shows, begin_shows, return_shows, serve_shows, put_shows, get_shows, fault_shows, reset_shows}
 use Rattle.ec_world.proofs.Troubles.{without_start, extended, falls}
 
 -- ---- events behind the beginning of a cycle
@@ -158,7 +160,7 @@ module _ (t : Contents) (ids : List Identity) (old : WorldState) (events : List 
   variables_v = ap (λ (x : PlanState). x.variables) same_plan ∙ variables_w
 
   sized : length w.master.inputs ≡ bytes_of_bits (plan_of t).in_bits
-  sized = (run_same old events w made h).0 ∙ (ap (λ (x : WorldState). length x.master.inputs) n.is ∙ length-replicate {A = ℕ} (bytes_of_bits (plan_of t).in_bits) 0)
+  sized = (run_same old events w made h).inputs ∙ (ap (λ (x : WorldState). length x.master.inputs) n.is ∙ length-replicate {A = ℕ} (bytes_of_bits (plan_of t).in_bits) 0)
 
   -- a linked bit of an input variable
   pub record BitIn (x y i o : ℕ) : Type 0 where
@@ -242,8 +244,8 @@ module _ (t : Contents) (ids : List Identity) (old : WorldState) (events : List 
       some : has_ins (share_of M i) ≡ true
       some = ap (λ (z : Meaning). has_ins (share_of z i)) (sym same_meaning) ∙ (ap (λ (z : Share). has_ins z) (share_is w.plan i) ∙ lt-ltb 0 (settings_of w.plan i).share.ins (let z = e.some in omega (arith, z)))
 
-      held : inputs_of (slave_of at.event.at i) ≡ q.inputs.published
-      held = inputs_held i (settings_of at.event.at.plan i) (slave_of at.event.at i) q q.health (at.shows.slaves i (let z = ap (λ (x : PlanState). length x.slaves) at.plan in let y = e.slave in omega (arith, y, z)))
+      held : published (slave_of at.event.at i) 3 ≡ q.inputs.published
+      held = published_is (slave_of at.event.at i) 3 ∙ inputs_held i (settings_of at.event.at.plan i) (slave_of at.event.at i) q q.health (at.shows.slaves i (let z = ap (λ (x : PlanState). length x.slaves) at.plan in let y = e.slave in omega (arith, y, z)))
           (noted_on M i np.frame q r.0 np.is some)
 
   -- ---- why a unit isn't taken
@@ -549,6 +551,10 @@ module _ (t : Contents) (ids : List Identity) (old : WorldState) (events : List 
     counters = λ k l own. (
         let r = closed.counted k (let z = ap (λ (x : PlanState). length x.parts) s.plan_kept in omega (arith, l, z)) (ap (unit_full m c) (unit_part k ∙ own) ∙ full) in
         r.told ∙ ap (λ z. Some z) (r.counters ∙ ap (λ (x : PlanState). predicted x k) s.plan_kept));
+    broadcasts = λ k l own. (
+        let r = closed.counted k (let z = ap (λ (x : PlanState). length x.parts) s.plan_kept in omega (arith, l, z)) (ap (unit_full m c) (unit_part k ∙ own) ∙ full) in
+        ap (option_and_then (λ (o : OpenCycle). option_map (λ (q : KeptPart). q.broadcast) (get_or o.kept k None))) closed.was_open
+        ∙ (ap (option_map (λ (q : KeptPart). q.broadcast)) r.back ∙ ap (λ (n : ℕ). Some n) (let b = r.broadcast in let z = ap (λ (x : PlanState). length x.slaves) s.plan_kept in let y = sound.as_many in omega (arith, b, z, y))));
     no_cause = no_cause u full;
   }
 
@@ -582,9 +588,18 @@ module _ (t : Contents) (ids : List Identity) (old : WorldState) (events : List 
 -- ---- the headline as one law, and over the events of a list
 
 pub headline_law : HeadlineLaw
+headline_law t ids old events w made n h up StartNext v does = never_starts w v up does
+headline_law t ids old events w made n h up (Set x value) v does = set_shows t ids old events w made n h up v x value does
+headline_law t ids old events w made n h up Begin v does = begin_shows w v does
 headline_law t ids old events w made n h up (Pass k) v does = headline_outputs t ids old events w made n h up k v does
+headline_law t ids old events w made n h up (Lose k) v does = does.happens refl
+headline_law t ids old events w made n h up (Return k) v does = return_shows t ids old events w made n h up v k does
 headline_law t ids old events w made n h up Close v does = close_shows t ids old events w made n h up v does
-headline_law t ids old events w made n h up _ v does = tt
+headline_law t ids old events w made n h up (Serve s) v does = serve_shows t ids old events w made n h up v s does
+headline_law t ids old events w made n h up (AppPut s i byte) v does = put_shows t ids old events w made n h up v s i byte does
+headline_law t ids old events w made n h up (AppGet s i) v does = get_shows t ids old events w made n h up v s i does
+headline_law t ids old events w made n h up (Fault s) v does = fault_shows t ids old events w made n h up v s does
+headline_law t ids old events w made n h up (ResetSlave s) v does = reset_shows t ids old events w made n h up v s does
 
 -- ---- over a list of events
 

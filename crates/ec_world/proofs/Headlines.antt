@@ -5,6 +5,8 @@ use Rattle.ec_link.specs.Sound as link
 use Rattle.ec_world.proofs.FrameSteps.{has_met, same_way}
 use Rattle.ec_world.proofs.Knowing.{share_is}
 use Rattle.ec_world.proofs.Mapped.{for_bits, some_bits, no_bits, unset, third_held, holds_mapped, set_for_outs}
+use Rattle.ec_world.proofs.AppSteps.{two_there}
+use Rattle.ec_world.proofs.Buffers.{only_publishes}
 use Rattle.ec_world.proofs.StepLaws.{runs_show, steps_show}
 use Rattle.ec_world.proofs.Whole.{new-rises, new-low}
 use Rattle.ec_world.proofs.Promising.{linked as linked_exactly}
@@ -379,7 +381,7 @@ headline_outputs t ids old events w made n h up k v does f at = subst (λ (g : P
   begun = begun;
   shows = λ op own. shows_linked t n.sound n.accepted w.plan s.plan_kept begun.event.at v u o.here variables_then
       (λ some. (showing_in op own).shown some ∙ ap (linked_outputs m u) snapshot) (showing_in op own).nothing;
-  slave = λ op own. (showing_in op own).is;
+  slave = λ op own. only_publishes (slave_of w u) (outputs_shown (slave_of v u)) (slave_of v u) (let n = two_there u (settings_of w.plan u) (slave_of w u) q (listed w.plan s.still_usable u o.here) (works_in op).holds in omega (arith, n)) (showing_in op own).is;
   untouched = λ out. o.slave ∙ if_false _ _ _ (not_wrote m u g q (λ works same. out (works_op w p u s.shown o.here works) (part_here ∙ same)));
   others = o.others;
   goes_on = o.goes_on;
@@ -446,8 +448,10 @@ headline_outputs t ids old events w made n h up k v does f at = subst (λ (g : P
     value : List ℕ
     value = linked_outputs m u g.snapshot
 
+    works_in : IsInOp w u → IsWorking u (settings_of w.plan u) (slave_of w u) q
+    works_in op = subst (λ (x : Health). IsAs u (settings_of w.plan u) (slave_of w u) q x) (op_works w p u s.shown o.here op) (s.shown.slaves u o.here)
+
     showing_in : IsInOp w u → part_of (plan_of t) u ≡ g.part → Showing w.plan u (slave_of w u) value (slave_of v u)
     showing_in op own =
-        let works : q.health ≡ Working = op_works w p u s.shown o.here op in
-        showing w.plan u (slave_of w u) q value (slave_of v u) s.still_usable o.here (subst (λ (x : Health). IsAs u (settings_of w.plan u) (slave_of w u) q x) works (s.shown.slaves u o.here))
-        (o.slave ∙ (in_op_left m u g q (slave_of w u) works (sym part_here ∙ own) ∙ ap (λ (z : ℕ). if nat_lt 0 z then with_outputs (slave_of w u) value else slave_of w u) share))
+        showing w.plan u (slave_of w u) q value (slave_of v u) s.still_usable o.here (works_in op)
+        (o.slave ∙ (in_op_left m u g q (slave_of w u) (op_works w p u s.shown o.here op) (sym part_here ∙ own) ∙ ap (λ (z : ℕ). if nat_lt 0 z then with_outputs (slave_of w u) value else slave_of w u) share))

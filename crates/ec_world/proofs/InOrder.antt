@@ -21,7 +21,7 @@ pub record Stayed (base p : Plain) : Type 0 where
   pub past : base.next ≤ p.next
   pub each : (k : ℕ) (f : PlainFrame) → frame_at p k ≡ Some f → f.number < base.next → Was base k f
 
-stayed_step : (base : Plain) (m : Meaning) (p : Plain) (e : Event) (q : Plain) → step m p e ≡ Some q → Stayed base p → Stayed base q
+pub stayed_step : (base : Plain) (m : Meaning) (p : Plain) (e : Event) (q : Plain) → step m p e ≡ Some q → Stayed base p → Stayed base q
 stayed_step base m p e q h c = record { past = omega (arith, c.past, next_left m p e q (leaves m p e q h)); each = by (leaves m p e q h) }
   where
     by : Leaves m p e q → (k : ℕ) (f : PlainFrame) → frame_at q k ≡ Some f → f.number < base.next → Was base k f

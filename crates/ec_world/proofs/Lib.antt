@@ -70,6 +70,10 @@ pub mod Origins
 pub mod Located
 -- a slave that is not in OP any more had a fault or a reset, and no start-up began since
 pub mod Troubles
+-- the buffers of a slave's sync managers, as the headline names them
+pub mod Buffers
+-- the headline of the events that are neither a pass nor a close
+pub mod OtherEvents
 -- the headline of a close, of what a world's calls show
 pub mod HeadlineInputs
 -- a cycle of the plain machine that nothing disturbs
@@ -84,7 +88,9 @@ pub mod ComingUp
 pub mod CycleMade
 -- frames keep their order
 pub mod InOrder
--- the image of the inputs keeps its length, and there are as many slots as before, in every run of every world
+-- a cycle is begun once, and a frame passes a slave once
+pub mod Once
+-- the images keep their lengths, and there are as many slots as before, in every run of every world
 pub mod Sized
 -- a linked bit of a variable, as a bit of the image
 pub mod Headlines

@@ -1,7 +1,8 @@
 -- What the headline names as a cause does keep a unit from being taken.
-use Rattle.ec_world.proofs.Words.{ℕ, ◌+◌, ◌<◌, ◌≡◌, Bool, true, false, Some, None, refl, sym, ◌∙◌, ap, subst, inl, inr, arith, List, [], ◌∷◌, ◌++◌, length, is_some, if◌then◌else◌, get_or-set_same, unwrap_or, Option, get_or, set, option_map, cases_Bool, and_from, lt-ltb, eq-eqb, true≢false, Identity, SafeOp, Op, if_true, faults, SlaveState, faulted, Contents, Share, unit_of_part as unit_of_plain, has_outs, Meaning, meaning, share_of, slave_at as settings_of, PlanState, plan_of, plan_sound, Event, Begin, Lose, Close, Fault, Pass, Return, ResetSlave, Progress, Faulted, Cycle, unit_full, step, run, plain_slave, with_slot, Plain, PlainSlave, PlainFrame, Health, Working, Reset, Full, frame_at, moved, keeping, new_frames, met_slave, may_pass, may_return, all_progress, progress_of, linked_outputs, WorldState, slave_of, no_slave, flight_at, is_up, is_slave, with_slave, IsStep, PromisesIsQuiet as IsQuiet, is_of_unit, holds_of_unit, unit_of_slave, IsNoted, IsNotedAt, disturbs, unit_of, headline_unit_of_part as unit_of_part, output_bits, IsInOp, variable_bit, input_bit, ShowsLinked, IsSpoiled, LossLaw, EarlyLaw, ShortLaw, cycle_of, Rests, IsExchanged, UndisturbedLaw, list_all, length-map, bit, Buffer, outputs_shown, inputs_of, In, PartPlan, image_from, IsLinked, IsUsable, IsAs, IsRun, none_some}
+use Rattle.ec_world.proofs.Words.{ℕ, ◌+◌, ◌<◌, ◌≡◌, Bool, true, false, Some, None, refl, sym, ◌∙◌, ap, subst, inl, inr, arith, List, [], ◌∷◌, ◌++◌, length, is_some, if◌then◌else◌, get_or-set_same, unwrap_or, Option, get_or, set, option_map, cases_Bool, and_from, lt-ltb, eq-eqb, true≢false, Identity, SafeOp, Op, if_true, faults, SlaveState, faulted, Contents, Share, unit_of_part as unit_of_plain, has_outs, Meaning, meaning, share_of, slave_at as settings_of, PlanState, plan_of, plan_sound, Event, Begin, Lose, Close, Fault, Pass, Return, ResetSlave, Progress, Faulted, Cycle, unit_full, step, run, plain_slave, with_slot, Plain, PlainSlave, PlainFrame, Health, Working, Reset, Full, frame_at, moved, keeping, new_frames, met_slave, may_pass, may_return, all_progress, progress_of, linked_outputs, WorldState, slave_of, no_slave, flight_at, is_up, is_slave, with_slave, IsStep, PromisesIsQuiet as IsQuiet, is_of_unit, holds_of_unit, unit_of_slave, IsNoted, IsNotedAt, disturbs, unit_of, headline_unit_of_part as unit_of_part, output_bits, IsInOp, variable_bit, input_bit, ShowsLinked, IsSpoiled, LossLaw, EarlyLaw, ShortLaw, cycle_of, Rests, IsExchanged, UndisturbedLaw, list_all, length-map, bit, Buffer, outputs_shown, published, In, PartPlan, image_from, IsLinked, IsUsable, IsAs, IsRun, none_some}
 use Rattle.ec_world.proofs.CloseLaws.{unit_is as part_unit}
 use Rattle.ec_al.specs.Al as al
+use Rattle.ec_world.proofs.Buffers.{published_is}
 use Rattle.ec_world.proofs.Knowing.{share_is}
 use Rattle.ec_world.proofs.StepLaws.{runs_join}
 use Rattle.ec_world.proofs.Disturbed.{in_parts, quiet_law, in_op_whole}
@@ -274,8 +275,8 @@ module _ (t : Contents) (ids : List Identity) (w : WorldState) (r : Rests t ids 
           (round_there np.before np.behind (Pass np.slot) (subst (λ (es : List Event). list_all is_round es ≡ true) np.split (rounds_round N 0 K))).0
           (ap (λ (q : Plain). (plain_slave q i).inputs) b.is)
 
-      held : inputs_of (slave_of w i) ≡ (plain_slave p i).inputs.published
-      held = inputs_held i (settings_of w.plan i) (slave_of w i) (plain_slave p i) (plain_slave p i).health (b.shown.slaves i here)
+      held : published (slave_of w i) 3 ≡ (plain_slave p i).inputs.published
+      held = published_is (slave_of w i) 3 ∙ inputs_held i (settings_of w.plan i) (slave_of w i) (plain_slave p i) (plain_slave p i).health (b.shown.slaves i here)
           (λ reset. let f : Working ≡ Reset = sym (works i (let g = b.shown.plain_count in omega (arith, here, g))) ∙ reset in cc)
 
   -- ---- outputs

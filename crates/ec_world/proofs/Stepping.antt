@@ -8,7 +8,7 @@ use Rattle.ec_al.specs.Al as al
 there-is : (s n : ℕ) (b : Bool) → s < n → (nat_lt s n && b) ≡ b
 there-is s n b l = ap (λ x. x && b) (lt-ltb s n l)
 
-same-slave : (w : WorldState) (s : ℕ) (t : SlaveState) → t ≡ slave_of w s → with_slave w s t ≡ w
+pub same-slave : (w : WorldState) (s : ℕ) (t : SlaveState) → t ≡ slave_of w s → with_slave w s t ≡ w
 same-slave w s t e = ap (λ x. with_slave w s x) e ∙ ap (λ xs. record w { slaves = xs }) (set-get_or w.slaves s no_slave)
 
 -- the slave that is lent

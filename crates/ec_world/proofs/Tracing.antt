@@ -101,7 +101,7 @@ met_leaves h m s f q same = elim ((share_of m s).part == f.part) as (λ b. h (if
     took Working = elim (has_outs (share_of m s)) as (λ b. h (if b then record q { outputs = publishing q.outputs (linked_outputs m s f.snapshot) } else q) ≡ h q) [ true ↦ same _ | false ↦ refl ]
     took _ = refl
 
-is_in_op : (h : Health) → is_working h ≡ true → h ≡ Working
+pub is_in_op : (h : Health) → is_working h ≡ true → h ≡ Working
 is_in_op Working e = refl
 is_in_op _ e = absurd (let z : false ≡ true = e in cc)
 

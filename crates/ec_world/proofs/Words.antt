@@ -79,7 +79,7 @@ pub use Rattle.ec_cycle.proofs.ProcessBits.{outputs_by_source}
 pub use Rattle.ec_world.specs.AlWords.{said_by, IsHeard, AreHeard, PartSays, IsNotBack, IsBack, WordShows, WordLaw, OpWordLaw}
 pub use Rattle.ec_world.specs.Exchanging.{given_in, slave_left, given_by}
 pub use Rattle.ec_world.specs.FrameShows.{note_at, GaveAs, DatagramsShow, KeptShows, ShowsData, FrameShows, out_bit}
-pub use Rattle.ec_world.specs.Headline.{HeadlineShows, Says, IsMade, IsBegun as HeadlineIsBegun, HasLost, IsUnderWay, HadTrouble, IsInOp, progress_at, variable_bit, output_bits, input_bits, GivesLess, unit_of, unit_of_part as headline_unit_of_part, IsRead, IsTaken as HeadlineIsTaken, FellShort as HeadlineFellShort, Cause, ByLoss, ByEarlyClose, ByFallingShort, IsMissed as HeadlineIsMissed, ListsUnits, CloseShows, HeadlineLaw, EachIsPromised, ShowsLinked, PassShows, HasPassed as HeadlineHasPassed, IsRunWithoutStart, begins_start, input_bit}
+pub use Rattle.ec_world.specs.Headline.{HeadlineShows, Says, IsMade, IsBegun as HeadlineIsBegun, HasLost, IsUnderWay, HadTrouble, IsInOp, progress_at, variable_bit, output_bits, input_bits, GivesLess, unit_of, unit_of_part as headline_unit_of_part, IsRead, IsTaken as HeadlineIsTaken, FellShort as HeadlineFellShort, Cause, ByLoss, ByEarlyClose, ByFallingShort, IsMissed as HeadlineIsMissed, ListsUnits, CloseShows, HeadlineLaw, EachIsPromised, ShowsLinked, PassShows, HasPassed as HeadlineHasPassed, IsRunWithoutStart, begins_start, input_bit, variable, buffer_of, published, with_buffer, OnlyPublishes, broadcast_at, SetShows, TouchShows, PutShows, FallShows}
 pub use Rattle.ec_world.specs.Held.{AreFrames, cycle_frames, AreOfPlan, IsAnswered, IsTakenIn, IsHandedIn}
 pub use Rattle.ec_world.specs.Laws.{IsRun, BringsWord, notes_round, SlavesFrom, RoundTrip, word_past, in_op, CycleLaw, StepsShow, RunsShow, RunsJoin, StepShows}
 pub use Rattle.ec_world.specs.Lengths.{IsOfLength}
@@ -87,7 +87,7 @@ pub use Rattle.ec_world.specs.NewWorld.{IsTurn, AreTurns, BringUp, IsToStart, Is
 pub use Rattle.ec_world.specs.Plain.{Plain, PlainSlave, Health, Working, Faulted, Reset, plain_slave, no_plain_slave, is_working, failing, restarting, at_slave, is_reset, got_byte, PlainFrame, Cycle, unit_full, step, run, frame_at, filled, new_frames, progress_of, moved, keeping, with_note, met_note, all_progress, is_older, lets_by, may_pass, may_return, Note, Other, Short, Full, is_full, all_full, noted_bit, notes_of_part, taken_bit, inputs_taken, linked_outputs, with_slot, giving, met_slave, passing, losing, taking, setting, beginning, closing, Closed, returning}
 pub use Rattle.ec_world.specs.Promises.{IsBegun, IsClosedAs, IsCounted, FallsShort, QuietLaw, unit_of_slave, is_of_unit, holds_of_unit, still_comes, is_awaited, disturbs, IsNoted, IsMissed, NotBack, FellShort, IsNotedAt, IsQuiet as PromisesIsQuiet, AreLinked, SnapshotsLaw, WorkingLaw, has_outputs_for, IsPublished, OutputsLaw, NotesLaw, InputsLaw, PublishedLaw, TakenLaw, HasNoFrame}
 pub use Rattle.ec_world.specs.Rising.{Rising, SlotsHold, seen_of, IsInSlot}
-pub use Rattle.ec_world.specs.RunLaws.{OrderLaw, OneOutcomeLaw, TroubleLaw}
+pub use Rattle.ec_world.specs.RunLaws.{OrderLaw, OneOutcomeLaw, TroubleLaw, BegunOnceLaw, PassedOnceLaw}
 pub use Rattle.ec_world.specs.Shows.{Shows, CyclesShow, CycleShows, said, CountersPredicted, ReportShows}
 pub use Rattle.ec_world.specs.SlaveShows.{IsQuiet, Holds, IsWorking, IsFaulted, IsReset, IsAs, SlaveShows, HoldsData}
 pub use Rattle.ec_world.specs.Slots.{HavePassed, AreInUse, way_behind, AreFreeFrom, HasPassed, HasWay, no_end, HoldsFrame}

@@ -1,17 +1,29 @@
--- The headline: what is promised of a segment under this master, over what a world's calls show. Who believes this page needs no
--- other page on how it is done: nothing here of addresses, FMMUs, registers, datagrams or what counters mean.
--- Read with it: which bits a table links (`IsLinked`, ec_link's LinkRuns), what a run of events is (`IsRun`, Laws) and what a new
--- world is (`IsNew`, Whole). Events and their order are those of the list that the calls of `World` were given; "made" is
--- what `World::step` answered.
-use Rattle.std.specs.Prelude.{ℕ, ◌+◌, ◌<◌, ◌≡◌, ◌≢◌, ◌⊎◌, ◌==◌, ◌&&◌, List, [], ◌∷◌, ◌++◌, length, get_or, Bool, true, false, Option, Some, None, option_map, slice_get}
+-- The headline: what is promised of a segment under this master, over what a world's calls return. Nothing here is about logical
+-- addresses, FMMUs, registers, datagrams or how counters come about. Events and their order are those of the list that the calls
+-- of `World` were given; an event is made if `World::step` returned true.
+--
+-- The words of other pages. Calls of `World` return: `IsNew` (`new`, Whole), `IsStep` and `WorldState` (`step`, World), `IsRun`
+-- (`run`, Laws), `slave_of` (`slave`), `is_up` (`is_ready`), `flight_at` and `flight_progress` (`progress`), `value_at` (`input`,
+-- ec_cycle's Master), `outputs_shown` (`outputs`, ec_slave's Application), `ReportState` (`report`, ec_cycle's Closing). Calls of a
+-- plan return: `plan_of` (`compile`), `part_of`, `part_at` (`unit_of_part`), `predicted` (all in ec_link's Plan and Shares).
+-- To look up:
+-- * which bits a table links: `IsLinked` (ec_link's LinkRuns), and in what order the bits of a slave's objects are counted:
+--   `object_bits` (ec_table's Objects, ec_device's Objects), over a table's rows (`Contents`);
+-- * when a start-up is at its first frame: `is_beginning` (ec_bringup's Runs) and `resumed` (World);
+-- * what a slave, its sync managers and an open cycle are as values: `SlaveState`, `SyncManager`, `Buffer`, `OpenCycle`,
+--   `KeptPart`; and of bits in bytes `bit`, `bit_at` and `bytes_of_bits`.
+use Rattle.std.specs.Prelude.{ℕ, ◌+◌, ◌<◌, ◌≡◌, ◌≢◌, ◌⊎◌, ◌==◌, ◌&&◌, List, [], ◌∷◌, ◌++◌, length, get_or, set, Bool, true, false, Option, Some, None, option_map, option_and_then, slice_get}
 use Rattle.std.specs.Option.{option_map_or}
 use Rattle.std.specs.List.{Contains}
 use Rattle.std.specs.Int.{bit_at}
 use Rattle.ec_bits.specs.Bits.{bit, bytes_of_bits}
 use Rattle.ec_device.specs.declared.slave_type.Identity.{Identity}
+use Rattle.ec_sync.specs.Buffer.{Buffer}
+use Rattle.ec_sync.specs.SyncManager.{SyncManager}
+use Rattle.ec_al.specs.declared.state.State.{State}
 use Rattle.ec_al.specs.declared.state.State.TheVariants.{Init, SafeOp, Op}
+use Rattle.ec_slave.specs.State.{SlaveState}
 use Rattle.ec_slave.specs.Application.{outputs_shown}
-use Rattle.ec_slave.specs.Exchange.{with_outputs, inputs_of}
 use Rattle.ec_table.specs.declared.rows.Direction.TheVariants.{Out, In}
 use Rattle.ec_table.specs.declared.rows.SlaveRow.{SlaveRow}
 use Rattle.ec_table.specs.Contents.{Contents}
@@ -19,11 +31,11 @@ use Rattle.ec_table.specs.Objects.{object_bits}
 use Rattle.ec_link.specs.LinkRuns.{IsLinked}
 use Rattle.ec_link.specs.Shares.{predicted}
 use Rattle.ec_link.specs.Plan.{plan_of, part_of, part_at}
-use Rattle.ec_cycle.specs.Closing.{ReportState}
+use Rattle.ec_cycle.specs.Closing.{KeptPart, ReportState}
 use Rattle.ec_cycle.specs.Master.{OpenCycle, value_at}
 use Rattle.ec_bringup.specs.Runs.{is_beginning}
 use Rattle.ec_world.specs.declared.event.Event.{Event}
-use Rattle.ec_world.specs.declared.event.Event.TheVariants.{StartNext, Begin, Pass, Lose, Close, Fault, Reset}
+use Rattle.ec_world.specs.declared.event.Event.TheVariants.{StartNext, Set, Begin, Pass, Lose, Return, Close, Serve, AppPut, AppGet, Fault, Reset}
 use Rattle.ec_world.specs.declared.progress.Progress.{Progress}
 use Rattle.ec_world.specs.World.{WorldState, slave_of, flight_at, flight_progress, is_up, resumed, IsStep}
 use Rattle.ec_world.specs.Laws.{IsRun}
@@ -33,9 +45,19 @@ use Rattle.ec_world.specs.Whole.{IsNew}
 -- A world is looked at through its calls, and its slaves by what they show: the bits of a variable, the bits of the outputs that
 -- a slave has published, the bits of the inputs that its application has published, its state, and where the frame in a slot is.
 
--- `World::input`: bit b of variable x
+-- `World::input`: the value of variable x, and bit b of it
+abbrev pub variable : WorldState → ℕ → ℕ
+variable w x = value_at w.master (slice_get w.master.plan.variables x)
+
 abbrev pub variable_bit : WorldState → ℕ → ℕ → Bool
-variable_bit w x b = bit_at (value_at w.master (slice_get w.master.plan.variables x)) b == 1
+variable_bit w x b = bit_at (variable w x) b == 1
+
+-- the buffer of sync manager n of a slave, and what was published last in it; sync manager 2 has the outputs, and 3 the inputs
+abbrev pub buffer_of : SlaveState → ℕ → Option Buffer
+buffer_of s n = option_map (λ (m : SyncManager). m.buffer) (slice_get s.managers n)
+
+abbrev pub published : SlaveState → ℕ → List ℕ
+published s n = option_map_or (λ (b : Buffer). b.published) (buffer_of s n) []
 
 -- `World::outputs`: bit o of the outputs that slave s published last
 abbrev pub output_bit : WorldState → ℕ → ℕ → Bool
@@ -43,7 +65,7 @@ output_bit w s o = bit (outputs_shown (slave_of w s)) o
 
 -- bit o of the inputs that the application of slave s published last: the value of its sync manager 3
 abbrev pub input_bit : WorldState → ℕ → ℕ → Bool
-input_bit w s o = bit (inputs_of (slave_of w s)) o
+input_bit w s o = bit (published (slave_of w s) 3) o
 
 -- `World::progress`: the number and the part of the frame in a slot, and how many slaves it has passed
 abbrev pub progress_at : WorldState → ℕ → Option Progress
@@ -52,6 +74,14 @@ progress_at w k = option_map flight_progress (flight_at w k)
 -- the AL state of slave s is OP
 abbrev pub IsInOp : WorldState → ℕ → Type 0
 IsInOp w s = (slave_of w s).al.state ≡ Op
+
+-- slave s with buffer b in its sync manager n, and all else as it is
+abbrev pub with_buffer : SlaveState → ℕ → Buffer → SlaveState
+with_buffer s n b = option_map_or (λ (m : SyncManager). record s { managers = set s.managers n (record m { buffer = b }) }) (slice_get s.managers n) s
+
+-- slave s is now this one, and nothing else of the world changes: no other slave, no variable, no frame
+abbrev pub with_slave : WorldState → ℕ → SlaveState → WorldState
+with_slave w s x = record w { slaves = set w.slaves s x }
 
 -- ---- 2. What the table says
 -- Each slave is in one sync unit. A cycle sends one frame for each part of the plan; a part is of one unit, and each slave is
@@ -89,12 +119,12 @@ pub record IsMade (old : WorldState) (events : List Event) (new : WorldState) (e
   pub step : IsStep at e next true
   pub onward : IsRun next behind new rest
 
--- the cycle with this number was begun: each Begin has the next number, so no number comes twice
+-- the cycle with this number was begun, which happens once (`BegunOnceLaw`, RunLaws)
 pub record IsBegun (old : WorldState) (events : List Event) (new : WorldState) (number : ℕ) : Type 0 where
   pub event : IsMade old events new Begin
   pub number_is : event.at.master.next ≡ number
 
--- the frame of a part, of the cycle with this number, passed slave s
+-- the frame of a part, of the cycle with this number, passed slave s, which happens once (`PassedOnceLaw`, RunLaws)
 pub record HasPassed (old : WorldState) (events : List Event) (new : WorldState) (number part s : ℕ) : Type 0 where
   pub slot : ℕ
   pub event : IsMade old events new (Pass slot)
@@ -148,13 +178,19 @@ pub record ShowsLinked (t : Contents) (source w : WorldState) (s : ℕ) : Type 0
   pub unlinked : (o : ℕ) → ((x b : ℕ) → IsLinked t Out x b s o → ⊥) → output_bit w s o ≡ false
   pub size : length (outputs_shown (slave_of w s)) ≡ bytes_of_bits (output_bits t s)
 
+-- Slave `new` is slave `old`, with this value published in its sync manager n.
+pub record OnlyPublishes (old : SlaveState) (n : ℕ) (value : List ℕ) (new : SlaveState) : Type 0 where
+  pub buffer : Buffer
+  pub there : buffer_of old n ≡ Some buffer
+  pub is : new ≡ with_buffer old n (record buffer { published = value })
+
 -- Frame f in slot k passed slave f.passed. In OP and of the frame's part, the slave shows the linked bits of the world in which
 -- the cycle began, and nothing else of it changes; in another state, or of another part, it stays as it is. No other slave
 -- changes, no variable, no other slot, nothing else.
 pub record PassShows (t : Contents) (old : WorldState) (events : List Event) (w : WorldState) (k : ℕ) (f : Progress) (v : WorldState) : Type 0 where
   pub begun : IsBegun old events w f.number
   pub shows : IsInOp w f.passed → part_of (plan_of t) f.passed ≡ f.part → ShowsLinked t begun.event.at v f.passed
-  pub slave : IsInOp w f.passed → part_of (plan_of t) f.passed ≡ f.part → slave_of v f.passed ≡ with_outputs (slave_of w f.passed) (outputs_shown (slave_of v f.passed))
+  pub slave : IsInOp w f.passed → part_of (plan_of t) f.passed ≡ f.part → OnlyPublishes (slave_of w f.passed) 2 (outputs_shown (slave_of v f.passed)) (slave_of v f.passed)
   pub untouched : (IsInOp w f.passed → part_of (plan_of t) f.passed ≢ f.part) → slave_of v f.passed ≡ slave_of w f.passed
   pub others : (s : ℕ) → s ≢ f.passed → slave_of v s ≡ slave_of w s
   pub goes_on : progress_at v k ≡ Some (record { number = f.number; part = f.part; passed = f.passed + 1 })
@@ -204,12 +240,17 @@ pub record ListsUnits (t : Contents) (units : List ℕ) : Type 0 where
 abbrev pub Says : ReportState → ℕ → Bool → Type 0
 Says r u taken = (i : ℕ) → i < length r.units → get_or r.units i 0 ≡ u → slice_get r.taken i ≡ Some taken
 
+-- how many slaves the broadcast in the frame of part k counted, of the open cycle, where that frame is back
+abbrev pub broadcast_at : WorldState → ℕ → Option ℕ
+broadcast_at w k = option_and_then (λ (c : OpenCycle). option_map (λ (p : KeptPart). p.broadcast) (get_or c.kept k None)) w.master.cycle
+
 -- Unit u is taken: every linked input bit of its slaves was read in this cycle, each of its parts came back with the working
--- counters that the plan predicts, and there is no cause against it.
+-- counters that the plan predicts, its broadcast counted every slave, and there is no cause against it.
 pub record IsTaken (t : Contents) {old : WorldState} {events : List Event} {w : WorldState} {number : ℕ} (begun : IsBegun old events w number) (v : WorldState) (r : ReportState) (u : ℕ) : Type 0 where
   pub said : Says r u true
   pub inputs : (x b s o : ℕ) → IsLinked t In x b s o → unit_of t s ≡ u → IsRead t begun v x b s o
   pub counters : (k : ℕ) → k < length (plan_of t).parts → unit_of_part t k ≡ u → get_or r.counters k None ≡ Some (predicted (plan_of t) k)
+  pub broadcasts : (k : ℕ) → k < length (plan_of t).parts → unit_of_part t k ≡ u → broadcast_at w k ≡ Some (length t.slaves)
   pub no_cause : Cause t begun u → ⊥
 
 -- Unit u is not taken: no linked input bit of its slaves changes, and there is a cause.
@@ -232,15 +273,51 @@ pub record CloseShows (t : Contents) (old : WorldState) (events : List Event) (w
   pub unlinked : (x b : ℕ) → ((s o : ℕ) → IsLinked t In x b s o → ⊥) → variable_bit v x b ≡ variable_bit w x b
   pub rest : v ≡ record w { master = record w.master { inputs = v.master.inputs; cycle = None }; report = v.report }
 
--- ---- 7. The law
+-- ---- 7. The other events
+-- What they leave of variables, of slaves and of frames. A start-up that is Ready sends no frame more, and a firmware step of a
+-- slave changes nothing. Begin, Lose and Return touch no slave and no variable.
+
+-- Set gives variable x this value, and touches no other variable, no slave and no frame.
+pub record SetShows (w : WorldState) (x value : ℕ) (v : WorldState) : Type 0 where
+  pub value_is : variable v x ≡ value
+  pub others : (y : ℕ) → y ≢ x → variable v y ≡ variable w y
+  pub rest : v ≡ record w { master = record w.master { outputs = v.master.outputs } }
+
+-- Of slave s, only the buffer of its sync manager n changes; besides it, only the byte that was read last.
+pub record TouchShows (w : WorldState) (s n : ℕ) (got : Option ℕ) (v : WorldState) : Type 0 where
+  pub buffer : Buffer
+  pub rest : v ≡ record (with_slave w s (with_buffer (slave_of w s) n buffer)) { got = got }
+
+-- AppPut touches only the inputs of slave s. The byte behind which no other comes publishes them, with that byte; no other does.
+pub record PutShows (w : WorldState) (s i byte : ℕ) (v : WorldState) : Type 0 where
+  pub touches : TouchShows w s 3 w.got v
+  pub last : i + 1 ≡ length (published (slave_of w s) 3) → slice_get (published (slave_of v s) 3) i ≡ Some byte
+  pub kept : i + 1 ≢ length (published (slave_of w s) 3) → published (slave_of v s) 3 ≡ published (slave_of w s) 3
+
+-- Slave s falls into this state, and shows no output; nothing else changes: no other slave, no variable, no frame.
+pub record FallShows (w : WorldState) (s : ℕ) (state : State) (v : WorldState) : Type 0 where
+  pub state_is : (slave_of v s).al.state ≡ state
+  pub outputs : (o : ℕ) → output_bit v s o ≡ false
+  pub rest : v ≡ with_slave w s (slave_of v s)
+
+-- ---- 8. The law
 -- Of a new world of a table that `compile` accepts, after ANY events at whose end the start-up is Ready: one event more that is
 -- made. `World::step` ensures it of its event.
 
--- what a made event shows: a pass of a frame, a close
+-- what a made event shows
 abbrev pub HeadlineShows : Contents → WorldState → List Event → WorldState → Event → WorldState → Type 0
+HeadlineShows t old events w StartNext v = ⊥
+HeadlineShows t old events w (Set x value) v = SetShows w x value v
+HeadlineShows t old events w Begin v = v ≡ record w { master = record w.master { next = w.master.next + 1; cycle = v.master.cycle }; slots = v.slots }
 HeadlineShows t old events w (Pass k) v = (f : Progress) → progress_at w k ≡ Some f → PassShows t old events w k f v
+HeadlineShows t old events w (Lose k) v = v ≡ record w { slots = set w.slots k None }
+HeadlineShows t old events w (Return k) v = v ≡ record w { master = record w.master { cycle = v.master.cycle }; slots = set w.slots k None }
 HeadlineShows t old events w Close v = CloseShows t old events w v
-HeadlineShows t old events w e v = Unit {0}
+HeadlineShows t old events w (Serve s) v = v ≡ w
+HeadlineShows t old events w (AppPut s i byte) v = PutShows w s i byte v
+HeadlineShows t old events w (AppGet s i) v = TouchShows w s 2 v.got v × (published (slave_of v s) 2 ≡ published (slave_of w s) 2)
+HeadlineShows t old events w (Fault s) v = FallShows w s SafeOp v × ((o : ℕ) → input_bit v s o ≡ input_bit w s o)
+HeadlineShows t old events w (Reset s) v = FallShows w s Init v × ((o : ℕ) → input_bit v s o ≡ false)
 
 abbrev pub HeadlineLaw : Type 0
 HeadlineLaw =
@@ -248,7 +325,7 @@ HeadlineLaw =
     → IsNew t identities old → IsRun old events w made → is_up w.start ≡ true
     → (e : Event) (v : WorldState) → IsStep w e v true → HeadlineShows t old events w e v
 
--- ---- 8. The law over a list of events
+-- ---- 9. The law over a list of events
 -- `World::run` ensures the same of each event of its list, wherever the list is cut: the new world `first` came to world `old`
 -- by the events `past`, and the call came from there to world `new`.
 

@@ -1,9 +1,9 @@
 -- To be believed: what a world is and what is promised of it.
 
--- The promise, over what a world's calls show alone: who believes this page needs none of the others but the world as a value
--- (World), what a run is (Laws) and what a new world is (Whole).
+-- The promise, over what a world's calls return; its head names each word of another page that you need.
 pub mod Headline
--- what it leans on: a run has one outcome, frames keep their order, a flag means trouble
+-- what it leans on: a run has one outcome, a cycle is begun once, a frame passes a slave once, frames keep their order, a flag means
+-- trouble
 pub mod RunLaws
 -- a cycle that nothing disturbs, and one that each cause spoils
 pub mod Undisturbed

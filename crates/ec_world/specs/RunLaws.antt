@@ -1,4 +1,5 @@
--- What the headline leans on: a run has one outcome, frames keep their order, and a slave's flag means trouble.
+-- What the headline leans on: a run has one outcome, a cycle is begun once, a frame passes a slave once, frames keep their order, and
+-- a slave's flag means trouble.
 use Rattle.std.specs.Prelude.{ℕ, ◌<◌, ◌≡◌, List, length, true}
 use Rattle.ec_device.specs.declared.slave_type.Identity.{Identity}
 use Rattle.ec_table.specs.Contents.{Contents}
@@ -8,13 +9,25 @@ use Rattle.ec_world.specs.Plain.{is_older}
 use Rattle.ec_world.specs.World.{WorldState, is_up}
 use Rattle.ec_world.specs.Laws.{IsRun}
 use Rattle.ec_world.specs.Whole.{IsNew, no_trouble, flags_of}
-use Rattle.ec_world.specs.Headline.{HasPassed, HadTrouble}
+use Rattle.ec_world.specs.Headline.{IsBegun, HasPassed, HadTrouble}
 
 -- By the same events a new world comes to the same world, and as many of them are made.
 abbrev pub OneOutcomeLaw : Type 0
 OneOutcomeLaw =
     (t : Contents) (identities : List Identity) (old : WorldState) → IsNew t identities old → (events : List Event)
     → (w v : WorldState) (made count : ℕ) → IsRun old events w made → IsRun old events v count → (w ≡ v) × (made ≡ count)
+
+-- A cycle is begun once: two events that began the cycle with this number are one event of the list.
+abbrev pub BegunOnceLaw : Type 0
+BegunOnceLaw =
+    (t : Contents) (identities : List Identity) (old : WorldState) → IsNew t identities old → (events : List Event) (w : WorldState) (number : ℕ)
+    → (x y : IsBegun old events w number) → x.event.before ≡ y.event.before
+
+-- A frame passes a slave once: two events by which the frame of this cycle and part passed the slave are one event of the list.
+abbrev pub PassedOnceLaw : Type 0
+PassedOnceLaw =
+    (t : Contents) (identities : List Identity) (old : WorldState) (events : List Event) (w : WorldState) (made : ℕ) → IsNew t identities old → IsRun old events w made → is_up w.start ≡ true
+    → (more : List Event) (v : WorldState) (number part s : ℕ) (x y : HasPassed w more v number part s) → x.event.before ≡ y.event.before
 
 -- Of two frames that passed one slave, the older one passed it in the earlier event.
 abbrev pub OrderLaw : Type 0

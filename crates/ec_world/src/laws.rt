@@ -4,7 +4,7 @@ ghost use Rattle.ec_world.specs.Whole.{WholeLaw, CompiledLaw};
 ghost use Rattle.ec_world.specs.NewWorld.{NewLaw, MachineLaw, TurnLaw};
 ghost use Rattle.ec_world.specs.AlWords.{WordLaw, OpWordLaw};
 ghost use Rattle.ec_world.specs.Headline.{HeadlineLaw};
-ghost use Rattle.ec_world.specs.RunLaws.{OneOutcomeLaw, OrderLaw, TroubleLaw};
+ghost use Rattle.ec_world.specs.RunLaws.{OneOutcomeLaw, BegunOnceLaw, PassedOnceLaw, OrderLaw, TroubleLaw};
 ghost use Rattle.ec_world.specs.Undisturbed.{UndisturbedLaw, LossLaw, EarlyLaw, ShortLaw};
 ghost use Rattle.ec_world.specs.Promises.{OutputsLaw, SnapshotsLaw, NotesLaw, InputsLaw, PublishedLaw, WorkingLaw, TakenLaw, QuietLaw};
 
@@ -128,9 +128,10 @@ pub fn turns_of_a_script()
 /// is Ready: a cyclic frame that passes a slave in OP, of the frame's part, makes it show exactly the linked bits of the output
 /// variables as they were when the cycle began, and 0 elsewhere, and changes nothing else. A close takes each sync unit as a
 /// whole or not at all: either every linked input bit of the unit's slaves is the one that the slave had published as its frame
-/// passed it in this cycle, the working counters are the predicted ones, and the report says so; or no linked input bit of them
-/// changes, the report says so, and there is a cause: a frame of the unit was lost since the cycle began, or is under way, or
-/// passed a slave that gave less than its share, since it had a fault or was reset. Where there is a cause it is not taken.
+/// passed it in this cycle, the working counters are the predicted ones, the broadcasts counted every slave, and the report says
+/// so; or no linked input bit of them changes, the report says so, and there is a cause: a frame of the unit was lost since the
+/// cycle began, or is under way, or passed a slave that gave less than its share, since it had a fault or was reset. Where there
+/// is a cause it is not taken. Each other event touches only the slave or the variable that it names, or none.
 #[tactic(auto, using(crate::proofs::HeadlineInputs::headline_law))]
 pub fn headline()
     ensures { HeadlineLaw }
@@ -140,6 +141,16 @@ pub fn headline()
 #[tactic(auto, using(crate::proofs::OneOutcome::one_outcome))]
 pub fn runs_have_one_outcome()
     ensures { OneOutcomeLaw }
+{}
+
+/// A cycle is begun once: in a run of a new world no two begins have one number.
+pub fn cycles_begin_once()
+    ensures { BegunOnceLaw }
+{}
+
+/// A frame passes a slave once, of those that are on their way once the start-up is Ready.
+pub fn frames_pass_once()
+    ensures { PassedOnceLaw }
 {}
 
 /// Frames keep their order: of two that pass one slave, the older one passes it first.

@@ -119,7 +119,8 @@ impl<'p> World<'p> {
     ///
     /// Of a new world of an accepted table, once it is Ready: a cyclic frame that passes a slave in OP gives it exactly its linked
     /// outputs, as they were when the cycle began; a close takes each sync unit's inputs as a whole, or none of them and for a
-    /// cause.
+    /// cause. `Set` gives its variable the value, and touches no other variable and no slave. `AppPut`, `AppGet`, `Fault` and
+    /// `Reset` touch only their slave, and no variable; all other events touch no slave and no variable.
     ///
     /// From a world that shows a plain state it is made exactly where the plain machine makes it, and the world then shows the
     /// plain machine's next state. The plan stays.

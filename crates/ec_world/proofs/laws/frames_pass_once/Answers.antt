@@ -1,0 +1,5 @@
+use Rattle.ec_world.proofs.Once.{passed_once}
+use Rattle.ec_world.proofs.laws.frames_pass_once.Goals as goal
+
+pub returns : goal.returns
+returns c = passed_once
