@@ -143,7 +143,7 @@ module _ (t : Contents) (ids : List Identity) (old : WorldState) (events : List 
   o : PassedOn x.event.at (R x.event.before) x.slot f x.event.next
   o = passed_on x.event.at (R x.event.before) x.slot f x.event.next usable_x at_x x.frame x.event.step
 
-  moved : Progress
+  abbrev moved : Progress
   moved = record { number = o.frame.number; part = o.frame.part; passed = length o.frame.notes + 1 }
 
   now : (g : PlainFrame) × ((frame_at Q x.slot ≡ Some g) × (progress_of g ≡ moved))
