@@ -1,7 +1,7 @@
 -- A cycle is begun once, and a frame passes each slave once.
 use Rattle.ec_world.proofs.Words.{ℕ, ◌+◌, ◌<◌, ◌≤◌, ◌≡◌, Bool, true, false, Some, refl, sym, ◌∙◌, ap, subst, inl, inr, arith, List, [], ◌∷◌, ◌++◌, length, if◌then◌else◌, unwrap_or, cases_lt, append_assoc, IsUsable, Meaning, meaning, PlanState, StartState, MasterState, readied, Event, StartNext, Begin, Pass, Return, Close, AppPut, AppGet, Progress, Plain, PlainFrame, step, run, frame_at, progress_of, WorldState, awaits, is_up, ready_with, can_begin, Begins, Happens, IsStep, ByStart, StartReturns, Returns, GivesUp, Closes, Shows, IsRun, IsNew, plain_of, Contents, Identity, IsBegun as IsBegunPlain, HeadlineIsBegun as IsBegun, HeadlineHasPassed as HasPassed, BegunOnceLaw, PassedOnceLaw, first_same, rest_same, some_same, plain_frame}
 use Rattle.std.proofs.Math.Nat.{le-max_left}
-use Rattle.ec_world.proofs.Headlines.{Cut, cut, run_plan, Sees, sees, PassedOn, passed_on, free_slots}
+use Rattle.ec_world.proofs.Headlines.{cut, run_plan, Sees, sees, PassedOn, passed_on, free_slots}
 use Rattle.ec_world.proofs.Histories.{run_always, run_joins}
 use Rattle.ec_world.proofs.InOrder.{Was, Stayed, stayed_step}
 use Rattle.ec_world.proofs.OneOutcome.{one_outcome}
