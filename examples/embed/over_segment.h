@@ -28,7 +28,7 @@ static void serve(struct ecat_segment *slaves) {
     }
 }
 
-static void bring_up(struct ecat *m, struct ecat_segment *slaves) {
+static inline void bring_up(struct ecat *m, struct ecat_segment *slaves) {
     for (size_t len; (len = ecat_next(m, frame, sizeof frame)) != 0;) {
         must(ecat_segment_pass(slaves, frame, len), "a frame of the start-up passes");
         serve(slaves);
@@ -38,7 +38,7 @@ static void bring_up(struct ecat *m, struct ecat_segment *slaves) {
 }
 
 /* A cycle begins, and the frame of each part passes the slaves and is taken. */
-static void exchange(struct ecat *m, struct ecat_segment *slaves) {
+static inline void exchange(struct ecat *m, struct ecat_segment *slaves) {
     size_t missing = 1;
     int parts = ecat_begin(m);
     must(parts > 0, "a cycle begins");
@@ -50,7 +50,7 @@ static void exchange(struct ecat *m, struct ecat_segment *slaves) {
     must(missing == 0, "all parts are back");
 }
 
-static bool cycle(struct ecat *m, struct ecat_segment *slaves, uint16_t *al) {
+static inline bool cycle(struct ecat *m, struct ecat_segment *slaves, uint16_t *al) {
     size_t missing;
     exchange(m, slaves);
     serve(slaves);

@@ -1,5 +1,6 @@
 /* Every allocation of the library is refused in turn, from one on and one alone: an open is then refused by 1 and leaves the handle of
-   nothing (one alone it may do without), and no call after it asks for memory. Link it with -Wl,--wrap=malloc,--wrap=realloc.
+   nothing (one alone it may do without). No call between an open and a drop calls the allocator: these calls are counted, and there must
+   be none. Link it with -Wl,--wrap=malloc,--wrap=realloc,--wrap=free.
 
      refused TABLE */
 #include "over_segment.h"
@@ -8,15 +9,19 @@ void *__real_malloc(size_t size);
 void *__real_realloc(void *block, size_t size);
 void *__wrap_malloc(size_t size);
 void *__wrap_realloc(void *block, size_t size);
+void __real_free(void *block);
+void __wrap_free(void *block);
 
 /* How many more are granted; after that one is refused, or all. */
 static long granted = -1;
 static bool one_alone;
-/* How many were asked for, and refused. */
-static long asked, refused;
+/* How many were refused. */
+static long refused;
+/* How often the allocator was called: for a block, for a longer one, and to free one. */
+static long called;
 
 static bool refuses(void) {
-    asked++;
+    called++;
     if (granted < 0) return false;
     if (granted > 0) return granted-- < 0;
     if (one_alone) granted = -1;
@@ -28,6 +33,8 @@ void *__wrap_malloc(size_t size) { return refuses() ? NULL : __real_malloc(size)
 
 void *__wrap_realloc(void *block, size_t size) { return refuses() ? NULL : __real_realloc(block, size); }
 
+void __wrap_free(void *block) { called++; __real_free(block); }
+
 static bool is_refused(uint8_t number, void *at, const struct ecat_refusal *told) {
     must(number == 0 || (number == 1 && !at && !strcmp(told->name, "Memory") && told->count == 0), "an open is refused by 1");
     must(number == 0 || refused > 0, "only where an allocation was refused");
@@ -35,22 +42,38 @@ static bool is_refused(uint8_t number, void *at, const struct ecat_refusal *told
     return number == 1;
 }
 
-/* Opens a master and full slaves with so many allocations granted, and runs them where both are there; false where none was refused. */
+/* Each call of a master and of a segment but those that open and drop. */
+static void call_each(struct ecat *m, struct ecat_segment *slaves) {
+    uint8_t image[64], byte;
+    uint16_t al = 0;
+    bring_up(m, slaves);
+    must(cycle(m, slaves, &al) && cycle(m, slaves, &al) && al == 8, "cycles are taken");
+    must(ecat_set(m, 0, 1) && ecat_get(m, 0) == 1 && ecat_variable(m, "nothing") == -1, "variables are set and found");
+    must(ecat_outputs(m, image, 0) > 0 && ecat_inputs(m, image, sizeof image) > 0 && ecat_unit(m, 0) == 1, "there are images and a unit");
+    ecat_segment_get(slaves, 0, 0, &byte);
+    ecat_segment_put(slaves, 0, 0, 1);
+    ecat_segment_fault(slaves, 0);
+    must(ecat_segment_reset(slaves, 0) && ecat_segment_serve(slaves, 0), "a slave is switched off and on");
+    must(ecat_begin(m) > 0 && !ecat_take(m, image, sizeof image, NULL) && !ecat_close(m, NULL, &al), "a cycle without answers isn't taken");
+    must(ecat_next(m, frame, sizeof frame) == 0, "no frame of the start-up is left");
+    ecat_give_up(m);
+}
+
+/* Opens a master and full slaves with so many allocations granted, and calls them where both are there; false where none was refused. */
 static bool try_opens(size_t len, long grant, bool alone) {
     struct ecat m = {0};
     struct ecat_segment slaves = {0};
     struct ecat_refusal told;
-    uint16_t al = 0;
     granted = grant, one_alone = alone, refused = 0;
     bool is_over = is_refused(ecat_open(&m, table, len, &told), m.at, &told)
         || is_refused(ecat_segment_open(&slaves, table, len, true, &told), slaves.at, &told);
     long hits = refused;
     granted = -1;
     if (!is_over) {
-        long before = asked;
-        bring_up(&m, &slaves);
-        must(cycle(&m, &slaves, &al) && cycle(&m, &slaves, &al) && al == 8, "cycles are taken");
-        must(asked == before, "no call after an open asks for memory");
+        long before = called;
+        call_each(&m, &slaves);
+        if (called != before) fprintf(stderr, "refused: the allocator was called %ld times\n", called - before);
+        must(called == before, "no call between an open and a drop calls the allocator");
     }
     ecat_drop(&m);
     ecat_segment_drop(&slaves);
@@ -64,7 +87,7 @@ int main(int argc, char **argv) {
     for (int alone = 0; alone < 2; alone++) {
         long grant = 0;
         while (try_opens(len, grant, alone)) grant++;
-        printf("%ld allocations refused in turn, %s\n", grant, alone ? "one alone" : "from each on");
+        printf("%ld allocations refused in turn, %s; 0 calls of the allocator between open and drop\n", grant, alone ? "one alone" : "from each on");
     }
     return 0;
 }
