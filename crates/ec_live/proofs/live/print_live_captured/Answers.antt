@@ -8,12 +8,12 @@ use Rattle.ec_live.proofs.live.print_live_captured.Goals as goal
 pub returns-clause-all : goal.returns-clause-all
 returns-clause-all g c =
     finished_ok (λ count. (unmet : ℕ) × (count ≡ counted unmet) × LivesOut c.args.reasons c.args.table.now c.args.world.now (g.R.Read.remaining c.args.input.now.stream) unmet c.args.output.now c.print_live_lines-ended.new.output)
-    c.print_live_lines-ended.new.watcher.capture.is_whole c.print_live_lines-ended.result c.finish_recording.result c.finish_recording.ensures c.print_live_lines-ended.ensures.all
+    c.print_live_lines-ended.new.watcher.capture.is_whole c.print_live_lines-ended.result c.finish_recording.result (rw c.capture.ensures at c.finish_recording.ensures) c.print_live_lines-ended.ensures.all
 
 pub returns-clause-part : goal.returns-clause-part
 returns-clause-part g c =
     finished_err (LivesPart c.args.reasons c.args.table.now c.args.world.now (g.R.Read.remaining c.args.input.now.stream) c.args.output.now c.print_live_lines-ended.new.output)
-    c.print_live_lines-ended.new.watcher.capture.is_whole c.print_live_lines-ended.result c.finish_recording.result c.finish_recording.ensures c.print_live_lines-ended.ensures.part
+    c.print_live_lines-ended.new.watcher.capture.is_whole c.print_live_lines-ended.result c.finish_recording.result (rw c.capture.ensures at c.finish_recording.ensures) c.print_live_lines-ended.ensures.part
     (counted_out_part c.print_live_lines-ended.result c.args.reasons c.args.table.now c.args.world.now (g.R.Read.remaining c.args.input.now.stream) c.args.output.now c.print_live_lines-ended.new.output c.print_live_lines-ended.ensures.all)
 
 pub returns-clause-late : goal.returns-clause-late
@@ -21,8 +21,8 @@ returns-clause-late g c =
     let whole = c.print_live_lines-ended.new.watcher.capture.is_whole in
     let unread = c.print_live_lines-ended.new.input.is_refused in
     let output = c.print_live_lines-ended.new.output in
-    finished_late (IsLiveLate (not whole) unread output) whole c.print_live_lines-ended.result c.finish_recording.result c.finish_recording.ensures
+    finished_late (IsLiveLate (not whole) unread output) whole c.print_live_lines-ended.result c.finish_recording.result (rw c.capture.ensures at c.finish_recording.ensures)
     (late_captured (not whole) c.print_live_lines-ended.result unread output c.print_live_lines-ended.ensures.late) (λ cut. inr (ap not cut))
 
 pub returns-clause-whole : goal.returns-clause-whole
-returns-clause-whole g c = finished_whole c.print_live_lines-ended.new.watcher.capture.is_whole c.print_live_lines-ended.result c.finish_recording.result c.finish_recording.ensures
+returns-clause-whole g c = finished_whole c.print_live_lines-ended.new.watcher.capture.is_whole c.print_live_lines-ended.result c.finish_recording.result (rw c.capture.ensures at c.finish_recording.ensures)
