@@ -88,10 +88,10 @@ struct RunStreams {
     faults: OutputStream<Sink>,
 }
 
-/// Compares how a run ended: its exit status, what it printed and told, that a stream that isn't handed on was to be, once, and
+/// Compares how a run ended: its exit status, what it printed, what it wrote to standard error (as `told` has it), that a stream that isn't handed on was to be, once, and
 /// whether a read of its input and a write to its streams were refused.
-fn expect_ended(rt: &impl Abort, run: &Run, status: u8, streams: RunStreams) {
-    let (wrong, args, _, wanted, printed, told) = *run;
+fn expect_ended(rt: &impl Abort, run: &Run, told: &str, status: u8, streams: RunStreams) {
+    let (wrong, args, _, wanted, printed, _) = *run;
     let RunStreams {
         is_unread,
         output,
@@ -111,7 +111,12 @@ fn expect_ended(rt: &impl Abort, run: &Run, status: u8, streams: RunStreams) {
 }
 
 /// Runs the program, with an application that does nothing, and compares how that ends.
-fn expect_args<H: AllocGlobal + Net + Files + Clock + Abort>(rt: &H, args: &[&str], run: &Run) {
+fn expect_args<H: AllocGlobal + Net + Files + Clock + Abort>(
+    rt: &H,
+    args: &[&str],
+    run: &Run,
+    told: &str,
+) {
     let mut input = InputStream::new(input_of(run.0, run.2));
     let sink = sink_of(rt.alloc(), output_writes(run.0), run.0 == "stuck output");
     let mut output = OutputStream::new(sink);
@@ -124,7 +129,7 @@ fn expect_args<H: AllocGlobal + Net + Files + Clock + Abort>(rt: &H, args: &[&st
         output,
         faults,
     };
-    expect_ended(rt, run, status, streams);
+    expect_ended(rt, run, told, status, streams);
 }
 
 /// Runs the program. It promises nothing, so what calls it is quickly checked.
@@ -152,12 +157,10 @@ fn words_of<'a>(rt: &(impl AllocGlobal + Abort), text: &'a str) -> Vec<&'a str> 
 
 /// Runs the program with a port, and compares how that ends.
 fn expect_run<H: AllocGlobal + Net + Files + Clock + Abort>(rt: &H, run: &Run, port: u16) {
-    let (wrong, args, input, status, printed, told) = *run;
-    let text = with_port(rt, args, port);
-    let told = with_port(rt, told, port);
+    let text = with_port(rt, run.1, port);
+    let told = with_port(rt, run.5, port);
     let args = words_of(rt, text.as_str());
-    let run = (wrong, text.as_str(), input, status, printed, told.as_str());
-    expect_args(rt, args.as_slice(), &run);
+    expect_args(rt, args.as_slice(), run, told.as_str());
 }
 
 /// Runs with a port that is free. Where what is told, or printed, is `..` alone, it isn't compared.
@@ -305,7 +308,7 @@ const IDLE_LOOP: Run = (
     THREE_SLAVES,
     0,
     "ready\nreport taken missing 0 counters 6 al 0008\nreport taken missing 0 counters 6 al 0008\nc 0\nd 0\n",
-    "ecat: loop between 127.0.0.1:..",
+    "",
 );
 
 #[test]

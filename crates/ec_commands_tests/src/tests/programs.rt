@@ -59,7 +59,7 @@ fn expect_program<H: AllocGlobal + Net + Files + Clock + Abort>(rt: &H, args: &[
         output,
         faults,
     };
-    expect_ended(rt, run, status, streams);
+    expect_ended(rt, run, run.5, status, streams);
 }
 
 /// What is told of an argument that isn't text.
