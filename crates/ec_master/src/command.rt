@@ -28,18 +28,18 @@ use std::time::Clock;
 /// Where a master's frames go, and how long it waits for an answer, in milliseconds.
 #[derive(Clone, Copy, Debug, PartialEq, Eq, Drop)]
 pub struct Connection<'a> {
-    /// The address and the port of a segment, as `127.0.0.1:34980`.
+    /// The IPv4 address and the UDP port of a segment, such as `127.0.0.1:34980`.
     pub to: &'a str,
-    /// The descriptor of a card's raw socket, in the place of the address.
+    /// The descriptor of a card's raw socket; it replaces the address.
     pub descriptor: Option<u16>,
     pub patience: u16,
 }
 
-/// Does the lines of an input with a new master of a machine over a wire, and prints what they tell.
+/// Runs the lines of an input with a new master of a machine over a wire, and prints their answers.
 ///
 /// # Errors
 ///
-/// Those of [`print_lines`], and `Refusal::Unmet` where what lines expect isn't so.
+/// Those of [`print_lines`], and `Refusal::Unmet` if what lines expect doesn't hold.
 pub fn run_master<W: Wire, R: Read + Drop, O: Write + Drop>(
     alloc: Global,
     machine: &Machine,
@@ -57,17 +57,17 @@ pub fn run_master<W: Wire, R: Read + Drop, O: Write + Drop>(
     end_of(unmet)
 }
 
-/// Reads a link table from the input up to a line `%%`, and then line after line as they come; each moves the table's master
-/// over a socket or a card, and what it tells is printed before the next is read, with why it can't be done or has failed behind
-/// it, where reasons are told. What the master sends and receives goes into a capture, if a file is named, at the interface
-/// `master`. A refusal of the table is explained, where that is wanted.
+/// Reads a link table from the input up to a line `%%`. Then it runs the lines behind that as they come, with the table's master
+/// over a socket or a card. It prints the answer to a line before it reads the next one. With reasons, it adds why the line can't
+/// be done or has failed. If a file is named, a capture in it gets what the master sends and receives, at the interface `master`.
+/// A refusal of the table is explained in `behind`, if that is wanted.
 ///
 /// # Errors
 ///
-/// The refusal of the table; then `Refusal::Output` or `Memory` where the file couldn't be opened, before a line is read or anything
-/// is sent; `Refusal::Socket` where there is no such socket, also where `to` is no address with a port; what cuts the lines short,
-/// `Refusal::Memory`, `Refusal::Input` or `Refusal::Output`; `Refusal::Unmet` where what lines expect isn't so; and
-/// `Refusal::Output` where all was through and the capture isn't whole.
+/// The refusal of the table. `Refusal::Output` or `Memory` if the file can't be opened: then no line is read and nothing is sent.
+/// `Refusal::Socket` if there is no such socket, or `to` is no address with a port. `Refusal::Memory`, `Refusal::Input` or
+/// `Refusal::Output` if one of them cuts the lines short. `Refusal::Unmet` if what lines expect doesn't hold. `Refusal::Output` if
+/// all lines were run and the capture isn't whole.
 pub fn print_master<H: AllocGlobal + Net + Files + Clock, R: Read + Drop, O: Write + Drop>(
     rt: &H,
     reasons: Reasons,
@@ -89,7 +89,7 @@ pub fn print_master<H: AllocGlobal + Net + Files + Clock, R: Read + Drop, O: Wri
     ended
 }
 
-/// Does the lines of an input with a new master of the machine that a text states, with a capture if a file is named.
+/// Runs the lines of an input with a new master of the machine that a text states, with a capture if a file is named.
 fn run_text<H: AllocGlobal + Net + Files + Clock, R: Read + Drop, O: Write + Drop>(
     rt: &H,
     text: &str,
@@ -106,7 +106,7 @@ fn run_text<H: AllocGlobal + Net + Files + Clock, R: Read + Drop, O: Write + Dro
     run_machine(rt, &machine, reasons, way, file, input, output)
 }
 
-/// Does the lines of an input with a new master of a machine, with a capture if a file is named.
+/// Runs the lines of an input with a new master of a machine, with a capture if a file is named.
 fn run_machine<H: AllocGlobal + Net + Files + Clock, R: Read + Drop, O: Write + Drop>(
     rt: &H,
     machine: &Machine,
@@ -124,8 +124,8 @@ fn run_machine<H: AllocGlobal + Net + Files + Clock, R: Read + Drop, O: Write + 
     run_captured(rt, machine, reasons, way, &mut capture, input, output)
 }
 
-/// Does the lines of an input with a new master of a machine, and notes what it sends and receives in a capture that is open, if
-/// there is one. Where they are through, it is whole: all of it is written and handed on.
+/// Runs the lines of an input with a new master of a machine. If a capture is open, it notes what the master sends and receives.
+/// If this returns `Ok`, the capture is whole: all of it is written and handed on.
 fn run_captured<H: AllocGlobal + Net + Files + Clock, R: Read + Drop, O: Write + Drop>(
     rt: &H,
     machine: &Machine,
@@ -144,8 +144,8 @@ fn run_captured<H: AllocGlobal + Net + Files + Clock, R: Read + Drop, O: Write +
     close_capture(ended, capture)
 }
 
-/// Does the lines of an input with a new master of a machine over a socket or a card, and notes what it sends and receives in a
-/// capture that is open, if there is one.
+/// Runs the lines of an input with a new master of a machine over a socket or a card. If a capture is open, it notes what the
+/// master sends and receives.
 fn run_connected<H: AllocGlobal + Net + Files + Clock, R: Read + Drop, O: Write + Drop>(
     rt: &H,
     machine: &Machine,
@@ -171,7 +171,7 @@ fn run_connected<H: AllocGlobal + Net + Files + Clock, R: Read + Drop, O: Write 
     }
 }
 
-/// A socket that is connected with the segment at an address.
+/// A socket that is connected to the segment at the address of `way`.
 fn connect<R: Net>(rt: &R, way: Connection<'_>) -> Result<UdpWire, SocketFault>
     ensures { IfOk result (λ w. w.failed ≡ 0) }
 {
@@ -181,8 +181,8 @@ fn connect<R: Net>(rt: &R, way: Connection<'_>) -> Result<UdpWire, SocketFault>
     }
 }
 
-/// Does the lines of an input with a new master of a machine over a wire that has carried nothing yet, and notes what it
-/// carries in a capture, if there is one.
+/// Runs the lines of an input with a new master of a machine over a wire that has carried nothing yet. If there is a capture, it
+/// notes what the wire carries.
 fn run_tapped<H: AllocGlobal + Files + Clock, W: Wire + Drop, R: Read + Drop, O: Write + Drop>(
     rt: &H,
     machine: &Machine,
