@@ -1,4 +1,4 @@
--- Which commands explain a refusal, and what may then be told behind its line (this project's profile).
+-- Which commands explain a refusal, and what may stand behind its line then (this project's profile).
 use Rattle.std.specs.Prelude.{◌≡◌, ℕ, List, [], Bool, true, false}
 use Rattle.ec_args.specs.Requests.{Command, PassOf, PlanOf, DecodeOf, EncodeOf, SimOf, LoopOf, SegmentOf, MasterOf}
 
@@ -13,7 +13,7 @@ is_explained (LoopOf cycles capture explained) = explained
 is_explained (SegmentOf frames port descriptor full idle capture explained) = explained
 is_explained (MasterOf to descriptor patience capture explained) = explained
 
--- what may be told behind the line of a refusal: nothing, where it isn't to be explained; else the text is free
+-- what may stand behind the line of a refusal: nothing if it isn't to be explained, else any text
 abbrev pub MayTell : Bool → List ℕ → Type 0
 MayTell false more = more ≡ []
 MayTell true more = Unit {0}

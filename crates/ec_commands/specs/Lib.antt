@@ -1,4 +1,4 @@
--- To be believed by reading, in this order: what `ecat pass` and `ecat plan` answer; which commands explain a refusal; and
+-- To be believed by reading, in this order: what `ecat pass` and `ecat plan` print; which commands explain a refusal; and
 -- how a run ends.
 pub mod Passing
 pub mod Planning
