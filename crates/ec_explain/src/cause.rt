@@ -35,13 +35,13 @@ pub enum Cause {
         /// The line, counted from 1 there.
         line: usize,
     },
-    /// So many times what a line expected wasn't so: 45.
+    /// What lines expect didn't hold this many times: 45.
     Unmet(u64),
 }
 
-/// What there is to say of a text that was refused for a cause: which lines are at fault, what is wrong
-/// there, and what to do. It is the text of a link table, and for `Script` all of the text, with the
-/// script. Of a text that isn't the one that was refused it says less. The error is want of memory.
+/// The remarks on a text that was refused for a cause: which lines are at fault, what is wrong there, and
+/// what to do. The text is that of a link table, and for `Script` the whole text, with the script. Another
+/// text than the one that was refused gets fewer remarks. `AllocError` if memory ran out.
 pub fn remarks_on<'a>(alloc: Global, text: &'a str, cause: Cause) -> Result<Remarks<'a>, AllocError>
     ensures text { IfOk result (λ remarks. IsUnmarked text.now remarks.text) }
     ensures lie { IfOk result (λ remarks. All (StandsIn remarks.text) remarks.remarks) }
@@ -53,13 +53,13 @@ pub fn remarks_on<'a>(alloc: Global, text: &'a str, cause: Cause) -> Result<Rema
     telling.into_remarks(rest)
 }
 
-/// The remarks on a text with a cause, as one text: it stands behind the line that tells the refusal.
+/// The remarks on a text with a cause, as one text for behind the refusal's line. `AllocError` if memory ran out.
 pub fn explanation(alloc: Global, text: &str, cause: Cause) -> Result<String, AllocError> {
     let remarks = remarks_on(alloc, text, cause)?;
     remarks.told(alloc)
 }
 
-/// Tells of a cause, in a text before which so many bytes were skipped.
+/// Adds remarks on a cause, in a text before which `skipped` bytes were left out.
 fn tell(telling: &mut Telling<'_>, text: &str, skipped: usize, cause: Cause) {
     match cause {
         Cause::Table(fault) => tell_fault(telling, text, fault),
@@ -73,7 +73,7 @@ fn tell(telling: &mut Telling<'_>, text: &str, skipped: usize, cause: Cause) {
     }
 }
 
-/// Tells of the table that a text states.
+/// Adds remarks on the table that a text states.
 fn tell_of_table(telling: &mut Telling<'_>, text: &str, cause: Cause) {
     match (read_table(telling.alloc, text), cause) {
         (Ok(table), Cause::Link(fault)) => tell_link_fault(telling, &table, fault),

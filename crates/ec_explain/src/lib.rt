@@ -1,5 +1,5 @@
-//! Refusals for people: which line of a text is at fault, what is wrong there in names and numbers of
-//! the text, and what to do.
+//! Refusals for people: which line of a text is at fault, what is wrong there, in its own names and numbers,
+//! and what to do.
 #![tactic(auto)]
 
 mod cause;
