@@ -1,5 +1,5 @@
--- To be believed by reading, in this order: the refusals by number, name and values; what an input gives, and by what it or
--- its table is refused; what is left on the output; how a run ends that expects something; what stands behind a refusal's line; and what a capture adds to a command.
+-- To be believed by reading, in this order: the refusals, what an input gives and its refusals, and what is left on the output.
+-- Then how a run with expectations ends, what stands behind a refusal's line, and what a capture adds to a command.
 pub mod Refusals
 pub mod Given
 pub mod Printing

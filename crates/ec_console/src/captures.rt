@@ -1,4 +1,4 @@
-//! A capture in a file of the system, and how a command ends that has one.
+//! A capture in a file of the system, and how a command with a capture ends.
 ghost use Rattle.std.specs.Prelude.{◌≡◌, All, IfErr, IfOk, is_some, map, option_map, true};
 ghost use Rattle.ec_capture.specs.Captures.{IsText};
 ghost use Rattle.ec_console.specs.Capturing.{IsUnopened, finished, is_complete};
@@ -10,17 +10,17 @@ use std::alloc::{AllocError, Global};
 use std::fs::{File, Files};
 use std::io::{BufWriter, Write};
 
-/// What is written into a file of the system as a capture.
+/// A capture that is written to a file of the system.
 pub type Recording<F> = Recorder<BufWriter<F>>;
 
 /// The capture of a command, if there is to be one.
 pub type Capture<F> = Option<Recording<F>>;
 
-/// Opens the file of a capture with one interface, of this name, if a file is named. There is a capture then.
+/// Opens the file of a capture with one interface, of this name, if a file is named. Returns `None` if none is named.
 ///
 /// # Errors
 ///
-/// `Refusal::Output` where it can't be opened or begun, `Refusal::Memory` where there is no memory for it.
+/// `Refusal::Output` if the file can't be opened or begun, `Refusal::Memory` if there is no memory for it.
 pub fn open_capture<H: AllocGlobal + Files>(
     rt: &H,
     file: Option<&str>,
@@ -35,7 +35,7 @@ pub fn open_capture<H: AllocGlobal + Files>(
     }
 }
 
-/// Opens the file of a capture of the frames of a table's segment: an interface `master`, and one behind each slave.
+/// Opens the file of a capture for a table's segment, with an interface `master`, and one behind each slave, of the slave's name.
 ///
 /// # Errors
 ///
@@ -51,8 +51,8 @@ pub fn open_segment<H: AllocGlobal + Files>(
     open_recorder(rt, path, names.as_slice())
 }
 
-/// How what was captured ends: as it ended, but for what was through and whose capture isn't whole, which ends with
-/// `Refusal::Output`.
+/// Returns how a command with a capture ends: with `Refusal::Output` if `ended` is `Ok` and the capture isn't whole, else as
+/// `ended`.
 pub fn finish_recording<T: Copy + Drop, F: Write + Drop>(
     ended: Result<T, Refusal>,
     recording: &Recorder<F>,
@@ -65,7 +65,7 @@ pub fn finish_recording<T: Copy + Drop, F: Write + Drop>(
     }
 }
 
-/// How a command that may have a capture ends: as [`finish_recording`] says, if there is one.
+/// Returns how a command ends that may have a capture: as [`finish_recording`] returns if it has one, else as `ended`.
 pub fn close_capture<F: Write + Drop>(
     ended: Result<(), Refusal>,
     capture: &Capture<F>,
@@ -78,7 +78,7 @@ pub fn close_capture<F: Write + Drop>(
     }
 }
 
-/// Opens a file and begins a capture in it, with interfaces of these names.
+/// Opens a file and begins a capture in it, with interfaces of these names. The errors are those of [`open_capture`].
 fn open_recorder<H: AllocGlobal + Files>(
     rt: &H,
     path: &str,
@@ -96,7 +96,7 @@ fn open_recorder<H: AllocGlobal + Files>(
     Recorder::open(file, names).map_err(|_| Refusal::Output)
 }
 
-/// A name, or none where it is longer than that of an interface may be.
+/// The name, or an empty one if it is too long for an interface.
 fn short(name: &str) -> &str
     ensures { IsText result.now }
 {
@@ -110,7 +110,7 @@ fn is_text(name: &str) -> bool
     name.len() <= MAX_TEXT
 }
 
-/// The interfaces of a segment: the master's, and one behind each slave, by its name.
+/// The names of a segment's interfaces: `master`, and the name of each slave.
 #[tactic(auto, using(crate::proofs::CaptureLemmas::texts_more))]
 fn interfaces_of<'t>(alloc: Global, table: &'t Table) -> Result<Vec<&'t str>, AllocError>
     ensures { IfOk result (λ names. All IsText (map (λ t. t.now) names.items)) }

@@ -1,4 +1,4 @@
-//! What is told of a refusal behind its line, for people.
+//! Explanations of refusals for people, behind the line of a refusal.
 ghost use Rattle.std.specs.Prelude.{◌≡◌, []};
 ghost use Rattle.ec_console.specs.Explaining.{IsLeft};
 
@@ -11,7 +11,7 @@ use ec_wire::RunError;
 use std::alloc::{AllocError, Global};
 use std::marker::Model;
 
-/// What is told behind the line of a refusal, if it is wanted.
+/// The text behind the line of a refusal, if it is wanted.
 #[derive(Drop)]
 pub struct Explanation {
     is_wanted: bool,
@@ -28,7 +28,7 @@ impl Model for Explanation {
 }
 
 impl Explanation {
-    /// None yet.
+    /// An explanation without text.
     pub fn new(alloc: Global, is_wanted: bool) -> Explanation
         ensures { result ≡ record { is_wanted = is_wanted; text = [] } }
     {
@@ -38,14 +38,14 @@ impl Explanation {
         }
     }
 
-    /// The text.
+    /// The text, which is empty if nothing is explained.
     pub fn as_bytes(&self) -> &[u8]
         ensures { result.now ≡ self.now.text }
     {
         self.text.as_bytes()
     }
 
-    /// Explains the refusal of a link table, if that is wanted and memory is there for it.
+    /// Explains the refusal of a link table, if that is wanted and there is memory for it.
     pub fn explain(&mut self, alloc: Global, table: &str, refusal: &Refusal)
         ensures { IsLeft self.old self.new }
     {
@@ -63,7 +63,7 @@ impl Explanation {
         }
     }
 
-    /// Explains the refusal of a link table and a script, if that is wanted and memory is there for it.
+    /// Explains the refusal of a link table and a script, if that is wanted and there is memory for it.
     pub fn explain_script(&mut self, alloc: Global, text: &str, refusal: &Refusal)
         ensures { IsLeft self.old self.new }
     {
@@ -72,7 +72,7 @@ impl Explanation {
         }
     }
 
-    /// A text becomes this one's, if memory was there for it.
+    /// Keeps a text, if there was memory for it.
     fn keep(&mut self, made: Result<String, AllocError>) {
         if let Ok(text) = made {
             self.text = text;
@@ -80,7 +80,7 @@ impl Explanation {
     }
 }
 
-/// What a fault of the input, the output or a socket means, and what to do; nothing of other refusals, which have a text at
+/// What a fault of the input, the output or a socket means, and what to do. `None` for other refusals, which have a text at
 /// fault.
 fn stream_text(refusal: &Refusal) -> Option<&'static str> {
     match refusal {
@@ -101,7 +101,7 @@ fn stream_text(refusal: &Refusal) -> Option<&'static str> {
     }
 }
 
-/// A refusal of a link table and a script explained.
+/// The explanation of a refusal of a link table and a script.
 fn script_text(alloc: Global, text: &str, refusal: &Refusal) -> Result<String, AllocError> {
     let (table, script) = split_script(text);
     let from = text.len().saturating_sub(script.len());
@@ -120,7 +120,7 @@ fn script_text(alloc: Global, text: &str, refusal: &Refusal) -> Result<String, A
     }
 }
 
-/// A refusal of a link table explained; nothing where there is nothing to explain.
+/// The explanation of a refusal of a link table; empty if there is nothing to explain.
 fn table_text(alloc: Global, table: &str, refusal: &Refusal) -> Result<String, AllocError> {
     match cause_of(refusal, 0) {
         Some(cause) => explanation(alloc, table, cause),
@@ -128,8 +128,8 @@ fn table_text(alloc: Global, table: &str, refusal: &Refusal) -> Result<String, A
     }
 }
 
-/// What there is to explain of a refusal; the line of a script is one of a script that begins at a byte
-/// of its text.
+/// What there is to explain of a refusal, or `None`. The line of a script is one of the script that begins at
+/// byte `from` of the text.
 fn cause_of(refusal: &Refusal, from: usize) -> Option<Cause> {
     match *refusal {
         Refusal::Table(TableError::Refused(fault)) => Some(Cause::Table(fault)),

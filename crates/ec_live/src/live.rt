@@ -1,4 +1,4 @@
-//! `ecat sim --live`: a link table on the input, and behind its line `%%` the lines of a script, each run as it comes.
+//! `ecat sim --live`: reads a link table and a line `%%`, and then lines of a script, each of which is run as it comes.
 
 ghost use Rattle.std.specs.Prelude.{◌≡◌, ◌++◌, ℕ, List, IfOk, IfErr, OnOk, OnErr, codes, false, is_some, not, option_map, true};
 ghost use Rattle.std.specs.Fmt.{decimal};
@@ -27,15 +27,15 @@ use std::alloc::{AllocError, Global};
 use std::fs::Files;
 use std::io::{Read, Write};
 
-/// Runs the lines that the input gives behind a link table and a line `%%`, each as it comes: what a line says is printed
-/// before the next one is read, and why it says `no`, where reasons are told. A line that can't be read prints `bad` and its
-/// number, and nothing else happens. The slaves begin at power-on, with the identities that the table says. The frames that pass
-/// go into a capture, if a file is named. A refusal of the table is explained, where that is wanted.
+/// Runs the lines that stand on the input behind a link table and a line `%%`, each as it comes. The text of a line is printed before
+/// the next one is read, and with `reasons` also why it says `no`. A line that can't be read prints `bad` and its number, and does
+/// nothing. The slaves begin at power-on, with the identities of the table. If a file is named, the frames go into a capture. A refusal
+/// is explained in `behind`, if that is wanted, once the table's text is taken.
 ///
 /// # Errors
 ///
-/// The refusal of the table; `Refusal::Unmet` where what a line expected wasn't so; `Refusal::Input`, `Output` and `Memory`
-/// where a read, a write or memory was refused, after what was printed until then.
+/// The refusal of the table. `Refusal::Unmet` if what a line expected wasn't so. `Refusal::Input`, `Output` or `Memory` if a
+/// read, a write or memory was refused; what was printed until then stays.
 pub fn print_live<H: AllocGlobal + Files, R: Read + Drop, W: Write + Drop>(
     rt: &H,
     reasons: Reasons,
@@ -90,8 +90,8 @@ fn run_live_machine<H: AllocGlobal + Files, R: Read + Drop, W: Write + Drop>(
     end_of(unmet)
 }
 
-/// Runs the lines that an input gives as `print_live_lines` does; the frames of the world go into a capture, if a file is
-/// named.
+/// Runs the lines that an input gives as [`print_live_lines`] does. If a file is named, the frames of the world go into a
+/// capture.
 #[tactic(auto, using(crate::proofs::LiveLemmas::none_part, crate::proofs::LiveLemmas::unopened_late, crate::proofs::LiveLemmas::cut_late))]
 fn print_live_watched<H: AllocGlobal + Files, R: Read + Drop, W: Write + Drop>(
     rt: &H,
@@ -124,8 +124,8 @@ fn print_live_watched<H: AllocGlobal + Files, R: Read + Drop, W: Write + Drop>(
     print_live_captured(rt.alloc(), table, reasons, world, &mut watch, input, output)
 }
 
-/// Runs the lines that an input gives as `print_live_lines` does; the frames of the world go into a capture that is open. Where
-/// the lines are through, the capture is whole: all of it is written and handed on.
+/// Runs the lines that an input gives as [`print_live_lines`] does. The frames of the world go into an open capture. If it returns
+/// `Ok`, the capture is whole: all of it is written and handed on.
 fn print_live_captured<F: Write + Drop, R: Read + Drop, W: Write + Drop>(
     alloc: Global,
     table: &Table,
@@ -147,8 +147,8 @@ fn print_live_captured<F: Write + Drop, R: Read + Drop, W: Write + Drop>(
     finish_recording(ended, watch.capture())
 }
 
-/// Runs the lines that an input gives over a world of a table, and prints of each what there is to say before the next one is
-/// read, and answers how often what they expect isn't so.
+/// Runs the lines that an input gives over a world of a table. It prints the text of each before the next one is read, and returns
+/// how often what they expect isn't so.
 #[tactic(auto, using(crate::proofs::LiveLemmas::said_late, crate::proofs::LiveLemmas::unread_late))]
 fn print_live_lines<S: Watcher, R: Read + Drop, W: Write + Drop>(
     alloc: Global,
@@ -183,7 +183,7 @@ fn print_live_lines<S: Watcher, R: Read + Drop, W: Write + Drop>(
     Err(Refusal::Memory)
 }
 
-/// Runs a line over a world of a table and prints what there is to say, and answers how often what it expects isn't so.
+/// Runs a line over a world of a table and prints its text. Returns how often what it expects isn't so.
 fn print_reading<S: Watcher, W: Write + Drop>(
     alloc: Global,
     table: &Table,
@@ -211,7 +211,7 @@ fn print_reading<S: Watcher, W: Write + Drop>(
     }
 }
 
-/// Prints that the line of a number is bad.
+/// Prints `bad` and the number of a line.
 #[tactic(auto, using(crate::proofs::LiveLemmas::write_late, crate::proofs::LiveLemmas::cut_part))]
 fn print_bad<W: Write + Drop>(
     alloc: Global,
@@ -228,7 +228,7 @@ fn print_bad<W: Write + Drop>(
     print_text(text.as_bytes(), output)
 }
 
-/// What is taken as the line of a number: such as is no text stands for nothing.
+/// Reads what was taken as line `number`. A line that isn't text is bad, and the end of the input counts as an empty line.
 fn reading_of(
     alloc: Global,
     table: &Table,

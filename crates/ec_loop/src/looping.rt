@@ -39,14 +39,14 @@ use std::time::Clock;
 /// What is printed when the slaves are up.
 const READY: &str = "ready\n";
 
-/// Brings the slaves on a wire up and runs so many cycles of a machine over it. In the n-th cycle each output
-/// variable is sent as n, as far as it has bits. It prints a line when the slaves are up, the report on each cycle before
-/// the next begins, and at the end the input variables.
+/// Brings up the slaves on a wire and runs `cycles` cycles of a machine over it. Cycle n sends each output variable as n, cut to its
+/// bits. It prints a line when the slaves are up, and the report on each cycle before the next begins. At the end it prints the input
+/// variables.
 ///
 /// # Errors
 ///
-/// `Refusal::Memory` where memory ran out, the start-up's refusal where it failed, the run's where a cycle could not be
-/// run, and `Refusal::Output` where the output could not be written.
+/// `Refusal::Memory` if memory ran out. The start-up's refusal if it failed, and the run's if a cycle couldn't be run.
+/// `Refusal::Output` if the output couldn't be written.
 pub fn run_loop<W: Wire, O: Write + Drop>(
     alloc: Global,
     machine: &Machine,
@@ -61,17 +61,17 @@ pub fn run_loop<W: Wire, O: Write + Drop>(
     run_started(alloc, machine, &mut master, wire, cycles, output)
 }
 
-/// Runs so many cycles of the table that the input states, master and slaves on two sockets of this process, where the slaves
-/// have the application of `loopback`, which counts what goes over the sockets. In the n-th cycle each output variable is sent as
-/// n, as far as it has bits. It prints a line when the slaves are up, the report on each cycle before the next begins, and at the
-/// end the input variables. What the master sends and receives goes into a capture, if a file is named, at the interface `loop`.
-/// A refusal of the table, of its start-up or of a cycle is explained, where that is wanted.
+/// Runs `cycles` cycles of the table that the input states, with master and slaves on two sockets of this process. The slaves have the
+/// application of `loopback`, which counts what goes over the sockets. Cycle n sends each output variable as n, cut to its bits. It
+/// prints a line when the slaves are up, the report on each cycle before the next begins, and at the end the input variables. If a file
+/// is named, what the master sends and receives goes into a capture, at the interface `loop`. A refusal of the table, of its start-up or
+/// of a cycle is explained in `behind`, if that is wanted.
 ///
 /// # Errors
 ///
-/// The refusal of the input or of its table; then `Refusal::Output` where the file couldn't be opened, before anything is sent;
-/// `Refusal::Memory` where memory ran out, `Refusal::Socket` where there are no such sockets, and what [`run_loop`] ends by; and
-/// `Refusal::Output` where that was through and the capture isn't whole.
+/// The refusal of the input or of its table. `Refusal::Output` if the file couldn't be opened, before anything is sent.
+/// `Refusal::Memory` if memory ran out, `Refusal::Socket` if there are no such sockets, and the errors of [`run_loop`].
+/// `Refusal::Output` if all cycles were run and the capture isn't whole.
 pub fn print_loop<
     H: AllocGlobal + Net + Files + Clock,
     R: Read + Drop,
@@ -99,7 +99,7 @@ pub fn print_loop<
     ended
 }
 
-/// Runs so many cycles with a master whose slaves are up, and prints what `run_loop` does.
+/// Runs `cycles` cycles with a master whose slaves are up, and prints what [`run_loop`] prints.
 fn run_started<W: Wire, O: Write + Drop>(
     alloc: Global,
     machine: &Machine,
@@ -117,7 +117,7 @@ fn run_started<W: Wire, O: Write + Drop>(
     print_text(lines.as_bytes(), output)
 }
 
-/// Prints that the slaves are up, and runs so many cycles, each of whose reports is printed before the next begins.
+/// Prints that the slaves are up, and runs `cycles` cycles. It prints the report on each before the next begins.
 fn print_cycles<W: Wire, O: Write + Drop>(
     alloc: Global,
     machine: &Machine,
@@ -141,7 +141,7 @@ fn print_cycles<W: Wire, O: Write + Drop>(
     Ok(())
 }
 
-/// The line of the report on one cycle that sends a number.
+/// Runs one cycle that sends a number, and returns the line of its report.
 fn cycle_line<W: Wire>(
     alloc: Global,
     machine: &Machine,
@@ -163,7 +163,7 @@ fn cycle_line<W: Wire>(
     Ok(text)
 }
 
-/// One cycle that sends a number.
+/// Runs one cycle that sends each output variable as a number, cut to its bits.
 fn run_number<W: Wire>(
     plan: &Plan,
     master: &mut Master<'_>,
@@ -179,7 +179,7 @@ fn run_number<W: Wire>(
     run_cycle(master, wire)
 }
 
-/// A master of a machine, whose slaves were brought up over a wire.
+/// Brings up the slaves of a machine over a wire, and returns a master of it that can begin cycles.
 fn started<'p, W: Wire>(
     alloc: Global,
     machine: &'p Machine,
@@ -195,7 +195,7 @@ fn started<'p, W: Wire>(
     Ok(master)
 }
 
-/// Brings the slaves of a plan up over a wire for a new master of it, which can begin cycles then.
+/// Brings up the slaves of a plan over a wire for a new master of it, which can then begin cycles.
 #[tactic(auto, unfolding(ec_start::specs::Running::begun))]
 fn bring_up_for<W: Wire>(plan: &Plan, master: &mut Master<'_>, wire: &mut W) -> Result<(), Refusal>
     requires few { All HasFewAssigned plan.now.slaves }
@@ -210,7 +210,7 @@ fn bring_up_for<W: Wire>(plan: &Plan, master: &mut Master<'_>, wire: &mut W) -> 
     Ok(())
 }
 
-/// Sets each output variable to a number, as far as it has bits.
+/// Sets each output variable to a number, cut to its bits.
 fn set_outputs(master: &mut Master<'_>, plan: &Plan, number: u64)
     requires { master.old.plan.variables ≡ plan.now.variables }
     ensures { master.new ≡ with_outputs master.old number }
@@ -221,7 +221,7 @@ fn set_outputs(master: &mut Master<'_>, plan: &Plan, number: u64)
     }
 }
 
-/// Sets a variable to a number, as far as it has bits, if it is an output.
+/// Sets a variable to a number, cut to its bits, if it is an output.
 fn set_output(master: &mut Master<'_>, variable: usize, place: Variable, number: u64)
     requires there { slice_get master.old.plan.variables variable ≡ Some place }
     requires few { place.bits ≤ 64 }
@@ -233,7 +233,7 @@ fn set_output(master: &mut Master<'_>, variable: usize, place: Variable, number:
     }
 }
 
-/// A number as far as so many bits hold it.
+/// The lowest `bits` bits of a number.
 fn cut_to(number: u64, bits: u8) -> u64
     requires { bits ≤ 64 }
     ensures { result ≡ number % 2 ^ bits }
@@ -262,7 +262,7 @@ fn loop_text<H: AllocGlobal + Net + Files + Clock, W: Write + Drop, A: App + Dro
     loop_machine(rt, &machine, cycles, file, output, loopback)
 }
 
-/// Runs cycles of a machine over two sockets, and notes what the master sends and receives in a capture, if a file is named.
+/// Runs cycles of a machine over two sockets. If a file is named, what the master sends and receives goes into a capture.
 fn loop_machine<H: AllocGlobal + Net + Files + Clock, W: Write + Drop, A: App + Drop>(
     rt: &H,
     machine: &Machine,
@@ -280,8 +280,8 @@ fn loop_machine<H: AllocGlobal + Net + Files + Clock, W: Write + Drop, A: App + 
     loop_captured(rt, machine, cycles, &mut capture, output, loopback)
 }
 
-/// Runs cycles of a machine over two sockets, and notes what the master sends and receives in a capture that is open, if there is
-/// one. Where they are through, it is whole: all of it is written and handed on.
+/// Runs cycles of a machine over two sockets, and notes what the master sends and receives in an open capture, if there is one. If
+/// it returns `Ok`, the capture is whole: all of it is written and handed on.
 fn loop_captured<H: AllocGlobal + Net + Files + Clock, W: Write + Drop, A: App + Drop>(
     rt: &H,
     machine: &Machine,
@@ -300,7 +300,7 @@ fn loop_captured<H: AllocGlobal + Net + Files + Clock, W: Write + Drop, A: App +
     close_capture(ended, capture)
 }
 
-/// Runs cycles of a machine over two sockets, and notes what the master sends and receives in a capture that is open, if there is
+/// Runs cycles of a machine over two sockets, and notes what the master sends and receives in an open capture, if there is
 /// one.
 #[tactic(auto, using(crate::proofs::LoopLemmas::no_wire, crate::proofs::LoopLemmas::looped_between))]
 fn loop_sockets<H: AllocGlobal + Net + Files + Clock, W: Write + Drop, A: App + Drop>(
@@ -322,8 +322,8 @@ fn loop_sockets<H: AllocGlobal + Net + Files + Clock, W: Write + Drop, A: App + 
     ended
 }
 
-/// Runs cycles of a machine over a wire that has carried nothing yet, and notes what it carries in a capture, if there
-/// is one. It hands the wire on.
+/// Runs cycles of a machine over a wire that has carried nothing yet. It notes what the wire carries in an open capture, if there
+/// is one. It also returns the wire.
 #[tactic(auto, using(crate::proofs::LoopLemmas::tapped_loops))]
 fn run_tapped<H: AllocGlobal + Files + Clock, W: Wire + Drop, O: Write + Drop>(
     rt: &H,
@@ -355,8 +355,8 @@ fn run_tapped<H: AllocGlobal + Files + Clock, W: Wire + Drop, O: Write + Drop>(
     }
 }
 
-/// A wire between two sockets of this process, to the slaves of a machine, just switched on, and with the application that it
-/// takes away.
+/// Opens a wire between two sockets of this process, to the slaves of a machine, just switched on. The wire takes the application
+/// of `loopback`.
 fn open_loop<H: AllocGlobal + Net, A: App + Drop>(
     rt: &H,
     machine: &Machine,

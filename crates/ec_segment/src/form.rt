@@ -1,8 +1,8 @@
-//! How slaves are shown.
+//! The form in which masters see slaves.
 ghost use Rattle.std.specs.Prelude.{◌≡◌};
 ghost use Rattle.ec_segment.specs.Serving.{slave_form};
 
-/// How the slaves of a segment are shown to masters.
+/// The form in which masters see the slaves of a segment.
 #[derive(Clone, Copy, Debug, PartialEq, Eq, Drop)]
 pub enum SlaveForm {
     /// As the link table states them.
@@ -12,7 +12,7 @@ pub enum SlaveForm {
 }
 
 impl SlaveForm {
-    /// The form of slaves that are full or aren't.
+    /// `Full` if the slaves are full, else `Plain`.
     pub fn of(full: bool) -> SlaveForm
         ensures { result ≡ slave_form full }
     {

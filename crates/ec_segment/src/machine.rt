@@ -1,4 +1,4 @@
-//! The machine that a link table on the input states.
+//! The slaves of the link table on the input.
 ghost use Rattle.std.specs.Prelude.{◌≡◌, IfErr, IfOk};
 ghost use Rattle.ec_console.specs.Explaining.{IsLeft};
 ghost use Rattle.ec_console.specs.Given.{IsTableRefusal, RefusesTable, given_by};
@@ -14,8 +14,8 @@ use ec_table::{Table, read_table};
 use std::alloc::Global;
 use std::io::Read;
 
-/// The slaves of the table that the input states, in a form, as they are switched on. A refusal of the
-/// table is explained, where that is wanted.
+/// The slaves of the table that the input states, in a form, just switched on. A refusal of the table is
+/// explained in `behind`, if that is wanted.
 #[tactic(auto, using(crate::proofs::SegmentLemmas::if_gives))]
 pub(crate) fn slaves_of_input<R: Read + Drop>(
     alloc: Global,
@@ -35,7 +35,7 @@ pub(crate) fn slaves_of_input<R: Read + Drop>(
     made
 }
 
-/// The slaves of the table that the text states, in a form, as they are switched on.
+/// The slaves of the table that a text states, in a form, just switched on.
 #[tactic(auto, using(crate::proofs::SegmentLemmas::if_states))]
 fn slaves_of_text(alloc: Global, text: &str, form: SlaveForm) -> Result<Ring, Refusal>
     ensures slaves { IfOk result (StatesSlaves form text.now) }
@@ -46,7 +46,7 @@ fn slaves_of_text(alloc: Global, text: &str, form: SlaveForm) -> Result<Ring, Re
     slaves_of_table(alloc, table)
 }
 
-/// Shows the slaves of a table in a form.
+/// Sets the form in which masters see the slaves of a table.
 fn show_in(table: &mut Table, form: SlaveForm)
     ensures { table.new ≡ shown_in form table.old }
 {
@@ -56,7 +56,7 @@ fn show_in(table: &mut Table, form: SlaveForm)
     }
 }
 
-/// The slaves of a table, as they are switched on.
+/// The slaves of a table, just switched on.
 fn slaves_of_table(alloc: Global, table: Table) -> Result<Ring, Refusal>
     ensures slaves { IfOk result (HasSlaves table) }
     ensures refused { IfErr result (IsLinkRefusal table) }

@@ -26,15 +26,15 @@ use std::io::{Read, Write};
 use std::net::Net;
 use std::time::Clock;
 
-/// As many bytes as one of these lines may have.
+/// The most bytes of a printed line.
 const LINE_SIZE: usize = 80;
 
-/// Answers payloads on a wire, so many in all, as slaves whose applications are `app`. At its end, also where a call of the
-/// wire was a fault, it prints how many payloads were frames, which were answered, and how many were not.
+/// Serves `frames` payloads on a wire, with slaves whose application is `app`. At its end, also after a fault of the wire, it prints
+/// how many frames it answered, and how many other payloads came.
 ///
 /// # Errors
 ///
-/// `Refusal::Socket` where a call of the wire was a fault, and `Refusal::Output` where the counts could not be printed.
+/// `Refusal::Socket` if a call of the wire was a fault, and `Refusal::Output` if the counts couldn't be printed.
 #[tactic(auto, using(crate::proofs::SegmentLemmas::all_served, crate::proofs::SegmentLemmas::some_served, crate::proofs::SegmentLemmas::served_unprinted))]
 pub fn print_served_segment<W: Wire, O: Write + Drop>(
     slaves: &mut Ring,
@@ -55,17 +55,17 @@ pub fn print_served_segment<W: Wire, O: Write + Drop>(
     }
 }
 
-/// Answers payloads on a port of 127.0.0.1, so many in all, as the slaves of the table that the input states, in a form, whose
-/// applications are `app`. Once it listens it says so on `faults`; at every end from then on it prints how many payloads were
-/// frames, which were answered, and how many were not. Where no payload comes for `idle` seconds it ends as by a fault of
-/// the socket; with 0 it waits on. What the segment receives and sends goes into a capture, if a file is named, at the interface
-/// `segment`. A refusal of the table is explained, where that is wanted.
+/// Serves `frames` payloads on a port of 127.0.0.1, with the slaves of the table that the input states, in a form. Their application is
+/// `app`. Once it listens, it prints the port on `faults`. At every end after that, it prints how many frames it answered, and how many
+/// other payloads came. If no payload comes for `idle` seconds, it ends as by a fault of the socket; with 0 it waits without
+/// end. If a file is named, what the segment receives and sends goes into a capture, at the interface `segment`. A refusal of the table
+/// is explained in `behind`, if that is wanted.
 ///
 /// # Errors
 ///
-/// The refusal of the input or of its table; then `Refusal::Output` or `Memory` where the file couldn't be opened, before it
-/// listens; `Refusal::Socket` where there is no such socket, and what [`print_served_segment`] ends by; and `Refusal::Output`
-/// where that was through and the capture isn't whole.
+/// The refusal of the input or of its table. `Refusal::Output` or `Memory` if the file couldn't be opened, before it listens.
+/// `Refusal::Socket` if there is no such socket, and the errors of [`print_served_segment`]. `Refusal::Output` if all payloads were
+/// served and the capture isn't whole.
 pub fn print_segment<
     H: AllocGlobal + Net + Files + Clock,
     R: Read + Drop,
@@ -103,17 +103,17 @@ pub fn print_segment<
     )
 }
 
-/// Answers Ethernet frames on the card whose raw socket has a descriptor, so many in all, as the slaves of the table that the
-/// input states, in a form, whose applications are `app`, with bit 1 of the source set. At every end it prints how many payloads were
-/// frames, which were answered, and how many were not. Where no payload comes for `idle` seconds it ends as by a fault of the
-/// socket; with 0 it waits on. What the segment receives and sends goes into a capture, if a file is named, at the interface
-/// `segment`. A refusal of the table is explained, where that is wanted.
+/// Serves `frames` payloads on a card, with the slaves of the table that the input states, in a form. Their application is `app`.
+/// `descriptor` is that of the card's raw socket. Sent Ethernet frames have bit 1 of the source set. Once the wire is open, it prints at
+/// every end how many frames it answered, and how many other payloads came. If no Ethernet frame comes for `idle` seconds, it ends
+/// as by a fault of the socket; with 0 it waits without end. If a file is named, what the segment receives and sends goes into a
+/// capture, at the interface `segment`. A refusal of the table is explained in `behind`, if that is wanted.
 ///
 /// # Errors
 ///
-/// The refusal of the input or of its table; then `Refusal::Output` or `Memory` where the file couldn't be opened, before anything
-/// is received; `Refusal::Socket` where the descriptor isn't that of a socket, and what [`print_served_segment`] ends by; and
-/// `Refusal::Output` where that was through and the capture isn't whole.
+/// The refusal of the input or of its table. `Refusal::Output` or `Memory` if the file couldn't be opened, before anything is
+/// received. `Refusal::Socket` if the descriptor isn't that of a socket, and the errors of [`print_served_segment`].
+/// `Refusal::Output` if all payloads were served and the capture isn't whole.
 pub fn print_card_segment<H: AllocGlobal + Files + Clock, R: Read + Drop, W: Write + Drop>(
     rt: &H,
     frames: u32,
@@ -144,7 +144,7 @@ pub fn print_card_segment<H: AllocGlobal + Files + Clock, R: Read + Drop, W: Wri
     )
 }
 
-/// Prints how many payloads were answered, and how many not.
+/// Prints how many payloads were answered, and how many weren't.
 #[tactic(auto, using(ec_console::proofs::PrintLemmas::shown))]
 fn print_served<W: Write + Drop>(
     counts: Served,
@@ -156,7 +156,7 @@ fn print_served<W: Write + Drop>(
     print_text(line.as_bytes(), output)
 }
 
-/// Tells where a segment listens. A fault in telling it changes nothing.
+/// Prints on the fault stream where a segment listens. A refused write changes nothing else.
 fn tell_listening<F: Write + Drop>(port: u16, faults: &mut OutputStream<F>)
     ensures { IsTold (listening_line port) faults.old faults.new }
 {
@@ -164,7 +164,7 @@ fn tell_listening<F: Write + Drop>(port: u16, faults: &mut OutputStream<F>)
     faults.tell_text(line.as_bytes());
 }
 
-/// A segment's socket on a port, of which it is told where it listens.
+/// Opens a segment's socket on a port, and prints on the fault stream where it listens.
 fn listen<H: Net, F: Write + Drop>(
     rt: &H,
     port: u16,
@@ -179,7 +179,7 @@ fn listen<H: Net, F: Write + Drop>(
     Ok(wire)
 }
 
-/// The line that says how many payloads were answered, and how many not.
+/// The line that says how many payloads were answered, and how many weren't.
 fn served(counts: Served) -> ArrayString<LINE_SIZE>
     ensures { result.bytes ≡ served_line counts.answered counts.refused }
 {
@@ -203,8 +203,8 @@ fn listening(port: u16) -> ArrayString<LINE_SIZE>
     line
 }
 
-/// Answers payloads on a port, as [`print_segment`] does, and notes them in a capture that is open, if there is one. Where that is
-/// through, it is whole: all of it is written and handed on.
+/// Serves payloads on a port as [`print_segment`] does, and notes them in an open capture, if there is one. If it returns `Ok`, the
+/// capture is whole: all of it is written and handed on.
 fn port_captured<H: AllocGlobal + Net + Files + Clock, W: Write + Drop, F: Write + Drop>(
     rt: &H,
     slaves: &mut Ring,
@@ -225,7 +225,7 @@ fn port_captured<H: AllocGlobal + Net + Files + Clock, W: Write + Drop, F: Write
     close_capture(ended, capture)
 }
 
-/// Answers payloads on a port, as [`print_segment`] does, and notes them in a capture that is open, if there is one.
+/// Serves payloads on a port as [`print_segment`] does, and notes them in an open capture, if there is one.
 fn serve_port<H: AllocGlobal + Net + Files + Clock, W: Write + Drop, F: Write + Drop>(
     rt: &H,
     slaves: &mut Ring,
@@ -244,7 +244,7 @@ fn serve_port<H: AllocGlobal + Net + Files + Clock, W: Write + Drop, F: Write + 
     serve_tapped(rt, slaves, app, wire, frames, capture, output)
 }
 
-/// Answers payloads on a wire that has carried nothing yet, as [`print_served_segment`] does, and notes them in a capture, if
+/// Serves payloads on a wire that has carried nothing yet, as [`print_served_segment`] does, and notes them in an open capture, if
 /// there is one.
 #[tactic(auto, using(crate::proofs::SegmentLemmas::tapped_serves))]
 fn serve_tapped<H: AllocGlobal + Files + Clock, W: Wire + Drop, O: Write + Drop>(
@@ -277,8 +277,8 @@ fn serve_tapped<H: AllocGlobal + Files + Clock, W: Wire + Drop, O: Write + Drop>
     }
 }
 
-/// Answers payloads on a card, as [`print_card_segment`] does, and notes them in a capture that is open, if there is one. Where
-/// that is through, it is whole: all of it is written and handed on.
+/// Serves payloads on a card as [`print_card_segment`] does, and notes them in an open capture, if there is one. If it returns `Ok`,
+/// the capture is whole: all of it is written and handed on.
 fn card_captured<H: AllocGlobal + Files + Clock, W: Write + Drop>(
     rt: &H,
     slaves: &mut Ring,
@@ -298,7 +298,7 @@ fn card_captured<H: AllocGlobal + Files + Clock, W: Write + Drop>(
     close_capture(ended, capture)
 }
 
-/// Answers payloads on a card, as [`print_card_segment`] does, and notes them in a capture that is open, if there is one.
+/// Serves payloads on a card as [`print_card_segment`] does, and notes them in an open capture, if there is one.
 fn serve_card<H: AllocGlobal + Files + Clock, W: Write + Drop>(
     rt: &H,
     slaves: &mut Ring,

@@ -1,4 +1,4 @@
--- What `ecat sim` answers (this project's profile).
+-- What `ecat sim` prints and returns (this project's profile).
 use Rattle.std.specs.Prelude.{◌≡◌, ◌⊎◌, ℕ, ◌+◌, List, [], ◌∷◌, ◌++◌, take, if◌then◌else◌, Bool, Result, Ok, Err}
 use Rattle.ec_table.specs.Contents.{Contents}
 use Rattle.ec_link.specs.Machine.{StatesMachine}
@@ -23,12 +23,12 @@ use Rattle.ec_console.specs.Unmet.{EndsUnmet}
 
 -- ---- lines
 
--- 1 where what is expected isn't so
+-- 1 if what is expected isn't so
 abbrev pub unmet_of : LineOutput → ℕ
 unmet_of said = if is_unmet said then 1 else 0
 
--- a line is done once: it leaves the world as `World::run` of its events does (`RunsLine`), whether reasons are told or not, and
--- its text is that of the world then; why it says `no` stands behind it, where that is told
+-- A line is run once. It leaves the world as `World::run` of its events does (`RunsLine`), with or without reasons, and its text is
+-- that of the world then. Why it says `no` stands behind it, if reasons are wanted.
 pub record SaysLine (reasons : Reasons) (t : Contents) (w : WorldState) (line : Line) (new : WorldState) (printed : List ℕ) (unmet : ℕ) : Type 0 where
   pub said : LineOutput
   pub does : Does line.act w new said
@@ -38,20 +38,20 @@ pub record SaysLine (reasons : Reasons) (t : Contents) (w : WorldState) (line : 
   pub text : printed ≡ output_text t line.number new said ++ why
   pub count : unmet ≡ unmet_of said
 
--- What lines print that are done once each, and how often what they expect isn't so. Each is done in the world that the one
+-- What lines print that are run once each, and how often what they expect isn't so. Each is run in the world that the one
 -- before left.
 abbrev pub Says : Reasons → Contents → WorldState → List Line → WorldState → List ℕ → ℕ → Type 0
 Says reasons t w [] new printed unmet = (new ≡ w) × (printed ≡ []) × (unmet ≡ 0)
 Says reasons t w (line ∷ lines) new printed unmet = (mid : WorldState) × (text : List ℕ) × (more : List ℕ) × (one : ℕ) × (rest : ℕ)
     × SaysLine reasons t w line mid text one × Says reasons t mid lines new more rest × (printed ≡ text ++ more) × (unmet ≡ one + rest)
 
--- these lines are printed
+-- the texts of these lines are printed
 pub record PrintsAll (reasons : Reasons) (t : Contents) (w : WorldState) (lines : List Line) (last : WorldState) (unmet : ℕ) (old new : OutputState) : Type 0 where
   pub printed : List ℕ
   pub says : Says reasons t w lines last printed unmet
   pub appends : IsPrinted old new printed
 
--- a first part is printed of what some first of these lines say
+-- a first part is printed of the texts of some first of these lines
 pub record PrintsPart (reasons : Reasons) (t : Contents) (w : WorldState) (lines : List Line) (old new : OutputState) : Type 0 where
   pub count : ℕ
   pub last : WorldState
@@ -60,14 +60,14 @@ pub record PrintsPart (reasons : Reasons) (t : Contents) (w : WorldState) (lines
   pub says : Says reasons t w (take count lines) last printed unmet
   pub appends : IsPartPrinted old new printed
 
--- the lines of a script are printed, each as often as it is done
+-- the lines of a script are printed, each as many times as it is run
 abbrev pub PrintsLines : Reasons → Contents → WorldState → List Line → ℕ → (old new : OutputState) → Type 0
 PrintsLines reasons t w lines unmet old new = (last : WorldState) × PrintsAll reasons t w (repeated lines) last unmet old new
 
 abbrev pub PrintsSome : Reasons → Contents → WorldState → List Line → (old new : OutputState) → Type 0
 PrintsSome reasons t w lines old new = PrintsPart reasons t w (repeated lines) old new
 
--- what can end a script that runs, by whether there is a capture and what the output is then; memory may run out at any time
+-- the refusals of a script that runs, by whether there is a capture and what the output is; memory may run out at any time
 abbrev pub IsLate : (captured : Bool) → OutputState → Refusal → Type 0
 IsLate captured output Memory = Unit {0}
 IsLate captured output Output = IsUnwritten captured output
@@ -83,9 +83,9 @@ pub record IsSimulation (text : List ℕ) (t : Contents) (lines : List Line) : T
   pub states : StatesMachine table t
   pub read : script_of t script ≡ Ok lines
 
--- the lines run over slaves of the table that are switched on, and what they say is printed, where what they expect is so; or
--- it isn't, so many times; or a script that runs is cut short, and what it said until then is printed; or memory is refused
--- before the first line
+-- The lines run over slaves of the table that are switched on, and their texts are printed. What they expect is so; or it isn't, and
+-- the refusal says how often. Or a script that runs is cut short, and what it printed until then stays. Or memory is refused
+-- before the first line.
 abbrev pub RunsLines : Reasons → (captured : Bool) → Contents → List Line → (old new : OutputState) → Result Unit Refusal → Type 0
 RunsLines reasons captured t lines old new (Ok done) = (w : WorldState) × IsOfMachine t w × PrintsLines reasons t w lines 0 old new
 RunsLines reasons captured t lines old new (Err refusal) =
@@ -104,7 +104,7 @@ IsHalfRefusal table script refusal = IsTableRefusal table refusal
 abbrev pub IsSimRefusal : List ℕ → Refusal → Type 0
 IsSimRefusal text refusal = (table : List ℕ) × (script : List ℕ) × Splits text table script × IsHalfRefusal table script refusal
 
--- the run of a text's script is printed line by line
+-- the run of a text's script is printed, as `Printed` says
 pub record Simulates (text : List ℕ) (Printed : Contents → WorldState → List Line → Type 0) : Type 0 where
   pub t : Contents
   pub lines : List Line
@@ -113,9 +113,9 @@ pub record Simulates (text : List ℕ) (Printed : Contents → WorldState → Li
   pub begins : IsOfMachine t world
   pub printed : Printed t world lines
 
--- how it ends, by what the output is before and after, and whether there is a capture: all is printed, and what is expected is so; or it isn't, so many
--- times; or nothing is printed, since the text is refused; or a script that runs is cut short, and what it said until then is
--- printed
+-- How it ends, by whether there is a capture and what the output is before and after. All is printed, and what is expected is so; or it
+-- isn't, and the refusal says how often. Or nothing is printed, since the text is refused. Or a script that runs is cut short, and what
+-- it printed until then stays.
 abbrev pub RunsText : Reasons → (captured : Bool) → List ℕ → (old new : OutputState) → Result Unit Refusal → Type 0
 RunsText reasons captured text old new (Ok done) = Simulates text (λ t w lines. PrintsLines reasons t w lines 0 old new)
 RunsText reasons captured text old new (Err refusal) =
@@ -123,7 +123,7 @@ RunsText reasons captured text old new (Err refusal) =
     ⊎ ((IsLate captured new refusal × Simulates text (λ t w lines. PrintsSome reasons t w lines old new))
     ⊎ EndsUnmet refusal (λ unmet. Simulates text (λ t w lines. PrintsLines reasons t w lines unmet old new)))
 
--- the same of what the input gives; or the input is refused
+-- the script that the input gives, as in `RunsText`; or the input is refused
 abbrev pub RunsSim : Reasons → (captured : Bool) → Given → (old new : OutputState) → Result Unit Refusal → Type 0
 RunsSim reasons captured given old new ended =
     ((text : List ℕ) × GivesText given text × RunsText reasons captured text old new ended) ⊎ ((refusal : Refusal) × (ended ≡ Err refusal) × IsInputRefusal given refusal × (new ≡ old))

@@ -1,4 +1,4 @@
--- What private code answers once a table was read; none of it is needed to read what is printed.
+-- What private code returns once a table was read. You don't need it to read what is printed.
 use Rattle.std.specs.Prelude.{◌≡◌, ◌⊎◌, ℕ, Bool, List, ◌++◌, Result, Ok, Err}
 use Rattle.ec_table.specs.Contents.{Contents}
 use Rattle.ec_script.specs.declared.line.Line.{Line}
@@ -17,7 +17,7 @@ use Rattle.ec_world.specs.World.{WorldState}
 abbrev pub IsLineText : (reasons : Reasons) → Contents → ℕ → WorldState → LineOutput → List ℕ → Type 0
 IsLineText reasons t n w said text = (why : List ℕ) × IsWhy reasons said why × (text ≡ output_text t n w said ++ why)
 
--- the first bad line of a script
+-- the refusals of a script: its first bad line; memory may run out at any time
 abbrev pub IsBadScript : Contents → List ℕ → Refusal → Type 0
 IsBadScript t script Memory = Unit {0}
 IsBadScript t script (Script error) = ScriptFails error (script_of t script)

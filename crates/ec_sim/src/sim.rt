@@ -1,4 +1,4 @@
-//! `ecat sim`: a link table and a script on the input, and what the script does to a simulated segment of the table.
+//! `ecat sim`: reads a link table and a script from the input, and runs the script over a simulated segment of the table.
 ghost use Rattle.std.specs.Prelude.{◌≡◌, ◌∷◌, [], ℕ, IfErr, IfOk, OnErr, OnOk, false, is_some, not, option_map, string_bytes, true, if◌then◌else◌, replicate};
 ghost use Rattle.ec_console.specs.Explaining.{IsLeft};
 ghost use Rattle.ec_sim.specs.Simulating.{IsLate, PrintsAll, PrintsLines, PrintsPart, PrintsSome, RunsLines, RunsSim, RunsText};
@@ -22,12 +22,12 @@ use std::alloc::{AllocError, Global};
 use std::fs::Files;
 use std::io::{Read, Write};
 
-/// Does a line as often as it is to be done, prints each time what there is to say before it is done again, and answers how
-/// often what it expects isn't so.
+/// Runs a line as many times as it says, and prints its text each time before it is run again. Returns how often what it expects
+/// isn't so.
 ///
 /// # Errors
 ///
-/// `Refusal::Memory` or `Refusal::Output`, which cut the line short, after what was printed until then.
+/// `Refusal::Memory` or `Refusal::Output`. They cut the line short; what was printed until then stays.
 pub fn print_line<S: Watcher, W: Write + Drop>(
     alloc: Global,
     table: &Table,
@@ -55,13 +55,13 @@ pub fn print_line<S: Watcher, W: Write + Drop>(
     Ok(unmet)
 }
 
-/// Runs the lines of a script over a world of a table, each as often as it is to be done, prints of each what there is to say
-/// before the next one runs, and answers how often what they expect isn't so. A capture notes exactly the frames of the run,
-/// event by event in order, each where it was.
+/// Runs the lines of a script over a world of a table, each as many times as it says. It prints the text of each before the next one
+/// runs, and returns how often what they expect isn't so. A capture notes exactly the frames of the run, event by event in order,
+/// each where it was.
 ///
 /// # Errors
 ///
-/// `Refusal::Memory` or `Refusal::Output`, which cut the run short: what was noted is that of the run until then.
+/// `Refusal::Memory` or `Refusal::Output`. They cut the run short; the capture notes the run until then.
 #[tactic(auto, using(crate::proofs::Noting::run_noted))]
 pub fn print_noted<F: Write + Drop, W: Write + Drop>(
     alloc: Global,
@@ -83,12 +83,12 @@ pub fn print_noted<F: Write + Drop, W: Write + Drop>(
     print_lines(alloc, table, reasons, world, watch, lines, output)
 }
 
-/// Runs the lines of a script as [`print_noted`] does. Where they are through, the capture is whole: all of it is written and
+/// Runs the lines of a script as [`print_noted`] does. If it returns `Ok`, the capture is whole: all of it is written and
 /// handed on.
 ///
 /// # Errors
 ///
-/// Those of [`print_noted`]; and `Refusal::Output` where the lines are through and the capture isn't whole.
+/// Those of [`print_noted`], and `Refusal::Output` if all lines were run and the capture isn't whole.
 pub fn print_captured<F: Write + Drop, W: Write + Drop>(
     alloc: Global,
     table: &Table,
@@ -111,17 +111,17 @@ pub fn print_captured<F: Write + Drop, W: Write + Drop>(
     finish_recording(ended, watch.capture())
 }
 
-/// Runs the script that the input gives behind a link table and a line `%%`. Its slaves begin at power-on, with the
-/// identities that the table says. What a line says is printed before the next line runs, and why it says `no`, where reasons
-/// are told. The frames that pass go into a capture, if a file is named, with an interface `master` and one for each slave. A
-/// refusal of the text is explained, where that is wanted.
+/// Runs the script that stands on the input behind a link table and a line `%%`. Its slaves begin at power-on, with the
+/// identities of the table. The text of a line is printed before the next line runs, and with `reasons` also why it says `no`.
+/// If a file is named, the frames go into a capture, with an interface `master` and one for each slave. A refusal of the text is
+/// explained in `behind`, if that is wanted.
 ///
 /// # Errors
 ///
-/// The refusal of the input or of its table, or `Refusal::Script` with the error of [`read_script`], before a line runs;
-/// `Refusal::Memory` or `Refusal::Output` where memory or a write was refused, after what was printed until then;
-/// `Refusal::Output` too where the file couldn't be opened, before a line runs, or couldn't be written to the end; and
-/// `Refusal::Unmet` where what lines expect isn't so.
+/// The refusal of the input or of its table, or `Refusal::Script` with the error of [`read_script`], before a line runs.
+/// `Refusal::Memory` or `Refusal::Output` if memory or a write was refused; what was printed until then stays.
+/// `Refusal::Output` also if the file couldn't be opened, before a line runs, or couldn't be written to the end.
+/// `Refusal::Unmet` if what lines expect isn't so.
 pub fn print_sim<H: AllocGlobal + Files, R: Read + Drop, W: Write + Drop>(
     rt: &H,
     reasons: Reasons,
@@ -142,7 +142,7 @@ pub fn print_sim<H: AllocGlobal + Files, R: Read + Drop, W: Write + Drop>(
     ended
 }
 
-/// Does a line once, prints what there is to say, and answers whether what it expects isn't so.
+/// Runs a line once and prints its text. Returns whether what it expects isn't so.
 #[tactic(auto, using(crate::proofs::SimLemmas::refused_late))]
 fn print_once<S: Watcher, W: Write + Drop>(
     alloc: Global,
@@ -168,8 +168,8 @@ fn print_once<S: Watcher, W: Write + Drop>(
     Ok(said.is_unmet())
 }
 
-/// What is printed of a line: what there is to say of it in the world that it left, and behind that why it says `no`, where
-/// reasons are told.
+/// The text of a line, by the world that it left. If it says `no` and reasons are wanted, a line that says why stands
+/// behind it.
 #[tactic(auto, using(crate::proofs::SimLemmas::line_alone, crate::proofs::SimLemmas::line_reasoned))]
 fn line_text(
     alloc: Global,
@@ -192,8 +192,8 @@ fn line_text(
     Ok(text)
 }
 
-/// Runs the lines of a script over a world of a table, each as often as it is to be done, prints of each what there is to say
-/// before the next one runs, and answers how often what they expect isn't so.
+/// Runs the lines of a script over a world of a table, each as many times as it says. It prints the text of each before the next one
+/// runs, and returns how often what they expect isn't so.
 fn print_lines<S: Watcher, W: Write + Drop>(
     alloc: Global,
     table: &Table,
@@ -219,7 +219,7 @@ fn print_lines<S: Watcher, W: Write + Drop>(
     Ok(unmet)
 }
 
-/// Runs the lines of a script as `print_lines` does; the frames of the world go into a capture, if a file is named.
+/// Runs the lines of a script as [`print_lines`] does. If a file is named, the frames of the world go into a capture.
 #[tactic(auto, using(crate::proofs::SimLemmas::none_some, crate::proofs::SimLemmas::unopened_late, crate::proofs::SimLemmas::cut_late))]
 fn print_watched<H: AllocGlobal + Files, W: Write + Drop>(
     rt: &H,
@@ -252,7 +252,7 @@ fn print_watched<H: AllocGlobal + Files, W: Write + Drop>(
     print_captured(rt.alloc(), table, reasons, world, &mut watch, lines, output)
 }
 
-/// Runs the script of a text over a segment of its machine, and prints what it says.
+/// Runs the script of a text over a segment of the text's machine, and prints the texts of its lines.
 fn run_text<H: AllocGlobal + Files, W: Write + Drop>(
     rt: &H,
     file: Option<&str>,
@@ -267,7 +267,7 @@ fn run_text<H: AllocGlobal + Files, W: Write + Drop>(
     run_script(rt, file, &machine, reasons, script, output)
 }
 
-/// Reads a script and runs it over a new segment of a machine, and prints what it says.
+/// Reads a script, runs it over a new segment of a machine, and prints the texts of its lines.
 fn run_script<H: AllocGlobal + Files, W: Write + Drop>(
     rt: &H,
     file: Option<&str>,
@@ -283,7 +283,7 @@ fn run_script<H: AllocGlobal + Files, W: Write + Drop>(
     run_lines(rt, file, machine, reasons, lines.as_slice(), output)
 }
 
-/// Runs the lines of a script over a new segment of a machine, and prints what they say.
+/// Runs the lines of a script over a new segment of a machine, and prints their texts.
 fn run_lines<H: AllocGlobal + Files, W: Write + Drop>(
     rt: &H,
     file: Option<&str>,
