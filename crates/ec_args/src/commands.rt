@@ -143,9 +143,9 @@ fn segment_command<'a>(alloc: Global) -> Made<'a>
     let port = by_default(number(alloc, "port", "P", 1, 65535, help), "34980");
     let command = with_argument(command, port);
     let command = with_argument(command, descriptor_argument(alloc));
-    let help = "Show slaves as usual masters expect them: SII categories, DL status, more objects";
+    let help = "Give slaves what usual masters expect: SII categories, DL status, more objects";
     let command = with_argument(command, flag(alloc, "full", help));
-    let help = "How many seconds it waits for a payload, 0 to 86400; 0 is without an end";
+    let help = "How many seconds it waits for a payload, 0 to 86400; 0 waits without end";
     let idle = by_default(number(alloc, "idle", "SECONDS", 0, 86400, help), "60");
     let command = with_argument(command, idle);
     let command = with_argument(command, capture_argument(alloc));
@@ -233,7 +233,7 @@ fn capture_argument<'a>(alloc: Global) -> Arg<'a>
 fn descriptor_argument<'a>(alloc: Global) -> Arg<'a>
     ensures { IsArgument result descriptor_rule }
 {
-    let help = "In its place, the descriptor of a network card's open raw socket, 0 to 1023";
+    let help = "Instead of UDP: the descriptor of a network card's open raw socket, 0 to 1023";
     number(alloc, "descriptor", "N", 0, 1023, help)
 }
 

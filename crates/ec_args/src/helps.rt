@@ -9,7 +9,7 @@ Exit status:
   4  a fault of input or output, in the same form
   5  an `expect` of `ecat sim` or `ecat master` didn't hold, in the same form
 
-`ecat COMMAND -h` shows an example, `ecat COMMAND --help` lists what is refused, and what to do.";
+`ecat COMMAND -h` prints an example. `ecat COMMAND --help` lists the refusals, and what to do.";
 
 /// The text below the arguments of `ecat pass` in its short help.
 pub(crate) const PASS_EXAMPLE: &str = "\
@@ -34,8 +34,8 @@ Exit status:
                     give all of them, or correct the header
       3 BadType     bits 12 to 15 of the header aren't 1: begin with the EtherCAT header, not with
                     that of Ethernet, IP or UDP
-      4 BadLength   no datagram fits where one begins: see the header's length, and the length at
-                    offset 6 of each datagram
+      4 BadLength   there is no room for a datagram, or for its data: see the header's length, and
+                    the length at offset 6 of each datagram
       6 BadCommand  a datagram's command is over 14: see its first byte
       5 BadMore     bit 15 at offset 6 must be set in every datagram but the last
       1 Memory      memory ran out, and HEX may be good or bad: free some and try again
@@ -60,12 +60,14 @@ Lines, in this order for each slave, and then for each part:
   fmmu N BYTES               an FMMU that is active: its 16 register bytes in hex
   part P address A bytes B counter C
                              the part's first logical byte, its bytes, and the working counter
-                             of its LRW; W/R are those of an LWR and an LRD, if a slave of the
-                             part takes no part in LRW. A table of version 2 adds ` unit U`
+                             of its LRW. W/R are those of an LWR and an LRD, if the part has a
+                             slave without LRW. A table of version 2 adds ` unit U`
 
-With `--header` it prints a C header instead, for programs that use the library. For each variable
-NAME, in file order, ECAT_NUMBER_NAME is its number, ECAT_BITS_NAME how many bits it has, and
-ECAT_OUTPUT_NAME is 1 for an output and 0 for an input. ECAT_VARIABLES is how many there are.
+With `--header` it prints a C header instead, for programs that use the library. ECAT_VARIABLES is
+how many variables there are. Each variable NAME has these, in file order:
+  ECAT_NUMBER_NAME           its number
+  ECAT_BITS_NAME             how many bits it has
+  ECAT_OUTPUT_NAME           1 for an output, 0 for an input
 
 Exit status:
   0  the plan is on standard output
@@ -75,34 +77,34 @@ Exit status:
 
 Refusals with status 3; PLACE counts from 0 in file order:
   11 Toml                    the text is no TOML: correct its syntax
-  12 BadKey SECTION PLACE    a key is unknown or missing: leave it out or add it; `unit` is known
+  12 BadKey SECTION PLACE    a key is unknown or missing: leave it out or add it. `unit` is known
                              if the text begins with `version = 2`. SECTION is 0 for the
                              document, 1 type, 2 slave, 3 variable, 4 link
   13 BadValue SECTION PLACE  a value has the wrong kind, range or number of items: give one that
-                             its key takes. A name has letters, digits and `_` alone; a slave
+                             its key takes. A name has letters, digits and `_` alone. A slave
                              without a mailbox assigns all PDOs of its type, so leave out its
-                             `out` and `in`: `out = []` is refused too
+                             `out` and `in`. `out = []` is refused too
   14 TwiceNamed SECTION PLACE
                              a name, or the index of a PDO, stands twice: change one of them
   15 UnknownName SECTION PLACE
                              a name, or the index of a PDO, is unknown: correct it, or add what
                              it names
-  16 WrongDirection PLACE    of a link: the slave has that entry in the other direction: link a
+  16 WrongDirection PLACE    link PLACE: its slave has that entry in the other direction. Link a
                              variable of that direction
-  17 NoEntry PLACE           of a link: the slave assigns no such entry: assign its PDO, or link
+  17 NoEntry PLACE           link PLACE: its slave assigns no such entry. Assign its PDO, or link
                              another
-  18 OutsideEntry PLACE      of a link: it has bits past the entry or the variable: link fewer
-  19 LinkedTwice PLACE       of a link: an earlier link gives one of its bits: leave one out
-  20 EntryTwice PLACE        of a slave: it assigns an entry twice in one direction: assign one of
-                             its PDOs less; without `out` or `in` it assigns all of its type
-  21 TooManyBits PLACE       of a slave: it has over 2048 bits in a direction: assign fewer PDOs
+  18 OutsideEntry PLACE      link PLACE: it has bits past the entry or the variable. Link fewer
+  19 LinkedTwice PLACE       link PLACE: an earlier link gives one of its bits. Leave one out
+  20 EntryTwice PLACE        slave PLACE: it assigns an entry twice in one direction. Assign one
+                             PDO less. Without `out` or `in` it assigns all PDOs of its type
+  21 TooManyBits PLACE       slave PLACE: it has over 2048 bits in a direction. Assign fewer PDOs
   22 TooManySlaves COUNT     over 64 slaves: make two tables
   23 TooManyParts COUNT      over 32 parts: put slaves into fewer sync units
-  24 AreasOverlap PLACE      of a slave: areas of two of its sync managers overlap; a buffer has
-                             three times its length: see the starts in its type
-  25 OutsideRam PLACE        of a slave: an area is not within 0x1000 to 0x2fff: see the starts in
-                             its type
-  44 SplitVariable PLACE     of an input variable: it has links from two sync units: make two
+  24 AreasOverlap PLACE      slave PLACE: areas of two of its sync managers overlap. A buffer has
+                             three times its length. See the starts in its type
+  25 OutsideRam PLACE        slave PLACE: an area is not within 0x1000 to 0x2fff. See the starts
+                             in its type
+  44 SplitVariable PLACE     variable PLACE: this input has links from two sync units. Make two
                              variables of it, or put the slaves into one unit
    1 Memory                  memory ran out, and the table may be good or bad: free some and try
                              again
@@ -122,29 +124,32 @@ Example: a broadcast read of the AL status, in the standard's names
 
 /// The text below them in its long help.
 pub(crate) const DECODE_LINES: &str = "\
-PAYLOADS are payloads of UDP datagrams to port 34980 (0x88A4) in hex, one a line; empty lines are
+PAYLOADS are payloads of UDP datagrams to port 34980 (0x88A4) in hex, one a line. Empty lines are
 skipped. An Ethernet frame of type 0x88A4 has the same bytes behind its header.
 
 Lines for each payload, in this order:
-  frame COUNT     a frame of COUNT datagrams; ` reserved` if bit 11 of its header is set, and
-                  ` rest HEX` if there are bytes behind the datagrams
+  frame COUNT     a frame of COUNT datagrams. Behind that:
+                    ` reserved`     bit 11 of its header is set
+                    ` rest HEX`     the bytes behind the datagrams, if there are any
   N COMMAND index II at ADP:ADO counter C data HEX
-                  each datagram: its number from 0, its command, its index, ADP and ADO (of LRD,
-                  LWR and LRW ` logical ADDRESS`) in hex; then, if they aren't zero, ` irq XXXX`,
-                  ` reserved R`, ` circulating`; its counter in decimal, and its data in hex, `-`
-                  for none
+                  each datagram: its number from 0, its command, its index in hex, and ADP and ADO
+                  in hex (` logical ADDRESS` for LRD, LWR and LRW). Then its counter in decimal, and
+                  its data in hex, `-` for none. Before ` counter`, unless they are zero:
+                    ` irq XXXX`     the event request word in hex
+                    ` reserved R`   the three reserved bits as a number
+                    ` circulating`  the circulating bit
   refused NUMBER NAME datagram WHOLE byte AT
-                  instead of the line `frame`, and behind the lines of the WHOLE datagrams before
-                  the fault: the payload is no frame, for a reason that `ecat pass --help` lists,
-                  and what is wrong begins at byte AT
+                  stands instead of `frame`, behind the lines of the WHOLE datagrams before the
+                  fault. The payload is no frame: `ecat pass --help` lists the reasons. The fault
+                  begins at byte AT
 
-With `--explain`, indented lines below a datagram say what it carries, by the names of the standard:
-registers, AL states and status codes, sync managers, FMMUs, and messages of a mailbox. With
-`--table` they say which variables of that table it carries, with their values, and the working
+With `--explain`, indented lines below a datagram say what it carries, by the names of the standard.
+They name registers, AL states and status codes, sync managers, FMMUs, and messages of a mailbox.
+With `--table` they say which variables of that table it carries, with their values, and the working
 counter that is expected. `ecat encode` skips indented lines.
 
 Exit status:
-  0  every payload was printed as text, also one that is refused
+  0  every payload was printed as text, refused ones too
   2  the command line isn't valid: correct it as standard error says
   3  refused, and standard error says `ecat: NUMBER NAME VALUES`:
      40 BadHex      a line isn't pairs of hex digits: leave out blanks and 0x; the lines before
@@ -173,7 +178,7 @@ Exit status:
   0  every frame is on standard output
   2  the command line isn't valid: correct it as standard error says
   3  refused, and standard error says `ecat: NUMBER NAME VALUES`:
-     39 BadScript LINE   a line has no valid form, or says `refused`: correct it; LINE counts from
+     39 BadScript LINE   a line has no valid form, or says `refused`: correct it. LINE counts from
                          1, and is the line behind the last if datagrams are missing
       1 Memory           memory ran out, and the input may be good or bad: free some and try again
   4  input or output is at fault, in the same form:
@@ -193,9 +198,9 @@ Example: a table, and a script that begins with a line `%%`
 pub(crate) const SIM_LINES: &str = "\
 TABLE_AND_SCRIPT is a link table, a line `%%`, and a script with one event a line. Numbers are
 decimal, words have one blank between them, empty lines are skipped, and `#` begins a comment.
-VALUE is decimal, `0x` and hex digits, or `-` and decimal, which is its two's complement in the
-variable's bits; a value that they don't hold can't be set. S is a slave's number from 0, or its
-name in the table; digits alone are a number.
+VALUE is decimal, `0x` and hex digits, or `-` and decimal. A negative VALUE is its two's complement
+in the variable's bits. A value that these bits can't hold can't be set. S is a slave's number from
+0, or its name in the table; digits alone are a number.
 
 Lines of a script:
   start           sends the next frame of the start-up
@@ -210,8 +215,8 @@ Lines of a script:
   get S I         it reads byte I of its outputs, as below
   fault S         the application of slave S has a fault
   reset S         slave S is switched off and on
-  in NAME VALUE   sets an input variable as the plant: each slave with bits of it writes all bytes
-                  of its inputs, with the other bits as it published them last
+  in NAME VALUE   sets an input variable as the plant does. Each slave with bits of it writes all
+                  its input bytes, the other bits as it published them last
   ready           runs the start-up to its end
   cycle           runs a cycle: begin, each frame past all slaves and back, close
   show            prints the input variables
@@ -219,46 +224,49 @@ Lines of a script:
 
 Lines that change nothing, and print something only if what they expect doesn't hold:
   expect NAME VALUE           an input variable of the image is VALUE; for an output variable, the
-                              slaves publish VALUE in those of its bits that are linked
+                              slaves publish VALUE in its linked bits
   expect taken, expect untaken
-                              in the last report all sync units are that; with a number behind it,
-                              that unit
+                              the last report has all sync units as taken, or as untaken; with a
+                              number behind it, that unit
   expect state S STATE CODE   slave S is in INIT, PREOP, SAFEOP or OP, with this AL status code in
                               four hex digits, which may be left out
   expect ready, expect failed
                               how the start-up ended; a number may stand behind `failed`
 
 Bytes count from 0 in the slave's own data, as `ecat plan --explain` shows. `put` begins with byte
-0, which opens a draft of zeros, and the last byte publishes all of it at once: until then the
-slave gives its older inputs. `get` begins with byte 0 too, which opens a view of the outputs that
-the last byte closes. Any other byte can't be written or read before byte 0.
+0, which opens a draft of zeros. The last byte publishes all of it at once; until then the slave
+gives its older inputs. `get` begins with byte 0 too, which opens a view of the outputs that the
+last byte closes. Any other byte can't be written or read before byte 0.
 
 A frame never passes an older one. While one is still on its way, as after `begin` and `close`, a
-`cycle` ends with `no` and leaves its own cycle open, and so does each `begin` or `cycle` behind
-it. The way out: `lose K` for each slot with a frame, then `close`.
+`cycle` ends with `no` and leaves its own cycle open. So does each `begin` or `cycle` behind it.
+The way out: `lose K` for each slot with a frame, then `close`.
 
 What a line prints, before the next one runs:
-  no LINE         an event can't be made, and the script's line of this number ended there; with
+  no LINE         an event can't be made, and the script's line of this number ended there. With
                   `--explain` the line behind it says why
   ready           the start-up has ended well
   failed NUMBER   it has failed, by 9, 26 to 32, 36 or 38: `ecat loop --help` says what each
                   stands for
   report taken missing M counters C C .. al WORD
-                  the cycle was closed: inputs were taken, or `untaken` if not; M frames are
-                  missing; the working counters of each part as in the plan, `-` if its frame is
-                  missing; and the OR of the slaves' AL status words in hex. With a table of
-                  version 2 each sync unit has its number and its own `taken` or `untaken`
+                  the cycle was closed:
+                    taken           inputs were taken; `untaken` if not. With a table of version 2
+                                    each sync unit has its number and its own word
+                    missing M       M frames are missing
+                    counters C C .. the working counters of each part as in the plan; `-` if its
+                                    frame is missing
+                    al WORD         the OR of the slaves' AL status words in hex
   byte BYTE       what `get` read, in hex
-  NAME VALUE      of `show`, for each input variable
+  NAME VALUE      each input variable, after `show`
   unmet LINE      what this line expects doesn't hold; the script goes on
 Other lines print nothing. A repeated line prints each time.
 
-With `--live` each line is run as it comes, and what it prints is written out before the next one is
-read: another program can be the plant, or the control program, through a pipe. A line without a
+With `--live` each line is run as it comes. What it prints is written out before the next one is
+read. So another program can be the plant, or the control program, through a pipe. A line without a
 valid form then prints `bad LINE` instead of 39, and changes nothing.
 
 Exit status:
-  0  the script was run to its end, also if lines printed `no` or `failed`
+  0  the script was run to its end, even if lines printed `no` or `failed`
   2  the command line isn't valid: correct it as standard error says
   3  refused, and standard error says `ecat: NUMBER NAME VALUES`:
      11 to 25, 44        the table is refused; `ecat plan --help` says what to do. It is 11 too
@@ -272,7 +280,7 @@ Exit status:
      42 Input            standard input couldn't be read, isn't UTF-8, or has over 1048576 bytes:
                          see where it comes from
   5  the script was run to its end, and standard error says `ecat: NUMBER NAME VALUE`:
-     45 Unmet COUNT      so many times `unmet` was printed: see its lines";
+     45 Unmet COUNT      `unmet` was printed COUNT times: see the lines that it names";
 
 /// The text below the arguments of `ecat loop` in its short help.
 pub(crate) const LOOP_EXAMPLE: &str = "\
@@ -285,7 +293,7 @@ Example: ten cycles
 pub(crate) const LOOP_LINES: &str = "\
 TABLE is a link table; docs/TABLES.md describes it.
 
-Before cycle K, from 1 on, each output variable becomes K, as far as it has bits. The slaves'
+Before cycle K, counted from 1, each output variable is set to K, cut to its bits. The slaves'
 applications show their outputs as their inputs.
 
 Lines, in this order:
@@ -300,7 +308,7 @@ Exit status:
   3  refused, and standard error says `ecat: NUMBER NAME VALUES`
   4  input, output or a socket is at fault, in the same form
 
-Refusals with status 3; SLAVE and STEP count from 0, values are decimal, and `failed` of `ecat sim`
+Refusals with status 3. SLAVE and STEP count from 0, and values are decimal. `failed` of `ecat sim`
 and `ecat master` has these numbers too:
   11 to 25, 44             the table is refused; `ecat plan --help` says what to do
    9 BadMailbox SLAVE      what the slave's mailbox held is no reply to the request: see the
@@ -346,11 +354,11 @@ TABLE is a link table; docs/TABLES.md describes it.
 
 The slaves' applications show their outputs as their inputs. Once the segment listens on a port,
 standard error has a line that says so. With `--descriptor` it answers Ethernet frames of type
-0x88A4 on the raw socket of a network card, which is open already, as `tools/with_card` leaves one.
-At the end, also if no payload came for SECONDS, a line `served N refused M` says how many payloads
-were frames, which were answered, and how many were not.
+0x88A4 on the raw socket of a network card, which is already open; `tools/with_card` opens one.
+At the end it prints `served N refused M`: N payloads were frames and were answered, M were not.
+It does so too if no payload came for SECONDS.
 
-With `--full`, slaves are as usual masters expect them, and show besides: SII categories, DL status,
+With `--full`, slaves are as usual masters expect them. They also have SII categories, DL status,
 and CoE objects 0x1000 to 0x100A and 0x1C00.
 
 Exit status:
@@ -364,9 +372,10 @@ Exit status:
                         goes, and the file
      42 Input           standard input couldn't be read, isn't UTF-8, or has over 1048576 bytes:
                         see where it comes from
-     43 Socket          the port is in use, the descriptor is no socket of a card, or no payload
-                        came for SECONDS: take another port, open the card, start the master in
-                        time, or give a longer `--idle`";
+     43 Socket          the port is in use: take another
+                        the descriptor is no socket of a card: open the card
+                        no payload came for SECONDS: start the master in time, or give a longer
+                        `--idle`";
 
 /// The text below the arguments of `ecat master` in its short help.
 pub(crate) const MASTER_EXAMPLE: &str = "\
@@ -379,12 +388,12 @@ Example: a start-up and a cycle against `ecat segment`
 pub(crate) const MASTER_LINES: &str = "\
 TABLE_AND_LINES is a link table up to a line `%%`, and behind it lines that are run one by one as
 they come. What a line prints is written out before the next one is read, so a control program can
-drive the master through a pipe; the run ends where the input does. Words, numbers, NAME, VALUE and
+drive the master through a pipe. The run ends with the input. Words, numbers, NAME, VALUE and
 comments are those of `ecat sim --help`, and empty lines are skipped.
 
 Frames go to ADDRESS:PORT, and nothing comes in from elsewhere. With `--descriptor` they are
-Ethernet frames of type 0x88A4 on the raw socket of a network card, which is open already, as
-`tools/with_card` leaves one.
+Ethernet frames of type 0x88A4 on the raw socket of a network card, which is already open;
+`tools/with_card` opens one.
 
 Lines:
   ready           runs a start-up over the wire, from its beginning to its end
@@ -395,7 +404,8 @@ Lines:
   expect NAME VALUE
                   an input variable of the image is VALUE
   expect taken, expect untaken
-                  in the last report all sync units are that; with a number behind it, that unit
+                  the last report has all sync units as taken, or as untaken; with a number behind
+                  it, that unit
   expect ready, expect failed
                   how the last start-up ended; a number may stand behind `failed`
   repeat N LINE   runs LINE N times, 1 to 1000000; LINE isn't a `repeat`
@@ -403,23 +413,23 @@ Lines:
 What a line prints; lines count from 1 behind `%%`:
   ready           the start-up has ended well
   failed NUMBER   it has failed, by 9, 26 to 32, 36 or 38: `ecat loop --help` says what each
-                  stands for; with `--explain` the line behind it says what was seen
-  report ...      of `cycle` and `report`, as `ecat sim --help` says
-  fault 37 Wire   of `cycle`: a socket was faulty, or an answer didn't come for MS. Inputs and the
+                  stands for. With `--explain` the line behind it says what was seen
+  report ...      after `cycle` and `report`, as `ecat sim --help` says
+  fault 37 Wire   a socket was faulty in a `cycle`, or an answer didn't come for MS. Inputs and the
                   last report stay as they were, and a new `cycle` or `ready` may go well
-  NAME VALUE      of `show`, for each input variable
+  NAME VALUE      each input variable, after `show`
   unmet LINE      what this line expects doesn't hold
-  no LINE         what this line says can't be done, and nothing was: a `cycle` while the last
-                  start-up hasn't ended well, or with no frame number left; a `set` of what is no
-                  output variable, or can't hold the value; a `report` before the first one. With
-                  `--explain` the line behind it says why
+  no LINE         what this line says can't be done, and nothing was done. With `--explain` the line
+                  behind it says why. It stands for:
+                    `cycle` before a start-up, after one that failed, or with no frame number left
+                    `set` of an input variable, or of a value that the variable can't hold
+                    `report` before the first one
   bad LINE        the line is none of these, and nothing was done. `expect` of an output variable or
-                  of a slave's state is none of them: no frame of a cycle carries what slaves
-                  publish of their outputs, or the state of one slave
+                  of a slave's state is bad too: no frame of a cycle carries them
 Other lines print nothing. A repeated line prints each time.
 
 Exit status:
-  0  all lines were run, also if they printed `no`, `bad`, `failed` or `fault`
+  0  all lines were run, even if they printed `no`, `bad`, `failed` or `fault`
   2  the command line isn't valid: correct it as standard error says
   3  refused, and standard error says `ecat: NUMBER NAME VALUES`:
      11 to 25, 44       the table is refused; `ecat plan --help` says what to do. It is 11 too
@@ -431,8 +441,8 @@ Exit status:
                         output goes, and the file
      42 Input           standard input couldn't be read, or the table isn't UTF-8, or has over
                         1048576 bytes: see where it comes from
-     43 Socket          ADDRESS:PORT is no IPv4 address with a port, there is no socket for it, or
-                        the descriptor is no socket of a card: correct the address, or open the
-                        card
+     43 Socket          ADDRESS:PORT is no IPv4 address with a port, or there is no socket for it:
+                        correct the address
+                        the descriptor is no socket of a card: open the card
   5  all lines were run, and standard error says `ecat: NUMBER NAME VALUE`:
-     45 Unmet COUNT     so many times `unmet` was printed: see its lines";
+     45 Unmet COUNT     `unmet` was printed COUNT times: see the lines that it names";

@@ -20,19 +20,25 @@ use std::convert::AsStr;
 pub enum Request<'a> {
     /// Pass the frame that the text spells in hex through this many slaves at power-on.
     Pass {
+        /// How many slaves there are, 0 to 64.
         slaves: u8,
+        /// The frame in hex, as it was given.
         frame: &'a str,
     },
     /// Print the plan of the link table on the input; with `header`, print a C header of its variables.
     /// With `explained`, explain the plan and a refusal for people.
     Plan {
+        /// Whether the C header is printed instead of the plan.
         header: bool,
+        /// Whether the plan and a refusal are explained.
         explained: bool,
     },
     /// Print as text the payloads that the lines of the input spell in hex. With `explained`, explain them
     /// by the names of the standard; if a file is named, also by the link table in it.
     Decode {
+        /// The file of the link table.
         table: Option<&'a str>,
+        /// Whether the payloads are explained.
         explained: bool,
     },
     /// Print in hex the frames that the text on the input states.
@@ -41,36 +47,54 @@ pub enum Request<'a> {
     /// file is named, the frames that pass go into a capture. With `explained`, a refusal is explained, as
     /// with the commands below.
     Sim {
+        /// Whether each line is run as it comes.
         live: bool,
+        /// The file of the capture.
         capture: Option<&'a str>,
+        /// Whether a refusal is explained, and why a line can't be done.
         explained: bool,
     },
     /// Run this many cycles of the link table on the input over sockets of this process.
     Loop {
+        /// How many cycles are run, 0 to 1000.
         cycles: u16,
+        /// The file of the capture.
         capture: Option<&'a str>,
+        /// Whether a refusal is explained.
         explained: bool,
     },
     /// Answer this many payloads as the slaves of the input's link table, on this port or on the card
-    /// whose socket has this descriptor. Wait for each at most `idle` seconds; 0 waits without an end. With
+    /// whose socket has this descriptor. Wait for each at most `idle` seconds; 0 waits without end. With
     /// `full`, the slaves are as usual masters expect them.
     Segment {
+        /// How many payloads are received.
         frames: u32,
+        /// The UDP port on 127.0.0.1, 1 to 65535.
         port: u16,
+        /// The descriptor of a card's raw socket, 0 to 1023, which replaces the port.
         descriptor: Option<u16>,
+        /// Whether the slaves are as usual masters expect them.
         full: bool,
+        /// How many seconds it waits for a payload, 0 to 86400.
         idle: u32,
+        /// The file of the capture.
         capture: Option<&'a str>,
+        /// Whether a refusal is explained.
         explained: bool,
     },
     /// Run the lines behind the link table on the input, as they come, with a master. Its socket is connected
     /// to the segment at `to`, an IPv4 address with a UDP port, or is the card's raw socket with this
     /// descriptor. It waits `patience` milliseconds for an answer.
     Master {
+        /// The segment's IPv4 address and UDP port, as they were given.
         to: &'a str,
+        /// The descriptor of a card's raw socket, 0 to 1023, which replaces the address.
         descriptor: Option<u16>,
+        /// How many milliseconds it waits for an answer, 1 to 60000.
         patience: u16,
+        /// The file of the capture.
         capture: Option<&'a str>,
+        /// Whether a refusal is explained, and why a line can't be done or a start-up failed.
         explained: bool,
     },
 }

@@ -113,6 +113,9 @@ fn write_bits(text: &mut String, first: usize, count: usize, all: u8) -> Result<
     if count == usize::from(all) {
         return Ok(());
     }
+    if count == 1 {
+        return write!(text, " bit {first}");
+    }
     let last = first.saturating_add(count).saturating_sub(1);
     write!(text, " bits {first} to {last}")
 }
@@ -142,7 +145,12 @@ fn write_part(
             text,
             ", predicted {predicted}: as it is sent, or no slave took part"
         )
-    } else {
+    } else if counter < predicted {
         writeln!(text, ", predicted {predicted}: not each slave took part")
+    } else {
+        writeln!(
+            text,
+            ", predicted {predicted}: more slaves took part than the plan has"
+        )
     }
 }

@@ -31,8 +31,11 @@ pub fn tell_unmet(telling: &mut Telling<'_>, count: u64) {
 
 /// Adds remarks on what is wrong with a line, by the names of the table in the text before it, if that states one.
 fn tell_in_text(telling: &mut Telling<'_>, before: &str, line: Line<'_>) {
-    let table = read_table(telling.alloc, before).ok();
-    tell_line(telling, table.as_ref(), line);
+    match read_table(telling.alloc, before) {
+        Ok(table) => tell_line(telling, Some(&table), line),
+        Err(error) if error.number() == 1 => telling.fall_short(),
+        Err(_) => tell_line(telling, None, line),
+    }
 }
 
 /// Adds remarks on what is wrong with a line, by the names of the table, if there is one.

@@ -184,10 +184,12 @@ fn abort_text(code: u32) -> &'static str {
         0x0609_0030 => "the object doesn't take that value",
         0x0609_0031 => "the value is too large",
         0x0609_0032 => "the value is too small",
+        0x0609_0036 => "the maximum is less than the minimum",
         0x0800_0000 => "a general error",
         0x0800_0020 => "the value can't be transferred or stored",
         0x0800_0021 => "the application controls the value",
         0x0800_0022 => "the value can't be transferred in the state that it is in",
+        0x0800_0023 => "it has no object dictionary, or can't make one",
         _ => "a code that the standard or the vendor explains",
     }
 }
@@ -219,6 +221,15 @@ fn status_text(code: u16) -> &'static str {
         0x0025 => "an output mapping that it doesn't take",
         0x0026 => "settings that don't fit each other",
         0x0030 => "settings of its distributed clock that it doesn't take",
+        0x0031 => "latch settings of its distributed clock that it doesn't take",
+        0x0032 => "it isn't synchronized (PLL error)",
+        0x0033 => "its inputs and outputs aren't synchronized",
+        0x0034 => "a synchronization timeout",
+        0x0042 => "a fault of its mailbox (EoE)",
+        0x0043 => "a fault of its mailbox (CoE)",
+        0x0044 => "a fault of its mailbox (FoE)",
+        0x0045 => "a fault of its mailbox (SoE)",
+        0x004F => "a fault of its mailbox (VoE)",
         _ => "a code that the standard or the vendor explains",
     }
 }

@@ -39,7 +39,7 @@ const STRANGER: Device = Device {
 };
 
 /// Start-ups that failed, and what is told of them.
-const ERRORS: [(StartError, &str); 15] = [
+const ERRORS: [(StartError, &str); 20] = [
     (
         StartError::BadMailbox { slave: 1 },
         "line 31, column 1: slave 1 x ;`mailbox`",
@@ -106,6 +106,41 @@ const ERRORS: [(StartError, &str); 15] = [
             code: 0x8001,
         },
         "line 28, column 1: slave 0 panel ;0x8001",
+    ),
+    (
+        StartError::AlError {
+            slave: 1,
+            code: 0x0032,
+        },
+        "slave 1 x ;0x0032: it isn't synchronized (PLL error)",
+    ),
+    (
+        StartError::AlError {
+            slave: 1,
+            code: 0x0043,
+        },
+        "slave 1 x ;0x0043: a fault of its mailbox (CoE)",
+    ),
+    (
+        StartError::AlError {
+            slave: 1,
+            code: 0x004F,
+        },
+        "slave 1 x ;0x004F: a fault of its mailbox (VoE)",
+    ),
+    (
+        StartError::Abort {
+            slave: 2,
+            code: 0x0609_0036,
+        },
+        "slave 2 y ;0x06090036: the maximum is less than the minimum",
+    ),
+    (
+        StartError::Abort {
+            slave: 2,
+            code: 0x0800_0023,
+        },
+        "slave 2 y ;0x08000023: it has no object dictionary, or can't make one",
     ),
     (
         StartError::Mapping {
