@@ -1,4 +1,4 @@
-//! What a logical datagram writes into the memory itself.
+//! Writes a logical datagram into the memory itself.
 
 ghost use Rattle.std.specs.Prelude.{◌≡◌, ◌<◌, ◌+◌, ◌*◌, ◌^◌, length};
 ghost use Rattle.ec_regs.specs.Memory.{ram_end};
