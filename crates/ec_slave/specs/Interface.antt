@@ -393,7 +393,7 @@ pub record IsRam (s : SlaveState) (a : ℕ) : Type 0 where
 abbrev pub RamIsGoverned : Type 0
 RamIsGoverned = (s : SlaveState) (a : ℕ) → ram_start ≤ a → a < ram_end → IsRam s a
 
--- one manager under a read, or under a write that sets nothing of it: it is read or written if the access gets at it and is allowed
+-- one manager under a read, or under a write that sets nothing of it: it is read or written if the access gets at it and may be
 pub record IsAccessed (lower : List SyncManager) (w : Window) (n : ℕ) (m : SyncManager) : Type 0 where
   pub read : physical_manager lower true false w n m ≡ (if is_read_by (touches w) (is_ungoverned lower) m then ring_read m else m)
   pub written : is_configured w n ≡ false
