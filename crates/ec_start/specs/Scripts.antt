@@ -38,7 +38,7 @@ downloads index subindex value = record { index = index; subindex = subindex; tr
 abbrev pub uploads : (index subindex : ℕ) → SdoValue → SdoRequest
 uploads index subindex value = record { index = index; subindex = subindex; transfer = Upload value }
 
--- the entries of a PDO from subindex k on
+-- the entries of a PDO, the first with subindex k
 abbrev pub entries_read : ℕ → ℕ → List Entry → List SdoRequest
 entries_read index k [] = []
 entries_read index k (e ∷ es) = uploads index k (long_value (entry_number e)) ∷ entries_read index (k + 1) es
@@ -48,7 +48,7 @@ abbrev pub pdo_read : Option Pdo → List SdoRequest
 pdo_read None = []
 pdo_read (Some p) = uploads p.index 0 (byte_value (length p.entries)) ∷ entries_read p.index 1 p.entries
 
--- the indices of an assignment from subindex k on
+-- the indices of an assignment, the first with subindex k
 abbrev pub slots_written : ℕ → ℕ → List ℕ → List SdoRequest
 slots_written object k [] = []
 slots_written object k (p ∷ ps) = downloads object k (word_value p) ∷ slots_written object (k + 1) ps
