@@ -1,5 +1,5 @@
-//! The master of the cyclic frames of a plan. It sends the outputs of its process image, and takes the inputs of a sync unit
-//! completely, if all of the unit's frames came back with the predicted working counters, or not at all.
+//! The master of the cyclic frames of a plan. It sends the outputs of its process image. It takes the inputs of a sync unit
+//! all at once, if all of the unit's frames came back with the predicted working counters, or not at all.
 //!
 //! This crate knows no wire: [`Master::frame`] lends the frames to send, and [`Master::take`] takes whatever came in.
 #![tactic(auto)]

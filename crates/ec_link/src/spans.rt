@@ -41,7 +41,7 @@ fn is_met(ends: &BTreeMap<u128, u128>, from: u128, end: u128) -> bool
     }
 }
 
-/// The first number of a link run on the line: it has 2^17 numbers for the outputs of each slave, and as many for each variable.
+/// The first number of a link run on the line: 2^17 numbers for the outputs of each slave, and as many for each variable.
 fn span_from(link_run: &LinkRun) -> u128
     requires { IsShortRun link_run.now }
     ensures value { result ≡ span_from link_run.now }

@@ -54,7 +54,7 @@ pub record IsGranted (s : SlaveState) (old new : State) : Type 0 where
   pub asked : requested_number (control_word s) ≡ state_number new
 
 -- OP is reached only from SAFEOP, by a request for it. A firmware step leads from PREOP to SAFEOP only if managers 2 and 3 are
--- as the PDOs that are assigned want them, and from INIT to PREOP only if managers 0 and 1 are the type's mailboxes.
+-- as the PDOs that are assigned want them. It leads from INIT to PREOP only if managers 0 and 1 are the type's mailboxes.
 abbrev pub StatesAreEntered : Type 0
 StatesAreEntered =
     (s : SlaveState) →

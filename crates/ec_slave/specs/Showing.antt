@@ -1,5 +1,5 @@
--- A read of a sync manager of a slave, on the ring or by its application, gets what a run of that manager shows, and so
--- only values that were published whole (`ec_sync`, specs/Runs.antt), whatever has happened to the slave since it was switched on.
+-- A read of a sync manager of a slave, on the ring or by its application, gets what a run of that manager shows. So it gets
+-- only values that were published whole (`ec_sync`, specs/Runs.antt), whatever happened to the slave since it was switched on.
 use Rattle.std.specs.Prelude.{ℕ, ◌+◌, ◌-◌, ◌*◌, ◌/◌, ◌≡◌, ◌≤◌, List, [], ◌∷◌, ◌++◌, Bool, if◌then◌else◌, bit_or, slice_index, Some, Contains}
 use Rattle.ec_bits.specs.Bits.{bit}
 use Rattle.ec_device.specs.declared.slave_type.Identity.{Identity}

@@ -113,8 +113,8 @@ pub fn managers_go_by_runs()
     ensures { ManagersGoByRuns }
 {}
 
-/// What a datagram reads of a sync manager, byte by byte or bit by bit, and what the application gets of the outputs, is part of
-/// the value that the run of that manager shows.
+/// What a datagram reads of a sync manager, byte by byte or bit by bit, is part of the value that the run of that manager
+/// shows. So is what the application gets of the outputs.
 pub fn reads_show_the_run()
     ensures { ReadsShowTheRun }
 {}
@@ -150,7 +150,7 @@ pub fn serves_keep_buffers()
 {}
 
 /// OP is reached only from SAFEOP, by a request for it. SAFEOP is entered from PREOP only if managers 2 and 3 are as the PDOs
-/// that are assigned want them, and PREOP from INIT only if managers 0 and 1 are the type's mailboxes.
+/// that are assigned want them. PREOP is entered from INIT only if managers 0 and 1 are the type's mailboxes.
 #[tactic(auto, using(crate::proofs::Entering::states_entered))]
 pub fn states_are_entered()
     ensures { StatesAreEntered }
@@ -169,7 +169,7 @@ pub fn serves_keep_assignments()
     ensures { ServesKeepAssignments }
 {}
 
-/// The assignments of a slave that was just switched on are lists of the type's own PDOs, with none of them twice and with
+/// The assignments of a slave that was just switched on are lists of the type's own PDOs. None is in them twice, and they have
 /// at most 2048 bits, if no two PDOs of a direction have one index and all have at most 2048 bits together. They stay so,
 /// whatever firmware, datagrams and application do. A reset makes the slave as the power comes on, so they are so again then.
 pub fn assignments_are_proper()

@@ -168,8 +168,8 @@ abbrev pub gets_from : ℕ → ℕ → List Operation
 gets_from i zero = []
 gets_from i (suc n) = AppGet i ∷ gets_from (i + 1) n
 
--- The contract of each call says that the manager goes by the step of that name, or, for a call that takes all
--- bytes of a value, by the steps of all of them.
+-- The contract of each call says that the manager goes by the step of that name. A call that takes all bytes of a
+-- value goes by the steps of all of them.
 pub record CallsAreSteps : Type 0 where
   pub configure : (m : SyncManager) (settings : SyncManagerSettings) → empty_manager settings m.locked ≡ step m (Configure settings)
   pub set_locked : (m : SyncManager) (locked : Bool) → record m { locked = locked } ≡ step m (Lock locked)

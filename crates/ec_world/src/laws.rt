@@ -128,7 +128,7 @@ pub fn turns_of_a_script()
 /// Ready start-up. A cyclic frame that passes a slave in OP, of the frame's part, makes it show exactly the linked bits of the
 /// output variables as they were when the cycle began, and 0 elsewhere. It changes nothing else. A close takes each sync unit
 /// completely or not at all, and the report says which. If it is taken, every linked input bit of the unit's slaves is the one
-/// that the slave had published when its frame passed it in this cycle, the working counters are the predicted ones, and the
+/// that the slave had published when its frame passed it in this cycle. The working counters are the predicted ones, and the
 /// broadcasts counted every slave. If not, no linked input bit of them changes, and there is a cause: a frame of the unit was
 /// lost since the cycle began, is under way, or passed a slave that gave less than its share after a fault or a reset. If there
 /// is a cause, the unit is not taken. Each other event touches only the slave or the variable that it names, or none.

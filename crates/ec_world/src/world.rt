@@ -138,7 +138,7 @@ impl<'p> World<'p> {
     ///
     /// If the world shows a plain state, it ends in one that shows the run of the plain machine, of as many events. A new world
     /// shows nothing until its start-up is Ready. With the event that makes it so, it shows a plain state in which each slave
-    /// that isn't in OP had a fault or a reset since that start-up began, and then the run of the plain machine. If nothing
+    /// that isn't in OP had a fault or a reset since that start-up began. Then it shows the run of the plain machine. If nothing
     /// disturbs it, a start-up is Ready after as many frames as it has steps. This holds for a new world of devices of its
     /// table's types, and for one whose last start-up failed and that has no frame on its way. Each event that is made once the
     /// start-up is Ready does what `step` says of it. The plan stays.
