@@ -4,7 +4,8 @@
 
    Link with libecat.a. `ecat_open` reads a table. `ecat_next` and `ecat_take` bring the slaves up. `ecat_begin`, `ecat_part`,
    `ecat_take` and `ecat_close` make a cycle. A call with a null handle, a number out of range or a buffer that is too short
-   changes nothing; each call says below what it then returns. A null pointer for an optional result is allowed.
+   changes nothing; each call says below what it then returns. A null pointer
+   to bytes counts as no bytes, and a null pointer to a result is allowed.
 
    Your program must keep these rules; the library doesn't check them:
    - Set a handle to {0} before you open it. Then let only these functions write it, and don't copy it.
@@ -99,8 +100,9 @@ static inline uint8_t ecat_told(const struct ecat_refused *told, const uint8_t *
 
 /* ---- a master */
 
-/* Opens the master of the link table in the `len` bytes of `table`. Returns 0, or the number of the refusal, and then writes the
-   refusal into `refusal` unless that is null. Returns 255 if the handle is null or already open. */
+/* Opens the master of the link table in the `len` bytes of `table`. Returns 0, or the number of the refusal. Writes the
+   refusal into `refusal` unless that is null; its number is 0 if there was none. Returns 255 if the handle is null or already
+   open. */
 ECAT_CALL uint8_t ecat_open(struct ecat *m, const char *table, size_t len, struct ecat_refusal *refusal) {
     struct ecat_refused told = {0, 0, 0, 0, 0, 0};
     uint8_t name[24];
