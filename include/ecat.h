@@ -1,16 +1,18 @@
-/* The master of a link table, and the slaves of one, for control programs in C and in what calls C: proved code without
-   sockets, threads and a clock. Whoever calls it carries the frames, so a card, a driver or a test is the wire.
+/* An EtherCAT master and simulated slaves for control programs in C, and in languages that call C. Both are made from a link
+   table. The library is proved code; it has no sockets, threads or clock. You carry the frames, so a card, a driver or a test
+   can be the wire.
 
-   Link with libecat.a. `ecat_open` reads a table; `ecat_next` and `ecat_take` bring the slaves up; `ecat_begin`, `ecat_part`,
-   `ecat_take` and `ecat_close` make a cycle. A call with a null handle, a number out of range or a room that is too short
-   answers that and changes nothing.
+   Link with libecat.a. `ecat_open` reads a table. `ecat_next` and `ecat_take` bring the slaves up. `ecat_begin`, `ecat_part`,
+   `ecat_take` and `ecat_close` make a cycle. A call with a null handle, a number out of range or a buffer that is too short
+   changes nothing; each call says below what it then returns. A null pointer
+   to bytes counts as no bytes, and a null pointer to a result is allowed.
 
-   Owed by the caller, and checked by nothing:
-   - a handle is {0} before it is opened; from then on only these functions write it, and it is not copied;
-   - a handle is used by one call at a time;
-   - a pointer is to as many bytes as the length beside it says, and nothing writes them during the call;
-   - malloc, realloc and free are of one allocator, which aligns a block of at least 16 bytes to 16; no call comes from a
-     signal handler, or from the forked child of a process with threads. */
+   Your program must keep these rules; the library doesn't check them:
+   - Set a handle to {0} before you open it. Then let only these functions write it, and don't copy it.
+   - Use a handle in one call at a time.
+   - Pass a pointer to as many bytes as the length beside it says. Nothing else may write them during the call.
+   - malloc, realloc and free belong to one allocator, which aligns a block of at least 16 bytes to 16.
+   - Don't call from a signal handler, or from the forked child of a process with threads. */
 #ifndef ECAT_H
 #define ECAT_H
 
@@ -22,19 +24,20 @@ extern "C" {
 #include <stddef.h>
 #include <stdint.h>
 
-/* The calls are functions of each file that includes this one. One that defines this as nothing has them for others, as a shared
-   library does. */
+/* The calls are inline functions of each file that includes this one. Define this as nothing in one file to export them from
+   it, for example from a shared library. */
 #ifndef ECAT_CALL
 #define ECAT_CALL static inline
 #endif
 
-/* A room for a frame has so many bytes: the most that a frame has. */
+/* The most bytes that a frame has. A buffer for frames needs so many. */
 #define ECAT_FRAME 1472
 
 struct ecat { void *at; };
 struct ecat_segment { void *at; };
 
-/* Why a table was refused: as `ecat plan` tells it, its number, its name, and the values behind that. */
+/* Why a table was refused, as `ecat plan` prints it: the number and the name of the refusal, and `count` values. The name ends
+   with a zero byte. */
 struct ecat_refusal {
     uint8_t number;
     char name[24];
@@ -42,7 +45,7 @@ struct ecat_refusal {
     uint64_t values[2];
 };
 
-/* ---- what the library exports; the functions below are what is to be called */
+/* ---- exports of the library: call the functions below instead */
 
 struct ecat_done { uint8_t number; bool is_done; size_t count; uint64_t value; };
 struct ecat_refused { bool is_open; uint8_t number; size_t name; size_t count; uint64_t first, second; };
@@ -71,11 +74,11 @@ void ecat_c_segment_put(struct ecat_segment segment, size_t slave, size_t place,
 void ecat_c_segment_fault(struct ecat_segment segment, size_t slave, bool *done, struct ecat_segment *out);
 void ecat_c_segment_reset(struct ecat_segment segment, size_t slave, bool *done, struct ecat_segment *out);
 
-/* Each call is given the handle by value and hands it back: meanwhile it is {0}. */
+/* An export takes a handle by value and hands it back; in between the caller's handle is {0}. */
 static inline struct ecat ecat_lent(struct ecat *m) { struct ecat lent = *m; m->at = 0; return lent; }
 static inline struct ecat_segment ecat_segment_lent(struct ecat_segment *s) { struct ecat_segment lent = *s; s->at = 0; return lent; }
 
-/* Where no bytes are pointed to, none are passed, and the pointer is to something. */
+/* A null pointer becomes a pointer to a byte, with length 0. */
 static inline uint8_t *ecat_bytes(const void *bytes, size_t *len) {
     static uint8_t none;
     if (!bytes) *len = 0;
@@ -97,8 +100,9 @@ static inline uint8_t ecat_told(const struct ecat_refused *told, const uint8_t *
 
 /* ---- a master */
 
-/* Opens the master of a link table, and answers 0; or the refusal's number, and tells more of it where `refusal` isn't null.
-   255 is none of the table: there is no handle, or it is open already. */
+/* Opens the master of the link table in the `len` bytes of `table`. Returns 0, or the number of the refusal. Writes the
+   refusal into `refusal` unless that is null; its number is 0 if there was none. Returns 255 if the handle is null or already
+   open. */
 ECAT_CALL uint8_t ecat_open(struct ecat *m, const char *table, size_t len, struct ecat_refusal *refusal) {
     struct ecat_refused told = {0, 0, 0, 0, 0, 0};
     uint8_t name[24];
@@ -108,13 +112,14 @@ ECAT_CALL uint8_t ecat_open(struct ecat *m, const char *table, size_t len, struc
     return ecat_told(&told, name, refusal);
 }
 
-/* Frees all that the handle owns. Of one that is {0} it is nothing. */
+/* Frees all that the handle owns; the handle is {0} then. Does nothing if the handle is null or {0}. */
 ECAT_CALL void ecat_drop(struct ecat *m) {
     if (m && m->at) ecat_c_drop(ecat_lent(m));
 }
 
-/* Writes the next frame of the start-up, and answers its length: 0 where none is to be sent, or the room has less than
-   ECAT_FRAME bytes. After a failure the start-up begins again. */
+/* Writes the next frame of the start-up into `frame`, and returns its length in bytes. Returns 0 if the last frame is still
+   outstanding, the start-up is ready, no frame number is left, or `room` is less than ECAT_FRAME. After a failure the start-up
+   begins again. */
 ECAT_CALL size_t ecat_next(struct ecat *m, uint8_t *frame, size_t room) {
     struct ecat_done done = {0, 0, 0, 0};
     uint8_t *bytes = ecat_bytes(frame, &room);
@@ -123,8 +128,9 @@ ECAT_CALL size_t ecat_next(struct ecat *m, uint8_t *frame, size_t room) {
     return done.count;
 }
 
-/* Takes a payload that came, and answers whether it answered a frame of the start-up or of the open cycle. `missing` becomes
-   how many frames of that cycle are not back. */
+/* Takes a payload of `len` bytes that came in. Returns true if it answers the outstanding frame of the start-up, or a frame of
+   the open cycle. Returns false and changes nothing for any other payload. `missing` becomes the number of frames of the open
+   cycle that aren't back; it stays as it was if there is no handle. */
 ECAT_CALL bool ecat_take(struct ecat *m, const uint8_t *payload, size_t len, size_t *missing) {
     struct ecat_done done = {0, 0, 0, 0};
     uint8_t *bytes = ecat_bytes(payload, &len);
@@ -134,7 +140,7 @@ ECAT_CALL bool ecat_take(struct ecat *m, const uint8_t *payload, size_t len, siz
     return done.is_done;
 }
 
-/* 1 Ready, 0 starting, or minus the number of the start-up's failure. */
+/* Returns 1 if the slaves are up, 0 while the start-up runs or without a handle, or minus the number of its failure. */
 ECAT_CALL int ecat_phase(struct ecat *m) {
     struct ecat_done done = {0, 0, 0, 0};
     if (!m || !m->at) return 0;
@@ -142,12 +148,13 @@ ECAT_CALL int ecat_phase(struct ecat *m) {
     return done.is_done ? 1 : -(int)done.number;
 }
 
-/* An answer of the start-up is awaited no longer: one that runs has failed. */
+/* Ends a start-up that runs, with failure 32: call this when no answer comes. One that has ended stays as it is. */
 ECAT_CALL void ecat_give_up(struct ecat *m) {
     if (m && m->at) ecat_c_give_up(ecat_lent(m), m);
 }
 
-/* Begins a cycle and answers how many parts it has, or minus the number of the refusal; -255 without a handle. */
+/* Begins a cycle with the outputs as they are, and returns its number of parts: one frame each. Returns minus the number of the
+   refusal: -33 not ready, -34 a cycle is open, -36 no number is left. Returns -255 without a handle. */
 ECAT_CALL int ecat_begin(struct ecat *m) {
     struct ecat_done done = {0, 0, 0, 0};
     if (!m || !m->at) return -255;
@@ -155,7 +162,8 @@ ECAT_CALL int ecat_begin(struct ecat *m) {
     return done.is_done ? (int)done.count : -(int)done.number;
 }
 
-/* Writes the frame of a part of the open cycle, and answers its length: 0 where there is none, or no room for it. */
+/* Writes the frame of a part of the open cycle into `frame`, and returns its length in bytes. Parts are counted from 0. Returns
+   0 if no cycle is open, there is no such part, or the frame doesn't fit. */
 ECAT_CALL size_t ecat_part(struct ecat *m, size_t part, uint8_t *frame, size_t room) {
     struct ecat_done done = {0, 0, 0, 0};
     uint8_t *bytes = ecat_bytes(frame, &room);
@@ -164,8 +172,9 @@ ECAT_CALL size_t ecat_part(struct ecat *m, size_t part, uint8_t *frame, size_t r
     return done.is_done ? done.count : 0;
 }
 
-/* Closes the cycle, and answers whether the inputs of all sync units were taken. `missing` becomes how many frames were not
-   back, and `al` the OR of the slaves' AL status words. */
+/* Closes the cycle. Returns true if the inputs of all sync units were taken, and false if not, or if no cycle is open.
+   `missing` becomes the number of frames that weren't back, and `al` the OR of the AL status words of the slaves. If no cycle
+   is open, both become 0; without a handle both stay. */
 ECAT_CALL bool ecat_close(struct ecat *m, size_t *missing, uint16_t *al) {
     struct ecat_done done = {0, 0, 0, 0};
     if (!m || !m->at) return false;
@@ -175,7 +184,8 @@ ECAT_CALL bool ecat_close(struct ecat *m, size_t *missing, uint16_t *al) {
     return done.is_done;
 }
 
-/* Of the last report: 1 where the inputs of the sync unit with this number were taken, 0 where not, -1 of no such unit. */
+/* Returns 1 if the last closed cycle took the inputs of the sync unit with this number, and 0 if not. Returns -1 if there is no
+   such unit, or no cycle was closed yet. */
 ECAT_CALL int ecat_unit(struct ecat *m, size_t unit) {
     struct ecat_done done = {0, 0, 0, 0};
     if (!m || !m->at || unit > 255) return -1;
@@ -183,7 +193,7 @@ ECAT_CALL int ecat_unit(struct ecat *m, size_t unit) {
     return done.count ? (int)done.is_done : -1;
 }
 
-/* A variable of the outputs becomes a value; false where it isn't there, is an input or has too few bits. */
+/* Sets a variable of the outputs. Returns false if there is no such variable, it is an input, or it has too few bits. */
 ECAT_CALL bool ecat_set(struct ecat *m, size_t variable, uint64_t value) {
     struct ecat_done done = {0, 0, 0, 0};
     if (!m || !m->at) return false;
@@ -191,7 +201,7 @@ ECAT_CALL bool ecat_set(struct ecat *m, size_t variable, uint64_t value) {
     return done.is_done;
 }
 
-/* What a variable is; 0 where it isn't there. */
+/* Returns the value of a variable, or 0 if there is no such variable. */
 ECAT_CALL uint64_t ecat_get(struct ecat *m, size_t variable) {
     struct ecat_done done = {0, 0, 0, 0};
     if (!m || !m->at) return 0;
@@ -199,7 +209,8 @@ ECAT_CALL uint64_t ecat_get(struct ecat *m, size_t variable) {
     return done.value;
 }
 
-/* How many bytes the image of all outputs has. Where that is `len`, they become its bytes: the variables bit after bit. */
+/* Returns the length in bytes of the image of all outputs, or 0 without a handle. Sets the image if `len` is this length. The
+   image has the output variables bit by bit, in the order of the table, without gaps. */
 ECAT_CALL size_t ecat_outputs(struct ecat *m, const uint8_t *outputs, size_t len) {
     struct ecat_done done = {0, 0, 0, 0};
     uint8_t *bytes = ecat_bytes(outputs, &len);
@@ -208,7 +219,8 @@ ECAT_CALL size_t ecat_outputs(struct ecat *m, const uint8_t *outputs, size_t len
     return done.count;
 }
 
-/* How many bytes the image of all inputs has. Where they have room they are written there. */
+/* Returns the length in bytes of the image of all inputs, or 0 without a handle. Writes the image into `inputs` if `room` is not
+   less than this length. */
 ECAT_CALL size_t ecat_inputs(struct ecat *m, uint8_t *inputs, size_t room) {
     struct ecat_done done = {0, 0, 0, 0};
     uint8_t *bytes = ecat_bytes(inputs, &room);
@@ -217,7 +229,7 @@ ECAT_CALL size_t ecat_inputs(struct ecat *m, uint8_t *inputs, size_t room) {
     return done.count;
 }
 
-/* The number of the variable with a name, or -1. */
+/* Returns the number of the variable with this name, or -1 if there is none. The name ends with a zero byte. */
 ECAT_CALL long ecat_variable(struct ecat *m, const char *name) {
     struct ecat_done done = {0, 0, 0, 0};
     size_t len = 0;
@@ -227,9 +239,10 @@ ECAT_CALL long ecat_variable(struct ecat *m, const char *name) {
     return done.is_done ? (long)done.count : -1;
 }
 
-/* ---- a segment: the slaves of a link table, just switched on */
+/* ---- a segment: the slaves of a link table */
 
-/* As `ecat_open`. With `full` the slaves are as usual masters expect them (docs/PROFILE.md, "Full slaves"). */
+/* Opens the slaves of a link table, just switched on. Returns as `ecat_open` does. With `full` the slaves have what common
+   masters look for (docs/PROFILE.md, "Full slaves"). */
 ECAT_CALL uint8_t ecat_segment_open(struct ecat_segment *s, const char *table, size_t len, bool full, struct ecat_refusal *refusal) {
     struct ecat_refused told = {0, 0, 0, 0, 0, 0};
     uint8_t name[24];
@@ -239,11 +252,12 @@ ECAT_CALL uint8_t ecat_segment_open(struct ecat_segment *s, const char *table, s
     return ecat_told(&told, name, refusal);
 }
 
+/* Frees all that the handle owns; the handle is {0} then. Does nothing if the handle is null or {0}. */
 ECAT_CALL void ecat_segment_drop(struct ecat_segment *s) {
     if (s && s->at) ecat_c_segment_drop(ecat_segment_lent(s));
 }
 
-/* A frame passes all slaves in place; false, and nothing changes, where the bytes are none. */
+/* Passes a frame of `len` bytes through all slaves, in place. Returns false and changes nothing if the bytes are no frame. */
 ECAT_CALL bool ecat_segment_pass(struct ecat_segment *s, uint8_t *frame, size_t len) {
     bool done = false;
     uint8_t *bytes = ecat_bytes(frame, &len);
@@ -252,9 +266,9 @@ ECAT_CALL bool ecat_segment_pass(struct ecat_segment *s, uint8_t *frame, size_t 
     return done;
 }
 
-/* The calls of a slave, the first being 0. Each answers false, and changes nothing, where it isn't there or denies. */
+/* The calls below are for one slave, counted from 0. Each returns false and changes nothing if there is no such slave. */
 
-/* Its firmware steps. */
+/* Makes a firmware step of the slave: AL request, SII read, one mailbox message. */
 ECAT_CALL bool ecat_segment_serve(struct ecat_segment *s, size_t slave) {
     bool done = false;
     if (!s || !s->at) return false;
@@ -262,7 +276,8 @@ ECAT_CALL bool ecat_segment_serve(struct ecat_segment *s, size_t slave) {
     return done;
 }
 
-/* Its application reads a byte of its outputs. Byte 0 comes first and opens a view, which the last closes. */
+/* The slave's application reads the byte `place` of its outputs. Read from byte 0 on: byte 0 opens a view, and the last byte
+   closes it. Returns false and changes nothing if the application may not read the byte. */
 ECAT_CALL bool ecat_segment_get(struct ecat_segment *s, size_t slave, size_t place, uint8_t *byte) {
     bool done = false;
     uint8_t read = 0;
@@ -272,7 +287,8 @@ ECAT_CALL bool ecat_segment_get(struct ecat_segment *s, size_t slave, size_t pla
     return done;
 }
 
-/* Its application writes a byte of its inputs. Byte 0 comes first and opens a draft, which the last publishes. */
+/* The slave's application writes the byte `place` of its inputs. Write from byte 0 on: byte 0 opens a draft, and the last byte
+   publishes it. Returns false and changes nothing if the application may not write the byte. */
 ECAT_CALL bool ecat_segment_put(struct ecat_segment *s, size_t slave, size_t place, uint8_t byte) {
     bool done = false;
     if (!s || !s->at) return false;
@@ -280,7 +296,8 @@ ECAT_CALL bool ecat_segment_put(struct ecat_segment *s, size_t slave, size_t pla
     return done;
 }
 
-/* Its application has a fault: it goes from OP to SAFEOP, and shows an error. */
+/* The slave's application has a fault: the slave goes from OP to SAFEOP, and sets the error flag of its AL status. Returns false
+   and changes nothing if the slave isn't in OP. */
 ECAT_CALL bool ecat_segment_fault(struct ecat_segment *s, size_t slave) {
     bool done = false;
     if (!s || !s->at) return false;
@@ -288,7 +305,7 @@ ECAT_CALL bool ecat_segment_fault(struct ecat_segment *s, size_t slave) {
     return done;
 }
 
-/* It is switched off and on. */
+/* Switches the slave off and on. */
 ECAT_CALL bool ecat_segment_reset(struct ecat_segment *s, size_t slave) {
     bool done = false;
     if (!s || !s->at) return false;

@@ -15,7 +15,7 @@
 
 #define HEADING 14
 
-/* to all, from a master, EtherCAT */
+/* the Ethernet header: to all, from this master, EtherType EtherCAT */
 static const uint8_t heading[HEADING] = {255, 255, 255, 255, 255, 255, 0, 0, 0, 0x45, 0x43, 1, 0x88, 0xA4};
 static uint8_t sent[HEADING + ECAT_FRAME], came[HEADING + 1500];
 static char table[1 << 20];
@@ -35,7 +35,7 @@ static int open_card(const char *interface) {
     return card;
 }
 
-/* The payload is behind the heading already. */
+/* Sends the `len` bytes of payload that are in `sent` behind the heading, padded to the least length of an Ethernet frame. */
 static void send_frame(int card, size_t len) {
     size_t size = len < 46 ? 60 : HEADING + len;
     memcpy(sent, heading, HEADING);
@@ -43,7 +43,7 @@ static void send_frame(int card, size_t len) {
     if (send(card, sent, size, 0) != (ssize_t)size) perror("send");
 }
 
-/* The payload of the next frame that isn't our own, or nothing. */
+/* Receives the next EtherCAT frame that isn't our own. Returns the length of its payload, or 0 if none came in time. */
 static size_t receive_frame(int card) {
     for (;;) {
         ssize_t count = recv(card, came, sizeof came, 0);

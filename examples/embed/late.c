@@ -29,7 +29,7 @@ static void send_frame(const uint8_t *bytes, size_t len) {
     if (++sent % 30 == 0 && !held.len) { held = passed; late++; } else arrive(passed.bytes, len);
 }
 
-/* The next payload, or 0 where none is left: a real one waits until the cycle's time is over. */
+/* Returns the length of the next payload, or 0 if none is left. A real program waits here until the cycle's time is over. */
 static size_t receive_frame(uint8_t *came) {
     if (first == last) return 0;
     struct payload *next = &arrived[first++ % ROOM];
@@ -37,7 +37,7 @@ static size_t receive_frame(uint8_t *came) {
     return next->len;
 }
 
-/* What was held back arrives when the next cycle begins. */
+/* Lets the answer that was held back arrive. Returns whether another cycle follows. */
 static bool goes_on(void) {
     if (held.len) arrive(held.bytes, held.len);
     held.len = 0;

@@ -1,12 +1,12 @@
 /* A control program over an in-process segment of the same library: it brings up the slaves of a table, runs cycles in which
-   the slaves show their outputs as their inputs, and tries what a caller may do wrong.
+   each slave copies its outputs to its inputs, and tries a caller's mistakes.
 
      machine TABLE [CYCLES [OPENS]] */
 #include "over_segment.h"
 
 #include <unistd.h>
 
-/* In kilobytes. */
+/* The resident memory of this process, in kilobytes. */
 static long memory(void) {
     long pages = 0, resident = 0;
     FILE *f = fopen("/proc/self/statm", "r");
@@ -16,7 +16,7 @@ static long memory(void) {
     return resident * (sysconf(_SC_PAGESIZE) / 1024);
 }
 
-/* Handles are opened and dropped, and leave no memory behind. */
+/* Opens and drops handles; this must leave no memory behind. */
 static void open_and_drop(size_t len, int opens) {
     long before = 0, after;
     for (int k = 0; k < opens; k++) {
@@ -32,7 +32,7 @@ static void open_and_drop(size_t len, int opens) {
     must(after - before < 2048, "memory comes back");
 }
 
-/* A caller's mistakes are answered. */
+/* Tries a caller's mistakes: each call returns what ecat.h says. */
 static void mistakes(size_t len) {
     struct ecat m = {0};
     struct ecat_segment s = {0};

@@ -1,5 +1,5 @@
 #!/usr/bin/env python3
-"""The same control program in Python, by ctypes.
+"""The control program of machine.c in Python, by ctypes.
 
     machine.py LIBRARY TABLE [CYCLES]
 
@@ -25,7 +25,7 @@ def must(holds, what):
 
 
 def serve(lib, slaves):
-    """Each slave's firmware steps, and its application shows its outputs as its inputs."""
+    """Makes a firmware step of each slave, whose application then copies its outputs to its inputs."""
     slave, byte = 0, ctypes.c_uint8()
     while lib.ecat_segment_serve(slaves, slave):
         outputs = []

@@ -1,4 +1,4 @@
-/* A master over an in-process segment of the same library: what the programs beside it share. */
+/* A master over an in-process segment of the same library, as the other programs of this folder use it. */
 #include "ecat.h"
 
 #include <stdio.h>
@@ -10,7 +10,7 @@
 static char table[1 << 20];
 static uint8_t frame[ECAT_FRAME];
 
-/* What is wrong ends the program. */
+/* Ends the program if something doesn't hold. */
 static void must(int holds, const char *what) {
     if (!holds) {
         fprintf(stderr, "machine: not so: %s\n", what);
@@ -18,7 +18,7 @@ static void must(int holds, const char *what) {
     }
 }
 
-/* Each slave's firmware steps, and its application shows its outputs as its inputs. */
+/* Makes a firmware step of each slave, whose application then copies its outputs to its inputs. */
 static void serve(struct ecat_segment *slaves) {
     for (size_t slave = 0; ecat_segment_serve(slaves, slave); slave++) {
         uint8_t outputs[2048];
@@ -37,7 +37,7 @@ static inline void bring_up(struct ecat *m, struct ecat_segment *slaves) {
     must(ecat_phase(m) == 1, "the start-up ends ready");
 }
 
-/* A cycle begins, and the frame of each part passes the slaves and is taken. */
+/* Begins a cycle, and passes the frame of each part through the slaves and back to the master. */
 static inline void exchange(struct ecat *m, struct ecat_segment *slaves) {
     size_t missing = 1;
     int parts = ecat_begin(m);

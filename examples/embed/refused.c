@@ -1,6 +1,6 @@
-/* Every allocation of the library is refused in turn, from one on and one alone: an open is then refused by 1 and leaves the handle of
-   nothing (one alone it may do without). No call between an open and a drop calls the allocator: these calls are counted, and there must
-   be none. Link it with -Wl,--wrap=malloc,--wrap=realloc,--wrap=free.
+/* Refuses each allocation of the library in turn: first it and all later ones, then it alone. An open must then return 1 and leave its
+   handle {0}; it may also succeed if one allocation alone was refused. No call between an open and a drop may call the allocator: this
+   program counts these calls. Link it with -Wl,--wrap=malloc,--wrap=realloc,--wrap=free.
 
      refused TABLE */
 #include "over_segment.h"
@@ -12,12 +12,12 @@ void *__wrap_realloc(void *block, size_t size);
 void __real_free(void *block);
 void __wrap_free(void *block);
 
-/* How many more are granted; after that one is refused, or all. */
+/* How many more allocations are granted before one is refused, or all are. */
 static long granted = -1;
 static bool one_alone;
-/* How many were refused. */
+/* How many allocations were refused. */
 static long refused;
-/* How often the allocator was called: for a block, for a longer one, and to free one. */
+/* How often malloc, realloc and free were called. */
 static long called;
 
 static bool refuses(void) {
@@ -42,7 +42,7 @@ static bool is_refused(uint8_t number, void *at, const struct ecat_refusal *told
     return number == 1;
 }
 
-/* Each call of a master and of a segment but those that open and drop. */
+/* Makes each call of a master and of a segment, except those that open and drop. */
 static void call_each(struct ecat *m, struct ecat_segment *slaves) {
     uint8_t image[64], byte;
     uint16_t al = 0;
@@ -59,7 +59,7 @@ static void call_each(struct ecat *m, struct ecat_segment *slaves) {
     ecat_give_up(m);
 }
 
-/* Opens a master and full slaves with so many allocations granted, and calls them where both are there; false where none was refused. */
+/* Opens a master and full slaves with so many allocations granted, and calls them if both open. Returns whether one was refused. */
 static bool try_opens(size_t len, long grant, bool alone) {
     struct ecat m = {0};
     struct ecat_segment slaves = {0};

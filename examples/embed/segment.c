@@ -1,4 +1,4 @@
-/* The slaves of a table on a UDP port of 127.0.0.1, each with an application that shows its outputs as its inputs.
+/* The slaves of a table on a UDP port of 127.0.0.1, each with an application that copies its outputs to its inputs.
 
      segment TABLE PORT FRAMES */
 #include "ecat.h"
@@ -11,7 +11,7 @@
 static char table[1 << 20];
 static uint8_t frame[1500];
 
-/* The firmware of each slave makes a step, and its application shows its outputs as its inputs. */
+/* Makes a firmware step of each slave, whose application then copies its outputs to its inputs. */
 static void serve(struct ecat_segment *slaves) {
     for (size_t slave = 0; ecat_segment_serve(slaves, slave); slave++) {
         uint8_t outputs[2048];

@@ -35,7 +35,7 @@ abbrev pub answered : Al → Result State StatusCode → Al
 answered al (Ok state) = record { state = state; error = false; code = 0; requested = false }
 answered al (Err code) = record { state = al.state; error = true; code = code_number code; requested = false }
 
--- a request goes by unanswered
+-- a request is ignored
 abbrev pub ignored : Al → Al
 ignored al = record { state = al.state; error = al.error; code = al.code; requested = false }
 
@@ -54,18 +54,18 @@ abbrev pub is_operational : State → Bool
 is_operational Op = true
 is_operational state = false
 
--- a fault of the application takes OP back to SAFEOP; elsewhere there is none (this project's profile)
+-- a fault of the application takes OP back to SAFEOP; in other states it does nothing (this project's profile)
 abbrev pub faulted : Al → Al
 faulted al =
     if is_operational al.state
     then record { state = SafeOp; error = true; code = code_number Unspecified; requested = al.requested }
     else al
 
--- the code says something exactly where there is an error
+-- the code is 0 exactly without an error
 abbrev pub IsSound : Al → Type 0
 IsSound al = (al.code ≡ 0) ↔ (al.error ≡ false)
 
--- the code of the error, 0 where there is none
+-- the code of the error, 0 if there is none
 abbrev pub shown_code : Option StatusCode → ℕ
 shown_code None = 0
 shown_code (Some code) = code_number code

@@ -1,4 +1,4 @@
--- What ETG.1000.6 says of the EtherCAT state machine, of the definitions of this crate.
+-- What ETG.1000.6 says of the EtherCAT state machine, proved of the definitions of this crate.
 use Rattle.std.specs.Prelude.{ℕ, ◌+◌, ◌≡◌, ◌≢◌, ◌<◌, ◌≤◌, ◌↔◌, ◌⊎◌, true, false, List, [], ◌∷◌, ◌++◌, take, IsOk, IfOk, All}
 use Rattle.ec_regs.specs.Words.{al_state}
 use Rattle.ec_al.specs.States.{state_number, bootstrap_number}
@@ -23,14 +23,14 @@ AsksByNumber =
     (control : ℕ) (wanted : State) →
     (requested_by control ≡ To wanted) ↔ (requested_number control ≡ state_number wanted)
 
--- what a step up asks of the configuration
+-- what a step up needs of the configuration
 abbrev pub PassesChecks : Checks → State → Type 0
 PassesChecks checks Init = Unit {0}
 PassesChecks checks PreOp = checks.mailbox ≡ true
 PassesChecks checks SafeOp = (checks.outputs ≡ true) × (checks.inputs ≡ true)
 PassesChecks checks Op = Unit {0}
 
--- A request for a state is granted exactly for the same state, for a lower one, and for the next one up where its
+-- A request for a state is granted exactly for the same state, for a lower one, and for the next one up if its
 -- checks pass; what is granted is the state that was asked for.
 abbrev pub GrantsUpToTheNextState : Type 0
 GrantsUpToTheNextState =
@@ -106,7 +106,7 @@ ReturnsToInit = (al : Al) (checks : Checks) → stepped (requesting al) 0x0011 c
 abbrev pub asked_for : ℕ → Checks → List Event
 asked_for control checks = Request ∷ Step control checks ∷ []
 
--- Where all checks pass, requests for PREOP, SAFEOP and OP lead from INIT to OP without error.
+-- If all checks pass, requests for PREOP, SAFEOP and OP lead from INIT to OP without error.
 abbrev pub ComesUpToOp : Type 0
 ComesUpToOp =
     (checks : Checks) → PassesChecks checks PreOp → PassesChecks checks SafeOp →

@@ -3,6 +3,6 @@
 pub mod States
 pub mod Transitions
 pub mod Al
--- Laws: other words for the same, proved.
+-- Laws: other words for these definitions, proved.
 pub mod Runs
 pub mod Laws

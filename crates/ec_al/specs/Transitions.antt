@@ -34,7 +34,7 @@ abbrev pub answer : State → Requested → Checks → Result State StatusCode
 answer state Unknown checks = Err UnknownState
 answer Init Bootstrap checks = Err BootstrapNotSupported
 answer state Bootstrap checks = Err InvalidStateChange
--- one step up, by what the step asks of the configuration
+-- one step up, by what the step needs of the configuration
 answer Init (To PreOp) checks = if checks.mailbox then Ok PreOp else Err InvalidMailboxConfiguration
 answer PreOp (To SafeOp) checks =
     if checks.outputs then (if checks.inputs then Ok SafeOp else Err InvalidInputConfiguration)

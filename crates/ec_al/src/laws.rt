@@ -8,7 +8,7 @@ pub fn asks_by_number()
     ensures { AsksByNumber }
 {}
 
-/// A request for a state is granted exactly for the same state, for a lower one, and for the next one up where
+/// A request for a state is granted exactly for the same state, for a lower one, and for the next one up if
 /// its checks pass.
 pub fn grants_up_to_the_next_state()
     ensures { GrantsUpToTheNextState }
@@ -48,12 +48,12 @@ pub fn decides_once()
     ensures { DecidesOnce }
 {}
 
-/// A request for INIT with the acknowledgement leads to INIT without error, from everywhere.
+/// A request for INIT with the acknowledgement leads from every state to INIT without error.
 pub fn returns_to_init()
     ensures { ReturnsToInit }
 {}
 
-/// Requests for PREOP, SAFEOP and OP lead from INIT to OP where all checks pass.
+/// Requests for PREOP, SAFEOP and OP lead from INIT to OP if all checks pass.
 pub fn comes_up_to_op()
     ensures { ComesUpToOp }
 {}

@@ -1,6 +1,6 @@
-//! The AL state machine of a simulated slave (ETG.1000.6, "EtherCAT state machine"): a master asks for a
-//! state by the AL control word, the slave's firmware grants or refuses it, and the AL status word and
-//! the AL status code say how it stands. BOOT isn't supported.
+//! The AL state machine of a simulated slave (ETG.1000.6, "EtherCAT state machine"). A master asks for a
+//! state by the AL control word, and the slave's firmware grants or refuses it. The AL status word and
+//! the AL status code show the state and the error. BOOT isn't supported.
 #![tactic(auto)]
 
 pub mod laws;

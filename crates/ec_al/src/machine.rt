@@ -44,15 +44,15 @@ impl Al {
         }
     }
 
-    /// The master wrote the AL control word: a request waits from now on.
+    /// The master wrote the AL control word: a request waits.
     pub fn request(&mut self)
         ensures { self.new ≡ requesting self.old }
     {
         self.is_requested = true;
     }
 
-    /// A firmware step: a request that waits is decided by the AL control word as it now stands, and waits no
-    /// longer. Without one nothing changes.
+    /// A firmware step. It decides a request that waits by the AL control word as it now stands, and the request waits no
+    /// longer. Without a request nothing changes.
     pub fn step(&mut self, control: u16, checks: Checks)
         ensures { self.new ≡ stepped self.old control checks }
     {
@@ -72,8 +72,8 @@ impl Al {
         }
     }
 
-    /// A fault of the application: in OP it leads to SAFEOP with an error, and the answer is true. In any other
-    /// state nothing changes. A request that waits still waits.
+    /// A fault of the application. In OP it leads to SAFEOP with an error, and returns true. In any other state it returns
+    /// false and changes nothing. A request that waits still waits.
     pub fn fault(&mut self) -> bool
         ensures taken { IsTrue result ↔ (self.old.state ≡ Op) }
         ensures state { self.new ≡ faulted self.old }
@@ -87,7 +87,7 @@ impl Al {
         }
     }
 
-    /// The slave is as at power-on.
+    /// Puts the state machine back to power-on.
     pub fn reset(&mut self)
         ensures { self.new ≡ power_on }
     {

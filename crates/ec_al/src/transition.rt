@@ -1,4 +1,4 @@
-//! What an AL control word asks for.
+//! Which state a request enters.
 ghost use Rattle.std.specs.Prelude.{◌≡◌};
 ghost use Rattle.ec_al.specs.Transitions.{requested_by, answer};
 
@@ -49,10 +49,10 @@ impl State {
     ///
     /// # Errors
     ///
-    /// The first that fits: `UnknownState` for a number that is no state; for BOOT `BootstrapNotSupported` in INIT, and
-    /// `InvalidStateChange` in any other state; from INIT to PREOP `InvalidMailboxConfiguration` where the mailbox sync
-    /// managers aren't as needed; from PREOP to SAFEOP `InvalidOutputConfiguration` where the output sync manager isn't, and
-    /// then `InvalidInputConfiguration` where the input sync manager isn't; and `InvalidStateChange` for a state above the next
+    /// The first that holds. `UnknownState` for a number that is no state. For BOOT `BootstrapNotSupported` in INIT, and
+    /// `InvalidStateChange` in any other state. From INIT to PREOP `InvalidMailboxConfiguration` if the mailbox sync
+    /// managers aren't as needed. From PREOP to SAFEOP `InvalidOutputConfiguration` if the output sync manager isn't, and
+    /// then `InvalidInputConfiguration` if the input sync manager isn't. `InvalidStateChange` for a state above the next
     /// one.
     pub fn answer(self, requested: Requested, checks: Checks) -> Result<State, StatusCode>
         ensures { result ≡ answer self requested checks }

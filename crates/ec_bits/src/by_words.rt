@@ -5,8 +5,8 @@ ghost use Rattle.ec_bits.specs.Bits.{bit, with_number, copied};
 
 use crate::copying::{copy_part, shift_bytes};
 
-/// Copies the `count` bytes of `src` from `start` on to the place `at` of `dst`, at once: what
-/// [`copy_bits`] does to their bits.
+/// Copies `count` bytes, which begin at `start` in `src` and at `at` in `dst`, at once. It does to
+/// their bits what [`copy_bits`] does.
 ///
 /// [`copy_bits`]: crate::copy_bits
 pub fn copy_slice(dst: &mut [u8], at: usize, src: &[u8], start: usize, count: usize)
@@ -17,9 +17,9 @@ pub fn copy_slice(dst: &mut [u8], at: usize, src: &[u8], start: usize, count: us
     paste_slice(dst, at, src, start, count);
 }
 
-/// Copies the `count` bits of `src` from `from` on to the place `to` of `dst`, as [`copy_bits`]
-/// does, by whole slices and by words of eight bytes; whole bytes of `dst`, the usual case, have no
-/// ends to be copied apart. The ends of both runs, counted in bits, fit a `usize`.
+/// Copies `count` bits, which begin at `from` in `src` and at `to` in `dst`, as [`copy_bits`]
+/// does, by whole slices and by words of eight bytes. In the usual case, whole bytes of `dst`, it
+/// copies no ends apart. The ends of both runs, counted in bits, fit a `usize`.
 ///
 /// [`copy_bits`]: crate::copy_bits
 pub fn copy_by_words(dst: &mut [u8], to: usize, src: &[u8], from: usize, count: usize)
@@ -51,7 +51,7 @@ fn paste_slice(dst: &mut [u8], at: usize, src: &[u8], start: usize, count: usize
     dst[at..at + count].copy_from_slice(&src[start..start + count]);
 }
 
-/// Writes a number over the 64 bits from a byte on.
+/// Writes a number over the 64 bits that begin with a byte.
 #[inline(always)]
 fn put_word(dst: &mut [u8], at: usize, word: u64)
     requires { at + 8 ≤ length dst.old }
@@ -60,7 +60,7 @@ fn put_word(dst: &mut [u8], at: usize, word: u64)
     set_word(dst, at, word);
 }
 
-/// Writes a number over the 64 bits from a byte on.
+/// Writes a number over the 64 bits that begin with a byte.
 #[inline(always)]
 fn set_word(dst: &mut [u8], at: usize, word: u64)
     requires inside { at + 8 ≤ length dst.old }
@@ -70,7 +70,7 @@ fn set_word(dst: &mut [u8], at: usize, word: u64)
     dst[at..at + 8].copy_from_slice(&word.to_le_bytes());
 }
 
-/// The 64 bits from a byte on, as a number.
+/// The 64 bits that begin with a byte, as a number.
 #[inline(always)]
 fn word_at(bytes: &[u8], at: usize) -> u64
     requires { at + 8 ≤ length bytes.now }
@@ -106,7 +106,7 @@ fn shift_run(dst: &mut [u8], at: usize, src: &[u8], start: usize, shift: usize, 
     shift_over(&mut dst[at..at + count], &src[start..], shift);
 }
 
-/// Fills `dst` with the bits of `src` from a place inside its first byte on. Each of the seven
+/// Fills `dst` with the bits of `src` that begin at a place inside its first byte. Each of the seven
 /// shifts has a loop of its own: a turn takes a quarter less time if the shift stands in the code
 /// than if it is an argument.
 fn shift_over(dst: &mut [u8], src: &[u8], shift: usize)
@@ -126,7 +126,7 @@ fn shift_over(dst: &mut [u8], src: &[u8], shift: usize)
     }
 }
 
-/// Fills `dst` with the bits of `src` from a place inside its first byte on.
+/// Fills `dst` with the bits of `src` that begin at a place inside its first byte.
 #[inline(always)]
 fn shift_all(dst: &mut [u8], src: &[u8], shift: usize)
     requires some { 0 < shift }
@@ -155,7 +155,7 @@ fn shift_word(dst: &mut [u8], at: usize, src: &[u8], start: usize, shift: usize)
     put_word(dst, at, shifted_word(low, high, shift));
 }
 
-/// The 64 bits from a place inside the first of two words, a byte apart, on.
+/// The 64 bits that begin at a place inside the first of two words, which are a byte apart.
 #[inline(always)]
 fn shifted_word(low: u64, high: u64, shift: usize) -> u64
     requires some { 0 < shift }

@@ -42,7 +42,7 @@ pub(crate) fn shift_bytes(
     turns
 }
 
-/// Copies the `count` bits of `src` from `from` on to the place `to` of `dst`, and returns in how
+/// Copies `count` bits, which begin at `from` in `src` and at `to` in `dst`, and returns in how
 /// many turns. A turn is one masked write of a byte of `dst`, so there are as many as bytes of
 /// `dst` that hold a copied bit. The ends of both runs, counted in bits, fit a `usize`.
 pub fn copy_bits(dst: &mut [u8], to: usize, src: &[u8], from: usize, count: usize) -> usize
@@ -74,7 +74,7 @@ fn copy_into_byte(dst: &mut [u8], to: usize, src: &[u8], from: usize, count: usi
     dst[to / 8] = merge(dst[to / 8], value, to % 8, count);
 }
 
-/// One masked write: the bits of `byte` from `shift` on, `count` of them, become those of `value`.
+/// One masked write: `count` bits of `byte`, which begin at `shift`, become those of `value`.
 fn merge(byte: u8, value: u8, shift: usize, count: usize) -> u8
     requires some { 0 < count }
     requires inside { shift + count ≤ 8 }
@@ -84,7 +84,7 @@ fn merge(byte: u8, value: u8, shift: usize, count: usize) -> u8
     (byte & !mask) | ((value << shift) & mask)
 }
 
-/// The eight bits of `bytes` from a place on, with zeros past their end.
+/// The eight bits of `bytes` that begin at a place, with zeros past their end.
 fn fetch(bytes: &[u8], from: usize) -> u8
     requires { from < 8 * length bytes.now }
     ensures { (j : ℕ) → j < 8 → bit_at result j ≡ from_bool (bit bytes.now (from + j)) }
@@ -113,7 +113,7 @@ fn copy_bytes(dst: &mut [u8], at: usize, src: &[u8], start: usize, count: usize)
     turns
 }
 
-/// The eight bits from a place inside the lower one of two bytes on.
+/// The eight bits that begin at a place inside the lower one of two bytes.
 fn shifted(low: u8, high: u8, shift: usize) -> u8
     requires some { 0 < shift }
     requires inside { shift < 8 }

@@ -4,7 +4,7 @@ ghost use Rattle.ec_bits.specs.Bits.{bits_number, with_number};
 
 use crate::copy_bits;
 
-/// The number of the `count` bits from `from` on, at most 64: bit `from + i` counts `2^i`. The end
+/// The number in the `count` bits that begin at `from`, at most 64: bit `from + i` counts `2^i`. The end
 /// of the run, counted in bits, fits a `usize`.
 #[tactic(auto, using(crate::proofs::Slices::number_of_copy))]
 pub fn read_bits(bytes: &[u8], from: usize, count: usize) -> u64
@@ -18,7 +18,7 @@ pub fn read_bits(bytes: &[u8], from: usize, count: usize) -> u64
     u64::from_le_bytes(eight)
 }
 
-/// Sets the `count` bits from `from` on, at most 64, to the low bits of `number`. The end of the
+/// Sets the `count` bits that begin at `from`, at most 64, to the low bits of `number`. The end of the
 /// run, counted in bits, fits a `usize`.
 #[tactic(auto, using(crate::proofs::Slices::number_copied))]
 pub fn write_bits(bytes: &mut [u8], from: usize, count: usize, number: u64)

@@ -1,8 +1,8 @@
 //! Bits of byte slices: bit `8 * k + j` is bit `j` of byte `k`, the lowest first.
 //!
-//! Each call changes the bits that it names and no other. A range inside its slice is the
-//! caller's condition, and so is that its end, counted in bits, fits a `usize`; a slice of less
-//! than `2^61` bytes has no other. The definitions that the contracts cite stand in
+//! Each call changes the bits that it names and no other. The caller must pass a range inside its
+//! slice, whose end, counted in bits, fits a `usize`. A slice of less
+//! than `2^61` bytes has only such ranges. The definitions that the contracts cite stand in
 //! `specs/Bits.antt`, and the module [`laws`] says what follows from them.
 #![tactic(auto)]
 
@@ -18,7 +18,7 @@ pub use crate::by_words::{copy_by_words, copy_slice};
 pub use crate::copying::copy_bits;
 pub use crate::fields::{read_bits, write_bits};
 
-/// Whether `at` is one of the `count` numbers from `from` on.
+/// Whether `at` is one of the `count` numbers that begin at `from`.
 pub fn within(from: usize, count: usize, at: usize) -> bool
     ensures { result ≡ is_within from count at }
 {

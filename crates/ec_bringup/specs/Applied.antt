@@ -1,4 +1,4 @@
--- A start-up between whose frames the slaves' applications step.
+-- A start-up with steps of the slaves' applications between its frames.
 use Rattle.std.specs.Prelude.{ℕ, zero, suc, ◌+◌, ◌<◌, ◌≡◌, List, [], ◌∷◌, length, true, Option}
 use Rattle.ec_sync.specs.Buffer.{Buffer}
 use Rattle.ec_slave.specs.State.{SlaveState, manager_at}
@@ -10,11 +10,11 @@ use Rattle.ec_bringup.specs.Undisturbed.{Rising, turned, ArePlans, AreDevices}
 use Rattle.ec_bringup.specs.BringUp.{rising}
 use Rattle.ec_bringup.specs.ComesUp.{IsOnItsWay, IsUpAndWorks}
 
--- what the application has still to read of the outputs
+-- the slave with `view` as what its application has still to read of the outputs
 abbrev pub with_view : SlaveState → Option (List ℕ) → SlaveState
 with_view s view = with_manager s 2 (record (manager_at s.managers 2) { buffer = record (manager_at s.managers 2).buffer { view = view } })
 
--- what it has written of the inputs
+-- the slave with `inputs` as what its application has written
 abbrev pub with_inputs : SlaveState → Buffer → SlaveState
 with_inputs s inputs = with_manager s 3 (record (manager_at s.managers 3) { buffer = inputs })
 
@@ -24,14 +24,14 @@ pub data Applied : SlaveState → SlaveState → Type 0 where
   Reads : (s t : SlaveState) (view : Option (List ℕ)) → is_running s.al.state ≡ true → Applied (with_view s view) t → Applied s t
   Writes : (s t : SlaveState) (inputs : Buffer) → is_running s.al.state ≡ true → Applied (with_inputs s inputs) t → Applied s t
 
--- that of each slave
+-- this holds for each slave
 abbrev pub AreApplied : List SlaveState → List SlaveState → Type 0
 AreApplied [] [] = Unit {0}
 AreApplied [] (t ∷ ts) = ⊥
 AreApplied (s ∷ ss) [] = ⊥
 AreApplied (s ∷ ss) (t ∷ ts) = Applied s t × AreApplied ss ts
 
--- so many turns, behind each of which the applications step
+-- `n` turns, with steps of the applications after each
 pub data TurnsTo : ℕ → Rising → Rising → Type 0 where
   Stays : (r : Rising) → TurnsTo zero r r
   Turns : (n : ℕ) (r e : Rising) (ss : List SlaveState) → AreApplied (turned r).slaves ss → TurnsTo n (rising (turned r).start ss) e → TurnsTo (suc n) r e

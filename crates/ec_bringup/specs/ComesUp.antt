@@ -28,7 +28,7 @@ pub record IsOnItsWay (number : ℕ) (r : Rising) : Type 0 where
   pub next_number : r.start.next ≡ number
   pub good : IsDatagram (frame_at r)
 
--- Of every plan, from devices of its types in any state: where each frame passes all slaves, each slave serves once and the
+-- A start-up of any plan, over devices of its types in any state: if each frame passes all slaves, each slave serves once and the
 -- frame comes back, the start-up is Ready after as many frames as its script has actions, and not before.
 abbrev pub ComesUpLaw : Type 0
 ComesUpLaw =
@@ -61,6 +61,6 @@ pub record IsTrue (kind : SlaveKind) (s : SlaveState) : Type 0 where
 pub record AreTrue (w : Starting) : Type 0 where
   pub each : (i : ℕ) → i < length w.start.plan → IsTrue (plan_at w.start.plan i).kind (slave_of w.slaves i)
 
--- After any run of a new segment (`Starting`), disturbed as it may be, its slaves are devices: from there too a start-up comes up.
+-- After any run of a new segment (`Starting`), disturbed or not, its slaves are devices, so a start-up can bring them up again.
 abbrev pub AgainLaw : Type 0
 AgainLaw = (ps : List SlavePlan) → ArePlans ps → (w v : Starting) → IsNew ps w → AreTrue w → Runs w v → AreDevices ps v.slaves

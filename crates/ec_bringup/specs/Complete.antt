@@ -1,4 +1,4 @@
--- What else a plan of the link compiler gives, that an undisturbed start-up ends Ready.
+-- What a plan of the link compiler also has, so that an undisturbed start-up ends Ready.
 use Rattle.std.specs.Prelude.{ℕ, ◌%◌, ◌^◌, ◌<◌, ◌≤◌, ◌≡◌, ◌≢◌, ◌==◌, ◌&&◌, List, [], ◌∷◌, ◌++◌, length, Bool, true, if◌then◌else◌, Option, Some, None, All}
 use Rattle.ec_bits.specs.Bits.{bytes_of_bits}
 use Rattle.ec_regs.specs.declared.manager.SyncManagerSettings.{SyncManagerSettings}
@@ -32,7 +32,7 @@ CanReach (Some b) = IsReachable b
 abbrev pub IsNumbered : Entry → Type 0
 IsNumbered e = entry_number e < 2 ^ 32
 
--- an index names a PDO of the direction, and its object shows that one
+-- an index names a PDO of the direction, and the object with this index is that PDO
 pub record IsOffered (kind : SlaveKind) (ps : List Pdo) (x : ℕ) : Type 0 where
   pub pdo : Pdo
   pub named : pdo_at ps x ≡ Some pdo

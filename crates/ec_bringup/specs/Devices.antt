@@ -1,4 +1,4 @@
--- Devices stay devices, whatever happens to them: so a start-up can be begun at any time over slaves that were devices once.
+-- Devices stay devices, whatever happens to them. So a start-up can be begun at any time over slaves that were devices once.
 use Rattle.std.specs.Prelude.{ℕ, ◌<◌, ◌≤◌, ◌≡◌, List, length, get_or, set, None, unwrap_or}
 use Rattle.ec_device.specs.declared.slave_type.Device.{Device}
 use Rattle.ec_device.specs.declared.slave_type.Identity.{Identity}
@@ -26,7 +26,7 @@ pub record IsOfType (type : Device) (i : Identity) : Type 0 where
   pub product : i.product ≡ type.product
   pub revision : i.revision ≡ type.revision
 
--- A device of a type, in any state, whose own identity is the type's too: a reset makes its SII anew of that.
+-- A device of a type, in any state, whose own identity is the type's too: a reset makes its SII of that again.
 pub record IsGenuine (kind : SlaveKind) (s : SlaveState) : Type 0 where
   pub slave : IsOfKind kind s
   pub own : IsTrue kind s
@@ -79,7 +79,7 @@ RingLaw = (ps : List SlavePlan) (ss : List SlaveState) → AreGenuine ps ss → 
 abbrev pub AreOfTypes : Contents → List Identity → Type 0
 AreOfTypes t identities = (k : ℕ) → k < length t.slaves → IsOfType (plan_at (plan_of t).slaves k).kind.device (get_or identities k no_identity)
 
--- The identities that a table says are so, where `compile` accepts it.
+-- The identities that a table states are such, if `compile` accepts the table.
 abbrev pub IdentitiesLaw : Type 0
 IdentitiesLaw = (t : Contents) → table.IsSound t → compile_fault t ≡ None → (identities : List Identity) → AreIdentities t identities → AreOfTypes t identities
 
@@ -89,6 +89,6 @@ TypedSlavesLaw =
     (t : Contents) → table.IsSound t → compile_fault t ≡ None → (identities : List Identity) → length identities ≡ length t.slaves → AreOfTypes t identities
     → AreGenuine (plan_of t).slaves (switched_on (plan_of t).slaves identities)
 
--- So are those that show what the table says.
+-- So are the slaves with the identities that the table states.
 abbrev pub SlavesOfLaw : Type 0
 SlavesOfLaw = (t : Contents) → table.IsSound t → compile_fault t ≡ None → (ss : List SlaveState) → AreSlavesOf t ss → AreGenuine (plan_of t).slaves ss

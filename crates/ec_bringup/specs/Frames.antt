@@ -14,7 +14,7 @@ use Rattle.ec_start.specs.declared.verdict.Verdict.TheVariants.{Next}
 use Rattle.ec_bringup.specs.Stages.{Stage, after}
 use Rattle.ec_bringup.specs.Standing.{Stands}
 
--- a broadcast or auto increment datagram that has passed j slaves: all but the ADP and, of a read, the data as it was sent
+-- a broadcast or auto increment datagram that has passed j slaves: as it was sent, except the ADP and the data of a read
 pub record IsBroadcast (e d : Datagram) : Type 0 where
   pub command : d.command ≡ e.command
   pub ado : ado_of d ≡ ado_of e

@@ -1,5 +1,5 @@
--- What is known of a slave during a start-up is kept by all that befalls it: by its firmware and its application; by a fault or a
--- reset, which leave a slave that is known to have had one; and by each frame of the start-up that passes it.
+-- A slave keeps what is known of it during a start-up, whatever its firmware and its application do. It keeps it at a fault or a
+-- reset, which leave a slave that is known to have had one, and at each frame of the start-up that passes it.
 use Rattle.std.specs.Prelude.{ℕ, ◌+◌, ◌<◌, ◌≡◌, ◌≢◌, ◌⊎◌, Bool, true, unwrap_or}
 use Rattle.ec_device.specs.Types.{SlaveKind}
 use Rattle.ec_frame.specs.declared.command.Command.TheVariants.{Fprd, Fpwr}
@@ -27,20 +27,20 @@ pub record StaysStanding (kind : SlaveKind) (i : ℕ) (st : Stage) (trouble : Bo
 abbrev pub StandingLaw : Type 0
 StandingLaw = (kind : SlaveKind) (i : ℕ) (st : Stage) (trouble : Bool) (s : SlaveState) → Stands kind i st trouble s → StaysStanding kind i st trouble s
 
--- A slave that was reset since it got its station address has none any more.
+-- A slave that was reset since it got its station address has lost it.
 abbrev pub GoneLaw : Type 0
 GoneLaw = (st : Stage) (s : SlaveState) → IsGone st s → station_of s ≡ 0
 
--- A slave that has, or had, its station address lets each datagram to another station pass as it is, and stays as it is: also
--- one that was reset, to which the start-up's frames are then all for others.
+-- A slave that has, or had, its station address lets each datagram to another station pass as it is, and stays as it is. If it
+-- was reset, all of the start-up's frames are then for others.
 abbrev pub ForOthersLaw : Type 0
 ForOthersLaw =
     (kind : SlaveKind) (i t ado : ℕ) (st : Stage) (trouble : Bool) (s : SlaveState) (d : Datagram) → i < 64 → t < 64 → t ≢ i → IsUp st → Stands kind i st trouble s
     → IsDatagram d → (d.command ≡ Fprd) ⊎ (d.command ≡ Fpwr) → d.address ≡ at (station t) ado
     → meets s d ≡ record { slave = s; datagram = d }
 
--- A frame of the start-up passes slave i: where its action isn't for this slave, or may be tried again, the slave stands where it
--- stood; where it may be done, as far as the frame shows so far, the slave stands where the action leads.
+-- A frame of the start-up passes slave i. If its action isn't for this slave, or may be tried again, the slave stands where it
+-- stood. If it may be done, as far as the frame shows so far, the slave stands where the action leads.
 abbrev pub FrameLaw : Type 0
 FrameLaw =
     (kind : SlaveKind) (i : ℕ) (st : Stage) (trouble : Bool) (a : Action) (number : ℕ) (d : Datagram) (s : SlaveState) → i < 64 → IsDatagram d → Fits i st a → Arrives a number i d → Stands kind i st trouble s

@@ -9,17 +9,17 @@ pub mod Frames
 -- What a plan must be beyond `IsStartable`, that an undisturbed start-up ends Ready; an undisturbed start-up.
 pub mod Complete
 pub mod Undisturbed
--- The runs of a segment that starts up, disturbed as they may be, and what holds at Ready.
+-- The runs of a segment that starts up, disturbed or not, and what holds at Ready.
 pub mod Starting
 pub mod Runs
 pub mod ComesUp
 -- Devices stay devices of their types.
 pub mod Devices
--- What befalls a slave keeps what is known of it.
+-- A slave keeps what is known of it, whatever happens to it.
 pub mod Keeping
 -- Bringing up a ring.
 pub mod BringUp
--- Applications that step between the frames.
+-- A start-up with steps of applications between its frames.
 pub mod Applied
 -- Private: the rest serves the proofs alone, and no public clause cites it.
 -- what holds at every instant of a world that starts up, and the frame's bytes in its slot

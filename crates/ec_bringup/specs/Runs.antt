@@ -44,7 +44,7 @@ is_idle (Failed error) = false
 abbrev pub is_beginning : StartState → Bool
 is_beginning s = is_idle s.phase && (s.place == 0)
 
--- As it begins it is at its beginning; and whatever is sent, answered or given up, it is not.
+-- A start-up is at its beginning when it begins, and no more once a frame was sent or answered, or it was given up.
 pub record BeginsOnce (s : StartState) : Type 0 where
   pub begins : (number : ℕ) → is_beginning (begun s.plan number) ≡ true
   pub sent : is_beginning (sending s) ≡ false
@@ -88,7 +88,7 @@ pub data Happens (w v : Starting) : Type 0 where
   Passes : (c : Carried) → w.slot ≡ Some c → c.passed < length w.start.plan → v ≡ with_passed w c → Happens w v
   Loses : (c : Carried) → w.slot ≡ Some c → v ≡ with_empty w → Happens w v
   Returns : (c : Carried) → w.slot ≡ Some c → c.passed ≡ length w.start.plan → w.start.phase ≡ Sent c.number → v ≡ with_start w (taken w.start c.datagram) → Happens w v
-  -- of a start-up that was given up
+  -- the start-up was given up
   Strays : (c : Carried) (f : StartError) → w.slot ≡ Some c → w.start.phase ≡ Failed f → v ≡ with_empty w → Happens w v
   Closes : (number : ℕ) → w.start.phase ≡ Sent number → v ≡ with_lost w → Happens w v
   Serves : (k : ℕ) → k < length w.start.plan → v ≡ with_slave w k (served (slave_at w.slaves k)) (trouble_at w.troubles k) → Happens w v
@@ -97,7 +97,7 @@ pub data Happens (w v : Starting) : Type 0 where
   Faults : (k : ℕ) → k < length w.start.plan → (slave_at w.slaves k).al.state ≡ Op → v ≡ with_slave w k (faulted (slave_at w.slaves k)) true → Happens w v
   Resets : (k : ℕ) → k < length w.start.plan → v ≡ with_slave w k (power_on (slave_at w.slaves k).kind (slave_at w.slaves k).identity) true → Happens w v
 
--- one event after another; after a failure, with no frame on its way, a start-up begins anew
+-- one event after another; after a failure, with no frame on its way, a start-up begins again
 pub data Runs : Starting → Starting → Type 0 where
   Stops : (w : Starting) → Runs w w
   Steps : (w u v : Starting) → Happens w u → Runs u v → Runs w v

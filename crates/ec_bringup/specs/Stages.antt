@@ -1,4 +1,4 @@
--- How far a start-up has brought one slave: what the actions so far have told it. Nothing of a slave's memory occurs here.
+-- How far a start-up has brought one slave: what the actions so far have set in it. Nothing of a slave's memory occurs here.
 use Rattle.std.specs.Prelude.{ℕ, ◌+◌, ◌<◌, ◌≡◌, ◌==◌, List, [], ◌∷◌, ◌++◌, length, set, Bool, true, false, if◌then◌else◌, Option, Some, None}
 use Rattle.ec_regs.specs.declared.manager.SyncManagerSettings.{SyncManagerSettings}
 use Rattle.ec_regs.specs.declared.fmmu.FmmuSettings.{FmmuSettings}
@@ -176,7 +176,7 @@ abbrev pub FitsMine : Stage → Action → Type 0
 FitsMine (Up c) a = CanTell c a
 FitsMine _ a = ⊥
 
--- an action for one slave: every slave has its station address, and it may be told to the one
+-- an action for one slave: every slave has its station address, and this slave is ready for the action if it is the one
 abbrev pub FitsOne : ℕ → ℕ → Stage → Action → Type 0
 FitsOne t i st a = (t < 64) × IsUp st × (t ≡ i → FitsMine st a)
 

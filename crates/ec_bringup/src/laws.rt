@@ -1,4 +1,4 @@
-//! Laws of the definitions: each is the contract of a function that does nothing.
+//! Laws of the definitions. Each function does nothing: its contract is the law.
 
 ghost use Rattle.ec_bringup.specs.Keeping.{StandingLaw, GoneLaw, ForOthersLaw, FrameLaw};
 ghost use Rattle.ec_bringup.specs.Runs.{BeginningLaw, StartUpLaw};
@@ -13,35 +13,35 @@ pub fn start_up()
     ensures { StartUpLaw }
 {}
 
-/// A start-up is at its beginning as it begins; once a frame was sent or answered, or it was given up, it is not.
+/// A start-up is at its beginning when it begins, and no more once a frame was sent or answered, or it was given up.
 pub fn beginning()
     ensures { BeginningLaw }
 {}
 
-/// A start-up that nothing disturbs is Ready after one frame for each action of its script, from devices of the plan's types in
-/// any state.
+/// A start-up that nothing disturbs is Ready after one frame for each action of its script. Its slaves are devices of the plan's
+/// types, in any state.
 pub fn comes_up()
     ensures { ComesUpLaw }
 {}
 
-/// Nor do the slaves' applications keep it from that, whatever they read and write between its frames.
+/// This also holds whatever the slaves' applications read and write between the frames of the start-up.
 #[tactic(auto, using(crate::proofs::ComesUp::applied_up))]
 pub fn comes_up_beside_applications()
     ensures { AppliedUpLaw }
 {}
 
-/// After any run of a new segment (`Starting`) its slaves are devices of their types: from there too a start-up comes up.
+/// After any run of a new segment (`Starting`) its slaves are devices of their types, so a start-up can bring them up again.
 pub fn again()
     ensures { AgainLaw }
 {}
 
-/// A start-up's frame that passed all slaves is an answer to the one that was sent: only its second datagram has changed.
+/// A start-up's frame that passed all slaves answers the frame that was sent: only its second datagram has changed.
 #[tactic(auto, using(crate::proofs::Rounds::round))]
 pub fn round()
     ensures { RoundLaw }
 {}
 
-/// So is one of a table that the compiler accepts.
+/// A start-up of a table that the compiler accepts is Ready in the same way, if nothing disturbs it.
 pub fn compiled_up()
     ensures { CompiledUpLaw }
 {}
@@ -51,29 +51,29 @@ pub fn compiled_plans()
     ensures { CompiledPlansLaw }
 {}
 
-/// What is known of a slave is kept by its firmware, by its application, by a fault and by a reset.
+/// A slave keeps what is known of it, whatever its firmware and its application do, and at a fault and a reset.
 pub fn standing()
     ensures { StandingLaw }
 {}
 
-/// A slave that was reset since it got its station address has none any more.
+/// A slave that was reset since it got its station address has lost it.
 pub fn gone()
     ensures { GoneLaw }
 {}
 
-/// A datagram for another slave changes nothing of one that has, or had, its station address, and comes out as it went in.
+/// A datagram for another slave changes nothing of a slave that has, or had, its station address. It comes out as it went in.
 pub fn for_others()
     ensures { ForOthersLaw }
 {}
 
-/// A frame of the start-up that passes a slave brings it where the action leads, if it may come back as done.
+/// A frame of the start-up that passes a slave brings it where the action leads, if the frame may come back as done.
 pub fn frame()
     ensures { FrameLaw }
 {}
 
-/// A slave that was just switched on, with the identity of a device of its type, is a genuine device of the type, and so are the
-/// slaves of a table that `compile` accepts, with such identities. The identities that the table says are those. So its slaves, as
-/// they are switched on, are genuine devices of their types.
+/// A slave that was just switched on, with the identity of a device of its type, is a genuine device of the type. So are the
+/// slaves of a table that `compile` accepts, with such identities. The identities that the table states are such identities, so
+/// its slaves are genuine devices of their types when they are switched on.
 pub fn switched_on_slaves_are_devices()
     ensures one { SwitchedOnLaw }
     ensures identities { IdentitiesLaw }
@@ -81,13 +81,13 @@ pub fn switched_on_slaves_are_devices()
     ensures of_table { SlavesOfLaw }
 {}
 
-/// It stays one, whatever happens to it: at any frame, a firmware step, what its application writes or reads, a fault, a reset.
+/// A device stays one whatever happens to it: any frame, a firmware step, what its application writes or reads, a fault, a reset.
 pub fn devices_stay_devices()
     ensures { DevicesLaw }
 {}
 
-/// So do the slaves of a ring, at any frame past all of them and whatever happens to one of them; and a start-up may find them in
-/// whatever state that leaves them.
+/// The slaves of a ring stay devices, whatever frame passes all of them and whatever happens to one of them. A start-up may find
+/// them in the state that this leaves.
 #[tactic(auto, using(crate::proofs::Genuine::stay))]
 pub fn rings_stay_devices()
     ensures { RingLaw }

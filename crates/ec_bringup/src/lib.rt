@@ -1,5 +1,5 @@
 //! What a start-up does to the slaves of its segment: laws over the definitions of slave, frame and script; and the start-up of a
-//! ring of slaves. It makes that ring, too: the slaves of a table as they are switched on.
+//! ring of slaves. The crate also makes that ring: the slaves of a table, just switched on.
 #![tactic(auto)]
 
 pub mod laws;

@@ -1,4 +1,4 @@
-//! The slaves of a table as they are switched on.
+//! Makes the slaves of a table, just switched on.
 
 ghost use Rattle.std.specs.Prelude.{◌≡◌, None, IfOk, length};
 ghost use Rattle.ec_link.specs.Faults.{compile_fault};
@@ -12,12 +12,12 @@ use ec_slave::Slave;
 use ec_table::Table;
 use std::alloc::{AllocError, Global};
 
-/// What the slaves of a table show as their identities, in the order of the table: each its type's device and its own
-/// serial number.
+/// The identities of the slaves of a table, in the order of the table: each has its type's device and its own serial
+/// number.
 ///
 /// # Errors
 ///
-/// `AllocError` where memory ran out.
+/// `AllocError` if there is no memory.
 pub fn identities_of(alloc: Global, table: &Table) -> Result<Vec<Identity>, AllocError>
     ensures { IfOk result (λ v. AreIdentities table.now v.items) }
 {
@@ -28,11 +28,11 @@ pub fn identities_of(alloc: Global, table: &Table) -> Result<Vec<Identity>, Allo
     Ok(identities)
 }
 
-/// A ring of the slaves of a plan, in its order, each just switched on: of its type, with these identities.
+/// A ring of the slaves of a plan, in its order, just switched on. Each is of its type, with these identities.
 ///
 /// # Errors
 ///
-/// `AllocError` where memory ran out.
+/// `AllocError` if there is no memory.
 pub fn switched_on(
     alloc: Global,
     slaves: &[SlavePlan],
@@ -49,12 +49,12 @@ pub fn switched_on(
     Ok(Ring::new(all))
 }
 
-/// A ring of the slaves of a table, just switched on, with the identities that the table gives them. The plan is the one
+/// A ring of the slaves of a table, just switched on, with the identities that the table states. `plan` is the plan
 /// that `compile` makes of the table.
 ///
 /// # Errors
 ///
-/// `AllocError` where memory ran out.
+/// `AllocError` if there is no memory.
 pub fn slaves_of(alloc: Global, table: &Table, plan: &Plan) -> Result<Ring, AllocError>
     requires accepted { compile_fault table.now ≡ None }
     requires plan { plan.now ≡ plan_of table.now }
@@ -65,11 +65,11 @@ pub fn slaves_of(alloc: Global, table: &Table, plan: &Plan) -> Result<Ring, Allo
     switched_on(alloc, plan.slaves(), identities.as_slice())
 }
 
-/// A ring of the slaves of a machine, just switched on, with the identities that its table gives them.
+/// A ring of the slaves of a machine, just switched on, with the identities that its table states.
 ///
 /// # Errors
 ///
-/// `AllocError` where memory ran out.
+/// `AllocError` if there is no memory.
 pub fn slaves_of_machine(alloc: Global, machine: &Machine) -> Result<Ring, AllocError>
     ensures { IfOk result (AreSlavesOf machine.now) }
 {

@@ -16,9 +16,9 @@ use ec_frame::Frame;
 use ec_ring::Ring;
 use ec_start::{NextFrame, Startup};
 
-/// Brings the slaves of a ring up: turn after turn the next frame of the start-up passes all of them, each serves once, and the
-/// frame is taken back, until the start-up has ended. It always ends, and is never given up. A new start-up of a plan that the
-/// link compiler made ends Ready over devices of the plan's types, whatever state they are in, after exactly one frame for each
+/// Brings the slaves of a ring up. In each turn the next frame of the start-up passes all slaves, each slave serves once, and
+/// the frame is taken back, until the start-up has ended. It always ends, and is never given up. A new start-up of a plan of the
+/// link compiler ends Ready over devices of the plan's types, whatever state they are in. It takes exactly one frame for each
 /// action of its script, and then every slave works as planned.
 ///
 /// No frame of the start-up may be outstanding.
@@ -34,7 +34,7 @@ pub fn bring_up(startup: &mut Startup<'_>, ring: &mut Ring)
     make_turns(startup, ring)
 }
 
-/// Turns until there is no next frame.
+/// Makes turns until there is no next frame.
 fn make_turns(startup: &mut Startup<'_>, ring: &mut Ring)
     requires { is_sent startup.old.phase ≡ false }
     ensures { IsBroughtTo (rising startup.old ring.old) (rising startup.new ring.new) }
@@ -49,8 +49,8 @@ fn make_turns(startup: &mut Startup<'_>, ring: &mut Ring)
     turn(startup, ring, &mut frame);
 }
 
-/// One turn: the next frame is written, passes all slaves, each slave serves once, and the frame is taken back. It returns
-/// whether there was a frame; without one the ring stays as it was.
+/// One turn: writes the next frame, passes it through all slaves, makes a firmware step of each, and takes it back. Returns
+/// whether there was a frame; if not, the ring stays as it was.
 fn turn(startup: &mut Startup<'_>, ring: &mut Ring, frame: &mut Frame) -> bool
     requires { is_sent startup.old.phase ≡ false }
     ensures answer { IsTrue result ↔ (next_frame startup.old ≡ Send) }
@@ -69,7 +69,7 @@ fn turn(startup: &mut Startup<'_>, ring: &mut Ring, frame: &mut Frame) -> bool
     true
 }
 
-/// Each slave serves once, in order.
+/// Makes a firmware step of each slave, in order.
 fn serve_all(ring: &mut Ring)
     ensures { ring.new ≡ map served ring.old }
 {

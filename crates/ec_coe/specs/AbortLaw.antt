@@ -1,5 +1,5 @@
--- Each abort by its cause, as a relation between a dictionary and a request, and the law that the abort a slave answers with is
--- the one whose cause holds while none of an earlier one does (the order is the profile of the simulated slaves).
+-- Each abort by its cause, as a relation between a dictionary and a request. The law says that the abort with which a slave
+-- replies is the first whose cause holds (the order is the profile of the simulated slaves).
 use Rattle.std.specs.Prelude.{ℕ, ◌<◌, ◌≤◌, ◌≡◌, ◌≢◌, ◌==◌, ◌⊎◌, List, length, take, Bool, false, if◌then◌else◌, slice_get, Some, None}
 use Rattle.ec_device.specs.declared.slave_type.Pdo.{Pdo}
 use Rattle.ec_device.specs.Objects.{bits_assigned}
@@ -117,7 +117,7 @@ pub record IsFirstAbort (in_preop : Bool) (d : Dictionary) (m : Message) (code :
 
 -- ---- the law
 
--- Of the causes that hold the first is told, and changes nothing; where none holds the answer is a response.
+-- The reply is the first abort whose cause holds, and changes nothing; if no cause holds, the reply is a response.
 pub record FirstAbort : Type 0 where
   pub told : (in_preop : Bool) (d : Dictionary) (m : Message) (counter : ℕ) (code : AbortCode) → IsFirstAbort in_preop d m code → answered in_preop d m counter ≡ record { reply = abort_to m counter code; dictionary = d }
   pub only : (in_preop : Bool) (d : Dictionary) (m : Message) (counter : ℕ) (code : AbortCode) → (answered in_preop d m counter).reply ≡ abort_to m counter code → IsFirstAbort in_preop d m code

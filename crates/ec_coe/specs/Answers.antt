@@ -1,4 +1,4 @@
--- What a slave answers to an SDO request (ETG.1000.6, "SDO services", expedited transfer; "Upload SDO normal response").
+-- The reply of a slave to an SDO request (ETG.1000.6, "SDO services", expedited transfer; "Upload SDO normal response").
 use Rattle.std.specs.Prelude.{ℕ, ◌*◌, ◌%◌, ◌^◌, ◌==◌, ◌&&◌, Bool, false, if◌then◌else◌, Option, Some, None, Result, Ok, Err}
 use Rattle.ec_device.specs.declared.slave_type.Face.{Face}
 use Rattle.ec_coe.specs.declared.value.ValueSize.{ValueSize}
@@ -41,7 +41,7 @@ abbrev pub has_long_name : Option Face → Bool
 has_long_name None = false
 has_long_name (Some face) = is_long face.name
 
--- the name of a full slave comes by a normal transfer where it is long; everything else by an expedited one
+-- the name of a full slave comes by a normal transfer if it is long; everything else by an expedited one
 abbrev pub upload_reply : Option Face → Message → ℕ → Result SdoValue AbortCode → Message
 upload_reply face m counter outcome = if (m.index == device_name_object) && has_long_name face then normal_answer m counter outcome else upload_answer m counter outcome
 
@@ -64,6 +64,6 @@ answer_by in_preop d m counter (UploadResponse size) = invalid_answer d m counte
 answer_by in_preop d m counter Abort = invalid_answer d m counter
 answer_by in_preop d m counter (OtherCommand number) = invalid_answer d m counter
 
--- the answer to a request, whose counter is not looked at; the reply has its own
+-- the answer to a request, whatever its counter is; the reply has its own
 unfoldable pub answered : Bool → Dictionary → Message → ℕ → Answer
 answered in_preop d m counter = answer_by in_preop d m counter m.command

@@ -1,4 +1,4 @@
--- What the definitions of this crate say together.
+-- Laws of the definitions of this crate.
 use Rattle.std.specs.Prelude.{ℕ, ◌≡◌, ◌<◌, ◌≤◌, List, ◌++◌, length, Bool, true, false, Some, is_some, slice_index}
 use Rattle.ec_coe.specs.declared.message.Message.{Message}
 use Rattle.ec_device.specs.declared.slave_type.Pdo.{Pdo}

@@ -1,7 +1,7 @@
 -- To be believed: Messages (their spelling), Objects (the object dictionary and its assignments), Transfers
 -- (uploads and downloads with their aborts), Answers (what a slave replies), ReplyBytes (how that lies in a mailbox), Replies
 -- (what a master finds in a reply).
--- Laws and AbortLaw (each abort by its cause, and which is told) say the same in other words, proved.
+-- Laws and AbortLaw (each abort by its cause, and which one is the reply) say the same in other words, proved.
 pub mod Messages
 pub mod Objects
 pub mod Transfers
@@ -9,7 +9,7 @@ pub mod Answers
 pub mod ReplyBytes
 pub mod Replies
 pub mod Refusals
--- Laws: other words for the same, proved.
+-- Laws: other words for these definitions, proved.
 pub mod Laws
 pub mod NameLaws
 pub mod RefusalLaws

@@ -1,5 +1,5 @@
--- What a full slave tells, in other words: where its answers are those of a slave that isn't full, and how its name comes back
--- from the bytes that it answers with.
+-- The name of a full slave, in other words: when its answers are those of a slave that isn't full, and how its name comes back
+-- from the bytes of its reply.
 use Rattle.std.specs.Prelude.{ℕ, ◌+◌, ◌*◌, ◌<◌, ◌≤◌, ◌≡◌, ◌≢◌, ◌⊎◌, List, ◌++◌, length, take, drop, slice_index, All, Bool, Some, None, option_map}
 use Rattle.ec_device.specs.declared.slave_type.Face.{Face}
 use Rattle.ec_device.specs.Types.{IsWithinLimits}
@@ -13,9 +13,9 @@ use Rattle.ec_coe.specs.Transfers.{uploaded}
 use Rattle.ec_coe.specs.Answers.{upload_answer, answered}
 use Rattle.ec_coe.specs.ReplyBytes.{reply_bytes}
 
--- ---- where nothing differs
+-- ---- when nothing differs
 
--- An upload is answered by an expedited transfer where it isn't one of the name, and where the slave isn't full.
+-- The reply to an upload is an expedited transfer if it isn't one of the name, or if the slave isn't full.
 pub record UploadsAreExpedited : Type 0 where
   pub elsewhere : (in_preop : Bool) (d : Dictionary) (m : Message) (counter : ℕ) → m.command ≡ UploadRequest → m.index ≢ device_name_object
       → (answered in_preop d m counter).reply ≡ upload_answer m counter (uploaded d m.index m.subindex)
@@ -35,13 +35,13 @@ pub record RepliesStandAlone : Type 0 where
   pub aborted : (d : Dictionary) (room : ℕ) (m : Message) → m.command ≡ Abort → reply_bytes d room m ≡ message_bytes m
   pub faceless : (d : Dictionary) (room : ℕ) (m : Message) → d.kind.face ≡ None → reply_bytes d room m ≡ message_bytes m
 
--- The bytes of a reply are those of a message, or, where letters follow, they read back as none, whatever follows them.
+-- The bytes of a reply are those of a message; or, if letters follow, they read back as none, whatever follows them.
 abbrev pub RepliesReadAlone : Type 0
 RepliesReadAlone =
     (d : Dictionary) (room : ℕ) (m : Message) (rest : List ℕ)
     → (reply_bytes d room m ≡ message_bytes m) ⊎ (message_read (reply_bytes d room m ++ rest) ≡ None)
 
--- A reply has the bytes of a message at least, and fits where a message does.
+-- A reply has the bytes of a message at least, and fits if a message does.
 pub record RepliesFit : Type 0 where
   pub whole : (d : Dictionary) (room : ℕ) (m : Message) → message_length ≤ length (reply_bytes d room m)
   pub fits : (d : Dictionary) (room : ℕ) (m : Message) → message_length ≤ room → length (reply_bytes d room m) ≤ room
@@ -52,7 +52,7 @@ pub record RepliesFit : Type 0 where
 abbrev pub data_number : List ℕ → ℕ
 data_number raw = slice_index raw 12 + 256 * slice_index raw 13 + 65536 * slice_index raw 14 + 16777216 * slice_index raw 15
 
--- Bytes that tell a name by a normal transfer: the mailbox header counts the ten bytes behind it and the letters, the command
+-- Bytes with a name by a normal transfer: the mailbox header counts the ten bytes behind it and the letters, the command
 -- is that of a normal upload response, the data are how many letters there are, and these end the bytes.
 pub record TellsName (name bytes : List ℕ) : Type 0 where
   pub header : slice_index bytes 0 + 256 * slice_index bytes 1 ≡ 10 + length name
@@ -68,7 +68,7 @@ pub record AsksForName (d : Dictionary) (face : Face) (m : Message) : Type 0 whe
   pub index : m.index ≡ device_name_object
   pub subindex : m.subindex ≡ 0
 
--- A long name comes back whole where it fits the mailbox; a short one stands in the data of an expedited transfer, as many
+-- A long name comes back whole if it fits the mailbox; a short one stands in the data of an expedited transfer, as many
 -- bytes as its size says.
 pub record NamesComeBack : Type 0 where
   pub long : (in_preop : Bool) (d : Dictionary) (face : Face) (m : Message) (counter room : ℕ) → AsksForName d face m → max_expedited < length face.name

@@ -70,7 +70,7 @@ long_value n = record { size = Four; number = n }
 abbrev pub identity_values : Identity → List SdoValue
 identity_values i = byte_value 4 ∷ long_value i.vendor ∷ long_value i.product ∷ long_value i.revision ∷ long_value i.serial ∷ []
 
--- subindex 0: how many count; from 1 on: the slots
+-- subindex 0: how many count; 1 and above: the slots
 abbrev pub assignment_values : Assignment → List SdoValue
 assignment_values a = byte_value a.count ∷ map word_value a.slots
 
@@ -78,7 +78,7 @@ assignment_values a = byte_value a.count ∷ map word_value a.slots
 abbrev pub entry_number : Entry → ℕ
 entry_number e = 65536 * e.index + 256 * e.subindex + e.bits
 
--- subindex 0: how many entries; from 1 on: the entries
+-- subindex 0: how many entries; 1 and above: the entries
 abbrev pub pdo_values : Pdo → List SdoValue
 pdo_values p = byte_value (length p.entries) ∷ map (λ e. long_value (entry_number e)) p.entries
 
@@ -130,7 +130,7 @@ size_of n = if n == 1 then One else (if n == 2 then Two else (if n == 3 then Thr
 abbrev pub letters_number : List ℕ → ℕ
 letters_number name = slice_index name 0 + 256 * slice_index name 1 + 65536 * slice_index name 2 + 16777216 * slice_index name 3
 
--- a name: its letters; but of a long one, whose letters come by a normal transfer, how many there are
+-- a name: its letters; or the number of letters of a long name, which come by a normal transfer
 abbrev pub name_value : List ℕ → SdoValue
 name_value name = if is_long name then long_value (length name) else record { size = size_of (length name); number = letters_number name }
 
@@ -138,7 +138,7 @@ name_value name = if is_long name then long_value (length name) else record { si
 abbrev pub name_fits : List ℕ → ℕ → Bool
 name_fits name room = nat_le (message_length + length name) room
 
--- a long name is there only where it fits
+-- a long name is there only if it fits
 abbrev pub name_values : List ℕ → ℕ → Option (List SdoValue)
 name_values name room = if not (is_long name) || name_fits name room then Some (name_value name ∷ []) else None
 
@@ -162,7 +162,7 @@ shown_values (Some face) room index = face_values face room index
 
 -- ---- all of them
 
--- The values of the object with an index, by subindex, if there is one. An assignment object is there where the type has
+-- The values of the object with an index, by subindex, if there is one. There is an assignment object if the type has
 -- PDOs of its direction.
 unfoldable pub object_values : Dictionary → ℕ → Option (List SdoValue)
 object_values d index =

@@ -1,4 +1,4 @@
--- What a full slave answers to a message that is no SDO request that it takes, in place of silence (ETG.1000.4, "Mailbox
+-- The replies of a full slave to messages that are no SDO request that it takes, in place of silence (ETG.1000.4, "Mailbox
 -- structure" and "Mailbox error"; ETG.1000.6, "CoE header", "SDO information error" and "Abort SDO transfer").
 use Rattle.std.specs.Prelude.{ℕ, ◌+◌, ◌*◌, ◌/◌, ◌%◌, ◌==◌, not, List, [], ◌∷◌, if◌then◌else◌, nat_lt, slice_index}
 use Rattle.ec_coe.specs.declared.message.Message.{Message}

@@ -1,4 +1,4 @@
--- What a master finds in a mailbox where it waits for the reply to an SDO request (ETG.1000.6, "SDO services").
+-- What a mailbox holds as the reply to an SDO request (ETG.1000.6, "SDO services").
 use Rattle.std.specs.Prelude.{ℕ, ◌==◌, ◌&&◌, if◌then◌else◌, Option, Some, None}
 use Rattle.ec_coe.specs.declared.message.Service.{Service}
 use Rattle.ec_coe.specs.declared.message.Service.TheVariants.{Request, Response, Other as OtherService}

@@ -8,7 +8,7 @@ use Rattle.ec_coe.specs.declared.message.Message.{Message}
 use Rattle.ec_coe.specs.Messages.{message_bytes, normal_upload}
 use Rattle.ec_coe.specs.Objects.{Dictionary, name_fits}
 
--- the name of a face, where its letters fit a mailbox of so many bytes
+-- the name of a face, if its letters fit a mailbox of `room` bytes
 abbrev pub fitting_name : Option Face → ℕ → Option (List ℕ)
 fitting_name None room = None
 fitting_name (Some face) room = if name_fits face.name room then Some face.name else None

@@ -86,7 +86,7 @@ with_ins d (Err code) = Err code
 abbrev pub is_assignment : ℕ → Bool
 is_assignment index = (index == output_assignment) || (index == input_assignment)
 
--- what is there is written over, where it takes downloads and has the length
+-- the value that is there is replaced, if it takes downloads and has the length
 abbrev pub written_over : Bool → Dictionary → ℕ → ℕ → SdoValue → Result SdoValue AbortCode → Result Dictionary AbortCode
 written_over in_preop d index subindex value (Err code) = Err code
 written_over in_preop d index subindex value (Ok old) =

@@ -13,11 +13,11 @@ use ec_device::Pdo;
 use std::alloc::{AllocError, Global};
 use std::marker::Model;
 
-/// How many bits the PDOs that are assigned in one direction may have together.
+/// The most bits that the PDOs assigned in one direction may have together.
 pub const MAX_BITS: usize = 2048;
 
 /// The PDO assignment of one direction, object 0x1C12 or 0x1C13: a slot for each PDO of the type, and how many of the slots
-/// count. It has its memory from `new` on.
+/// count. It allocates all its memory in `new`.
 #[derive(Debug, Drop)]
 pub struct Assignment {
     slots: Vec<u16>,
@@ -47,7 +47,7 @@ impl Assignment {
     ///
     /// # Errors
     ///
-    /// `AllocError` where there is no memory.
+    /// `AllocError` if there is no memory.
     pub fn new(alloc: Global, pdos: &[Pdo]) -> Result<Assignment, AllocError>
         requires { length pdos.now < 256 }
         ensures { IfOk result (λ a. a ≡ all_assigned pdos.now) }
@@ -59,7 +59,7 @@ impl Assignment {
         })
     }
 
-    /// Does nothing. Its contract says what holds of every assignment: no more slots count than there are.
+    /// Does nothing. Its contract says that no more slots of an assignment count than there are.
     pub(crate) fn is_sound(&self)
         ensures { self.now.count ≤ length self.now.slots }
     {
@@ -82,7 +82,7 @@ impl Assignment {
         sum_of_bits(pdos, &self.slots[..self.count as usize])
     }
 
-    /// The value at a subindex of the object: at 0 how many slots count, from 1 on the slots.
+    /// The value at a subindex of the object: at 0 how many slots count, at 1 and above the slots.
     pub(crate) fn value(&self, subindex: u8) -> Option<SdoValue>
         ensures { result ≡ slice_get (assignment_values self.now) subindex }
     {
@@ -97,7 +97,7 @@ impl Assignment {
     ///
     /// # Errors
     ///
-    /// The first abort that fits; nothing changes then.
+    /// The first abort that holds; nothing changes then.
     #[tactic(auto, unfolding(crate::specs::Transfers::assignment_written))]
     pub(crate) fn write(
         &mut self,
@@ -166,7 +166,7 @@ impl Assignment {
         }
     }
 
-    /// Whether so many slots may count: there are so many, no index stands twice in them, and their PDOs fit a direction.
+    /// Whether `count` slots may count: there are as many, no index stands twice in them, and their PDOs fit a direction.
     fn takes_count(&self, pdos: &[Pdo], count: u32) -> bool
         requires slots { length self.now.slots ≡ length pdos.now }
         requires few { length pdos.now < 256 }
@@ -208,7 +208,7 @@ fn sum_of_bits(pdos: &[Pdo], indices: &[u16]) -> usize
     total
 }
 
-/// How many bits the PDO with an index has, 0 where there is none.
+/// How many bits the PDO with an index has, 0 if there is none.
 fn bits_of(pdos: &[Pdo], index: u16) -> usize
     requires { All (λ p. (length p.entries ≤ 64) × (pdo_bits p ≤ 4096)) pdos.now }
     ensures value { result ≡ bits_at pdos.now index }

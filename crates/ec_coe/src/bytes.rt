@@ -19,7 +19,7 @@ pub(crate) fn word_at(bytes: &[u8], place: usize) -> u16
     byte_at(bytes, place) as u16 + 0x100 * byte_at(bytes, place + 1) as u16
 }
 
-/// Puts bytes behind others, where there is room for them.
+/// Puts bytes behind others, if there is room for them.
 pub(crate) fn append<const N: usize>(bytes: &mut ArrayVec<u8, N>, more: &[u8])
     requires { length bytes.old.items + length more.now ≤ N }
     ensures { bytes.new.items ≡ bytes.old.items ++ more.now }

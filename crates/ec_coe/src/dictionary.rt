@@ -28,8 +28,8 @@ pub const OUTPUT_ASSIGNMENT: u16 = 0x1C12;
 pub const INPUT_ASSIGNMENT: u16 = 0x1C13;
 
 /// The objects of a slave (ETG.1000.6, "Object dictionary"): its identity, the PDOs of its type, and which of them are
-/// assigned; of a full slave, whose type has a face, also the device type, the device name, the versions and what its sync
-/// managers are for. It owns all of these.
+/// assigned. A full slave, whose type has a face, also has the device type, the device name, the versions and the uses of its
+/// sync managers. It owns all of these.
 #[derive(Debug, Drop)]
 pub struct Dictionary {
     kind: SlaveType,
@@ -76,8 +76,8 @@ impl Dictionary {
         })
     }
 
-    /// Does nothing. Its contract says what holds of every dictionary, whatever was done to it: there are as many slots as
-    /// the type has PDOs, and no more of them count than there are.
+    /// Does nothing. Its contract says that every dictionary has as many slots as the type has PDOs, and that no more of them
+    /// count than there are.
     pub fn is_sound(&self)
         ensures slots { HasSlots self.now.kind self.now.outs self.now.ins }
         ensures outputs { self.now.outs.count ≤ length self.now.outs.slots }
@@ -131,11 +131,11 @@ impl Dictionary {
         self.ins.bits(self.kind.inputs())
     }
 
-    /// The value at an index and a subindex. That of a name of more than four letters is how many they are.
+    /// The value at an index and a subindex. The value of a name of more than four letters is their number.
     ///
     /// # Errors
     ///
-    /// `NoObject` where the index has no object, `NoSubindex` where the object has no such subindex.
+    /// `NoObject` if the index has no object, `NoSubindex` if the object has no such subindex.
     #[tactic(auto, unfolding(crate::specs::Transfers::uploaded, crate::specs::Objects::object_values))]
     pub fn upload(&self, index: u16, subindex: u8) -> Result<SdoValue, AbortCode>
         ensures { result ≡ uploaded self.now index subindex }
@@ -153,13 +153,13 @@ impl Dictionary {
         }
     }
 
-    /// A download to an index and a subindex. The objects that assign PDOs alone take any, and only in PREOP: a count of
-    /// slots, and while that is 0 the slots. The caller knows that the value has no more bits than its size says, as each has
+    /// A download to an index and a subindex. Only the objects that assign PDOs take one, and only in PREOP: a count of
+    /// slots, and while that is 0 the slots. The value must have no more bits than its size says, as each has
     /// that `SdoValue::of`, `byte`, `word` or `long` makes.
     ///
     /// # Errors
     ///
-    /// The first abort that fits: `NoObject`, `NoSubindex`, `ReadOnly`, `WrongLength`, `WrongState`, `InvalidValue`. Nothing
+    /// The first abort that holds: `NoObject`, `NoSubindex`, `ReadOnly`, `WrongLength`, `WrongState`, `InvalidValue`. Nothing
     /// changes then.
     #[tactic(auto, unfolding(crate::specs::Transfers::downloaded))]
     pub fn download(
@@ -190,10 +190,10 @@ impl Dictionary {
         }
     }
 
-    /// The reply to a request, with this counter; the counter of the request is not looked at. The reply is a response with
-    /// the index and the subindex of the request, or an abort. The name of a full slave, where it has more than four letters,
-    /// is sent by a normal upload response, whose letters `reply_bytes` puts behind the message. The caller knows that the
-    /// counter is below 8; the request may be any value of its type.
+    /// The reply to a request, with this counter, whatever the counter of the request is. The reply is a response with
+    /// the index and the subindex of the request, or an abort. The name of a full slave, if it has more than four letters,
+    /// is sent by a normal upload response, whose letters `reply_bytes` puts behind the message. The counter must be
+    /// below 8; the request may be any value of its type.
     #[tactic(auto, unfolding(crate::specs::Answers::answered))]
     pub fn answer(&mut self, in_preop: bool, request: &Message, counter: u8) -> Message
         requires { counter < 8 }
@@ -231,7 +231,7 @@ impl Dictionary {
         }
     }
 
-    /// The slave is switched off and on: every PDO is assigned again, in order.
+    /// Puts the assignments back to power-on: every PDO is assigned, in order.
     pub fn reset(&mut self)
         ensures { self.new ≡ new_dictionary self.old.kind self.old.identity }
     {
@@ -264,7 +264,7 @@ impl Dictionary {
     ///
     /// # Errors
     ///
-    /// As of `upload`; each index has no object where the slave isn't full.
+    /// As those of `upload`; each index has no object if the slave isn't full.
     fn shown(&self, index: u16, subindex: u8) -> Result<SdoValue, AbortCode>
         ensures { result ≡ value_at (shown_values self.now.kind.face (send_room self.now.kind.mailbox) index) subindex }
     {
@@ -274,7 +274,7 @@ impl Dictionary {
         }
     }
 
-    /// How many bytes the mailbox has through which the slave sends; 0 where it has none.
+    /// The length in bytes of the mailbox through which the slave sends; 0 if it has none.
     fn room(&self) -> usize
         ensures { result ≡ send_room self.now.kind.mailbox }
     {
@@ -296,7 +296,7 @@ fn upload_command(is_normal: bool, size: ValueSize) -> SdoCommand
     }
 }
 
-/// What the value of an object is, where the object is there.
+/// The value of an object that is there, or `NoSubindex`.
 fn found(value: Option<SdoValue>) -> Result<SdoValue, AbortCode>
     ensures { result ≡ value_or_abort value }
 {

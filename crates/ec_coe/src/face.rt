@@ -23,7 +23,7 @@ pub const HARDWARE_VERSION_OBJECT: u16 = 0x1009;
 /// The index of the manufacturer's software version.
 pub const SOFTWARE_VERSION_OBJECT: u16 = 0x100A;
 
-/// The index of the object that says what each sync manager is for.
+/// The index of the object with the use of each sync manager.
 pub const MANAGER_TYPES_OBJECT: u16 = 0x1C00;
 
 /// The most bytes that an expedited transfer carries.
@@ -36,7 +36,7 @@ pub(crate) fn is_long(name: &[u8]) -> bool
     name.len() > MAX_EXPEDITED
 }
 
-/// Whether the letters of a name fit a mailbox of so many bytes, behind a message.
+/// Whether the letters of a name fit a mailbox of `room` bytes, behind a message.
 pub(crate) fn has_room(name: &[u8], room: usize) -> bool
     requires { length name.now ≤ 32 }
     ensures { result ≡ name_fits name.now room }
@@ -44,11 +44,11 @@ pub(crate) fn has_room(name: &[u8], room: usize) -> bool
     MESSAGE_LENGTH + name.len() <= room
 }
 
-/// The value at an index and a subindex of the objects that a face shows, through a mailbox of so many bytes.
+/// The value at an index and a subindex of the objects that a face shows, through a mailbox of `room` bytes.
 ///
 /// # Errors
 ///
-/// `NoObject` where the index has no object, `NoSubindex` where the object has no such subindex.
+/// `NoObject` if the index has no object, `NoSubindex` if the object has no such subindex.
 pub(crate) fn face_value(
     face: &Face,
     room: usize,
@@ -72,7 +72,7 @@ pub(crate) fn face_value(
     value.ok_or(AbortCode::NoSubindex)
 }
 
-/// What a sync manager is for: mailbox out 1, mailbox in 2, outputs 3, inputs 4; at subindex 0 how many there are.
+/// The use of a sync manager: mailbox out 1, mailbox in 2, outputs 3, inputs 4; at subindex 0 how many there are.
 fn manager_type(subindex: u8) -> Option<SdoValue>
     ensures { result ≡ slice_get manager_types_values subindex }
 {
@@ -86,14 +86,14 @@ fn manager_type(subindex: u8) -> Option<SdoValue>
     }
 }
 
-/// The value at a subindex of an object that has no other.
+/// The value of an object at its only subindex, 0.
 fn only(value: SdoValue, subindex: u8) -> Option<SdoValue>
     ensures { result ≡ slice_get (value ∷ []) subindex }
 {
     (subindex == 0).then_some(value)
 }
 
-/// The value of the device name: its letters, the first in the lowest byte; of a long name how many it has.
+/// The value of the device name: its letters, the first in the lowest byte; the number of letters of a long name.
 fn name_value(name: &[u8]) -> SdoValue
     requires { length name.now ≤ 32 }
     ensures { result ≡ value_of_name name.now }
@@ -110,7 +110,7 @@ fn name_value(name: &[u8]) -> SdoValue
     }
 }
 
-/// The size of a value of so many bytes.
+/// The size of a value of `count` bytes.
 fn size_of_bytes(count: usize) -> ValueSize
     ensures { result ≡ size_of count }
 {

@@ -1,4 +1,4 @@
-//! Laws of the definitions: each is the contract of a function that does nothing.
+//! Laws of the definitions. Each function does nothing: its contract is the law.
 
 ghost use Rattle.ec_coe.specs.AbortLaw.{FirstAbort};
 ghost use Rattle.ec_coe.specs.Laws.{AnswersKeepAssignments, ChangesInPreopAlone, ReadsBack};
@@ -24,15 +24,15 @@ pub fn answers_keep_assignments()
     ensures { AnswersKeepAssignments }
 {}
 
-/// An abort is answered exactly where its cause holds and that of none before it does, in this order: another command than
+/// The reply is an abort exactly if its cause holds and no earlier one does, in this order: another command than
 /// an upload or a download, no object, no subindex, an object that can only be read, another length, another state, a value
-/// that isn't taken. It changes nothing. Where no cause holds the answer is a response.
+/// that isn't taken. An abort changes nothing. If no cause holds, the reply is a response.
 #[tactic(auto, using(crate::proofs::Aborts::first_abort))]
 pub fn first_abort()
     ensures { FirstAbort }
 {}
 
-/// An upload is answered by an expedited transfer where it isn't one of the device name, and where the slave isn't full.
+/// The reply to an upload is an expedited transfer if it isn't one of the device name, or if the slave isn't full.
 #[tactic(auto, using(crate::proofs::Names::uploads_expedited))]
 pub fn uploads_are_expedited()
     ensures { UploadsAreExpedited }

@@ -29,7 +29,7 @@ const STATION: usize = 2;
 const TYPE: usize = 5;
 /// In the CoE header: the service in the high four bits of its second byte.
 const SERVICE: usize = 7;
-/// Of the SDO: the command byte.
+/// In the SDO: the command byte.
 const COMMAND: usize = 8;
 /// The index of the object, two bytes.
 const INDEX: usize = 9;
@@ -88,7 +88,7 @@ pub struct Message {
 pub struct BadMailbox;
 
 impl BadMailbox {
-    /// The number by which the program names this refusal.
+    /// The number of the refusal, as the program prints it.
     pub fn number(self) -> u8
         ensures { result ≡ 9 }
     {
@@ -165,9 +165,9 @@ impl SdoCommand {
 impl Message {
     /// Its 16 bytes.
     ///
-    /// The caller knows that the message is one that bytes can spell: its counter is below 8, its service below 16, and a
+    /// The message must be one that bytes can spell: its counter is below 8, its service below 16, and a
     /// service or a command that has a name stands by it. So a counter of 8, `Service::Other(16)`, `Service::Other(2)` and
-    /// `SdoCommand::Other(0x40)` are no message, though the type has them. What `Dictionary::answer` gives is one.
+    /// `SdoCommand::Other(0x40)` are no message, though the type has them. What `Dictionary::answer` returns is one.
     #[tactic(auto, unfolding(crate::specs::Messages::message_bytes))]
     pub fn bytes(&self) -> [u8; 16]
         requires { IsMessage self.now }
@@ -221,7 +221,7 @@ pub fn read_message(mailbox: &[u8]) -> Result<Message, BadMailbox>
     })
 }
 
-/// Writes a message to the front of a mailbox, and zeros behind it. The caller knows that the message is one that bytes can
+/// Writes a message to the front of a mailbox, and zeros behind it. The message must be one that bytes can
 /// spell, as `Message::bytes` says.
 ///
 /// # Errors

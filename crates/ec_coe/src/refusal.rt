@@ -1,4 +1,4 @@
-//! What a full slave answers to a message that is no SDO request that it takes.
+//! The replies of a full slave to messages that are no SDO request that it takes.
 
 ghost use Rattle.std.specs.Prelude.{◌≡◌, ◌<◌};
 ghost use Rattle.ec_coe.specs.Messages.{message_bytes};
@@ -42,10 +42,10 @@ impl MailboxError {
     }
 }
 
-/// What a full slave answers to these bytes of the mailbox that the master wrote, with this counter, where they are no SDO
-/// request by an expedited transfer: a mailbox error where the protocol isn't CoE, the service is another than SDO requests
-/// and SDO information, or an SDO request is too short; an SDO information error to SDO information; and an abort to a request
-/// for a longer transfer (ETG.1000.4, "Mailbox error"; ETG.1000.6, "SDO information error" and "Abort SDO transfer"). Bytes
+/// The reply of a full slave, with this counter, to bytes of the mailbox that are no SDO request by an expedited transfer. It is
+/// a mailbox error if the protocol isn't CoE, the service is another than SDO requests and SDO information, or an SDO request
+/// is too short. It is an SDO information error to SDO information, and an abort to a request for a longer transfer
+/// (ETG.1000.4, "Mailbox error"; ETG.1000.6, "SDO information error" and "Abort SDO transfer"). Bytes
 /// past the end read 0.
 #[tactic(auto, unfolding(crate::specs::Refusals::refusal_bytes))]
 pub fn refuse(raw: &[u8], counter: u8) -> RefusalBytes
@@ -63,7 +63,7 @@ pub fn refuse(raw: &[u8], counter: u8) -> RefusalBytes
     }
 }
 
-/// An abort of the transfer that a request asks for.
+/// An abort of the transfer that a request wants.
 fn transfer_abort(raw: &[u8], counter: u8) -> RefusalBytes
     requires { counter < 8 }
     ensures { result.items ≡ message_bytes (transfer_abort_of raw.now counter) }

@@ -1,4 +1,4 @@
-//! What a master finds where it waits for a reply.
+//! Reads the reply to a request out of a mailbox.
 
 ghost use Rattle.std.specs.Prelude.{◌≡◌};
 ghost use Rattle.ec_coe.specs.Messages.{message_read};
@@ -10,9 +10,9 @@ use crate::value::SdoValue;
 /// What a mailbox says as the reply to a request (ETG.1000.6, "SDO services").
 #[derive(Clone, Copy, Debug, PartialEq, Eq)]
 pub enum Reply {
-    /// The download was done; the data of such a reply are not looked at.
+    /// The download was done, whatever the data of the reply are.
     Downloaded,
-    /// The value that was asked for, of the size that the reply says.
+    /// The value that the reply has, of the size that it says.
     Uploaded(SdoValue),
     /// The transfer was aborted, with this code.
     Aborted(u32),
@@ -22,7 +22,7 @@ pub enum Reply {
 
 impl Message {
     /// What the message says as the reply to a request for an index and a subindex: an abort has the service of a request or
-    /// of a response, all else that of a response. The counter is not looked at.
+    /// of a response, all else that of a response. The counter may be any.
     #[tactic(auto, unfolding(crate::specs::Replies::reply_in))]
     pub fn reply_to(&self, index: u16, subindex: u8) -> Reply
         ensures { result ≡ reply_in index subindex self.now }

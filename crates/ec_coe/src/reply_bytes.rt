@@ -16,8 +16,8 @@ pub type ReplyBytes = ArrayVec<u8, 48>;
 
 impl Dictionary {
     /// The bytes of a reply of the slave in a mailbox of `room` bytes: those of the message, and behind a normal upload
-    /// response the name, which the mailbox header's length counts (ETG.1000.6, "Upload SDO normal response"). Where the name
-    /// doesn't fit, the message is alone. The caller knows that the message is one that bytes can spell, as
+    /// response the name, which the mailbox header's length counts (ETG.1000.6, "Upload SDO normal response"). If the name
+    /// doesn't fit, the message is alone. The message must be one that bytes can spell, as
     /// `Message::bytes` says.
     #[tactic(auto, unfolding(crate::specs::ReplyBytes::reply_bytes))]
     pub fn reply_bytes(&self, room: usize, reply: &Message) -> ReplyBytes
@@ -43,7 +43,7 @@ impl Dictionary {
         }
     }
 
-    /// The name that the slave shows, where its letters fit a mailbox of so many bytes behind a message.
+    /// The name that the slave shows, if its letters fit a mailbox of `room` bytes behind a message.
     fn fitting_name(&self, room: usize) -> Option<&[u8]>
         ensures value { option_copied result ≡ fitting_name_of self.now.kind.face room }
         ensures short { IfSome result (λ name. length name.now ≤ 32) }

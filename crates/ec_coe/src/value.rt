@@ -72,7 +72,7 @@ impl SdoValue {
         }
     }
 
-    /// As many of the four bytes of data as the size says, which come as a number.
+    /// The value in as many of the four bytes of data as the size says; `bytes` is all four as a number.
     pub fn of(size: ValueSize, bytes: u32) -> Self
         ensures { result ≡ value_of size bytes }
     {

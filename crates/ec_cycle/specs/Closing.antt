@@ -26,20 +26,20 @@ all_from p k (x ∷ xs) = p k x && all_from p (k + 1) xs
 
 -- ---- what is kept
 
--- Of a part that came back: the broadcast's working counter and word, the working counters of its process datagrams, and the
--- data that holds the inputs.
+-- What is kept of a part that came back: the broadcast's working counter and word, the working counters of its process
+-- datagrams, and the data that holds the inputs.
 pub record KeptPart : Type 0 where
   pub broadcast : ℕ
   pub al_word : ℕ
   pub counters : ExpectedCounters
   pub bytes : List ℕ
 
--- the working counter of datagram n, 0 where there is none
+-- the working counter of datagram n, 0 if there is none
 abbrev pub counter_at : List Datagram → ℕ → ℕ
 counter_at [] n = 0
 counter_at (d ∷ ds) n = if n == 0 then d.counter else counter_at ds (n - 1)
 
--- the data of datagram n, none where there is none
+-- the data of datagram n, none if there is no such datagram
 abbrev pub bytes_at : List Datagram → ℕ → List ℕ
 bytes_at [] n = []
 bytes_at (d ∷ ds) n = if n == 0 then d.data_bytes else bytes_at ds (n - 1)
@@ -80,7 +80,7 @@ came_back_as slaves counters (Some q) = (q.broadcast == slaves) && same_counters
 abbrev pub is_good : PlanState → ℕ → Option KeptPart → Bool
 is_good p k o = came_back_as (length p.slaves) (predicted p k) o
 
--- A unit is taken where each of its own parts was kept and is good.
+-- A unit is taken if each of its own parts was kept and is good.
 abbrev pub unit_taken : PlanState → List (Option KeptPart) → ℕ → Bool
 unit_taken p kept u = all_from (λ k q. if (part_at p.parts k).unit == u then is_good p k q else true) 0 kept
 
@@ -90,7 +90,7 @@ unit_taken p kept u = all_from (λ k q. if (part_at p.parts k).unit == u then is
 abbrev pub part_of_slave : PlanState → ℕ → ℕ
 part_of_slave p s = (slave_at p s).share.part
 
--- The bit that was returned for an input bit of a slave, where its unit is taken.
+-- The bit that was returned for an input bit of a slave, if its unit is taken.
 abbrev pub returned_bit : PlanState → List (Option KeptPart) → Linked → Option Bool
 returned_bit p kept i =
     let k = part_of_slave p i.slave in
@@ -104,7 +104,7 @@ inputs_closed p kept image = overlay image (λ b. option_and_then (returned_bit 
 
 -- ---- the report
 
--- the AL word that came back, no bit of it where none did
+-- the AL word that came back, 0 if none did
 abbrev pub word_of_kept : Option KeptPart → ℕ
 word_of_kept None = 0
 word_of_kept (Some q) = q.al_word

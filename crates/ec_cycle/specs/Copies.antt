@@ -1,5 +1,5 @@
--- The images and the data of frames by one copy of a run of bits a link. The laws `ProcessByLinks` and `InputsByLinks` say that
--- this makes what `process_bytes` and `inputs_closed` say.
+-- The images and the data of frames, made by copies of runs of bits, one for each link. The laws `ProcessByLinks` and
+-- `InputsByLinks` say that this makes what `process_bytes` and `inputs_closed` say.
 use Rattle.std.specs.Prelude.{ℕ, ◌+◌, ◌-◌, ◌*◌, ◌^◌, ◌<◌, ◌≤◌, ◌==◌, ◌&&◌, nat_lt, List, [], ◌∷◌, map, filter, get_or, if◌then◌else◌, Bool, Option, None}
 use Rattle.ec_bits.specs.Bits.{copied}
 use Rattle.ec_link.specs.declared.plan.Link.{Link}
@@ -75,14 +75,14 @@ adjoin r n = (r.to + r.count == n.to) && ((r.from + r.count == n.from) && nat_lt
 abbrev pub both : BitRun → BitRun → BitRun
 both r n = record r { count = r.count + n.count }
 
--- the same of runs out of what the parts brought back
+-- as above, of runs out of what the parts brought back
 abbrev pub inputs_adjoin : InputRun → InputRun → Bool
 inputs_adjoin r n = (r.part == n.part) && ((r.unit == n.unit) && adjoin r.run n.run)
 
 abbrev pub both_inputs : InputRun → InputRun → InputRun
 both_inputs r n = record r { run = both r.run n.run }
 
--- a list in which those that adjoin, by a test, are one
+-- a list in which those that adjoin, by a test, are joined
 abbrev pub merged_from : {X : Type 0} → (X → X → Bool) → (X → X → X) → X → List X → List X
 merged_from adjoins join x [] = x ∷ []
 merged_from adjoins join x (y ∷ ys) = if adjoins x y then merged_from adjoins join (join x y) ys else x ∷ merged_from adjoins join y ys
@@ -91,10 +91,10 @@ abbrev pub merged : {X : Type 0} → (X → X → Bool) → (X → X → X) → 
 merged adjoins join [] = []
 merged adjoins join (x ∷ xs) = merged_from adjoins join x xs
 
--- what is copied for the outputs of part k
+-- the runs that are copied for the outputs of part k
 abbrev pub output_runs : PlanState → ℕ → List BitRun
 output_runs p k = merged adjoin both (part_runs p k)
 
--- what is copied for the inputs
+-- the runs that are copied for the inputs
 abbrev pub input_runs : PlanState → List InputRun
 input_runs p = merged inputs_adjoin both_inputs (map (input_run p) p.in_links)

@@ -1,5 +1,5 @@
 -- The cyclic frame of a part, a choice of this project: a NOP that names it, a broadcast read of the AL status, and the
--- part's process data by an LRW, or by an LWR and an LRD where the part is split.
+-- part's process data by an LRW, or by an LWR and an LRD if the part is split.
 use Rattle.std.specs.Prelude.{ℕ, ◌+◌, ◌-◌, ◌*◌, ◌%◌, ◌==◌, ◌&&◌, List, [], ◌∷◌, ◌++◌, if◌then◌else◌, Option, None, option_map}
 use Rattle.std.specs.Int.{to_le_bytes, w16, w64}
 use Rattle.ec_bits.specs.Bits.{bit, overlay, zeros, within}
@@ -18,8 +18,8 @@ use Rattle.ec_link.specs.Meaning.{area_of, out_source}
 
 -- ---- process data
 
--- The image bit that stands at a logical bit: the one that is linked to the output bit there, of the slaves of part k from
--- number s on.
+-- The image bit that stands at a logical bit: the one that is linked to the output bit there. Only the slaves of part k with
+-- number s or more count.
 abbrev pub image_bit : List Link → ℕ → ℕ → List SlavePlan → ℕ → Option ℕ
 image_bit ls k s [] logical = None
 image_bit ls k s (p ∷ ps) logical =
@@ -46,8 +46,8 @@ status_datagram number passed al = with_counter (new_datagram Brd (number % 256)
 abbrev pub process_datagram : Command → ℕ → ℕ → List ℕ → ℕ → Datagram
 process_datagram command number address bytes counter = with_counter (new_datagram command (number % 256) address bytes) counter
 
--- Those of a part, none where it has no process data. `sent` holds the outputs of the slaves to come and `returned` the
--- inputs of those that are passed; an LRW has both in one.
+-- The process datagrams of a part, none if it has no process data. `sent` holds the outputs of the slaves to come, and
+-- `returned` the inputs of those that are passed; an LRW has both in one.
 abbrev pub process_datagrams : PartPlan → ℕ → List ℕ → List ℕ → List Gave → List Datagram
 process_datagrams part number sent returned gave =
     if part.bytes == 0 then []

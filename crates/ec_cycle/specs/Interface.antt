@@ -18,7 +18,7 @@ pub record FillTheirPart (p : PlanState) (k : ℕ) (image : List ℕ) : Type 0 w
 abbrev pub ProcessDataFillTheirPart : Type 0
 ProcessDataFillTheirPart = (p : PlanState) (k : ℕ) (image : List ℕ) → FillTheirPart p k image
 
--- the name of a frame tells of which cycle it is, and of which part
+-- the name of a frame says of which cycle and part it is
 abbrev pub NamesTell : Type 0
 NamesTell =
     (number other k l : ℕ) → number < 2 ^ 64 → other < 2 ^ 64 → k < 2 ^ 16 → l < 2 ^ 16 → (name_datagram number k).data_bytes ≡ (name_datagram other l).data_bytes
@@ -32,8 +32,8 @@ FramesOnTheirWayAnswer =
     (p : PlanState) (number k passed : ℕ) (al sent returned : List ℕ) (gave : List Gave) → length al ≡ 2 → length sent ≡ (part_at p.parts k).bytes → length returned ≡ (part_at p.parts k).bytes
     → Answers p number k (cyclic_datagrams (part_at p.parts k) number k passed al sent returned gave)
 
--- What is kept of it: how many slaves it passed, its working counters, and what it brings back; of a part without bytes counters
--- to which nobody gave anything.
+-- What is kept of it: how many slaves it passed, its working counters, and what it brings back. If the part has no bytes, nobody
+-- gave anything to its counters.
 pub record IsKept (part : PartPlan) (passed : ℕ) (returned : List ℕ) (gave : List Gave) (q : KeptPart) : Type 0 where
   pub broadcast : q.broadcast ≡ passed
   pub counters : part.bytes ≢ 0 → q.counters ≡ counters_of part.split gave
@@ -46,6 +46,6 @@ FramesAreKept =
 
 -- ---- a master
 
--- whatever is handed in, a master keeps its plan
+-- a master keeps its plan, whatever payload it is given
 abbrev pub MastersKeepTheirPlan : Type 0
 MastersKeepTheirPlan = (old new : MasterState) (payload : List ℕ) (is_kept : Bool) → IsTaken old payload is_kept new → new.plan ≡ old.plan

@@ -1,4 +1,4 @@
--- What the definitions of this crate amount to, in other words than theirs.
+-- Laws of the definitions of this crate: what they amount to, in other words.
 use Rattle.std.specs.Prelude.{ℕ, ◌+◌, ◌*◌, ◌<◌, ◌≤◌, ◌≡◌, ◌≢◌, ◌↔◌, List, length, map, get_or, slice_get, slice_range, true, false, Option, None}
 use Rattle.std.specs.Option.{option_map_or}
 use Rattle.ec_bits.specs.Bits.{bit, bytes_of_bits, within, zeros}
@@ -13,19 +13,19 @@ use Rattle.ec_cycle.specs.Copies.{outputs_copied, inputs_copied}
 use Rattle.ec_cycle.specs.Frames.{process_bytes, sent_datagrams}
 use Rattle.ec_cycle.specs.Master.{MasterState, OpenCycle, Begun, Answers, shape, name_of, process_addresses, holds_value, value_at, variable_set, frame_of}
 
--- ---- one copy a link
+-- ---- one copy for each link
 
--- the data of a frame, from zeros by one copy a link of outputs
+-- the data of a frame, from zeros by one copy for each link of outputs
 abbrev pub ProcessByLinks : Type 0
 ProcessByLinks = (p : PlanState) (k : ℕ) (image : List ℕ) → IsUsable p → outputs_copied p k image p.out_links (zeros (part_at p.parts k).bytes) ≡ process_bytes p k image
 
--- the inputs after a closing, by one copy a link of inputs
+-- the inputs after a closing, by one copy for each link of inputs
 abbrev pub InputsByLinks : Type 0
 InputsByLinks = (p : PlanState) (kept : List (Option KeptPart)) (image : List ℕ) → IsUsable p → inputs_copied p kept p.in_links image ≡ inputs_closed p kept image
 
 -- ---- the bits of a frame's process data
 
--- the output bit of a slave is the bit of the image that is linked to it, and 0 where none is
+-- an output bit of a slave is the bit of the image that is linked to it, and 0 if none is
 abbrev pub OutputsBySource : Type 0
 OutputsBySource =
     (p : PlanState) (k s o i : ℕ) (image : List ℕ) → IsUsable p → s < length p.slaves → (slave_at p s).share.part ≡ k → o < (slave_at p s).share.outs
@@ -55,7 +55,7 @@ UnlinkedGoOutAsZero =
 
 -- ---- answers
 
--- datagrams answer part k exactly where they have the shapes, the name and the process addresses of the frame that was sent,
+-- datagrams answer part k exactly if they have the shapes, the name and the process addresses of the frame that was sent,
 -- whatever image it was sent with
 abbrev pub AnswersBySent : Type 0
 AnswersBySent =
@@ -65,7 +65,7 @@ AnswersBySent =
 
 -- ---- counters
 
--- slaves of which none gives more than its share of part k
+-- no slave gives more than its share of part k
 abbrev pub GaveAtMost : PlanState → ℕ → List Gave → Type 0
 GaveAtMost p k gave =
     (length gave ≡ length p.slaves)
@@ -97,6 +97,6 @@ SetKeepsOthers =
 
 -- ---- variables and frames
 
--- to set a variable changes no frame that was made
+-- setting a variable changes no frame that was made
 abbrev pub SetKeepsFrames : Type 0
 SetKeepsFrames = (m : MasterState) (variable value k : ℕ) → frame_of (variable_set m variable value).cycle k ≡ frame_of m.cycle k

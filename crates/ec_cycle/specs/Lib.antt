@@ -6,7 +6,7 @@ pub mod Frames
 pub mod Closing
 -- the master as a value, and what each of its calls does to it
 pub mod Master
--- Laws: other words for the same, proved; two of them say what one copy of a run of bits a link makes, and Interface is what the
+-- Laws: other words for these definitions, proved; two of them say what one copy for each link makes, and Interface is what the
 -- crates above may know.
 pub mod Copies
 pub mod Laws

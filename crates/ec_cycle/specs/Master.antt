@@ -55,7 +55,7 @@ variable_set m variable value = record m { outputs = value_put m.outputs value (
 abbrev pub value_of : MasterState → Variable → ℕ
 value_of m v = bits_number (if is_out v.direction then m.outputs else m.inputs) v.from v.bits
 
--- the number of a variable's bits; 0 of a variable that there isn't
+-- the number of a variable's bits; 0 if there is no such variable
 abbrev pub value_at : MasterState → Option Variable → ℕ
 value_at m None = 0
 value_at m (Some v) = value_of m v
@@ -66,7 +66,7 @@ value_at m (Some v) = value_of m v
 abbrev pub cycle_limit : ℕ
 cycle_limit = 2 ^ 64 - 1
 
--- why no cycle can begin, the first cause that fits
+-- why no cycle can begin: the first cause that holds
 abbrev pub begin_refusal : MasterState → Option CycleError
 begin_refusal m =
     if m.is_ready then (if is_some m.cycle then Some Open else (if nat_lt m.next cycle_limit then None else Some NumbersSpent))
@@ -117,7 +117,7 @@ pub record Answers (p : PlanState) (number k : ℕ) (ds : List Datagram) : Type 
   pub named : name_of ds ≡ name_of (sent_datagrams p number k [])
   pub addresses : process_addresses ds ≡ process_addresses (sent_datagrams p number k [])
 
--- It is one of a part that is not kept yet.
+-- It answers a part that is not kept yet.
 pub record IsAnswer (m : MasterState) (c : OpenCycle) (payload : List ℕ) (k : ℕ) (p : Payload) : Type 0 where
   pub is_open : m.cycle ≡ Some c
   pub there : k < length m.plan.parts
@@ -125,7 +125,7 @@ pub record IsAnswer (m : MasterState) (c : OpenCycle) (payload : List ℕ) (k : 
   pub spelled : IsFrame payload p
   pub answers : Answers m.plan c.number k p.datagrams
 
--- of some part
+-- it answers some part
 pub record AnswersSome (m : MasterState) (payload : List ℕ) : Type 0 where
   pub cycle : OpenCycle
   pub part : ℕ
@@ -135,7 +135,7 @@ pub record AnswersSome (m : MasterState) (payload : List ℕ) : Type 0 where
 abbrev pub with_kept : MasterState → OpenCycle → ℕ → KeptPart → MasterState
 with_kept m c k q = record m { cycle = Some (record c { kept = set c.kept k (Some q) }) }
 
--- An answer is kept; whatever else came changes nothing.
+-- An answer is kept; any other payload changes nothing.
 pub record IsTaken (old : MasterState) (payload : List ℕ) (is_kept : Bool) (new : MasterState) : Type 0 where
   pub kept : (c : OpenCycle) (k : ℕ) (p : Payload) → IsAnswer old c payload k p
       → (is_kept ≡ true) × (new ≡ with_kept old c k (kept_of (part_at old.plan.parts k) p.datagrams))

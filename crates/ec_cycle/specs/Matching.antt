@@ -15,7 +15,7 @@ pub record SameAt (n : ℕ) (d e : Datagram) : Type 0 where
   pub named : n ≡ 0 → d.data_bytes ≡ e.data_bytes
   pub addresses : 2 ≤ n → d.address ≡ e.address
 
--- the same of all from datagram n on
+-- all datagrams came back so, with datagram n the first
 abbrev pub SameFrom : ℕ → List Datagram → List Datagram → Type 0
 SameFrom n [] [] = Unit {0}
 SameFrom n [] (e ∷ es) = ⊥
@@ -45,7 +45,7 @@ abbrev pub StepsOn : List ℕ → DatagramCursor → DatagramSpan → List Datag
 StepsOn payload new s [] = (s ≡ nowhere) × IsAhead payload new []
 StepsOn payload new s (d ∷ ds) = StandsAt payload s d × IsAhead payload new ds
 
--- the next datagrams of two frames are the same, and both cursors are past them; or not all from there on are the same
+-- the next datagrams of two frames agree, and both cursors are past them; or the rest of the two doesn't agree
 abbrev pub NextAre : ℕ → List ℕ → DatagramCursor → List ℕ → DatagramCursor → List Datagram → List Datagram → Bool → Type 0
 NextAre n payload places sent sent_places [] es true = ⊥
 NextAre n payload places sent sent_places (d ∷ ds) [] true = ⊥
@@ -56,13 +56,13 @@ NextAre n payload places sent sent_places ds es false = 0 < length ds → SameFr
 abbrev pub FirstStand : List ℕ → List DatagramSpan → List Datagram → Type 0
 FirstStand payload spans ds = (n : ℕ) → n < 4 → StandsFor payload (get_or spans n nowhere) (slice_get ds n)
 
--- the part that the data of a frame's first datagram names, where there are ten bytes of it
+-- the part that the data of a frame's first datagram names, if they are ten bytes
 abbrev pub Names : Option Datagram → Option ℕ → Type 0
 Names None r = r ≡ None
 Names (Some d) None = length d.data_bytes ≢ 10
 Names (Some d) (Some k) = (length d.data_bytes ≡ 10) × (k ≡ get_or d.data_bytes 8 0 + 256 * get_or d.data_bytes 9 0)
 
--- The payload's datagrams answer the frame of part k, which isn't kept yet: they name it, and all are the same.
+-- The payload's datagrams answer the frame of part k, which isn't kept yet: they name it, and all agree with it.
 pub record AnswersPart (ds : List Datagram) (frames : List (List ℕ)) (kept : List (Option KeptPart)) (k : ℕ) : Type 0 where
   pub there : k < length frames
   pub not_kept : get_or kept k None ≡ None

@@ -5,7 +5,7 @@ use Rattle.ec_cycle.specs.Kept.{IsMaster}
 use Rattle.ec_cycle.specs.Master.{MasterState, new_master}
 use Rattle.ec_cycle.specs.declared.master.rest.Rest.{Rest}
 
--- the master that it is with the plan
+-- the master of it and the plan
 abbrev pub rejoined : PlanState → Rest → MasterState
 rejoined plan r = record {
   plan = plan;
@@ -20,7 +20,7 @@ rejoined plan r = record {
 abbrev pub FitsPlan : PlanState → Rest → Type 0
 FitsPlan plan r = IsMaster plan r.runs r.input_runs r.expected r.outputs.items r.inputs.items r.frames.items r.kept.items r.number
 
--- the same where it is there; between two calls it always is
+-- as above if it is there; between two calls it always is
 abbrev pub owned : PlanState → Option Rest → MasterState
 owned plan None = new_master plan
 owned plan (Some r) = rejoined plan r

@@ -1,4 +1,4 @@
-//! Which part's frame a payload answers.
+//! Finds the part whose frame a payload answers.
 ghost use Rattle.std.specs.Prelude.{◌≡◌, ◌<◌, [], ℕ, Option, Some, None, get_or, length};
 ghost use Rattle.ec_frame.specs.Frame.{Payload, IsFrame};
 ghost use Rattle.ec_cycle.specs.Matching.{FirstStand, Answered};
@@ -7,7 +7,7 @@ use crate::kept::{Returned, SentFrame};
 use crate::matching::{answers, named_part};
 use ec_frame::DatagramSpan;
 
-/// Which frame a payload answers, of those whose parts aren't kept yet; none where it answers none.
+/// The part whose frame a payload answers, if that part isn't kept yet; none if there is none.
 pub fn answered(
     payload: &[u8],
     count: usize,

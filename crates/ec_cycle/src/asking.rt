@@ -5,7 +5,7 @@ use crate::master::Master;
 use ec_link::Plan;
 
 impl<'p> Master<'p> {
-    /// The plan, of which a start-up makes the master ready.
+    /// The plan. A start-up of it makes the master ready.
     pub fn plan(&self) -> &'p Plan
         ensures { result.now ≡ self.now.plan }
     {

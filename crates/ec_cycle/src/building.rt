@@ -1,4 +1,4 @@
-//! The frames of a cycle.
+//! Builds the frames of a cycle.
 ghost use Rattle.std.specs.Prelude.{◌≡◌, ◌≤◌, ◌<◌, ◌+◌, ◌*◌, ◌∷◌, ◌++◌, [], length, if◌then◌else◌};
 ghost use Rattle.std.specs.Int.{to_le_bytes, w16, w64};
 ghost use Rattle.ec_bits.specs.Bits.{zeros};
@@ -11,10 +11,10 @@ use ec_frame::{Builder, Command, Frame, address_of};
 use ec_link::PartPlan;
 use ec_regs::registers;
 
-/// The most that one has which goes by an LWR and an LRD.
+/// The most bytes of process data in a part that goes by an LWR and an LRD.
 const MAX_SPLIT: usize = 705;
 
-/// The cyclic frame of a part, with these outputs.
+/// The cyclic frame of a part: cycle `number`, part `place`, and the process data `sent`.
 #[tactic(auto, using(ec_frame::proofs::Builds::joined_push))]
 pub fn build(part: &PartPlan, number: u64, place: usize, sent: &[u8]) -> Frame
     requires place { place < 65536 }
@@ -42,7 +42,7 @@ pub fn build(part: &PartPlan, number: u64, place: usize, sent: &[u8]) -> Frame
     builder.finish()
 }
 
-/// Appends the process datagrams of a part, with these outputs.
+/// Appends the process datagrams of a part, with `sent` as their outputs.
 fn append_process(builder: &mut Builder, part: &PartPlan, number: u64, sent: &[u8])
     requires room { length (joined builder.old) ≤ 36 }
     requires size { length sent.now ≡ part.now.bytes }
@@ -68,14 +68,14 @@ fn append_process(builder: &mut Builder, part: &PartPlan, number: u64, sent: &[u
     }
 }
 
-/// What an LRD brings, as much as the longest has.
+/// The data of the longest LRD as it is sent: zeros.
 fn nothing() -> [u8; MAX_SPLIT]
     ensures { result ≡ zeros 705 }
 {
     [0; MAX_SPLIT]
 }
 
-/// The bytes that name a frame: the cycle's number and the part.
+/// The name of a frame: the cycle's number in eight bytes, and the part in two, little-endian.
 fn name_of(number: u64, part: usize) -> [u8; 10]
     requires { part < 65536 }
     ensures { result ≡ to_le_bytes w64 number ++ to_le_bytes w16 part }
@@ -86,7 +86,7 @@ fn name_of(number: u64, part: usize) -> [u8; 10]
     name
 }
 
-/// Appends a datagram that has room.
+/// Appends a datagram, for which there is room.
 fn append(builder: &mut Builder, command: Command, index: u8, address: u32, content: &[u8])
     requires { length (joined builder.old) + 12 + length content.now ≤ 1470 }
     ensures { builder.new ≡ builder.old ++ new_datagram command index address content.now ∷ [] }

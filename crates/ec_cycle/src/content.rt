@@ -1,4 +1,4 @@
-//! Bytes in room of their own.
+//! The bytes that a part brought back, in memory of their own.
 ghost use Rattle.std.specs.Prelude.{◌≡◌, ◌≤◌, [], length};
 
 use std::marker::Model;
@@ -6,7 +6,7 @@ use std::marker::Model;
 /// The most bytes that a part has.
 const MAX_BYTES: usize = 1422;
 
-/// What a part brought back. Only as many bytes are touched as there are: what stood behind them stays.
+/// The bytes that a part brought back. `replace` touches only as many bytes of `room` as there are.
 #[derive(Drop)]
 pub struct Content {
     room: [u8; MAX_BYTES],
@@ -34,7 +34,7 @@ impl Content {
         }
     }
 
-    /// Puts bytes in place of those that are there.
+    /// Replaces the bytes.
     pub fn replace(&mut self, bytes: &[u8])
         requires { length bytes.now ≤ 1422 }
         ensures { self.new ≡ bytes.now }

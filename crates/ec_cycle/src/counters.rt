@@ -1,4 +1,4 @@
-//! Working counters as they are kept and reported: of two bytes each, as in a frame.
+//! Working counters as they are kept and reported: two bytes each, as in a frame.
 ghost use Rattle.std.specs.Prelude.{◌≡◌};
 ghost use Rattle.ec_link.specs.declared.plan.ExpectedCounters.TheVariants.{Lrw, Split};
 
@@ -57,7 +57,7 @@ impl Counters {
         }
     }
 
-    /// These counters in the form in which a plan predicts them.
+    /// These counters as a plan predicts them.
     pub fn as_predicted(&self) -> ExpectedCounters
         ensures { result ≡ self.now }
     {

@@ -4,7 +4,7 @@ ghost use Rattle.ec_cycle.specs.Refusals.{refusal_number, refusal_name};
 
 use thiserror::Error;
 
-/// Why a master refused a call. It is then as it was.
+/// Why a master refused a call. A refused call changes nothing.
 #[derive(Clone, Copy, Debug, PartialEq, Eq, Drop, Error)]
 pub enum CycleError {
     /// No start-up of its plan has ended Ready.
@@ -22,7 +22,7 @@ pub enum CycleError {
 }
 
 impl CycleError {
-    /// The number by which the program names this refusal.
+    /// The number of the refusal, as the program prints it: 33 to 36.
     pub fn number(self) -> u8
         ensures { result ≡ refusal_number self }
     {
@@ -34,7 +34,7 @@ impl CycleError {
         }
     }
 
-    /// The name by which the program prints this refusal.
+    /// The name of the refusal, one word.
     pub fn name(self) -> &'static str
         ensures { result.now ≡ refusal_name self }
     {

@@ -1,4 +1,4 @@
-//! What a master keeps of a part.
+//! What a master keeps of a part: its frame, and what came back.
 ghost use Rattle.std.specs.Prelude.{◌≡◌, ◌≤◌, ◌<◌, ◌+◌, ◌*◌, ◌^◌, List, Option, Some, None, true, false, is_some, option_map, length, slice_index, if◌then◌else◌};
 ghost use Rattle.ec_bits.specs.Bits.{bytes_of_bits};
 ghost use Rattle.ec_frame.specs.Building.{bare_payload};
@@ -50,7 +50,7 @@ impl SentFrame {
         self.frame.as_slice()
     }
 
-    /// It gets the number of a cycle, and the outputs of an image.
+    /// Writes the number of a cycle and the outputs of an image into the frame.
     pub fn renew(&mut self, plan: &Plan, part: usize, runs: &[BitRun], number: u64, image: &[u8])
         requires usable { IsUsable plan.now }
         requires there { part < length plan.now.parts }
@@ -65,7 +65,7 @@ impl SentFrame {
     }
 }
 
-/// What came back of a part, if its frame did: what is read of it, in memory of its own.
+/// What came back of a part, if its frame did, in memory of its own.
 #[derive(Drop)]
 pub struct Returned {
     is_kept: bool,
@@ -85,7 +85,7 @@ impl Model for Returned {
 }
 
 impl Returned {
-    /// Nothing came back.
+    /// A part of which nothing came back.
     pub fn new() -> Returned
         ensures { result ≡ None }
     {
@@ -112,7 +112,7 @@ impl Returned {
         self.is_kept
     }
 
-    /// Keeps what a frame brought back, whose first datagrams stand at these places.
+    /// Keeps what a frame brought back; its first four datagrams are at `spans`.
     pub fn keep(&mut self, split: bool, payload: &[u8], spans: &[DatagramSpan; 4])
         requires { (ds : List Datagram) × FirstStand payload.now spans.now ds × (length (bytes_at ds (input_place split)) ≤ 1422) }
         ensures { (ds : List Datagram) → FirstStand payload.now spans.now ds → self.new ≡ Some (kept_by split ds) }
@@ -125,7 +125,7 @@ impl Returned {
         self.is_kept = true;
     }
 
-    /// Whether so many slaves answered the broadcast, and the working counters are these.
+    /// Whether `slaves` slaves processed the broadcast, and the working counters are `counters`.
     pub fn came_back_as(&self, slaves: usize, counters: ExpectedCounters) -> bool
         ensures { result ≡ came_back_as slaves counters self.now }
     {
@@ -134,7 +134,7 @@ impl Returned {
             && same_counters(self.counters.as_predicted(), counters)
     }
 
-    /// The data that holds the inputs; none of a part that isn't kept.
+    /// The data with the inputs; empty if the part isn't kept.
     pub fn bytes(&self) -> &[u8]
         ensures { result.now ≡ bytes_of self.now }
     {
@@ -145,7 +145,7 @@ impl Returned {
         }
     }
 
-    /// The working counters.
+    /// The working counters, if the part is kept.
     pub fn counters(&self) -> Option<Counters>
         ensures { result ≡ option_map (λ (q : KeptPart). q.counters) self.now }
     {
@@ -156,7 +156,7 @@ impl Returned {
         }
     }
 
-    /// The AL word; 0 of a part that isn't kept.
+    /// The AL word; 0 if the part isn't kept.
     pub fn al_word(&self) -> u16
         ensures { result ≡ word_of_kept self.now }
     {
@@ -164,7 +164,7 @@ impl Returned {
     }
 }
 
-/// The data that brings the inputs, in a frame whose first datagrams stand at these places.
+/// The data with the inputs, in a frame whose first four datagrams are at `spans`.
 #[tactic(auto, using(crate::proofs::Places::place_steps))]
 fn inputs_in<'a>(split: bool, payload: &'a [u8], spans: &[DatagramSpan; 4]) -> &'a [u8]
     requires { (ds : List Datagram) × FirstStand payload.now spans.now ds }
@@ -177,7 +177,7 @@ fn inputs_in<'a>(split: bool, payload: &'a [u8], spans: &[DatagramSpan; 4]) -> &
     }
 }
 
-/// The working counters of the process datagrams of a frame whose first datagrams stand at these places.
+/// The working counters of the process datagrams, in a frame whose first four datagrams are at `spans`.
 #[tactic(auto, using(crate::proofs::Places::place_steps))]
 fn counters_in(split: bool, payload: &[u8], spans: &[DatagramSpan; 4]) -> Counters
     requires { (ds : List Datagram) × FirstStand payload.now spans.now ds }
@@ -191,7 +191,7 @@ fn counters_in(split: bool, payload: &[u8], spans: &[DatagramSpan; 4]) -> Counte
     }
 }
 
-/// The word of two bytes; a byte that isn't there is 0.
+/// The word of two bytes, little-endian; a byte that isn't there is 0.
 fn word_of(bytes: &[u8]) -> u16
     ensures { result ≡ slice_index bytes.now 0 + 256 * slice_index bytes.now 1 }
 {

@@ -4,19 +4,19 @@ ghost use Rattle.ec_cycle.specs.Laws.{OutputsBySource, OtherBitsAreZero, Unlinke
 ghost use Rattle.ec_cycle.specs.Laws.{PredictedMeansWhole, SetReadsBack, SetKeepsOthers, SetKeepsFrames};
 ghost use Rattle.ec_cycle.specs.Interface.{ProcessDataFillTheirPart, NamesTell, FramesOnTheirWayAnswer, FramesAreKept, MastersKeepTheirPlan};
 
-/// One copy of a run of bits a link of outputs makes the process data of a frame.
+/// One copy of a run of bits for each link of outputs makes the process data of a frame.
 #[tactic(auto, using(crate::proofs::Placing::process_by_links))]
 pub fn process_by_links()
     ensures { ProcessByLinks }
 {}
 
-/// One copy of a run of bits a link of inputs makes the inputs after a closing.
+/// One copy of a run of bits for each link of inputs makes the inputs after a closing.
 #[tactic(auto, using(crate::proofs::Copying::inputs_by_links))]
 pub fn inputs_by_links()
     ensures { InputsByLinks }
 {}
 
-/// In the process data of a frame an output bit of a slave is the image's bit that is linked to it, and 0 where none is.
+/// In the process data of a frame, an output bit of a slave is the image's bit that is linked to it, or 0 if none is.
 #[tactic(auto, using(crate::proofs::ProcessBits::outputs_by_source))]
 pub fn outputs_by_source()
     ensures { OutputsBySource }
@@ -33,13 +33,13 @@ pub fn unlinked_go_out_as_zero()
     ensures { UnlinkedGoOutAsZero }
 {}
 
-/// Datagrams answer a frame exactly where they have the shapes, the name and the process addresses of the frame as it was
+/// Datagrams answer a frame exactly if they have the shapes, the name and the process addresses of the frame as it was
 /// sent.
 pub fn answers_by_sent()
     ensures { AnswersBySent }
 {}
 
-/// Where no slave gives more than its share, predicted working counters mean that each gave the whole of it.
+/// If no slave gives more than its share, predicted working counters mean that each gave its whole share.
 #[tactic(auto, using(crate::proofs::Counting::predicted_means_whole))]
 pub fn predicted_means_whole()
     ensures { PredictedMeansWhole }
@@ -51,13 +51,13 @@ pub fn set_reads_back()
     ensures { SetReadsBack }
 {}
 
-/// Setting a variable changes no other one: those of a plan have no bit in common, as `compile` says.
+/// Setting a variable changes no other variable: those of a plan have no bit in common, as `compile` promises.
 #[tactic(auto, using(crate::proofs::Variables::set_keeps_others))]
 pub fn set_keeps_others()
     ensures { SetKeepsOthers }
 {}
 
-/// What a begun frame says isn't changed by setting a variable later.
+/// Setting a variable changes no frame that was begun before.
 pub fn set_keeps_frames()
     ensures { SetKeepsFrames }
 {}
@@ -68,13 +68,13 @@ pub fn frames_are_of_their_part()
     ensures names { NamesTell }
 {}
 
-/// A frame answers its part whatever slaves it passed, and what is kept of it is what those made of it.
+/// A frame answers its part whatever slaves it passed, and what is kept of it is what those slaves made of it.
 pub fn frames_come_back()
     ensures answers { FramesOnTheirWayAnswer }
     ensures kept { FramesAreKept }
 {}
 
-/// Whatever is handed in, a master keeps its plan.
+/// A master keeps its plan, whatever payload it is given.
 #[tactic(auto, using(crate::proofs::Matches::taken_plan))]
 pub fn masters_keep_their_plan()
     ensures { MastersKeepTheirPlan }

@@ -1,7 +1,7 @@
-//! The master of the cyclic frames of a plan: it sends the outputs of its process image, and takes the inputs of a sync unit
-//! all at once, where all of the unit's frames came back with the predicted working counters, or not at all.
+//! The master of the cyclic frames of a plan. It sends the outputs of its process image. It takes the inputs of a sync unit
+//! all at once, if all of the unit's frames came back with the predicted working counters, or not at all.
 //!
-//! Nothing here knows a wire: [`Master::frame`] lends the frames to send, and [`Master::take`] is given whatever came in.
+//! This crate knows no wire: [`Master::frame`] lends the frames to send, and [`Master::take`] takes whatever came in.
 #![tactic(auto)]
 
 mod answered;

@@ -39,7 +39,7 @@ mod rest;
 
 pub use self::owned::OwnMaster;
 
-/// A master of the cyclic frames of a plan. All memory that it needs is found when it is made.
+/// A master of the cyclic frames of a plan. It allocates all its memory when it is made.
 #[derive(Drop)]
 pub struct Master<'p> {
     pub(crate) plan: &'p Plan,
@@ -47,13 +47,13 @@ pub struct Master<'p> {
     pub(crate) next: u64,
     outputs: Vec<u8>,
     inputs: Vec<u8>,
-    // what is looked up in the plan once
+    // looked up once in the plan
     runs: Listed<Listed<BitRun>>,
     input_runs: Listed<InputRun>,
     expected: Listed<ExpectedCounters>,
     // the number of the open cycle
     pub(crate) number: Option<u64>,
-    // of each part
+    // one for each part
     frames: Vec<SentFrame>,
     kept: Vec<Returned>,
 }
@@ -82,7 +82,7 @@ impl<'p> Master<'p> {
     ///
     /// # Errors
     ///
-    /// `AllocError` where memory was refused.
+    /// `AllocError` if memory was refused.
     pub fn new(alloc: Global, plan: &'p Plan) -> Result<Master<'p>, AllocError>
         requires { IsUsable plan.now }
         ensures { IfOk result (λ m. m ≡ new_master plan.now) }
@@ -105,8 +105,8 @@ impl<'p> Master<'p> {
         })
     }
 
-    /// Cycles can begin: a start-up of the master's plan has ended Ready. The numbers of the cycles follow those of its frames,
-    /// unless they are past them already.
+    /// Makes the master ready for cycles: a start-up of its plan has ended Ready. The numbers of cycles follow those of the
+    /// start-up's frames, unless they are greater already.
     pub fn ready(&mut self, startup: &Startup)
         requires ready { startup.now.phase ≡ Ready }
         requires same { startup.now.plan ≡ self.old.plan.slaves }
@@ -115,7 +115,7 @@ impl<'p> Master<'p> {
         self.become_ready(startup.next_number());
     }
 
-    /// A start-up of the plan ended Ready, with this as its next number.
+    /// Makes the master ready: a start-up of the plan ended Ready, and `next` is that start-up's next number.
     pub(crate) fn become_ready(&mut self, next: u64)
         ensures { self.new ≡ readied self.old next }
     {
@@ -123,21 +123,21 @@ impl<'p> Master<'p> {
         self.next = self.next.max(next);
     }
 
-    /// Does nothing. Its contract says what holds of every master, whatever was done to it: its plan can be used.
+    /// Does nothing. Its contract says that the plan of every master can be used.
     pub fn is_sound(&self)
         ensures { IsUsable self.now.plan }
     {
         let _ = &self.plan;
     }
 
-    /// Whether a variable is there, is one of the outputs and holds the value: what `set` asks.
+    /// Whether there is a variable, it is an output, and it has enough bits for the value: the condition of `set`.
     pub fn can_set(&self, variable: usize, value: u64) -> bool
         ensures { result ≡ holds_value value (slice_get self.now.plan.variables variable) }
     {
         can_hold(self.plan, variable, value)
     }
 
-    /// A variable of the outputs becomes a value; no other bit changes, and no frame that was made.
+    /// Sets a variable of the outputs. No other bit changes, and no frame that was made.
     pub fn set(&mut self, variable: usize, value: u64)
         requires { holds_value value (slice_get self.old.plan.variables variable) ≡ true }
         ensures { self.new ≡ variable_set self.old variable value }
@@ -145,7 +145,7 @@ impl<'p> Master<'p> {
         write_variable(&mut self.outputs, self.plan, variable, value);
     }
 
-    /// What a variable is now.
+    /// The value of a variable.
     pub fn get(&self, variable: usize) -> u64
         requires { variable < length self.now.plan.variables }
         ensures { result ≡ value_at self.now (slice_get self.now.plan.variables variable) }
@@ -158,11 +158,11 @@ impl<'p> Master<'p> {
         read_bits(image, place.from, usize::from(place.bits))
     }
 
-    /// Begins a cycle: one frame for each part, of the outputs as they are. The cycle takes the next number.
+    /// Begins a cycle: makes one frame for each part, from the outputs as they are. The cycle takes the next number.
     ///
     /// # Errors
     ///
-    /// `NotReady`, `Open` or `NumbersSpent`, the first that fits; nothing changes.
+    /// The first that holds of `NotReady`, `Open` and `NumbersSpent`; nothing changes.
     pub fn begin(&mut self) -> Result<(), CycleError>
         ensures answer { result ≡ refused_by (begin_refusal self.old) }
         ensures begun { OnOk result ((c : OpenCycle) × Begun self.old self.new c) }
@@ -200,9 +200,9 @@ impl<'p> Master<'p> {
         self.frames[part].bytes()
     }
 
-    /// Takes a payload that came in: it is kept exactly where it answers the frame of a part of the open cycle that isn't
-    /// kept yet, whatever slaves made of its data, its counters and the broadcast's address. All else is foreign and changes
-    /// nothing.
+    /// Takes a payload that came in. It is kept exactly if it answers the frame of a part of the open cycle that isn't kept
+    /// yet, whatever slaves made of its data, its counters and the broadcast's address. Any other payload is foreign and
+    /// changes nothing.
     pub fn take(&mut self, payload: &[u8]) -> Taken
         ensures { IsTaken self.old payload.now (is_kept result) self.new }
     {
@@ -222,12 +222,12 @@ impl<'p> Master<'p> {
         Taken::Kept
     }
 
-    /// Closes the cycle: the inputs of each unit whose own parts were all kept and are good are taken, all at once; the
-    /// others stay as they are.
+    /// Closes the cycle. It takes the inputs of each unit whose own parts were all kept and are good, all at once; the other
+    /// units' inputs stay as they are.
     ///
     /// # Errors
     ///
-    /// `NotOpen`; nothing changes.
+    /// `NotOpen` if no cycle is open; nothing changes.
     pub fn close(&mut self) -> Result<Report, CycleError>
         ensures not_open { IsErr result ↔ (self.old.cycle ≡ None) }
         ensures cause { IfErr result (λ e. e ≡ NotOpen) }
@@ -250,7 +250,7 @@ impl<'p> Master<'p> {
         Ok(report)
     }
 
-    /// How many parts of the open cycle are not kept yet; 0 where no cycle is open.
+    /// How many parts of the open cycle are not kept yet; 0 if no cycle is open.
     pub fn missing(&self) -> usize
         ensures { result ≡ missing_of self.now.cycle }
     {
@@ -260,7 +260,7 @@ impl<'p> Master<'p> {
         }
     }
 
-    /// Drops the open cycle, if there is one: nothing of it is taken, and what still comes back of it is foreign.
+    /// Drops the open cycle, if there is one, and takes nothing of it. Its frames are foreign if they come back later.
     pub fn abandon(&mut self)
         ensures { self.new ≡ abandoned self.old }
     {
@@ -280,7 +280,7 @@ fn write_variable(image: &mut [u8], plan: &Plan, variable: usize, value: u64)
     write_bits(image, place.from, usize::from(place.bits), value);
 }
 
-/// Whether a variable is an output that holds the value.
+/// Whether there is a variable, it is an output, and it has enough bits for the value.
 fn can_hold(plan: &Plan, variable: usize, value: u64) -> bool
     requires { IsUsable plan.now }
     ensures { result ≡ holds_value value (slice_get plan.now.variables variable) }
@@ -295,7 +295,7 @@ fn can_hold(plan: &Plan, variable: usize, value: u64) -> bool
     }
 }
 
-/// Whether a number has at most so many bits.
+/// Whether a number has at most `bits` bits.
 fn is_short(value: u64, bits: u8) -> bool
     requires some { 1 ≤ bits }
     requires few { bits ≤ 64 }
@@ -304,7 +304,7 @@ fn is_short(value: u64, bits: u8) -> bool
     bits == 64 || value < 1u64 << bits
 }
 
-/// Forgets what came back.
+/// Forgets what came back of each part.
 fn forget(kept: &mut [Returned])
     ensures { (k : ℕ) → k < length kept.new → get_or kept.new k None ≡ None }
 {
@@ -313,7 +313,7 @@ fn forget(kept: &mut [Returned])
     }
 }
 
-/// The frame of each part gets the number of a cycle, and the outputs of an image.
+/// Writes the number of a cycle and the outputs of an image into the frame of each part.
 fn make_frames(
     plan: &Plan,
     runs: &[Listed<BitRun>],
@@ -336,7 +336,7 @@ fn make_frames(
     }
 }
 
-/// A frame for each part, for an image of the outputs; `begin` gives it its number.
+/// One frame for each part, with the outputs of an image; `begin` gives them their number.
 fn frames_of(
     alloc: Global,
     plan: &Plan,
@@ -359,7 +359,7 @@ fn frames_of(
     Ok(frames)
 }
 
-/// The frame of a part, for an image of the outputs.
+/// The frame of a part, with the outputs of an image.
 fn frame_for(plan: &Plan, part: usize, runs: &[BitRun], number: u64, image: &[u8]) -> Frame
     requires usable { IsUsable plan.now }
     requires there { part < length plan.now.parts }
@@ -406,7 +406,7 @@ fn take_inputs(
     }
 }
 
-/// Copies the input bits of a link, if the unit is taken.
+/// Copies the input bits of a run, if its unit is taken.
 fn take_input(input: InputRun, taken: &[bool; 256], kept: &[Returned], inputs: &mut [u8])
     requires { get_or taken.now input.unit false ≡ true → (input.part < length kept.now) × FitsRun (length inputs.old) (length (bytes_of (get_or kept.now input.part None))) input.run }
     ensures copied { inputs.new ≡ (if get_or taken.now input.unit false then run_copied (bytes_of (get_or kept.now input.part None)) input.run inputs.old else inputs.old) }
@@ -417,7 +417,7 @@ fn take_input(input: InputRun, taken: &[bool; 256], kept: &[Returned], inputs: &
     }
 }
 
-/// Copies the input bits of a link out of what its part brought back.
+/// Copies the input bits of a run out of what its part brought back.
 fn copy_input(input: InputRun, kept: &[Returned], inputs: &mut [u8])
     requires there { input.part < length kept.now }
     requires fits { FitsRun (length inputs.old) (length (bytes_of (get_or kept.now input.part None))) input.run }
@@ -428,7 +428,7 @@ fn copy_input(input: InputRun, kept: &[Returned], inputs: &mut [u8])
     copy_by_words(inputs, run.to, bytes, run.from, run.count);
 }
 
-/// Whether each unit's parts were all kept and are good, by the number of the unit.
+/// Whether each unit is taken, by the number of the unit: all its parts were kept and are good.
 fn judged(plan: &Plan, expected: &[ExpectedCounters], kept: &[Returned]) -> [bool; 256]
     requires kept { length kept.now ≡ length plan.now.parts }
     requires count { length expected.now ≡ length plan.now.parts }
@@ -444,7 +444,7 @@ fn judged(plan: &Plan, expected: &[ExpectedCounters], kept: &[Returned]) -> [boo
     taken
 }
 
-/// A unit isn't taken any more where one of its parts isn't good.
+/// Judges a unit by one of its parts: it isn't taken if the part isn't good.
 fn judge(taken: &mut [bool; 256], unit: u8, is_good: bool)
     ensures judged { taken.new ≡ set taken.old unit (get_or taken.old unit false && is_good) }
     ensures small { unit < 256 }
@@ -466,14 +466,14 @@ fn is_good(plan: &Plan, expected: &[ExpectedCounters], kept: &[Returned], part: 
     kept[part].came_back_as(slaves, expected[part])
 }
 
-/// Every unit is taken, as long as no part of it is judged.
+/// All units, before any part is judged: taken.
 fn all_taken() -> [bool; 256]
     ensures { result ≡ replicate 256 true }
 {
     [true; 256]
 }
 
-/// Room for what comes back of so many parts.
+/// Room for what comes back of `count` parts; nothing did yet.
 fn nothing_kept(alloc: Global, count: usize) -> Result<Vec<Returned>, AllocError>
     ensures { IfOk result (λ v. length v.items ≡ count) }
 {
@@ -496,7 +496,7 @@ fn counters_of(alloc: Global, plan: &Plan) -> Result<Listed<ExpectedCounters>, A
     Ok(expected)
 }
 
-/// So many bytes as have room for bits, all 0.
+/// An image of this many bits, in whole bytes, all 0.
 fn image_of(alloc: Global, bits: usize) -> Result<Vec<u8>, AllocError>
     ensures { IfOk result (λ v. v.items ≡ zeros (bytes_of_bits bits)) }
 {

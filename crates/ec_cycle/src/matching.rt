@@ -1,4 +1,4 @@
-//! Whether a payload answers a frame that was sent, and where its datagrams stand.
+//! Compares a payload with a frame that was sent, and finds its datagrams.
 ghost use Rattle.std.specs.Prelude.{◌≡◌, ◌<◌, ◌↔◌, [], Bool, List, Option, length, true};
 ghost use Rattle.std.specs.Option.{option_map_or};
 ghost use Rattle.ec_frame.specs.Cursor.{IsAhead};
@@ -8,7 +8,7 @@ ghost use Rattle.ec_cycle.specs.Matching.{SameAt, SameFrom, StandsFor, FirstStan
 
 use ec_frame::{DatagramCursor, DatagramSpan, Header, read_counter, read_data};
 
-/// Where the first four datagrams of a frame stand.
+/// The places of a frame's first four datagrams, in bytes; from 0 to 0 for each that isn't there.
 pub fn first_places(payload: &[u8]) -> [DatagramSpan; 4]
     requires { (p : Payload) × IsFrame payload.now p }
     ensures { (p : Payload) → IsFrame payload.now p → FirstStand payload.now result p.datagrams }
@@ -38,7 +38,7 @@ pub fn answers(payload: &[u8], count: usize, sent: &[u8]) -> bool
     next_place(&mut sent_places, sent).to == 0
 }
 
-/// The data of the datagram that stands at a place; none where none does.
+/// The data of the datagram at a place; empty if there is none.
 pub fn data_at(payload: &[u8], span: DatagramSpan) -> &[u8]
     requires { (o : Option Datagram) × StandsFor payload.now span o }
     ensures { (o : Option Datagram) → StandsFor payload.now span o → result.now ≡ option_map_or (λ (d : Datagram). d.data_bytes) o [] }
@@ -49,7 +49,7 @@ pub fn data_at(payload: &[u8], span: DatagramSpan) -> &[u8]
     read_data(&payload[span.from..span.to])
 }
 
-/// The working counter of the datagram that stands at a place; 0 where none does.
+/// The working counter of the datagram at a place; 0 if there is none.
 pub fn counter_at(payload: &[u8], span: DatagramSpan) -> u16
     requires { (o : Option Datagram) × StandsFor payload.now span o }
     ensures { (o : Option Datagram) → StandsFor payload.now span o → result ≡ option_map_or (λ (d : Datagram). d.counter) o 0 }
@@ -60,7 +60,7 @@ pub fn counter_at(payload: &[u8], span: DatagramSpan) -> u16
     read_counter(&payload[span.from..span.to])
 }
 
-/// The part that a frame's first datagram names.
+/// The part that a frame's first datagram names; none if its data aren't ten bytes.
 pub fn named_part(payload: &[u8], span: DatagramSpan) -> Option<usize>
     requires { (o : Option Datagram) × StandsFor payload.now span o }
     ensures named { (o : Option Datagram) → StandsFor payload.now span o → Names o result }
@@ -72,7 +72,7 @@ pub fn named_part(payload: &[u8], span: DatagramSpan) -> Option<usize>
     Some(usize::from(name[8]) + 256 * usize::from(name[9]))
 }
 
-/// The place of the next datagram; no place after the last.
+/// The place of the next datagram; from 0 to 0 after the last.
 fn next_place(places: &mut DatagramCursor, payload: &[u8]) -> DatagramSpan
     requires { (ds : List Datagram) × IsAhead payload.now places.old ds }
     ensures { (ds : List Datagram) → IsAhead payload.now places.old ds → StepsOn payload.now places.new result ds }
@@ -83,7 +83,7 @@ fn next_place(places: &mut DatagramCursor, payload: &[u8]) -> DatagramSpan
     }
 }
 
-/// Whether datagram `n` of what came in is datagram `n` of what was sent.
+/// Whether datagram `n` of a payload agrees with datagram `n` of the frame that was sent.
 fn is_same(n: usize, part: &[u8], sent: &[u8]) -> bool
     requires part { IsSpelling part.now }
     requires sent { IsSpelling sent.now }
@@ -98,7 +98,7 @@ fn is_same(n: usize, part: &[u8], sent: &[u8]) -> bool
         && (n < 2 || theirs.address == ours.address)
 }
 
-/// Whether the next datagrams of two frames are the same.
+/// Whether the next datagrams of a payload and of the frame that was sent agree.
 fn next_is_same(
     n: usize,
     places: &mut DatagramCursor,

@@ -1,4 +1,4 @@
-//! The frame of a part is made once; from cycle to cycle it gets another number and other outputs, in their places.
+//! Renews the frame of a part. It is made once, and gets another number and other outputs in each cycle.
 ghost use Rattle.std.specs.Prelude.{◌≡◌, ◌^◌, ◌<◌, ◌∷◌, ℕ, Bool, List, length};
 ghost use Rattle.ec_bits.specs.Bits.{bytes_of_bits, zeros};
 ghost use Rattle.ec_frame.specs.Building.{bare_payload};
@@ -14,14 +14,14 @@ use crate::run::{BitRun, copy_runs};
 use ec_frame::field::{FRAME_HEADER_LEN, HEADER_LEN, INDEX, OVERHEAD};
 use ec_link::{PartPlan, Plan};
 
-/// In a frame: where the datagram begins that names it, behind the frame's header.
+/// The offset in bytes of the datagram that names a frame.
 const NAME: usize = FRAME_HEADER_LEN;
-/// In a frame: where the broadcast begins, behind the ten bytes of the name.
+/// The offset in bytes of the broadcast, behind the ten bytes of the name.
 const STATUS: usize = NAME + OVERHEAD + 10;
-/// In a frame: where the process datagrams begin, behind the two bytes of the AL status.
+/// The offset in bytes of the process datagrams, behind the two bytes of the AL status.
 const PROCESS: usize = STATUS + OVERHEAD + 2;
 
-/// The process data of a part, for an image of the outputs.
+/// Writes the process data of a part, for an image of the outputs, into `sent`, which is zeros.
 #[tactic(auto, using(crate::proofs::Runs::fill_steps))]
 pub fn fill(plan: &Plan, part: usize, runs: &[BitRun], image: &[u8], sent: &mut [u8])
     requires usable { IsUsable plan.now }
@@ -34,7 +34,7 @@ pub fn fill(plan: &Plan, part: usize, runs: &[BitRun], image: &[u8], sent: &mut 
     copy_runs(sent, image, runs);
 }
 
-/// The frame of a part gets the number of a cycle and the outputs of an image.
+/// Writes the number of a cycle and the outputs of an image into the frame of a part.
 pub fn renew(frame: &mut [u8], plan: &Plan, part: usize, runs: &[BitRun], number: u64, image: &[u8])
     requires usable { IsUsable plan.now }
     requires there { part < length plan.now.parts }
@@ -51,7 +51,7 @@ pub fn renew(frame: &mut [u8], plan: &Plan, part: usize, runs: &[BitRun], number
     refill(process, plan, part, runs, image);
 }
 
-/// The number of a cycle goes into the process datagrams of a part.
+/// Writes the number of a cycle into the process datagrams of a part.
 fn renumber_process(process: &mut [u8], part: &PartPlan, number: u64)
     requires { (n : ℕ) × (s : List ℕ) × (length s ≡ part.now.bytes) × (process.old ≡ process_spelled part.now n s) }
     ensures { (n : ℕ) (s : List ℕ) → length s ≡ part.now.bytes → process.old ≡ process_spelled part.now n s → process.new ≡ process_spelled part.now number s }
@@ -66,7 +66,7 @@ fn renumber_process(process: &mut [u8], part: &PartPlan, number: u64)
     }
 }
 
-/// The number of a cycle goes into the first two datagrams of a frame; these bytes are they, behind the frame's header.
+/// Writes the number of a cycle into the first two datagrams of a frame. `front` has the frame's header and these two.
 fn renumber(front: &mut [u8], number: u64)
     requires { length front.old ≡ 38 }
     ensures { (a b : ℕ) (more : Bool) (n k : ℕ) → front.old ≡ a ∷ b ∷ front_bytes more n k → front.new ≡ a ∷ b ∷ front_bytes more number k }
@@ -77,7 +77,7 @@ fn renumber(front: &mut [u8], number: u64)
     front[STATUS + INDEX] = index;
 }
 
-/// The outputs of an image go into the process datagrams of a part.
+/// Writes the outputs of an image into the process datagrams of a part.
 fn refill(process: &mut [u8], plan: &Plan, part: usize, runs: &[BitRun], image: &[u8])
     requires usable { IsUsable plan.now }
     requires there { part < length plan.now.parts }
@@ -96,7 +96,7 @@ fn refill(process: &mut [u8], plan: &Plan, part: usize, runs: &[BitRun], image: 
     refresh(plan, part, runs, image, sent);
 }
 
-/// The outputs of an image go where those of another one stand. What isn't linked is 0, and stays so.
+/// Writes the outputs of an image over those of another image. Bits that aren't linked are 0, and stay so.
 #[tactic(auto, using(crate::proofs::Runs::refresh_steps))]
 fn refresh(plan: &Plan, part: usize, runs: &[BitRun], image: &[u8], sent: &mut [u8])
     requires usable { IsUsable plan.now }

@@ -9,7 +9,7 @@ use arrayvec::ArrayVec;
 use ec_link::ExpectedCounters;
 use std::marker::Model;
 
-/// What the closing of a cycle says.
+/// What came of a closed cycle.
 #[derive(Drop)]
 pub struct Report {
     units: ArrayVec<u8, 64>,
@@ -35,7 +35,7 @@ impl Report {
         self.units.as_slice()
     }
 
-    /// Of each of them, in the same order, whether its inputs were taken.
+    /// Whether the inputs of each of these units were taken, in the order of `units`.
     pub fn units_taken(&self) -> &[bool]
         ensures { result.now ≡ self.now.taken }
     {
@@ -56,14 +56,14 @@ impl Report {
         self.missing
     }
 
-    /// The working counters of each part's process datagrams, none of a part that was not kept.
+    /// The working counters of each part's process datagrams; none if the part was not kept.
     pub fn counters(&self) -> ArrayVec<Option<ExpectedCounters>, 32>
         ensures { result.items ≡ self.now.counters }
     {
         as_predicted(self.counters.as_slice())
     }
 
-    /// The OR of the AL status words that came back; it says what the slaves were in, and judges nothing.
+    /// The OR of the AL status words that came back. It doesn't decide whether inputs are taken.
     pub fn al_word(&self) -> u16
         ensures { result ≡ self.now.al_word }
     {
@@ -133,7 +133,7 @@ fn as_predicted(parts: &[Option<Counters>]) -> ArrayVec<Option<ExpectedCounters>
     counters
 }
 
-/// Of each unit, whether it is taken.
+/// Whether each of these units is taken.
 fn taken_of(units: &[u8], taken: &[bool; 256]) -> ArrayVec<bool, 64>
     requires { length units.now ≤ 64 }
     ensures taken { result.items ≡ map (λ u. get_or taken.now u false) units.now }

@@ -1,5 +1,5 @@
-//! What is copied between the images and the process data of frames: a run of bits for each link, and where one link's bits
-//! follow another's on both sides, one run for both.
+//! Runs of bits that are copied between the images and the process data of frames. There is one run for each link, and one for
+//! several links if their bits adjoin on both sides.
 ghost use Rattle.std.specs.Prelude.{◌≡◌, ◌<◌, ◌++◌, ◌∷◌, [], ℕ, Bool, List, IfOk, length, map, get_or, true};
 ghost use Rattle.std.specs.List.{AllByRecursion};
 ghost use Rattle.ec_link.specs.Usable.{IsUsable, IsOutLink, IsInLink};
@@ -10,7 +10,7 @@ use ec_link::{Link, Plan};
 use ec_listed::Listed;
 use std::alloc::{AllocError, Global};
 
-/// Bits that are copied for one link: those of the source from `from` on go to `to`.
+/// A run of `count` bits, copied from bit `from` of the source to bit `to` of the target.
 #[derive(Clone, Copy, Drop)]
 pub struct BitRun {
     pub to: usize,
@@ -21,24 +21,24 @@ pub struct BitRun {
 /// A run from the data that a part brought back to the image of the inputs.
 #[derive(Clone, Copy, Drop)]
 pub struct InputRun {
-    /// The part that brings it.
+    /// The part that brings the bits back.
     pub part: usize,
     /// The sync unit of that part.
     pub unit: u8,
     pub run: BitRun,
 }
 
-/// What is one where the next begins where it ends.
+/// Runs that can be joined if the next one begins where this one ends.
 trait Adjoining: Copy {
     ghost adjoins: { Self → Self → Bool };
 
     ghost joined: { Self → Self → Self };
 
-    /// Whether the next one begins where this one ends.
+    /// Whether the next run begins where this one ends.
     fn adjoins(self, next: Self) -> bool
         ensures { result ≡ adjoins self next };
 
-    /// Both in one.
+    /// Both runs as one.
     fn joined(self, next: Self) -> Self
         requires { adjoins self next ≡ true }
         ensures { result ≡ joined self next };
@@ -82,7 +82,7 @@ impl Adjoining for InputRun {
     }
 }
 
-/// Copies run after run.
+/// Copies run after run from `src` to `dst`.
 #[tactic(auto, using(crate::proofs::Runs::copy_steps))]
 pub fn copy_runs(dst: &mut [u8], src: &[u8], runs: &[BitRun])
     requires { AllByRecursion (FitsRun (length dst.old) (length src.now)) runs.now }
@@ -93,7 +93,7 @@ pub fn copy_runs(dst: &mut [u8], src: &[u8], runs: &[BitRun])
     }
 }
 
-/// What is copied for the outputs of each part.
+/// The runs of the outputs of each part, from the image to the part's process data.
 pub fn runs_by_part(alloc: Global, plan: &Plan) -> Result<Listed<Listed<BitRun>>, AllocError>
     requires { IsUsable plan.now }
     ensures count { IfOk result (λ rs. length rs ≡ length plan.now.parts) }
@@ -106,7 +106,7 @@ pub fn runs_by_part(alloc: Global, plan: &Plan) -> Result<Listed<Listed<BitRun>>
     Ok(runs)
 }
 
-/// What is copied for the inputs.
+/// The runs of the inputs, from the parts' data to the image.
 pub fn runs_of_inputs(alloc: Global, plan: &Plan) -> Result<Listed<InputRun>, AllocError>
     requires { IsUsable plan.now }
     ensures { IfOk result (λ rs. rs ≡ input_runs plan.now) }
@@ -115,7 +115,7 @@ pub fn runs_of_inputs(alloc: Global, plan: &Plan) -> Result<Listed<InputRun>, Al
     merged(alloc, runs.as_slice())
 }
 
-/// These runs, of which those that adjoin are one.
+/// These runs, with those that adjoin joined.
 fn merged<R: Adjoining>(alloc: Global, runs: &[R]) -> Result<Listed<R>, AllocError>
     ensures { IfOk result (λ rs. rs ≡ merged R.adjoins R.joined runs.now) }
 {
@@ -131,7 +131,7 @@ fn merged<R: Adjoining>(alloc: Global, runs: &[R]) -> Result<Listed<R>, AllocErr
     Ok(done)
 }
 
-/// The last run with the next one, if that adjoins; else the last one is done, and the next one is the last.
+/// Joins the next run to the last if it adjoins. Otherwise it adds the last run to `done`, and returns the next as the last.
 fn go_on<R: Adjoining>(done: &mut Listed<R>, last: R, next: R) -> Result<R, AllocError>
     ensures { IfOk result (λ r. (rest : List R) → done.new ++ merged_from R.adjoins R.joined r rest ≡ done.old ++ merged_from R.adjoins R.joined last (next ∷ rest)) }
 {
@@ -142,7 +142,7 @@ fn go_on<R: Adjoining>(done: &mut Listed<R>, last: R, next: R) -> Result<R, Allo
     Ok(next)
 }
 
-/// What is copied for the outputs of a part.
+/// The runs of the outputs of a part, with those that adjoin joined.
 fn runs_of_outputs(alloc: Global, plan: &Plan, part: usize) -> Result<Listed<BitRun>, AllocError>
     requires usable { IsUsable plan.now }
     requires there { part < length plan.now.parts }
@@ -152,7 +152,7 @@ fn runs_of_outputs(alloc: Global, plan: &Plan, part: usize) -> Result<Listed<Bit
     merged(alloc, runs.as_slice())
 }
 
-/// The runs of the outputs of a part, in the order of the links.
+/// The runs of the outputs of a part, one for each link, in the order of the links.
 #[tactic(auto, using(crate::proofs::Runs::filter_steps))]
 fn runs_of_part(alloc: Global, plan: &Plan, part: usize) -> Result<Listed<BitRun>, AllocError>
     requires usable { IsUsable plan.now }
@@ -168,7 +168,7 @@ fn runs_of_part(alloc: Global, plan: &Plan, part: usize) -> Result<Listed<BitRun
     Ok(runs)
 }
 
-/// Where the output bits of a link stand in the data of its part, and where in the image.
+/// The run of a link of outputs, from the image to the data of its part.
 fn output_run(plan: &Plan, part: usize, link: &Link) -> BitRun
     requires usable { IsUsable plan.now }
     requires linked { IsOutLink plan.now link.now }
@@ -184,7 +184,7 @@ fn output_run(plan: &Plan, part: usize, link: &Link) -> BitRun
     }
 }
 
-/// Whether a link's slave stands in a part.
+/// Whether the slave of a link is in a part.
 fn is_of_part(plan: &Plan, part: usize, link: &Link) -> bool
     requires { IsOutLink plan.now link.now }
     ensures { result ≡ is_of_part plan.now part link.now }
@@ -192,7 +192,7 @@ fn is_of_part(plan: &Plan, part: usize, link: &Link) -> bool
     plan.part_of(link.slave) == part
 }
 
-/// A run for each link of inputs, in the order of the links.
+/// The runs of the inputs, one for each link, in the order of the links.
 fn runs_of_links(alloc: Global, plan: &Plan) -> Result<Listed<InputRun>, AllocError>
     requires { IsUsable plan.now }
     ensures { IfOk result (λ rs. rs ≡ map (input_run plan.now) plan.now.in_links) }
@@ -204,7 +204,7 @@ fn runs_of_links(alloc: Global, plan: &Plan) -> Result<Listed<InputRun>, AllocEr
     Ok(runs)
 }
 
-/// Where the input bits of a link stand in the data that its part brings back, and where in the image.
+/// The run of a link of inputs, from the data of its part to the image.
 fn input_run(plan: &Plan, link: &Link) -> InputRun
     requires usable { IsUsable plan.now }
     requires linked { IsInLink plan.now link.now }

@@ -11,7 +11,7 @@ use Rattle.ec_frame.specs.Refusals.{FirstFault, IsRefused, refusal_number}
 use Rattle.ec_decode.specs.FrameText.{Text, datagram_lines, newline, spaced}
 use Rattle.ec_decode.specs.declared.placed.PlacedFault.{PlacedFault}
 
--- ---- where a fault is
+-- ---- the places of faults
 
 -- no datagram stands whole at the front of some bytes
 abbrev pub BeginsNone : List ℕ → Type 0

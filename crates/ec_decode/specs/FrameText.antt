@@ -1,5 +1,5 @@
 -- A frame as text (this project's profile): a line for the frame, and one for each of its datagrams. Words stand between
--- single blanks. Numbers are decimal where they aren't said to be hex, and what is hex has its high digits first.
+-- single blanks. Numbers are decimal unless they are said to be hex; hex numbers have their high digits first.
 use Rattle.std.specs.Prelude.{ℕ, ◌+◌, ◌/◌, ◌%◌, ◌==◌, Bool, true, false, if◌then◌else◌, List, [], ◌∷◌, ◌++◌, length, codes}
 use Rattle.std.specs.Fmt.{decimal}
 use Rattle.byteorder.specs.Endian.{big_bytes}
@@ -71,7 +71,7 @@ address_words command address =
     then codes "logical" ∷ long_text address ∷ []
     else codes "at" ∷ (word_text (address % 65536) ++ 58 ∷ word_text (address / 65536)) ∷ []
 
--- what is seldom set: it stands only where it isn't zero
+-- what is seldom set: it stands there only if it isn't zero
 abbrev pub irq_words : ℕ → List Text
 irq_words irq = if irq == 0 then [] else codes "irq" ∷ word_text irq ∷ []
 

@@ -7,7 +7,7 @@ pub mod Reading
 pub mod Answers
 -- indented lines, which say something for people: the text without them, and how remarks stand within a text
 pub mod Indented
--- Laws: other words for the same, proved.
+-- Laws: other words for these definitions, proved.
 pub mod Laws
 -- Private: these serve private code alone, and no public clause cites them.
 pub mod Standing

@@ -13,7 +13,7 @@ unfoldable pub flag_in : Text → List Text → Bool × List Text
 flag_in key [] = (false, [])
 flag_in key (word ∷ words) = if bytes_eq word key then (true, words) else (false, word ∷ words)
 
--- a word and a number, which is zero where they are left out
+-- a word and a number, which is zero if they are left out
 unfoldable pub option_in : (Text → Option ℕ) → Text → List Text → Option (ℕ × List Text)
 option_in read key [] = Some (0, [])
 option_in read key (word ∷ []) = Some (0, word ∷ [])

@@ -52,7 +52,7 @@ abbrev pub step_by : Option Begun → List Text → Option Step
 step_by None words = option_map begins (heading_in words)
 step_by (Some b) words = datagram_in (length b.datagrams) words >>= grows b
 
--- none, where the line is out of form
+-- none if the line is out of form
 abbrev pub step_of : Option Begun → Text → Option Step
 step_of begun line = if is_skipped line then Some (record { left = begun; frame = None }) else step_by begun (words_of line)
 
@@ -64,7 +64,7 @@ before None read = read
 before (Some p) (Ok ps) = Ok (p ∷ ps)
 before (Some p) (Err n) = Err n
 
--- what a text's end says where it comes as line n
+-- the result of a text's end that comes as line n
 abbrev pub ended : ℕ → Option Begun → Result (List Payload) ℕ
 ended n None = Ok []
 ended n (Some b) = Err n
@@ -97,9 +97,9 @@ abbrev pub error_line : DecodeError → Option ℕ
 error_line Memory = None
 error_line (BadScript n) = Some n
 
--- ---- what readers answer
+-- ---- what readers return
 
--- what line n does to a reader and what it gives; where it is out of form or memory ran out, nothing
+-- what line n does to a reader, and what it returns; nothing if it is out of form or memory ran out
 abbrev pub ReadsLine : Option Begun → ℕ → Text → Option Begun → Result (Option (Vec ℕ Global)) DecodeError → Type 0
 ReadsLine old n line new (Ok None) = step_of old line ≡ Some (record { left = new; frame = None })
 ReadsLine old n line new (Ok (Some payload)) =

@@ -4,7 +4,7 @@ use Rattle.byteorder.specs.Endian.{little_number}
 use Rattle.ec_frame.specs.declared.datagram.Header.{Header}
 use Rattle.ec_frame.specs.Datagram.{Datagram, IsDatagram, spelling}
 
--- the datagram that a header, a counter and data tell
+-- the datagram of a header, a counter and data
 abbrev pub told : Header → ℕ → List ℕ → Datagram
 told header counter bytes = record {
   command = header.command;

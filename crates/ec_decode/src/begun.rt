@@ -18,7 +18,7 @@ use std::alloc::{AllocError, Global};
 /// How many bytes of datagrams a frame has at most.
 const MAX_AREA: usize = 1470;
 
-/// In a datagram's flags: where the reserved bits are, behind the length.
+/// In a datagram's flags: the place of the reserved bits, behind the length.
 const RESERVED_BITS: u32 = 11;
 /// In a datagram's flags: the frame has circulated once.
 const CIRCULATING: u16 = 0x4000;
@@ -39,7 +39,7 @@ pub(crate) struct Begun {
     area: Vec<u8>,
 }
 
-/// A bit of a word, where it is set.
+/// The bit of a word if it is set, else 0.
 fn bit_if(set: bool, bit: u16) -> u16
     ensures { result ≡ (if set then bit else 0) }
 {

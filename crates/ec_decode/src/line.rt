@@ -137,7 +137,7 @@ fn fields_in<'a, 'b>(number: u64, words: &'a [&'b str]) -> Option<(Fields, &'a [
     Some((fields, rest))
 }
 
-/// The reserved bits, 0 where they are left out, and the words behind them.
+/// The reserved bits, 0 if they are left out, and the words behind them.
 #[tactic(auto, unfolding(crate::specs::Lines::option_in))]
 fn reserved_in<'a, 'b>(key: &str, words: &'a [&'b str]) -> Option<(u8, &'a [&'b str])>
     ensures value { option_map with_rest result
@@ -150,7 +150,7 @@ fn reserved_in<'a, 'b>(key: &str, words: &'a [&'b str]) -> Option<(u8, &'a [&'b 
     }
 }
 
-/// The event request word, 0 where it is left out, and the words behind it.
+/// The event request word, 0 if it is left out, and the words behind it.
 #[tactic(auto, unfolding(crate::specs::Lines::option_in))]
 fn irq_in<'a, 'b>(key: &str, words: &'a [&'b str]) -> Option<(u16, &'a [&'b str])>
     ensures { option_map with_rest result

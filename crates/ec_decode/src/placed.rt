@@ -19,15 +19,15 @@ const LENGTH_BITS: u32 = 11;
 /// In a datagram's flags: another follows.
 const MORE: u16 = 0x8000;
 
-/// Why a payload is no frame, and where.
+/// Why a payload is no frame, and the place of its fault.
 #[derive(Clone, Copy, Debug, PartialEq, Eq, Drop)]
 pub struct PlacedFault {
-    /// The first fault, as `ec_frame::check` gives it.
+    /// The first fault, as `ec_frame::check` returns it.
     pub error: FrameError,
-    /// How many datagrams stand whole before it; of `Short` a whole last one counts too.
+    /// How many datagrams stand whole before it; if it is `Short`, a whole last one counts too.
     pub whole: usize,
-    /// The byte where what is wrong begins: of `Short` the payload's length; 0 where it is the
-    /// header; else where the next datagram begins.
+    /// The byte where the fault begins: the payload's length if it is `Short`; 0 if it is in the
+    /// header; else the first byte of the next datagram.
     pub at: usize,
 }
 
@@ -40,8 +40,8 @@ struct Front {
     len: usize,
 }
 
-/// Tells whether a payload is a frame, and of how many datagrams, as `ec_frame::check` does; and of
-/// one that isn't, where its first fault is.
+/// The number of datagrams of a payload, if it is a frame, as `ec_frame::check` returns it. The
+/// error is the first fault, with its place.
 pub fn check_placed(payload: &[u8]) -> Result<usize, PlacedFault>
     ensures accepted { IfOk result (λ count.
         (p : Payload) × IsFrame payload.now p × (count ≡ length p.datagrams)) }

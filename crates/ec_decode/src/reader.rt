@@ -43,11 +43,11 @@ impl Reader {
         self.begun.is_none()
     }
 
-    /// Reads a line, whose number is for the error, and gives the frame that it makes whole.
+    /// Reads a line, and returns the frame if the line completes it. `number` is the line's, for the error.
     ///
     /// # Errors
     ///
-    /// `BadScript` where the line is out of form, `Memory` where memory ran out; the reader stays as
+    /// `BadScript` if the line is out of form, `Memory` if memory ran out; the reader stays as
     /// it was.
     pub fn read_line(
         &mut self,
@@ -77,7 +77,7 @@ impl Reader {
     }
 }
 
-/// Reads the line of a frame's next datagram, and gives the frame where that is the last one.
+/// Reads the line of a frame's next datagram, and returns the frame if that is the last one.
 fn grow(
     alloc: Global,
     number: usize,

@@ -13,7 +13,7 @@ use crate::reader::Reader;
 use hex::FromHexError;
 use std::alloc::{AllocError, Global};
 
-/// The text of a payload: of a frame a line for it and one for each of its datagrams; of what is none
+/// The text of a payload. A frame has a line for it and one for each of its datagrams. Any other payload has
 /// a line for each datagram that stands whole before its fault, and one for its refusal.
 pub fn payload_text(alloc: Global, payload: &[u8]) -> Result<String, AllocError>
     ensures { IfOk result (λ text. IsTextOf payload.now (string_bytes text)) }
@@ -26,7 +26,7 @@ pub fn payload_text(alloc: Global, payload: &[u8]) -> Result<String, AllocError>
     Ok(text)
 }
 
-/// The text of the payload that a line spells in hex digits of either case; none where the line isn't
+/// The text of the payload that a line spells in hex digits of either case; none if the line isn't
 /// hex. The error is want of memory.
 pub fn decode_line(alloc: Global, line: &str) -> Result<Option<String>, AllocError>
     ensures { IfOk result (DecodesLine line.now) }
@@ -69,7 +69,7 @@ pub fn decode_text(alloc: Global, text: &str) -> Result<Decoded, AllocError>
 /// # Errors
 ///
 /// `BadScript`, with the number of the first line that is out of form, or of the line that is missing
-/// where a text ends within a frame; `Memory` where memory ran out.
+/// if a text ends within a frame; `Memory` if memory ran out.
 pub fn encode_text(alloc: Global, text: &str) -> Result<String, DecodeError>
     ensures { EncodesText text.now result }
 {

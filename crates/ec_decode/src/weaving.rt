@@ -55,7 +55,7 @@ fn parts_of<'a>(alloc: Global, text: &'a str) -> Result<Vec<&'a str>, AllocError
     text.split('\n').collect(alloc)
 }
 
-/// Adds a part of a text, with its newline and the remarks behind it where it is a line.
+/// Adds a part of a text, with its newline and the remarks behind it if it is a line.
 fn push_part(
     alloc: Global,
     text: &mut String,
@@ -73,7 +73,7 @@ fn push_part(
     push_indented(alloc, text, remarks)
 }
 
-/// What stands behind a part of a text: the remarks on it, where it is a line and not the last part.
+/// The remarks behind a part of a text, if it is a line and not the last part.
 fn remarks_behind(remarks: &[String], place: usize, parts: usize) -> Option<&str>
     requires { place < parts }
     ensures { option_map (λ x. x.now) result ≡ behind (map string_bytes remarks.now) place (nat_lt (place + 1) parts) }
@@ -85,7 +85,7 @@ fn remarks_behind(remarks: &[String], place: usize, parts: usize) -> Option<&str
     }
 }
 
-/// The remarks on a line, none where there are none.
+/// The remarks on a line; empty if there are none.
 fn remark_of(remarks: &[String], place: usize) -> &str
     ensures { result.now ≡ remark_of (map string_bytes remarks.now) place }
 {

@@ -37,8 +37,8 @@ kept_registers = 0x0100 ∷ 0x0101 ∷ 0x0102 ∷ 0x0103 ∷ 0x0140 ∷ 0x0500 �
 abbrev pub port_state : Bool → ℕ
 port_state connected = if connected then 2 else 1
 
--- DL status where a slave follows or not: the PDI is operational (bit 0); there is a link at port 0 (bit 4), and at port 1 (bit 5)
--- where a slave follows; from bit 8 on the states of the four ports
+-- DL status if a slave follows or not: the PDI is operational (bit 0); there is a link at port 0 (bit 4), and at port 1 (bit 5)
+-- if a slave follows; bits 8 and above are the states of the four ports
 abbrev pub status_word : Bool → ℕ
 status_word next =
     1 + 16 + 32 * from_bool next
@@ -66,11 +66,11 @@ dl_byte d a =
 
 -- ---- what they take
 
--- whether a datagram over so many bytes from an address on writes one of them
+-- whether a datagram over `count` bytes that begin at an address writes one of them
 unfoldable pub dl_takes : DataLink → ℕ → ℕ → Bool
 dl_takes d from count = d.shown && list_any (λ a. within from count a) kept_registers
 
--- a byte that an address keeps, after a datagram whose bytes lie from `from` on
+-- a byte that an address keeps, after a datagram whose bytes begin at `from`
 abbrev pub byte_kept : ℕ → List ℕ → ℕ → ℕ → ℕ
 byte_kept from bytes a old = if within from (length bytes) a then slice_index bytes (a - from) else old
 
@@ -80,13 +80,13 @@ bytes_kept from bytes old =
     ∷ byte_kept from bytes 0x0102 (slice_index old 2) ∷ byte_kept from bytes 0x0103 (slice_index old 3)
     ∷ byte_kept from bytes 0x0140 (slice_index old 4) ∷ byte_kept from bytes 0x0500 (slice_index old 5) ∷ []
 
--- what a datagram leaves that writes bytes from an address on
+-- the registers after a datagram that writes bytes which begin at an address
 unfoldable pub dl_written : DataLink → ℕ → List ℕ → DataLink
 dl_written d from bytes = if dl_takes d from (length bytes) then record d { kept = bytes_kept from bytes d.kept } else d
 
 -- ---- the power comes on
 
--- of a full slave, which has a face, and of any other
+-- those of a full slave, which has a face, and of any other
 abbrev pub new_data_link : Option Face → DataLink
 new_data_link None = record { shown = false; next = false; kept = zeros 6 }
 new_data_link (Some face) = record { shown = true; next = not face.is_last; kept = zeros 6 }

@@ -35,7 +35,7 @@ abbrev pub OneKeptIsTaken : Type 0
 OneKeptIsTaken = (d : DataLink) (from count a : ℕ) → within from count a ≡ true → dl_keeps d a ≡ true → dl_takes d from count ≡ true
 
 -- A full slave's DL status, bit by bit: the PDI works, there is a link with communication at port 0, and at port 1 exactly
--- where a slave follows; the loops of the ports without are closed.
+-- if a slave follows; the loops of the ports without are closed.
 pub record TellsLinks (word : ℕ) (next : Bool) : Type 0 where
   pub operational : (bit_at word 0) ≡ 1
   pub links : (word / 16) % 16 ≡ (if next then 3 else 1)

@@ -11,17 +11,17 @@ use std::marker::Model;
 
 /// The type of the slave controller, a byte.
 const CONTROLLER_TYPE: usize = 0x0000;
-/// What it says: an ET1100.
+/// The type of an ET1100.
 const ET1100: u8 = 0x11;
 /// The port descriptors, a byte.
 const PORT_DESCRIPTORS: usize = 0x0007;
-/// What they say: ports 0 and 1 are MII, two bits each.
+/// Ports 0 and 1 are MII, two bits each.
 const TWO_PORTS: u8 = 0x0F;
 /// DL status, two bytes.
 const DL_STATUS: usize = 0x0110;
 /// Its high byte.
 const DL_STATUS_HIGH: usize = DL_STATUS + 1;
-/// DL status where a slave follows, and where none does.
+/// DL status if a slave follows, and if none does.
 const FOLLOWED: u16 = 0x5A31;
 
 const LAST: u16 = 0x5611;
@@ -49,7 +49,7 @@ impl Model for DataLink {
 }
 
 impl DataLink {
-    /// The registers of a slave that was just switched on: of a full one, which has a face, or of any other.
+    /// The registers of a slave that was just switched on. A full slave has a face, any other has none.
     pub fn new(face: Option<&Face>) -> Self
         ensures { result ≡ new_data_link (option_copied face.entry) }
     {
@@ -67,7 +67,7 @@ impl DataLink {
         }
     }
 
-    /// The byte that an address reads, 0 where it is none of these registers or the slave isn't full.
+    /// The byte that an address reads, 0 if it is none of these registers or the slave isn't full.
     #[tactic(auto, unfolding(crate::specs::DataLink::dl_byte))]
     pub fn read(&self, address: usize) -> u8
         ensures { result ≡ dl_byte self.now address }
@@ -84,8 +84,8 @@ impl DataLink {
         }
     }
 
-    /// A datagram writes bytes to the addresses from `from` on: those of a full slave that keep writes take them, and the answer
-    /// is whether there is one; all else is left alone.
+    /// A datagram writes bytes to the addresses that begin at `from`. The registers of a full slave that keep writes take them.
+    /// Returns whether there is one; all else is left alone.
     #[tactic(auto, unfolding(crate::specs::DataLink::dl_written, crate::specs::DataLink::dl_takes))]
     pub fn write(&mut self, from: usize, bytes: &[u8]) -> bool
         ensures after { self.new ≡ dl_written self.old from bytes.now }
@@ -122,21 +122,21 @@ impl DataLink {
     }
 }
 
-/// DL status of a full slave, where a slave follows it or not.
+/// DL status of a full slave, if a slave follows it or not.
 fn status_word(has_next: bool) -> u16
     ensures { result ≡ status_word has_next }
 {
     if has_next { FOLLOWED } else { LAST }
 }
 
-/// Whether a datagram over `len` bytes from `from` on reaches a register that keeps writes.
+/// Whether a datagram over the `len` bytes that begin at `from` reaches a register that keeps writes.
 fn reaches_kept(from: usize, len: usize) -> bool
     ensures { result ≡ list_any (λ a. within_of from len a) kept_registers }
 {
     KEPT.iter().any(|address| within(from, len, *address))
 }
 
-/// The byte that an address keeps, after a datagram whose bytes lie from `from` on.
+/// The byte that an address keeps, after a datagram whose bytes begin at `from`.
 fn byte_kept(from: usize, bytes: &[u8], address: usize, old: u8) -> u8
     ensures { result ≡ byte_kept from bytes.now address old }
 {

@@ -22,12 +22,12 @@ pub record IsBufferAt (m : SyncManagerSettings) (start len : ℕ) : Type 0 where
   pub from_ram : ram_start ≤ start
   pub to_ram : start + len ≤ ram_end
 
--- so many bits from an address on, if there are any, are the value of manager n, which governs each byte of it
+-- `bits` bits that begin at an address, if there are any, are the value of manager n, which governs each byte of it
 pub record LiesIn (ms : List SyncManager) (n start bits : ℕ) : Type 0 where
   pub governed : (k : ℕ) → k < bytes_of_bits bits → governor ms (start + k) ≡ Some n
   pub buffer : 0 < bits → IsBufferAt (manager_at ms n).settings start (bytes_of_bits bits)
 
--- so many bits from an address on lie in the RAM itself: no manager governs a byte of them
+-- `bits` bits that begin at an address lie in the RAM itself: no manager governs a byte of them
 pub record LiesFree (ms : List SyncManager) (start bits : ℕ) : Type 0 where
   pub free : (k : ℕ) → k < bytes_of_bits bits → governor ms (start + k) ≡ None
   pub to_ram : start + bytes_of_bits bits ≤ ram_end

@@ -1,4 +1,4 @@
-//! The process data of an area as copies: between the data of a datagram and a manager's value, or the RAM itself.
+//! Copies the process data of an area between the data of a datagram and a manager's value, or the RAM itself.
 
 ghost use Rattle.std.specs.Prelude.{◌≡◌, ◌+◌, ◌-◌, ◌*◌, ◌<◌, ◌≤◌, ◌^◌, ◌&&◌, ℕ, true, if◌then◌else◌, length, nat_lt, slice_index};
 ghost use Rattle.ec_bits.specs.Bits.{bytes_of_bits, copied, zeros};
@@ -14,7 +14,7 @@ use ec_bits::{copy_by_words, within};
 use ec_fmmu::MappedArea;
 use ec_sync::{SyncManager, Touching, Writing};
 
-/// Manager 2 takes the outputs of an area, if it has any and lets the ring write. Answers whether.
+/// Manager 2 takes the outputs of an area. Returns whether it does: the area has outputs, and the ring may write the manager.
 pub fn take_outputs(manager: &mut SyncManager, mapped: &MappedArea, from: u64, bytes: &[u8]) -> bool
     requires small { from + 8 * length bytes.now < 2 ^ 64 }
     requires buffer { 0 < mapped.now.outs → IsBufferAt manager.old.settings mapped.now.out_start (bytes_of_bits mapped.now.outs) }
@@ -38,7 +38,7 @@ pub fn take_outputs(manager: &mut SyncManager, mapped: &MappedArea, from: u64, b
     true
 }
 
-/// Manager 3 gives the inputs of an area, if it has any and lets the ring read. Answers whether.
+/// Manager 3 gives the inputs of an area. Returns whether it does: the area has inputs, and the ring may read the manager.
 pub fn give_inputs(manager: &SyncManager, mapped: &MappedArea, from: u64, bytes: &mut [u8]) -> bool
     requires small { from + 8 * length bytes.old < 2 ^ 64 }
     requires buffer { 0 < mapped.now.ins → IsBufferAt manager.now.settings mapped.now.in_start (bytes_of_bits mapped.now.ins) }
@@ -57,7 +57,7 @@ pub fn give_inputs(manager: &SyncManager, mapped: &MappedArea, from: u64, bytes:
     true
 }
 
-/// A manager that lets the ring write takes a value of which each bit is brought, one after the other from data bit `at` on.
+/// Stores a whole value in a manager that the ring may write. Its bits are those of `bytes`, beginning with data bit `at`.
 pub fn take_value(manager: &mut SyncManager, bytes: &[u8], at: usize)
     requires allowed { may_write manager.old ≡ true }
     requires set { is_set manager.old.settings ≡ true }
@@ -78,7 +78,7 @@ pub fn take_value(manager: &mut SyncManager, bytes: &[u8], at: usize)
     });
 }
 
-/// Gets the inputs of an area of the RAM itself from there.
+/// Copies the inputs of an area that lies in the RAM itself into the data of a datagram.
 pub fn get_inputs(memory: &[u8], mapped: &MappedArea, from: u64, bytes: &mut [u8])
     requires small { from + 8 * length bytes.old < 2 ^ 64 }
     requires room { length memory.now ≡ ram_end }
@@ -92,7 +92,7 @@ pub fn get_inputs(memory: &[u8], mapped: &MappedArea, from: u64, bytes: &mut [u8
     copy_by_words(bytes, to, memory, at, mapped.ins as usize);
 }
 
-/// Puts the outputs of an area of the RAM itself there.
+/// Copies the outputs of an area that lies in the RAM itself out of the data of a datagram.
 pub fn put_outputs(memory: &mut [u8], mapped: &MappedArea, from: u64, bytes: &[u8])
     requires small { from + 8 * length bytes.now < 2 ^ 64 }
     requires room { length memory.old ≡ ram_end }
@@ -106,8 +106,8 @@ pub fn put_outputs(memory: &mut [u8], mapped: &MappedArea, from: u64, bytes: &[u
     copy_by_words(memory, to, bytes, at, mapped.outs as usize);
 }
 
-/// The value that begins at `start` and has `len` bytes, to whose first bits data bits are brought, one after the other from `at`
-/// on; the bits behind them are 0.
+/// A value of `len` bytes that begins at `start`. Its first `count` bits are those of `bytes`, beginning with data bit `at`; the
+/// bits behind them are 0.
 #[derive(Clone, Copy)]
 struct Outputs<'a> {
     start: usize,
@@ -145,7 +145,7 @@ impl Writing for Outputs<'_> {
 }
 
 impl Outputs<'_> {
-    /// Fills a value that lies within its bytes, behind so many bits.
+    /// Fills a range of bytes of the value that begins behind its first `skipped` bits.
     fn copy(&self, skipped: usize, value: &mut [u8])
         requires inside { skipped + 8 * length value.old ≤ 8 * self.now.len }
         requires some { 0 < length value.old }

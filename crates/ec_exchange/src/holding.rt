@@ -1,4 +1,4 @@
-//! Where the process data of an area lie: in the values of managers 2 and 3, or in the RAM itself.
+//! Finds where the process data of an area lie: in the values of managers 2 and 3, or in the RAM itself.
 
 ghost use Rattle.std.specs.Prelude.{◌≡◌, ◌+◌, ◌*◌, ◌<◌, ◌≤◌, ◌^◌, ℕ, IfSome, None, true, false, length};
 ghost use Rattle.std.specs.Bool.{OnTrue};
@@ -12,7 +12,7 @@ use ec_fmmu::{FmmuTable, MappedArea};
 use ec_regs::registers::RAM_END;
 use ec_sync::SyncManager;
 
-/// The area that the FMMUs map, if the `bits` logical bits from `from` on have it whole.
+/// The area that the FMMUs map, if it lies whole in the `bits` logical bits that begin at `from`.
 pub fn spanned_area(fmmus: &FmmuTable, from: u64, bits: u64) -> Option<MappedArea>
     requires { from + bits < 2 ^ 64 }
     ensures mapped { IfSome result (λ m. IsMappedBy fmmus.now m) }
@@ -49,8 +49,8 @@ pub fn is_plain(managers: &[SyncManager], mapped: &MappedArea) -> bool
     is_apart(mapped) && (is_in_gap(managers, mapped) || are_free(managers, mapped))
 }
 
-/// Whether an area that begins in the RAM ends there, and no manager governs a byte from its first to its last: which is asked
-/// first, since the managers are gone over once for it. False says nothing.
+/// Whether an area that begins in the RAM ends there, and no manager governs a byte from its first to its last. This is the first
+/// test, since it goes over the managers once. False says nothing.
 fn is_in_gap(managers: &[SyncManager], mapped: &MappedArea) -> bool
     requires outs { mapped.now.outs < 2 ^ 42 }
     requires ins { mapped.now.ins < 2 ^ 42 }
@@ -79,7 +79,7 @@ fn are_free(managers: &[SyncManager], mapped: &MappedArea) -> bool
         && is_free(managers, mapped.in_start, mapped.ins)
 }
 
-/// Whether a manager governs none of the bytes from one address on and below another. False says nothing.
+/// Whether a manager governs none of the bytes from `start` to before `end`. False says nothing.
 fn is_clear(manager: &SyncManager, start: usize, end: usize) -> bool
     ensures { OnTrue result ((a : ℕ) → start ≤ a → a < end → governs manager.now a ≡ false) }
 {
@@ -87,7 +87,7 @@ fn is_clear(manager: &SyncManager, start: usize, end: usize) -> bool
     bounds.span_end <= start || end <= bounds.first
 }
 
-/// Whether a manager is a buffer whose value is these bytes.
+/// Whether a manager is buffered, and its value is the `len` bytes that begin at `start`. False says nothing.
 fn is_buffer(manager: &SyncManager, start: u64, len: u64) -> bool
     ensures buffer { OnTrue result (IsBufferAt manager.now.settings start len) }
     ensures governs { OnTrue result ((a : ℕ) → start ≤ a → a < start + len → governs manager.now a ≡ true) }
@@ -100,7 +100,7 @@ fn is_buffer(manager: &SyncManager, start: u64, len: u64) -> bool
         && u64::from(settings.length) == len
 }
 
-/// Whether none of these managers governs one of the bytes from one address on and below another. False says nothing.
+/// Whether none of these managers governs one of the bytes from `start` to before `end`. False says nothing.
 fn are_clear(managers: &[SyncManager], start: usize, end: usize) -> bool
     ensures { OnTrue result ((a : ℕ) → start ≤ a → a < end → governor managers.now a ≡ None) }
 {
@@ -112,8 +112,8 @@ fn are_clear(managers: &[SyncManager], start: usize, end: usize) -> bool
     true
 }
 
-/// Whether so many bits from an address on, if there are any, are the value of this manager, and no lower manager governs a byte
-/// of it. False says nothing.
+/// Whether the `bits` bits that begin at `start`, if there are any, are the value of manager `place`, and no lower manager
+/// governs a byte of it. False says nothing.
 fn has_value(managers: &[SyncManager], place: usize, start: u64, bits: u64) -> bool
     requires place { place < length managers.now }
     requires small { bits < 2 ^ 42 }
@@ -129,7 +129,7 @@ fn has_value(managers: &[SyncManager], place: usize, start: u64, bits: u64) -> b
     are_clear(&managers[..place], start as usize, (start + len) as usize)
 }
 
-/// Whether so many bits from an address on lie in the RAM itself, and no manager governs a byte of them. False says nothing.
+/// Whether `bits` bits that begin at `start` lie in the RAM itself, and no manager governs a byte of them. False says nothing.
 fn is_free(managers: &[SyncManager], start: u64, bits: u64) -> bool
     requires inside { start ≤ ram_end }
     requires small { bits < 2 ^ 42 }
@@ -159,7 +159,7 @@ fn is_apart(mapped: &MappedArea) -> bool
     (out_end <= 8 * mapped.in_start) | (in_end <= 8 * mapped.out_start)
 }
 
-/// Whether the `bits` logical bits from `from` on have a whole area.
+/// Whether a whole area lies in the `bits` logical bits that begin at `from`. False says nothing.
 fn spans(mapped: &MappedArea, from: u64, bits: u64) -> bool
     requires outs { mapped.now.out_at + mapped.now.outs < 2 ^ 42 }
     requires ins { mapped.now.in_at + mapped.now.ins < 2 ^ 42 }

@@ -1,7 +1,7 @@
 //! Process data that are exchanged as copies: whether sync managers, or the RAM itself, hold the area that FMMUs map, and what a
-//! logical datagram that has the whole area brings there and takes from there.
+//! logical datagram with the whole area brings there and takes from there.
 //!
-//! A slave that is set up as usual is one of these two cases. What a datagram does otherwise, bit by bit, `ec_slave` says, and
+//! A slave that is set up as usual is one of these two cases. `ec_slave` says what a datagram does otherwise, bit by bit, and
 //! proves that both are the same.
 #![tactic(auto)]
 

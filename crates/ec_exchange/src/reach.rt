@@ -1,5 +1,5 @@
-//! Which manager has a byte, and what an access of the ring, physical or logical, does to one manager, where
-//! lower-numbered ones may govern bytes of its value.
+//! Finds the manager that has a byte, and makes an access of the ring, physical or logical, at one manager. Managers with
+//! lower numbers may govern bytes of its value.
 
 ghost use Rattle.std.specs.Prelude.{◌≡◌, ◌+◌, ◌<◌, ◌≤◌, ◌&&◌, if◌then◌else◌, length, IfSome, None, true};
 ghost use Rattle.ec_bits.specs.Bits.{any_below};
@@ -24,7 +24,7 @@ pub fn governor(managers: &[SyncManager], address: usize) -> Option<usize>
     None
 }
 
-/// The governor of a byte of the RAM, if it has one; none of a register.
+/// The governor of a byte of the RAM, if it has one; none if the byte is a register.
 pub fn owner_of(managers: &[SyncManager], address: usize) -> Option<usize>
     ensures within { IfSome result (λ n. n < length managers.now) }
     ensures value { ram_start ≤ address → result ≡ governor_of managers.now address }
@@ -37,7 +37,7 @@ pub fn owner_of(managers: &[SyncManager], address: usize) -> Option<usize>
     }
 }
 
-/// An access that writes: a manager that it gets at takes its value, if it is let. Answers whether.
+/// Makes an access that writes. Returns whether the manager takes its value: the access gets at it, and the ring may write it.
 pub fn write_manager<W: Writing>(
     lower: &[SyncManager],
     manager: &mut SyncManager,
@@ -55,7 +55,7 @@ pub fn write_manager<W: Writing>(
     true
 }
 
-/// An access that reads: it empties a mailbox that it gets at, if it is let. It does nothing to another manager.
+/// Makes an access that reads. It empties a mailbox that it gets at, if the ring may read it, and changes no other manager.
 pub fn read_manager<T: Touching>(lower: &[SyncManager], manager: &mut SyncManager, access: &T)
     ensures { let m = manager.old in
         manager.new ≡ (if is_read_by (T.touched access.now) (is_ungoverned lower.now) m then ring_read m else m) }
@@ -75,8 +75,8 @@ fn reaches<T: Touching>(access: &T, lower: &[SyncManager], manager: &SyncManager
     access.touches(start) && access.touches(start + len - 1) && has_own(access, lower, start, len)
 }
 
-/// Whether an access that touches the byte at `start` touches one that no manager in `lower` governs, among the `len` from
-/// `start` on. Most often that first one decides.
+/// Whether an access that touches the byte at `start` touches a byte that no manager in `lower` governs, among the `len` bytes
+/// that begin there. The byte at `start` usually decides.
 fn has_own<T: Touching>(access: &T, lower: &[SyncManager], start: usize, len: usize) -> bool
     requires some { 0 < len }
     requires inside { start + len ≤ ram_end }
@@ -89,7 +89,7 @@ fn has_own<T: Touching>(access: &T, lower: &[SyncManager], start: usize, len: us
     some_is_own(access, lower, start, len)
 }
 
-/// Whether it touches such a byte among the `len` from `start` on.
+/// Whether an access touches a byte that no manager in `lower` governs, among the `len` bytes that begin at `start`.
 fn some_is_own<T: Touching>(access: &T, lower: &[SyncManager], start: usize, len: usize) -> bool
     requires { start + len ≤ ram_end }
     ensures { result ≡ any_below len (λ k. T.touched access.now (start + k) && is_ungoverned lower.now (start + k)) }
@@ -102,7 +102,7 @@ fn some_is_own<T: Touching>(access: &T, lower: &[SyncManager], start: usize, len
     false
 }
 
-/// Whether an access touches a byte that no manager in `lower` governs.
+/// Whether an access touches the byte at `address`, and no manager in `lower` governs it.
 fn is_own<T: Touching>(access: &T, lower: &[SyncManager], address: usize) -> bool
     requires { address < ram_end }
     ensures { result ≡ (T.touched access.now address && is_ungoverned lower.now address) }

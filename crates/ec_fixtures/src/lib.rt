@@ -1,5 +1,5 @@
-//! Link tables and scripts that a seed decides, for tests and long runs. What is promised of the texts is only that they are made, or
-//! that memory is refused: whether a text is a table, those find out who read it.
+//! Random link tables and scripts, for tests and long runs. A seed decides them. No contract says what a text is: only that it is
+//! made, or memory is refused.
 #![tactic(auto)]
 
 mod scripts;

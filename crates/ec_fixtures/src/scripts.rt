@@ -1,9 +1,9 @@
-//! Scripts at random.
+//! Random scripts.
 use ec_random::Random;
 use std::alloc::{AllocError, Global};
 use std::fmt::Write as _;
 
-/// So many lines stand behind the start-up.
+/// How many lines follow the start-up.
 const LINES: u32 = 20;
 
 /// A variable of a table.
@@ -14,8 +14,8 @@ struct Named<'a> {
     is_output: bool,
 }
 
-/// The text of a script on a table that `random_table` made: a start-up, and twenty lines at random. Each can be made or not, as the
-/// table has slaves and the lines before have it. It is for tests: no more is promised than that it is made, or memory refused.
+/// The text of a random script for a table that `random_table` made: a start-up, and twenty lines. Whether a line can be done
+/// depends on the table and the lines before it. The error says that memory was refused.
 pub fn random_script(
     alloc: Global,
     random: &mut Random,
@@ -29,7 +29,7 @@ pub fn random_script(
     Ok(text)
 }
 
-/// A line, some with `repeat` before what it does, and some with a comment behind it.
+/// Writes a line, some with `repeat` before what it does, and some with a comment behind it.
 fn write_line(
     random: &mut Random,
     text: &mut String,
@@ -46,7 +46,7 @@ fn write_line(
     writeln!(text)
 }
 
-/// What a line does: a line of a script on every table, if it names no variable.
+/// Writes what a line does. If it names no variable, it is a line of a script for every table.
 fn write_act(
     random: &mut Random,
     text: &mut String,
@@ -73,7 +73,7 @@ fn write_act(
     }
 }
 
-/// A line that expects something of the world.
+/// Writes a line that expects something of the world.
 fn write_expectation(
     random: &mut Random,
     text: &mut String,
@@ -91,7 +91,7 @@ fn write_expectation(
     }
 }
 
-/// A line that expects something of the last report or of the start-up.
+/// Writes a line that expects something of the last report or of the start-up.
 fn write_outcome(random: &mut Random, text: &mut String) -> Result<(), AllocError> {
     let unit = random.below(3);
     match random.below(6) {
@@ -104,7 +104,7 @@ fn write_outcome(random: &mut Random, text: &mut String) -> Result<(), AllocErro
     }
 }
 
-/// A line that sets an output variable, or has the slaves publish an input variable.
+/// Writes a line that sets an output variable, or makes the slaves publish an input variable.
 fn write_set(
     random: &mut Random,
     text: &mut String,
@@ -118,7 +118,7 @@ fn write_set(
     write_valued(random, text, word, variable)
 }
 
-/// A line of a word, a variable and a value; where there is no variable, a line that shows the inputs.
+/// Writes a line of a word, a variable and a value; without a variable, a line that prints the inputs.
 fn write_valued(
     random: &mut Random,
     text: &mut String,
@@ -133,7 +133,7 @@ fn write_valued(
     write_value(random, text, variable.bits)
 }
 
-/// A value in decimal, in hex or with a sign, which most times the variable's bits hold.
+/// Writes a value in decimal, in hex or with a sign, which the variable's bits usually hold.
 fn write_value(random: &mut Random, text: &mut String, bits: u32) -> Result<(), AllocError> {
     let spare = 32u32.saturating_sub(bits);
     let value = random.word().checked_shr(spare).unwrap_or(0);
@@ -145,7 +145,7 @@ fn write_value(random: &mut Random, text: &mut String, bits: u32) -> Result<(), 
     }
 }
 
-/// One of these variables; none where there is none.
+/// One of these variables; none if there are none.
 fn one_of<'a>(random: &mut Random, variables: &[Named<'a>]) -> Option<Named<'a>> {
     let place = random.place(variables.len());
     variables.get(place).copied()
@@ -162,7 +162,7 @@ fn variables_of(alloc: Global, table: &str) -> Result<Vec<Named<'_>>, AllocError
     Ok(variables)
 }
 
-/// The variable in the lines behind a section's head, as `random_table` writes them; none where they are another section's.
+/// The variable in the lines behind a section's head, as `random_table` writes them; none if the section is another.
 fn variable_in(lines: &str) -> Option<Named<'_>> {
     let mut lines = lines.lines();
     let name = lines.next()?.strip_prefix("name = \"")?.strip_suffix("\"")?;

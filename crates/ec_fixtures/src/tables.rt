@@ -1,4 +1,4 @@
-//! Link tables at random.
+//! Random link tables.
 use ec_random::Random;
 use std::alloc::{AllocError, Global};
 use std::fmt::Write as _;
@@ -26,8 +26,8 @@ const INPUTS: Objects<'static> = Objects {
     entry: 0x6000,
 };
 
-/// The text of a link table of up to five slaves, of either version, in up to three units: slaves with and without a mailbox, outputs,
-/// inputs and LRW. It ends in a line feed, or is empty. It is for tests: no more is promised than that it is made, or memory refused.
+/// The text of a random link table of up to five slaves, of either version, in up to three units. Its slaves are with and without
+/// a mailbox, outputs, inputs and LRW. It ends with a line feed, or is empty. The error says that memory was refused.
 pub fn random_table(alloc: Global, random: &mut Random) -> Result<String, AllocError> {
     let (mut text, mut links) = (String::new(alloc), String::new(alloc));
     let has_units = random.in_hundred(50);
@@ -60,7 +60,7 @@ fn write_slave(
     Ok(())
 }
 
-/// The head of a slave's type: who made it, whether it takes part in LRW, where its process data begins, and its mailbox, if any.
+/// The head of a slave's type: its vendor, whether it takes part in LRW, where its process data begin, and its mailbox, if any.
 fn write_type(random: &mut Random, text: &mut String, slave: u32) -> Result<(), AllocError> {
     let (product, revision) = (random.below(20), random.below(20));
     let is_whole = random.in_hundred(75);

@@ -30,14 +30,14 @@ run_mapped logical physical n l = if within logical n l then Some (physical + (l
 abbrev pub run_unmapped : ℕ → ℕ → ℕ → ℕ → Option ℕ
 run_unmapped logical physical n q = if within physical n q then Some (logical + (q - physical)) else None
 
--- what n bits from a physical bit on become by data bits from `at` on, told as the bits from `to` on of a window
+-- what n physical bits become by data bits that begin at `at`, as bits of a window that begin at `to`
 abbrev pub run_written : (ℕ → Bool) → ℕ → List ℕ → ℕ → ℕ → ℕ → ℕ → Option Bool
 run_written allowed physical bytes at to n k =
     if within to n k
     then (if allowed ((physical + (k - to)) / 8) then Some (bit bytes (at + (k - to))) else None)
     else None
 
--- what a physical bit becomes by a write of the data, where its pair is with this logical bit, or it has none
+-- what a physical bit becomes by a write of the data, if its pair is with this logical bit, or it has none
 abbrev pub brought_by : (ℕ → Bool) → ℕ → List ℕ → ℕ → Option ℕ → Option Bool
 brought_by allowed from bytes q logical =
     if allowed (q / 8) then option_map (bit bytes) (inside_place (record { from = from; bits = 8 * length bytes }) logical) else None

@@ -8,6 +8,6 @@ use Rattle.ec_fmmu.specs.Sets.{readers, source, target, writers}
 abbrev pub AreApart : List FmmuSettings → Type 0
 AreApart fs = (l q : ℕ) → target (readers fs) l ≡ Some q → source (writers fs) q ≡ None
 
--- what n bits from a physical bit on show, told as the bits from `to` on
+-- what n bits that begin at a physical bit show, as the bits that begin at `to`
 abbrev pub run_shown : (ℕ → Option Bool) → ℕ → ℕ → ℕ → ℕ → Option Bool
 run_shown shown physical to n i = if within to n i then shown (physical + (i - to)) else None

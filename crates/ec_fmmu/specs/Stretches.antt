@@ -1,4 +1,4 @@
--- Where the ranges of FMMUs lie in the logical space, as the code keeps it.
+-- The places of the ranges of FMMUs in the logical space, as the code keeps them.
 use Rattle.std.specs.Prelude.{ℕ, ◌<◌, ◌≤◌, ◌≡◌, List, length, get_or, true}
 use Rattle.ec_regs.specs.declared.fmmu.FmmuSettings.{FmmuSettings}
 use Rattle.ec_regs.specs.Fmmus.{no_fmmu}

@@ -24,7 +24,7 @@ pub record IsReadRun (fs : List FmmuSettings) (k : ℕ) (r : Run) : Type 0 where
   pub pairs : (l : ℕ) → mapped (get_or fs k no_fmmu) l ≡ run_mapped r.logical r.physical r.count l
   pub inside : IsInRam r
 
--- the same of an FMMU that writes
+-- as above for an FMMU that writes
 pub record IsWriteRun (fs : List FmmuSettings) (k : ℕ) (r : Run) : Type 0 where
   pub goes : (get_or fs k no_fmmu).writes ≡ true
   pub alone : IsAloneWriting fs k
@@ -72,6 +72,6 @@ is_closed Closed = true
 is_closed (Alone r) = false
 is_closed Shared = false
 
--- no way from this place on is open
+-- no way at this place or behind it is open
 abbrev pub AreClosedFrom : ℕ → List Way → Type 0
 AreClosedFrom end ways = (k : ℕ) → end ≤ k → is_closed (get_or ways k Closed) ≡ true

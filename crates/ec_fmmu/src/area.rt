@@ -1,4 +1,4 @@
-//! The area of a slave in the process data, as its FMMUs map it where they are set as usual.
+//! The area of a slave in the process data, as its FMMUs map it if they are set as usual.
 
 ghost use Rattle.std.specs.Prelude.{◌≡◌, ◌+◌, ◌<◌, ◌^◌, IfSome, false};
 ghost use Rattle.std.specs.Bool.{OnTrue};
@@ -34,7 +34,7 @@ struct ByteRun {
     start: u64,
 }
 
-/// The area that four FMMUs map, where they are set as usual: at most the first writes, and at most the second reads. None says
+/// The area that four FMMUs map, if they are set as usual: at most the first writes, and at most the second reads. None says
 /// nothing.
 pub(crate) fn area_of(fmmus: &[Fmmu; 4]) -> Option<MappedArea>
     ensures { IfSome result (λ a. IsMappedBy fmmus.now a) }
@@ -66,8 +66,8 @@ fn is_idle(fmmu: &Fmmu) -> bool
     !fmmu.reads() && !fmmu.writes()
 }
 
-/// What an FMMU maps that goes in a direction, if that begins with bit 0 of a byte and lies in the RAM; no bits, from a logical
-/// bit of the caller's, where it doesn't go that way.
+/// The run of an FMMU that goes in a direction, if it begins with bit 0 of a byte and lies in the RAM. If it doesn't go that
+/// way, no bits, which begin at the logical bit `otherwise`.
 fn run_of(fmmu: &Fmmu, goes: bool, otherwise: u64) -> Option<ByteRun>
     requires { otherwise < 2 ^ 40 }
     ensures run { IfSome result (λ r. RunOf fmmu.now goes r.at r.bits r.start) }

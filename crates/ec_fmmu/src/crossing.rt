@@ -1,4 +1,4 @@
-//! Whether what is read may be written as well.
+//! Finds whether what is read may be written as well.
 
 ghost use Rattle.std.specs.Bool.{OnTrue};
 ghost use Rattle.ec_fmmu.specs.Alone.{IsUnwritten};
@@ -6,8 +6,8 @@ ghost use Rattle.ec_fmmu.specs.Apart.{AreApart};
 
 use crate::mapping::Fmmu;
 
-/// Whether no physical bit is in the range of an FMMU that reads and of one that writes, so that
-/// what a datagram reads it does not write, and may be written first. False says nothing.
+/// Whether no physical bit is in the range of an FMMU that reads and of one that writes. Then a
+/// datagram doesn't write what it reads, and may write first. False says nothing.
 #[tactic(auto, using(crate::proofs::ApartLaws::unwritten_apart))]
 pub fn are_apart(fmmus: &[Fmmu]) -> bool
     ensures { OnTrue result (AreApart fmmus.now) }
@@ -20,7 +20,7 @@ pub fn are_apart(fmmus: &[Fmmu]) -> bool
     true
 }
 
-/// Whether no FMMU that writes has a physical bit of the range of one.
+/// Whether no FMMU that writes has a physical bit of the range of `reader`. False says nothing.
 fn is_unwritten(fmmus: &[Fmmu], reader: &Fmmu) -> bool
     ensures { OnTrue result (IsUnwritten fmmus.now reader.now) }
 {

@@ -1,4 +1,4 @@
-//! Reading through FMMUs, run by run.
+//! Reads through FMMUs, run by run.
 ghost use Rattle.std.specs.Prelude.{◌≡◌, ◌<◌, ◌+◌, ◌*◌, ◌^◌, ◌≤◌, length, ℕ, Option, Bool, is_some, get_or, option_and_then};
 ghost use Rattle.ec_bits.specs.Bits.{overlay, any_below};
 ghost use Rattle.ec_regs.specs.Memory.{ram_start, ram_end};
@@ -16,25 +16,25 @@ use crate::table::FmmuTable;
 use crate::ways::Way;
 use ec_bits::put_told;
 
-/// What lies behind the FMMUs: what each physical bit shows to a reader, if it may be read.
+/// The memory behind the FMMUs: what each physical bit shows to a reader, if it may be read.
 pub trait ReadableBits {
-    /// What holds of a value that may be asked.
+    /// What must hold of a value before it may be read.
     ghost can_show: { Self → Type 0 };
 
-    /// What a physical bit shows, none where it may not be read.
+    /// What a physical bit shows; none if it may not be read.
     ghost shown: { Self → ℕ → Option Bool };
 
-    /// What a physical bit shows, none where it may not be read.
+    /// What a physical bit shows; none if it may not be read.
     fn shown_bit(&self, physical: u32) -> Option<bool>
         requires can { can_show self.now }
         requires inside { physical < 8 * ram_end }
         ensures { result ≡ shown self.now physical };
 }
 
-/// What lies behind the FMMUs, shown by runs of bits too.
+/// The memory behind the FMMUs, also by runs of bits.
 pub trait ReadableRuns: ReadableBits {
-    /// Brings what the `count` bits from a physical bit on show to the bits of `bytes` from `to`
-    /// on: each that may be read, and no other. Answers whether one may.
+    /// Brings what `count` physical bits show to `count` bits of `bytes`, which begin at `physical`
+    /// and `to`: each that may be read, and no other. Returns whether one may.
     fn show_run(&self, physical: u32, count: usize, bytes: &mut [u8], to: usize) -> bool
         requires can { Self.can_show self.now }
         requires from_ram { 8 * ram_start ≤ physical }
@@ -74,10 +74,10 @@ pub fn show_by_bits<M: ReadableBits>(
     any
 }
 
-/// Reads through the FMMUs into the data of a logical datagram whose first logical bit is `from`:
-/// each data bit that a read pair leads to a physical bit that shows something becomes that, and
-/// all others stay. Answers whether a bit was read. Only bits in the ranges of FMMUs that read are
-/// looked at.
+/// Reads through the FMMUs into the data of a logical datagram whose first logical bit is `from`.
+/// A data bit that a read pair leads to a physical bit that shows something becomes that, and all
+/// others stay. Returns whether a bit was read. It only looks at bits in the ranges of FMMUs that
+/// read.
 pub fn apply_read<M: ReadableRuns>(
     fmmus: &FmmuTable,
     memory: &M,
@@ -127,7 +127,7 @@ fn read_range<M: ReadableBits>(
     any
 }
 
-/// Reads the data bits that lie in the range of the FMMU at a place, if it reads: as one run where
+/// Reads the data bits that lie in the range of the FMMU at a place, if it reads: as one run if
 /// no other range meets it, and else bit by bit.
 fn read_fmmu<M: ReadableRuns>(
     fmmus: &FmmuTable,
@@ -154,7 +154,7 @@ fn read_fmmu<M: ReadableRuns>(
     }
 }
 
-/// Reads the data bits that the pairs of a run lead somewhere.
+/// Reads the data bits in the pairs of a run.
 fn read_alone<M: ReadableRuns>(run: Run, memory: &M, from: u64, bytes: &mut [u8]) -> bool
     requires can { M.can_show memory.now }
     requires fits { from + 8 * length bytes.old < 2 ^ 64 }

@@ -13,7 +13,7 @@ pub(crate) struct Run {
 }
 
 impl Run {
-    /// Whether a pair of it leads one of the `bits` logical bits from `from` on to a bit of a byte.
+    /// Whether one of its pairs leads one of the `bits` logical bits that begin at `from` to a byte.
     pub(crate) fn touches(&self, from: u64, bits: u64, address: u16) -> bool
         requires { IsInRam self.now }
         ensures { result ≡ run_touches self.now (record { from = from; bits = bits }) address }
@@ -35,9 +35,9 @@ impl Run {
         true
     }
 
-    /// The data bit that the first of `count` physical bits from `physical` on is brought, where the
-    /// pairs of it bring them one after the other the data bits from there on, of those that the
-    /// `bits` logical bits from `from` on are.
+    /// The first of `count` data bits that its pairs bring, one after the other, to the `count`
+    /// physical bits that begin at `physical`. The data bits are the `bits` logical bits that begin
+    /// at `from`. None if they don't bring all of them.
     pub(crate) fn source(&self, from: u64, bits: u64, physical: u32, count: u32) -> Option<usize>
         requires inside { IsInRam self.now }
         requires fits { from + bits < 2 ^ 64 }

@@ -4,9 +4,9 @@ ghost use Rattle.ec_fmmu.specs.Runs.{run_settings};
 
 use ec_regs::FmmuSettings;
 
-/// The settings of an FMMU that maps the `bits` logical bits from bit `from` on, which lie in at
-/// most 65535 logical bytes, to the physical bytes from `start` on, beginning with bit 0; all zero,
-/// so of an FMMU that isn't activated, where there are no bits. Logical bit `8 * a + j` is bit `j`
+/// The settings of an FMMU that maps the `bits` logical bits that begin at `from` to the physical
+/// bytes that begin at `start`, with bit 0 first. The logical bits lie in at most 65535 bytes. If
+/// there are no bits, all is zero, and the FMMU isn't activated. Logical bit `8 * a + j` is bit `j`
 /// of the logical byte `a`.
 #[tactic(auto, unfolding(crate::specs::Runs::run_settings))]
 pub fn run_settings(reads: bool, writes: bool, from: usize, bits: usize, start: u16) -> FmmuSettings

@@ -1,4 +1,4 @@
-//! The FMMUs of a slave together, with what was found of all of them once.
+//! The FMMUs of a slave together, with what is found once for all datagrams.
 
 ghost use Rattle.std.specs.Prelude.{◌≡◌, ◌+◌, ◌<◌, ◌≤◌, ◌^◌, ℕ, None, IfSome, true, false, get_or, length};
 ghost use Rattle.std.specs.Bool.{OnTrue};
@@ -17,16 +17,16 @@ use crate::mapping::Fmmu;
 use crate::ways::{Way, end_of_open, read_ways, write_ways};
 use std::marker::Model;
 
-/// Logical bits from one on and below another.
+/// The logical bits from one number to before another.
 #[derive(Clone, Copy)]
 struct LogicalRange {
     first: u64,
     end: u64,
 }
 
-/// The four FMMUs of a slave. What is asked of each datagram is found once: where their ranges lie
+/// The four FMMUs of a slave. What every datagram needs is found once: where their ranges lie
 /// in the logical space, by which pairs datagrams go through each of them, whether any bit that is
-/// read may be written as well, and which area they map where they are set as usual.
+/// read may be written as well, and which area they map if they are set as usual.
 #[derive(Drop)]
 pub struct FmmuTable {
     fmmus: [Fmmu; 4],
@@ -61,7 +61,7 @@ impl Model for FmmuTable {
 }
 
 impl FmmuTable {
-    /// The table of the four FMMUs of a slave, the lowest first. What each datagram asks of them is found here.
+    /// The table of the four FMMUs of a slave, the lowest first. It finds here what every datagram needs.
     pub fn new(fmmus: [Fmmu; 4]) -> FmmuTable
         ensures { result ≡ fmmus }
     {
@@ -120,8 +120,8 @@ impl FmmuTable {
         self.writing[place]
     }
 
-    /// The area that they map, where they are set as usual: at most the first writes, and at most the
-    /// second reads, each from bit 0 of a byte of the RAM on. None says nothing.
+    /// The area that they map, if they are set as usual: at most the first writes, and at most the
+    /// second reads, and each begins with bit 0 of a byte of the RAM. None says nothing.
     pub fn area(&self) -> Option<MappedArea>
         ensures { IfSome result (λ a. IsMappedBy self.now a) }
     {
@@ -136,8 +136,8 @@ impl FmmuTable {
         self.is_apart
     }
 
-    /// Whether the `bits` logical bits from `from` on lie before the first range or behind the last
-    /// one, so that a datagram over them neither reads nor writes. False says nothing.
+    /// Whether the `bits` logical bits that begin at `from` lie before the first range or behind the
+    /// last, so that a datagram over them neither reads nor writes. False says nothing.
     #[tactic(auto, using(crate::proofs::Missing::none_read, crate::proofs::Missing::none_brought))]
     pub fn is_outside(&self, from: u64, bits: u64) -> bool
         requires { from + bits < 2 ^ 64 }

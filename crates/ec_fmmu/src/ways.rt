@@ -11,11 +11,11 @@ use crate::run::Run;
 /// How the datagrams of a direction go through an FMMU.
 #[derive(Clone, Copy)]
 pub(crate) enum Way {
-    /// Not at all: it hasn't that direction.
+    /// Not at all: it doesn't go in that direction.
     Closed,
     /// By these pairs: the range of no other FMMU of the direction meets its range.
     Alone(Run),
-    /// Bit by bit: ranges meet, so that each bit asks which FMMU decides.
+    /// Bit by bit: ranges meet, so each bit has to find the FMMU that decides.
     Shared,
 }
 

@@ -4,7 +4,7 @@ use Rattle.ec_frame.specs.declared.command.Command.{Command}
 use Rattle.ec_frame.specs.Datagram.{Datagram}
 use Rattle.ec_frame.specs.Frame.{Payload}
 
--- a datagram as a master sends it: counter 0, and no bit set that isn't told
+-- a datagram as a master sends it: counter 0, and every bit that isn't named here 0
 abbrev pub new_datagram : Command → ℕ → ℕ → List ℕ → Datagram
 new_datagram command index address bytes = record {
   command = command;

@@ -33,7 +33,7 @@ heading more d = number_of d.command ∷ d.index ∷ little_bytes 4 d.address ++
 abbrev pub spelling : Bool → Datagram → List ℕ
 spelling more d = heading more d ++ (d.data_bytes ++ little_bytes 2 d.counter)
 
--- Each field fits its bits. That the data are bytes is a frame's to say: `IsFrame` has it of the whole payload.
+-- Each field fits its bits. This doesn't say that the data are bytes: `IsFrame` says it of the whole payload.
 pub record IsDatagram (d : Datagram) : Type 0 where
   pub index : d.index < 256
   pub address : d.address < 2 ^ 32

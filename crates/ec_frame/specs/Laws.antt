@@ -41,7 +41,7 @@ RefusedForOneCause = (payload : List ℕ) (e f : FrameError) → IsRefused paylo
 
 -- ---- datagrams
 
--- where a spelling begins some bytes, no other begins them too, and what follows is told
+-- if a spelling begins some bytes, no other begins them too, and what follows is determined
 abbrev pub NoSpellingBeginsAnother : Type 0
 NoSpellingBeginsAnother =
     (m n : Bool) (d e : Datagram) (x y : List ℕ) → IsDatagram d → IsDatagram e

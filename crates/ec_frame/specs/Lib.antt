@@ -12,9 +12,9 @@ pub mod Walk
 pub mod Building
 pub mod Cursor
 pub mod Parts
--- Laws: other words for the same, proved.
+-- Laws: other words for these definitions, proved.
 pub mod Laws
--- Private: facts for those who write a `Handler`: its ghost members, in tests too, may cite what stands in specs alone.
+-- Private: facts for the impls of `Handler`: their ghost members, in tests too, may cite what stands in specs alone.
 pub mod Kept
 -- Private: these serve private code alone, and no public clause cites them.
 pub mod Reading

@@ -1,4 +1,4 @@
--- What the private readers under `check` answer.
+-- What the private readers under `check` return.
 use Rattle.std.specs.Prelude.{◌≡◌, ℕ, ◌+◌, ◌<◌, true, false, not, List, [], ◌++◌, length, Result, Ok, Err}
 use Rattle.std.specs.List.{AllByRecursion}
 use Rattle.ec_frame.specs.declared.error.FrameError.{FrameError}

@@ -6,7 +6,7 @@ use Rattle.ec_frame.specs.declared.error.FrameError.TheVariants.{Short, BadType,
 use Rattle.ec_frame.specs.Datagram.{Datagram, IsDatagram, data_length, opened, spelling}
 use Rattle.ec_frame.specs.Frame.{area, length_field, type_field}
 
--- the number by which the program names a refusal
+-- the number of a refusal, as the program prints it
 abbrev pub refusal_number : FrameError → ℕ
 refusal_number Short = 2
 refusal_number BadType = 3
@@ -47,7 +47,7 @@ pub record SaysMoreWrongly (rest : List ℕ) : Type 0 where
   pub parts : rest ≡ spelling more datagram ++ after
   pub wrong : ((more ≡ true) × (after ≡ [])) ⊎ ((more ≡ false) × (0 < length after))
 
--- the fault of what is left, where a datagram ought to begin
+-- the fault of the rest, at a place where a datagram must begin
 abbrev pub FaultAt : List ℕ → FrameError → Type 0
 FaultAt rest BadLength = IsCutShort rest
 FaultAt rest BadCommand = HasRoom rest × (14 < slice_index rest 0)
@@ -65,7 +65,7 @@ pub record FirstFault (area : List ℕ) (e : FrameError) : Type 0 where
   pub parts : area ≡ opened before ++ rest
   pub fault : FaultAt rest e
 
--- which test of a payload is the first to fail
+-- the first test of a payload that fails
 abbrev pub IsRefused : List ℕ → FrameError → Type 0
 IsRefused payload Short = (length payload < 2) ⊎ (HasHeader payload × (length payload < 2 + length_field payload))
 IsRefused payload BadType = (2 ≤ length payload) × (type_field payload ≢ 1)

@@ -1,4 +1,4 @@
--- What a pass over all datagrams of a frame makes, by one that handles them in order.
+-- What a pass over all datagrams of a frame makes, by a handler that handles them in order.
 use Rattle.std.specs.Prelude.{◌≡◌, List, [], ◌∷◌, length}
 use Rattle.ec_frame.specs.Datagram.{Datagram, IsDatagram}
 

@@ -1,4 +1,4 @@
-//! Building frames, datagram by datagram.
+//! Builds frames, datagram by datagram.
 ghost use Rattle.std.specs.Prelude.{◌≡◌, ◌≤◌, ◌<◌, ◌+◌, ◌∷◌, ◌++◌, ◌^◌, [], ℕ, List, length, slice_index};
 ghost use Rattle.std.specs.Prelude.{OnOk, OnErr};
 ghost use Rattle.byteorder.specs.Endian.{little_bytes};
@@ -19,13 +19,13 @@ use thiserror::Error;
 /// The frame of an EtherCAT UDP datagram: two bytes of header, and at most 1470 of datagrams.
 pub type Frame = ArrayVec<u8, 1472>;
 
-/// The datagram doesn't fit beside those that are there: 1470 bytes is the most for all.
+/// The datagram doesn't fit beside those that are there: all datagrams have at most 1470 bytes.
 #[derive(Clone, Copy, Debug, PartialEq, Eq, Drop, Error)]
 #[error("the datagram doesn't fit in the frame")]
 pub struct Full;
 
 impl Full {
-    /// The number by which the program names this refusal.
+    /// The number of the refusal, as the program prints it.
     pub fn number(self) -> u8
         ensures { result ≡ 8 }
     {
@@ -36,7 +36,7 @@ impl Full {
 /// A datagram as a master sends it, with counter 0.
 #[derive(Clone, Copy)]
 pub struct Sent<'a> {
-    /// What the slaves are asked to do.
+    /// The command.
     pub command: Command,
     /// The index, which slaves leave as it is.
     pub index: u8,
@@ -73,7 +73,7 @@ pub fn write_pair(frame: &mut Frame, first: Sent, second: Sent)
     close(frame, last);
 }
 
-/// Makes a frame, datagram by datagram. In contracts a builder is the list of its datagrams.
+/// Builds a frame, datagram by datagram. In contracts a builder is the list of its datagrams.
 #[derive(Drop)]
 pub struct Builder {
     // the header's two bytes, and the datagrams, each with its more bit set
@@ -104,8 +104,8 @@ impl Builder {
         }
     }
 
-    /// Appends a datagram with this data and counter 0. `Full` where all datagrams together would
-    /// be longer than 1470 bytes, and then nothing changes.
+    /// Appends a datagram with this data and counter 0. Returns `Full` and changes nothing if all
+    /// datagrams together would be longer than 1470 bytes.
     pub fn add(
         &mut self,
         command: Command,
@@ -138,7 +138,7 @@ impl Builder {
     }
 
     /// Writes the frame of the datagrams added in place of what was in `frame`, with all reserved
-    /// bits 0. It moves as many bytes as that frame has, where `finish` moves the room for the
+    /// bits 0. It moves only the bytes of that frame, while `finish` moves the room for the
     /// longest.
     pub fn write(&self, frame: &mut Frame)
         requires { 0 < length self.now }
@@ -150,7 +150,7 @@ impl Builder {
     }
 }
 
-/// Says in the header how long the datagrams are, and that none follows the last.
+/// Writes the length of the datagrams into the header, and clears the more bit of the last.
 fn close(frame: &mut Frame, last: usize)
     requires built { IsBuilt frame.old.items last (built_datagrams frame.old.items) }
     requires some { 0 < length (built_datagrams frame.old.items) }

@@ -1,4 +1,4 @@
-//! Whether a payload is a frame.
+//! Checks whether a payload is a frame.
 ghost use Rattle.std.specs.Prelude.{◌≡◌, ◌<◌, ◌≤◌, length, IfOk, IfErr};
 ghost use Rattle.ec_frame.specs.declared.error.FrameError.{FrameError};
 ghost use Rattle.ec_frame.specs.Frame.{Payload, IsFrame};
@@ -28,8 +28,8 @@ pub(crate) fn data_length(bytes: &[u8]) -> usize
     usize::from(field::length_in(flags))
 }
 
-/// Tells whether a payload is a frame of datagrams (ETG.1000.4, "EtherCAT frame structure"), and
-/// of how many. Reserved bits and all bytes after the datagrams are free.
+/// The number of datagrams of a payload, if it is a frame (ETG.1000.4, "EtherCAT frame structure").
+/// Reserved bits and all bytes after the datagrams are free.
 ///
 /// It tests in this order: fewer than 2 bytes, `Short`; a type other than 1, `BadType`; a length
 /// field over 1470, `TooLong`; fewer bytes than it says, `Short`; a length field of 0, `BadLength`;

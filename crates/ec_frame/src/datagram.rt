@@ -13,7 +13,7 @@ use byteorder::{ByteOrder, LittleEndian};
 /// The ten bytes before a datagram's data, decoded (ETG.1000.4, "EtherCAT datagram").
 #[derive(Clone, Copy, Debug, PartialEq, Eq, Drop)]
 pub struct Header {
-    /// What the slaves are asked to do.
+    /// The command.
     pub command: Command,
     /// The index that the master gave; slaves leave it as it is.
     pub index: u8,
@@ -125,7 +125,7 @@ pub fn write_address(part: &mut [u8], address: u32)
     LittleEndian::write_u32(&mut part[field::ADDRESS..field::FLAGS], address);
 }
 
-/// Lends the ten bytes of the heading and, as another slice, the data with the counter.
+/// The ten bytes of the heading and, as another slice, the data with the counter.
 pub fn cut_heading(part: &mut [u8]) -> (&mut [u8], &mut [u8])
     requires { IsSpelling part.old }
     ensures* lends { sem 𝓛 (LendsParts part.entry result) }
@@ -138,7 +138,7 @@ pub fn cut_heading(part: &mut [u8]) -> (&mut [u8], &mut [u8])
     part.split_at_mut(field::HEADER_LEN)
 }
 
-/// Lends, of what follows a heading, the data and, as another slice, the two bytes of the counter.
+/// The data and, as another slice, the two bytes of the counter, of the bytes behind a heading.
 pub fn cut_counter(body: &mut [u8]) -> (&mut [u8], &mut [u8])
     requires { 2 ≤ length body.old }
     ensures* lends { sem 𝓛 (LendsParts body.entry result) }

@@ -29,7 +29,7 @@ pub enum FrameError {
 }
 
 impl FrameError {
-    /// The number by which the program names this refusal.
+    /// The number of the refusal, as the program prints it.
     pub fn number(self) -> u8
         ensures { result ≡ refusal_number self }
     {

@@ -1,5 +1,5 @@
-//! Where the fields of a frame and of a datagram stand, in bytes, and what the bits of their words
-//! mean (ETG.1000.4, "EtherCAT frame structure" and "EtherCAT datagram"). Words are little-endian.
+//! The places of the fields of a frame and of a datagram, in bytes, and the meaning of the bits of their
+//! words (ETG.1000.4, "EtherCAT frame structure" and "EtherCAT datagram"). Words are little-endian.
 ghost use Rattle.std.specs.Prelude.{◌≡◌, ◌/◌, ◌%◌, ◌==◌, leb};
 
 /// The bytes of the frame's header, before the datagrams.

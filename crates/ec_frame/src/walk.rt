@@ -1,4 +1,4 @@
-//! A pass over a frame, which a handler does its work in.
+//! A pass over the datagrams of a frame, by a handler.
 ghost use Rattle.std.specs.Prelude.{◌≡◌, Bool};
 ghost use Rattle.ec_frame.specs.Datagram.{Datagram, IsDatagram, IsSpelling, spelling};
 ghost use Rattle.ec_frame.specs.Frame.{Payload, IsFrame, with_datagrams};
@@ -6,12 +6,12 @@ ghost use Rattle.ec_frame.specs.Walk.{KeepsLength, handled_all, after_all};
 
 use crate::cursor::DatagramCursor;
 
-/// What is done to each datagram of a frame.
+/// A handler of each datagram of a frame.
 pub trait Handler {
-    /// What it makes of a datagram.
+    /// What the handler makes of a datagram.
     ghost handled: { Self → Datagram → Datagram };
 
-    /// What it is afterwards.
+    /// What the handler is afterwards.
     ghost after: { Self → Datagram → Self };
 
     /// A handled datagram is one too, as long as it was.
@@ -26,7 +26,7 @@ pub trait Handler {
             → self.new ≡ after self.old d };
 }
 
-/// Hands each datagram of a checked frame over, in order. The header and the bytes after the
+/// Passes each datagram of a checked frame to a handler, in order. The header and the bytes after the
 /// datagrams stay as they are.
 pub fn pass<H: Handler>(handler: &mut H, frame: &mut [u8])
     requires { (p : Payload) × IsFrame frame.old p }

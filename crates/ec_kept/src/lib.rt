@@ -1,4 +1,4 @@
-//! A box as the pointer to what is in it.
+//! The value of a box behind a raw pointer, as C holds it.
 #![tactic(auto)]
 
 ghost use Rattle.std.specs.Prelude.{◌≡◌};
@@ -7,7 +7,7 @@ ghost use Rattle.ec_kept.specs.Keeping.{keeps};
 use std::alloc::Global;
 use std::marker::Model;
 
-/// What a box owned, as the pointer to it.
+/// The pointer that was a box, and still owns the value behind it.
 pub struct Kept<T> {
     pub at: *mut T,
     pub ghost value: { T },
@@ -18,7 +18,7 @@ impl<T> Model for Kept<T> {
 }
 
 impl<T> Kept<T> {
-    /// Takes a box apart.
+    /// Takes a box apart into its pointer. Nothing is freed.
     pub fn of(boxed: Box<T>) -> Kept<T>
     where
         T: Drop,
@@ -28,12 +28,12 @@ impl<T> Kept<T> {
         Kept { at }
     }
 
-    /// Makes the box again.
+    /// The box of the pointer again.
     pub fn into_box(self, alloc: Global) -> Box<T>
         ensures { result.value ≡ self.value }
     {
         let Kept { at } = self;
-        // SAFETY: `at` came from `Box::into_raw`, and a `Kept` is moved and never copied, so its box is made again once.
+        // SAFETY: `at` came from `Box::into_raw`. A `Kept` is moved and never copied, so its box is made again only once.
         unsafe { Box::from_raw(alloc, at) }
     }
 }

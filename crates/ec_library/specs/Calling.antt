@@ -1,4 +1,4 @@
--- What a call does to what is behind its handle, and what it answers.
+-- What a call does to the value behind its handle, and what it returns.
 use Rattle.std.specs.Prelude.{◌≡◌, ◌≢◌, ◌≤◌, ◌<◌, ◌↔◌, ℕ, Bool, true, false, List, length, take, set, slice_get, nat_lt, is_some, option_and_then, option_map, unwrap_or, Option, None, Some, Result, Ok, Err, IsTrue, IsUtf8}
 use Rattle.std.specs.List.{list_all}
 use Rattle.ec_cycle.specs.Closing.{ReportState}
@@ -17,7 +17,7 @@ use Rattle.ec_start.specs.declared.phase.NextFrame.TheVariants.{Send}
 use Rattle.ec_owned.specs.Machines.{IsGiven, IsNextFrame, MachineState, resumed, unit_taken, variable_named}
 use Rattle.ec_library.specs.declared.done.Done.{Done}
 
--- From what was behind the handle that is passed to what is behind the one that is handed back: there is something behind both.
+-- A step leads from the value behind the handle that is passed to the value behind the one that is handed back; both have one.
 pub record Leads {S : Type 0} (old new : Option S) (step : S → S → Type 0) : Type 0 where
   pub before : S
   pub after : S
@@ -25,7 +25,7 @@ pub record Leads {S : Type 0} (old new : Option S) (step : S → S → Type 0) :
   pub is : new ≡ Some after
   pub leads : step before after
 
--- ---- answers
+-- ---- results
 
 abbrev pub refused : ℕ → Done
 refused number = record { number = number; is_done = false; count = 0; value = 0 }
@@ -33,7 +33,7 @@ refused number = record { number = number; is_done = false; count = 0; value = 0
 abbrev pub counted : Bool → ℕ → Done
 counted is_done count = record { number = 0; is_done = is_done; count = count; value = 0 }
 
--- bytes are shown in a room that has place for them; it is told how many they are
+-- bytes are written into a room if they fit; the count is how many they are
 pub record AreShown (bytes room : List ℕ) (done : Done) (shown : List ℕ) : Type 0 where
   pub fits : length bytes ≤ length room → (done ≡ counted true (length bytes)) × (take (length bytes) shown ≡ bytes)
   pub short : length room < length bytes → (done ≡ counted false (length bytes)) × (shown ≡ room)
@@ -49,7 +49,7 @@ pub record AsksNext (old : MachineState) (room : List ℕ) (done : Done) (shown 
 abbrev pub Takes : MachineState → List ℕ → Done → MachineState → Type 0
 Takes old payload done new = IsGiven old payload done.is_done new × (done.count ≡ missing_of new.master.cycle)
 
--- 1 Ready, or a failure's number
+-- done if Ready, not done if it runs, or a failure's number
 abbrev pub phase_told : Option (Result Unit StartError) → Done
 phase_told None = counted false 0
 phase_told (Some (Ok done)) = counted true 0
@@ -117,7 +117,7 @@ abbrev pub place_told : Option ℕ → Done
 place_told None = counted false 0
 place_told (Some place) = counted true place
 
--- a name that is no text in UTF-8 is no variable's
+-- a name that is not UTF-8 is no variable's
 pub record Finds (old : MachineState) (name : List ℕ) (done : Done) (new : MachineState) : Type 0 where
   pub same : new ≡ old
   pub found : IsUtf8 name → done ≡ place_told (variable_named old.table name)
@@ -125,7 +125,7 @@ pub record Finds (old : MachineState) (name : List ℕ) (done : Done) (new : Mac
 
 -- ---- a segment
 
--- a frame passes all slaves; bytes that are none pass none
+-- a frame passes all slaves; bytes that are no frame change nothing
 pub record Passes (old : List SlaveState) (frame : List ℕ) (is_frame : Bool) (passed : List ℕ) (new : List SlaveState) : Type 0 where
   pub through : is_frame ≡ true → HasPassedRing old frame new passed
   pub refused : is_frame ≡ false → IsNoFrame frame × (new ≡ old) × (passed ≡ frame)
@@ -134,7 +134,7 @@ pub record Passes (old : List SlaveState) (frame : List ℕ) (is_frame : Bool) (
 abbrev pub AtSlave : List SlaveState → ℕ → (SlaveState → SlaveState) → List SlaveState → Type 0
 AtSlave old place f new = ((s : SlaveState) → slice_get old place ≡ Some s → new ≡ set old place (f s)) × (slice_get old place ≡ None → new ≡ old)
 
--- something is done to the slave at a place, if it is there
+-- the slave at a place changes by a function; done if it is there
 pub record Does (old : List SlaveState) (place : ℕ) (f : SlaveState → SlaveState) (done : Bool) (new : List SlaveState) : Type 0 where
   pub is_done : done ≡ nat_lt place (length old)
   pub slaves : AtSlave old place f new
@@ -143,7 +143,7 @@ pub record Does (old : List SlaveState) (place : ℕ) (f : SlaveState → SlaveS
 abbrev pub output_read : List SlaveState → (place byte : ℕ) → Option ℕ
 output_read slaves place byte = option_and_then (λ (s : SlaveState). option_map (λ (got : Got). got.byte) (output_got s byte)) (slice_get slaves place)
 
--- the application of the slave at a place reads a byte of its outputs; a byte that it may not read leaves the room as it was
+-- the application of the slave at a place reads a byte of its outputs; if it may not read the byte, the room stays as it was
 pub record Reads (old : List SlaveState) (place byte room : ℕ) (done : Bool) (read : ℕ) (new : List SlaveState) : Type 0 where
   pub is_done : done ≡ is_some (output_read old place byte)
   pub byte_is : read ≡ unwrap_or (output_read old place byte) room
@@ -154,7 +154,7 @@ pub record Writes (old : List SlaveState) (place byte value : ℕ) (done : Bool)
   pub is_done : done ≡ is_some (option_and_then (λ (s : SlaveState). input_put s byte value) (slice_get old place))
   pub slaves : AtSlave old place (λ (s : SlaveState). unwrap_or (input_put s byte value) s) new
 
--- the application of the slave at a place has a fault: done if the slave is in OP
+-- the application of the slave at a place has a fault; done if the slave is in OP
 pub record HasFault (old : List SlaveState) (place : ℕ) (done : Bool) (new : List SlaveState) : Type 0 where
   pub there : (s : SlaveState) → slice_get old place ≡ Some s → (IsTrue done ↔ (s.al.state ≡ Op))
   pub none : slice_get old place ≡ None → done ≡ false

@@ -1,8 +1,8 @@
 -- To be believed, in this order.
 
--- what a call does to what is behind its handle
+-- what a call does to the value behind its handle, and what it returns
 pub mod Calling
--- what is told of an opening
+-- what an opening returns
 pub mod Refusing
 -- Private: this serves the code and its proofs alone, and no public clause cites it: what a handle owns.
 pub mod Owning

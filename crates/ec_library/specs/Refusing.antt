@@ -1,4 +1,4 @@
--- What is told of an opening.
+-- What an opening returns.
 use Rattle.std.specs.Prelude.{◌≡◌, ℕ, Bool, true, false, List, [], ◌∷◌, Option, Some, length, min, take}
 use Rattle.ec_owned.specs.Opening.{IsOpenFault, open_name, open_number, open_values}
 use Rattle.ec_owned.specs.declared.error.OpenError.{OpenError}
@@ -7,7 +7,7 @@ use Rattle.ec_library.specs.declared.opening.NotOpened.{NotOpened}
 abbrev pub no_refusal : NotOpened
 no_refusal = record { is_open = true; number = 0; name = 0; count = 0; first = 0; second = 0 }
 
--- as many of two values as there are
+-- the first `count` of two values
 abbrev pub with_values : ℕ → ℕ → ℕ → List ℕ
 with_values count first second = take count (first ∷ second ∷ [])
 
@@ -20,8 +20,8 @@ pub record TellsRefusal (error : OpenError) (told : NotOpened) (room : List ℕ)
   pub count : told.count ≡ length (open_values error)
   pub values : with_values told.count told.first told.second ≡ open_values error
 
--- Something is opened of a table, and there is something behind the handle that is like it; or the refusal is told, its name in
--- the room, and the handle stays.
+-- Either something is opened, and the handle has what `is_opened` says; or the refusal is returned, its name is in the room, and
+-- the handle stays.
 abbrev pub Opens : {S H : Type 0} → (S → Type 0) → List ℕ → Bool → NotOpened → (room : List ℕ) → Option S → (old new : H) → Type 0
 Opens {S} is_opened table true told room behind old new = (told ≡ no_refusal) × ((s : S) × (behind ≡ Some s) × is_opened s)
 Opens {S} is_opened table false told room behind old new = ((error : OpenError) × IsOpenFault table error × TellsRefusal error told room) × (new ≡ old)

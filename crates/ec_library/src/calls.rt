@@ -1,4 +1,4 @@
-//! The calls of a master, over a machine.
+//! The calls of a master: each makes the call of a machine, and returns what C sees of it.
 ghost use Rattle.std.specs.Prelude.{◌≡◌};
 ghost use Rattle.ec_cycle.specs.Closing.{ReportState};
 ghost use Rattle.ec_library.specs.Calling.{AreShown, AsksNext, Begins, Closes, Finds, Gets, GivesUp, Sets, SetsOutputs, ShowsInputs, ShowsPart, Takes, TellsPhase, TellsUnit, report_told};
@@ -7,7 +7,7 @@ use crate::done::{Done, counted, refused};
 use ec_cycle::Report;
 use ec_owned::MachineMaster;
 
-/// The next frame of the start-up.
+/// Writes the next frame of the start-up into `room`; the count is its length in bytes, 0 if there is none.
 pub fn next(machine: &mut MachineMaster, room: &mut [u8]) -> Done
     ensures { AsksNext machine.old room.old result room.new machine.new }
 {
@@ -15,7 +15,7 @@ pub fn next(machine: &mut MachineMaster, room: &mut [u8]) -> Done
     counted(count > 0, count)
 }
 
-/// Takes a payload.
+/// Takes a payload; done if it was kept. The count is how many parts of the open cycle are missing.
 pub fn take(machine: &mut MachineMaster, payload: &[u8]) -> Done
     ensures { Takes machine.old payload.now result machine.new }
 {
@@ -23,7 +23,7 @@ pub fn take(machine: &mut MachineMaster, payload: &[u8]) -> Done
     counted(is_kept, machine.missing())
 }
 
-/// Where the start-up stands.
+/// Whether the start-up has ended Ready, or the number of its failure.
 pub fn phase(machine: &MachineMaster) -> Done
     ensures { TellsPhase machine.now result machine.now }
 {
@@ -34,14 +34,14 @@ pub fn phase(machine: &MachineMaster) -> Done
     }
 }
 
-/// An answer of the start-up is awaited no longer.
+/// Ends a start-up that runs, as lost.
 pub fn give_up(machine: &mut MachineMaster)
     ensures { GivesUp machine.old machine.new }
 {
     machine.give_up();
 }
 
-/// Begins a cycle.
+/// Begins a cycle; the count is its number of parts.
 pub fn begin(machine: &mut MachineMaster) -> Done
     ensures { Begins machine.old result machine.new }
 {
@@ -51,7 +51,7 @@ pub fn begin(machine: &mut MachineMaster) -> Done
     }
 }
 
-/// Shows the frame of a part of the open cycle.
+/// Writes the frame of a part of the open cycle into `room`, if there is one and it fits; the count is its length in bytes.
 pub fn show_part(machine: &MachineMaster, part: usize, room: &mut [u8]) -> Done
     ensures { ShowsPart machine.now part room.old result room.new machine.now }
 {
@@ -61,7 +61,7 @@ pub fn show_part(machine: &MachineMaster, part: usize, room: &mut [u8]) -> Done
     }
 }
 
-/// Closes the cycle.
+/// Closes the cycle, and returns its report.
 pub fn close(machine: &mut MachineMaster) -> Done
     ensures { Closes machine.old result machine.new }
 {
@@ -71,7 +71,7 @@ pub fn close(machine: &mut MachineMaster) -> Done
     }
 }
 
-/// Whether a sync unit was taken in the last report.
+/// Whether a sync unit was taken in the last report; the count is 1 if the report has the unit, and else 0.
 pub fn tell_unit(machine: &MachineMaster, unit: u8) -> Done
     ensures { TellsUnit machine.now unit result machine.now }
 {
@@ -81,14 +81,14 @@ pub fn tell_unit(machine: &MachineMaster, unit: u8) -> Done
     }
 }
 
-/// Sets a variable of the outputs.
+/// Sets a variable of the outputs; done if there is one that holds the value.
 pub fn set(machine: &mut MachineMaster, variable: usize, value: u64) -> Done
     ensures { Sets machine.old variable value result machine.new }
 {
     counted(machine.set(variable, value), 0)
 }
 
-/// What a variable is.
+/// The value of a variable; not done if there is no such variable.
 pub fn get(machine: &MachineMaster, variable: usize) -> Done
     ensures { Gets machine.now variable result machine.now }
 {
@@ -103,7 +103,7 @@ pub fn get(machine: &MachineMaster, variable: usize) -> Done
     }
 }
 
-/// Sets the image of all outputs.
+/// Sets the image of all outputs if the lengths agree; the count is the image's number of bytes.
 pub fn set_outputs(machine: &mut MachineMaster, outputs: &[u8]) -> Done
     ensures { SetsOutputs machine.old outputs.now result machine.new }
 {
@@ -111,14 +111,14 @@ pub fn set_outputs(machine: &mut MachineMaster, outputs: &[u8]) -> Done
     counted(count == outputs.len(), count)
 }
 
-/// Shows the image of all inputs.
+/// Writes the image of all inputs into `room` if it fits; the count is its number of bytes.
 pub fn show_inputs(machine: &MachineMaster, room: &mut [u8]) -> Done
     ensures { ShowsInputs machine.now room.old result room.new machine.now }
 {
     show(machine.inputs(), room)
 }
 
-/// The number of the variable with a name.
+/// The number of the variable with a name, as the count; not done if there is none.
 pub fn find(machine: &MachineMaster, name: &[u8]) -> Done
     ensures { Finds machine.now name.now result machine.now }
 {
@@ -131,7 +131,7 @@ pub fn find(machine: &MachineMaster, name: &[u8]) -> Done
     }
 }
 
-/// Shows bytes in a room, if it has place for them, and tells how many they are.
+/// Writes bytes into a room if they fit; the count is how many they are.
 fn show(bytes: &[u8], room: &mut [u8]) -> Done
     ensures { AreShown bytes.now room.old result room.new }
 {
@@ -143,7 +143,7 @@ fn show(bytes: &[u8], room: &mut [u8]) -> Done
     counted(true, count)
 }
 
-/// What the last report says, if there was one.
+/// The last report, if there is one.
 fn tell_last(machine: &MachineMaster) -> Done
     ensures { (r : ReportState) → machine.now.report ≡ Some r → result ≡ report_told r }
 {
@@ -153,7 +153,7 @@ fn tell_last(machine: &MachineMaster) -> Done
     }
 }
 
-/// What a report says.
+/// A report: done if all sync units were taken; the count is the missing parts, and the value the AL word.
 fn tell_report(report: &Report) -> Done
     ensures { result ≡ report_told report.now }
 {

@@ -1,9 +1,9 @@
-//! What a call answers.
+//! What a call returns to C.
 ghost use Rattle.std.specs.Prelude.{◌≡◌};
 ghost use Rattle.ec_library.specs.Calling.{counted, refused};
 
-/// What a call did: the number of a refusal, or 0; whether it did what it is for; how many bytes, parts or variables there
-/// are; and a value.
+/// The result of a call. `number` is that of a refusal, or 0; `is_done` says that the call did what it is for. `count` is in
+/// bytes or parts, or the number of a variable. `value` is that of a variable, or the AL word of a report.
 #[repr(C)]
 #[derive(Clone, Copy, Drop)]
 pub struct Done {
@@ -13,7 +13,7 @@ pub struct Done {
     pub value: u64,
 }
 
-/// A refusal of this number.
+/// The result of a call that is refused with this number.
 pub fn refused(number: u8) -> Done
     ensures { result ≡ refused number }
 {
@@ -25,7 +25,7 @@ pub fn refused(number: u8) -> Done
     }
 }
 
-/// What was or wasn't done, and a count.
+/// The result of a call that isn't refused, with a count.
 pub fn counted(is_done: bool, count: usize) -> Done
     ensures { result ≡ counted is_done count }
 {

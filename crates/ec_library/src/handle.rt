@@ -1,4 +1,4 @@
-//! What C holds of a master and of a segment: a struct of one pointer, beside which contracts see what it owns.
+//! The handles of masters and segments that C holds: a struct of one pointer, and a ghost field with what it owns.
 ghost use Rattle.std.specs.Prelude.{◌≡◌, List, Option, Some, true, is_some};
 ghost use Rattle.ec_owned.specs.Machines.{MachineState};
 ghost use Rattle.ec_slave.specs.State.{SlaveState};
@@ -9,7 +9,7 @@ use ec_owned::MachineMaster;
 use ec_ring::Ring;
 use std::marker::Model;
 
-/// What is behind a handle; nothing that C reads.
+/// The target of a handle's pointer; C doesn't read it.
 #[repr(C)]
 #[derive(Drop)]
 pub struct Hidden {
@@ -40,7 +40,7 @@ impl Model for SegmentHandle {
     ghost also_owns = { λ h. owns_slaves h.at h.slaves };
 }
 
-/// The handle of a machine.
+/// The handle that owns a machine.
 pub fn conceal_master(kept: Kept<MachineMaster>) -> MasterHandle
     ensures { result.machine ≡ Some kept.value }
 {
@@ -50,7 +50,7 @@ pub fn conceal_master(kept: Kept<MachineMaster>) -> MasterHandle
     }
 }
 
-/// The machine of a handle.
+/// The machine that a handle owns.
 pub fn reveal_master(handle: MasterHandle) -> Kept<MachineMaster>
     requires { is_some handle.machine ≡ true }
     ensures { Some result.value ≡ handle.machine }
@@ -61,7 +61,7 @@ pub fn reveal_master(handle: MasterHandle) -> Kept<MachineMaster>
     }
 }
 
-/// The handle of a segment's slaves.
+/// The handle that owns the slaves of a segment.
 pub fn conceal_segment(kept: Kept<Ring>) -> SegmentHandle
     ensures { result.slaves ≡ Some kept.value }
 {
@@ -71,7 +71,7 @@ pub fn conceal_segment(kept: Kept<Ring>) -> SegmentHandle
     }
 }
 
-/// The slaves of a handle.
+/// The slaves that a handle owns.
 pub fn reveal_segment(handle: SegmentHandle) -> Kept<Ring>
     requires { is_some handle.slaves ≡ true }
     ensures { Some result.value ≡ handle.slaves }

@@ -1,8 +1,8 @@
 //! The master and the segment of a link table for programs in C; `include/ecat.h` has the calls as C sees them.
 //!
-//! An export is given a handle by value and hands one back through `out`, so that a handle is never in two places. Each is
-//! proved as it stands: what is behind the handle that it hands back is what the call of a machine, or of slaves, makes of
-//! what was behind the one that it was given.
+//! An export takes a handle by value and hands one back through `out`, so that a handle is never in two places. The contract
+//! of each export relates what the two handles own: the call of the machine, or of the slaves, leads from the first to the
+//! second.
 #![tactic(auto)]
 
 ghost use Rattle.std.specs.Prelude.{◌≡◌, true, is_some};
@@ -26,7 +26,7 @@ use crate::opening::{NotOpened, boxed_machine, boxed_slaves, opened, tell_refusa
 use ec_kept::Kept;
 use std::alloc::Global;
 
-/// Opens the master of the table that bytes state.
+/// Opens the master of the table that bytes state, or writes the refusal into `told` and its name into `name`.
 #[tactic(auto, using(crate::proofs::Leading::opened_as, crate::proofs::Leading::refused_as))]
 #[unsafe(no_mangle)]
 pub extern "C" fn ecat_c_open(
@@ -55,7 +55,7 @@ pub extern "C" fn ecat_c_drop(alloc: Global, machine: MasterHandle)
     let _machine = reveal_master(machine).into_box(alloc);
 }
 
-/// The next frame of the start-up.
+/// Writes the next frame of the start-up; `done.count` is its length in bytes, 0 if there is none.
 #[tactic(auto, using(crate::proofs::Leading::leads))]
 #[unsafe(no_mangle)]
 pub extern "C" fn ecat_c_next(
@@ -73,7 +73,7 @@ pub extern "C" fn ecat_c_next(
     *out = conceal_master(Kept::of(machine));
 }
 
-/// Takes a payload that came.
+/// Takes a payload that came; done if it was kept. `done.count` is how many parts of the open cycle are missing then.
 #[tactic(auto, using(crate::proofs::Leading::leads))]
 #[unsafe(no_mangle)]
 pub extern "C" fn ecat_c_take(
@@ -91,7 +91,7 @@ pub extern "C" fn ecat_c_take(
     *out = conceal_master(Kept::of(machine));
 }
 
-/// Where the start-up stands.
+/// Whether the start-up has ended Ready, or the number of its failure.
 #[tactic(auto, using(crate::proofs::Leading::leads))]
 #[unsafe(no_mangle)]
 pub extern "C" fn ecat_c_phase(
@@ -108,7 +108,7 @@ pub extern "C" fn ecat_c_phase(
     *out = conceal_master(Kept::of(machine));
 }
 
-/// An answer of the start-up is awaited no longer.
+/// Ends a start-up that runs, as lost.
 #[tactic(auto, using(crate::proofs::Leading::leads))]
 #[unsafe(no_mangle)]
 pub extern "C" fn ecat_c_give_up(alloc: Global, machine: MasterHandle, out: &mut MasterHandle)
@@ -120,7 +120,7 @@ pub extern "C" fn ecat_c_give_up(alloc: Global, machine: MasterHandle, out: &mut
     *out = conceal_master(Kept::of(machine));
 }
 
-/// Begins a cycle.
+/// Begins a cycle. `done.count` is its number of parts.
 #[tactic(auto, using(crate::proofs::Leading::leads))]
 #[unsafe(no_mangle)]
 pub extern "C" fn ecat_c_begin(
@@ -137,7 +137,7 @@ pub extern "C" fn ecat_c_begin(
     *out = conceal_master(Kept::of(machine));
 }
 
-/// The frame of a part of the open cycle.
+/// Writes the frame of a part of the open cycle, if it fits. `done.count` is its length in bytes.
 #[tactic(auto, using(crate::proofs::Leading::leads))]
 #[unsafe(no_mangle)]
 pub extern "C" fn ecat_c_part(
@@ -156,7 +156,7 @@ pub extern "C" fn ecat_c_part(
     *out = conceal_master(Kept::of(machine));
 }
 
-/// Closes the cycle.
+/// Closes the cycle. `done` is its report: whether all units were taken, the missing parts, and the AL word.
 #[tactic(auto, using(crate::proofs::Leading::leads))]
 #[unsafe(no_mangle)]
 pub extern "C" fn ecat_c_close(
@@ -173,7 +173,7 @@ pub extern "C" fn ecat_c_close(
     *out = conceal_master(Kept::of(machine));
 }
 
-/// Whether a sync unit was taken in the last report.
+/// Whether a sync unit was taken in the last report; `done.count` is 1 if the report has the unit.
 #[tactic(auto, using(crate::proofs::Leading::leads))]
 #[unsafe(no_mangle)]
 pub extern "C" fn ecat_c_unit(
@@ -191,7 +191,7 @@ pub extern "C" fn ecat_c_unit(
     *out = conceal_master(Kept::of(machine));
 }
 
-/// Sets a variable of the outputs.
+/// Sets a variable of the outputs, if there is one that holds the value.
 #[tactic(auto, using(crate::proofs::Leading::leads))]
 #[unsafe(no_mangle)]
 pub extern "C" fn ecat_c_set(
@@ -210,7 +210,7 @@ pub extern "C" fn ecat_c_set(
     *out = conceal_master(Kept::of(machine));
 }
 
-/// What a variable is.
+/// The value of a variable, in `done.value`; not done if there is no such variable.
 #[tactic(auto, using(crate::proofs::Leading::leads))]
 #[unsafe(no_mangle)]
 pub extern "C" fn ecat_c_get(
@@ -228,7 +228,7 @@ pub extern "C" fn ecat_c_get(
     *out = conceal_master(Kept::of(machine));
 }
 
-/// Sets the image of all outputs.
+/// Sets the image of all outputs if the lengths agree. `done.count` is the image's number of bytes.
 #[tactic(auto, using(crate::proofs::Leading::leads))]
 #[unsafe(no_mangle)]
 pub extern "C" fn ecat_c_outputs(
@@ -246,7 +246,7 @@ pub extern "C" fn ecat_c_outputs(
     *out = conceal_master(Kept::of(machine));
 }
 
-/// Shows the image of all inputs.
+/// Writes the image of all inputs, if it fits. `done.count` is its number of bytes.
 #[tactic(auto, using(crate::proofs::Leading::leads))]
 #[unsafe(no_mangle)]
 pub extern "C" fn ecat_c_inputs(
@@ -264,7 +264,7 @@ pub extern "C" fn ecat_c_inputs(
     *out = conceal_master(Kept::of(machine));
 }
 
-/// The number of the variable with a name.
+/// The number of the variable with a name, in `done.count`; not done if there is none.
 #[tactic(auto, using(crate::proofs::Leading::leads))]
 #[unsafe(no_mangle)]
 pub extern "C" fn ecat_c_variable(
@@ -282,7 +282,7 @@ pub extern "C" fn ecat_c_variable(
     *out = conceal_master(Kept::of(machine));
 }
 
-/// Opens the slaves of the table that bytes state, `full` or as it states them, just switched on.
+/// Opens the slaves of the table that bytes state, just switched on, as full slaves if `full`. Refuses as `ecat_c_open` does.
 #[tactic(auto, using(crate::proofs::Leading::opened_as, crate::proofs::Leading::refused_as))]
 #[unsafe(no_mangle)]
 pub extern "C" fn ecat_c_segment_open(
@@ -312,7 +312,7 @@ pub extern "C" fn ecat_c_segment_drop(alloc: Global, segment: SegmentHandle)
     let _slaves = reveal_segment(segment).into_box(alloc);
 }
 
-/// A frame passes all slaves.
+/// Passes a frame through all slaves; not done if the bytes are no frame.
 #[tactic(auto, using(crate::proofs::Leading::leads))]
 #[unsafe(no_mangle)]
 pub extern "C" fn ecat_c_segment_pass(
@@ -330,7 +330,7 @@ pub extern "C" fn ecat_c_segment_pass(
     *out = conceal_segment(Kept::of(slaves));
 }
 
-/// The firmware of a slave steps.
+/// Makes a firmware step of a slave, if it is there.
 #[tactic(auto, using(crate::proofs::Leading::leads))]
 #[unsafe(no_mangle)]
 pub extern "C" fn ecat_c_segment_serve(
@@ -348,7 +348,7 @@ pub extern "C" fn ecat_c_segment_serve(
     *out = conceal_segment(Kept::of(slaves));
 }
 
-/// The application of a slave reads a byte of its outputs.
+/// The application of a slave reads a byte of its outputs, if it is there and may.
 #[tactic(auto, using(crate::proofs::Leading::leads))]
 #[unsafe(no_mangle)]
 pub extern "C" fn ecat_c_segment_get(
@@ -368,7 +368,7 @@ pub extern "C" fn ecat_c_segment_get(
     *out = conceal_segment(Kept::of(slaves));
 }
 
-/// The application of a slave writes a byte of its inputs.
+/// The application of a slave writes a byte of its inputs, if it is there and may.
 #[tactic(auto, using(crate::proofs::Leading::leads))]
 #[unsafe(no_mangle)]
 pub extern "C" fn ecat_c_segment_put(
@@ -388,7 +388,7 @@ pub extern "C" fn ecat_c_segment_put(
     *out = conceal_segment(Kept::of(slaves));
 }
 
-/// The application of a slave has a fault.
+/// The application of a slave has a fault, if the slave is there and in OP.
 #[tactic(auto, using(crate::proofs::Leading::leads))]
 #[unsafe(no_mangle)]
 pub extern "C" fn ecat_c_segment_fault(
@@ -406,7 +406,7 @@ pub extern "C" fn ecat_c_segment_fault(
     *out = conceal_segment(Kept::of(slaves));
 }
 
-/// A slave is switched off and on.
+/// Switches a slave off and on, if it is there.
 #[tactic(auto, using(crate::proofs::Leading::leads))]
 #[unsafe(no_mangle)]
 pub extern "C" fn ecat_c_segment_reset(

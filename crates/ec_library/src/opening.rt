@@ -1,4 +1,4 @@
-//! What is opened, and why it isn't.
+//! Boxes of opened machines and slaves, and the refusal of a text as C sees it.
 ghost use Rattle.std.specs.Prelude.{◌≡◌, length, min, take, IfOk, IfErr};
 ghost use Rattle.ec_owned.specs.Opening.{AreOpened, IsOpenFault, IsOpened, listed};
 ghost use Rattle.ec_library.specs.Refusing.{TellsRefusal, no_refusal, with_values};
@@ -7,8 +7,8 @@ use ec_owned::{MachineMaster, OpenError, Values, open_machine, open_slaves};
 use ec_ring::Ring;
 use std::alloc::Global;
 
-/// Why there is nothing behind a handle that was to be opened: the refusal's number, how many bytes its name has, how many
-/// values there are, and these.
+/// Whether an opening succeeded, and else the refusal: its number, the length of its name in bytes, how many values it has, and
+/// these.
 #[repr(C)]
 #[derive(Clone, Copy, Drop)]
 pub struct NotOpened {
@@ -20,7 +20,7 @@ pub struct NotOpened {
     pub second: u64,
 }
 
-/// It is open.
+/// The opening succeeded.
 pub fn opened() -> NotOpened
     ensures { result ≡ no_refusal }
 {
@@ -34,7 +34,7 @@ pub fn opened() -> NotOpened
     }
 }
 
-/// Tells a refusal, and writes its name.
+/// A refusal. Writes its name into `room`, as far as it fits.
 pub fn tell_refusal(error: OpenError, room: &mut [u8]) -> NotOpened
     ensures { TellsRefusal error result room.new }
 {
@@ -49,7 +49,7 @@ pub fn tell_refusal(error: OpenError, room: &mut [u8]) -> NotOpened
     }
 }
 
-/// The box of the machine of the table that bytes state.
+/// The box of the machine of the table that bytes state; the error is that of [`open_machine`], or `Memory`.
 pub fn boxed_machine(alloc: Global, table: &[u8]) -> Result<Box<MachineMaster>, OpenError>
     ensures opened { IfOk result (λ boxed. IsOpened table.now boxed.value) }
     ensures refused { IfErr result (IsOpenFault table.now) }
@@ -61,7 +61,7 @@ pub fn boxed_machine(alloc: Global, table: &[u8]) -> Result<Box<MachineMaster>, 
     }
 }
 
-/// The box of the slaves of the table that bytes state.
+/// The box of the slaves of the table that bytes state; the error is that of [`open_slaves`], or `Memory`.
 pub fn boxed_slaves(alloc: Global, table: &[u8], full: bool) -> Result<Box<Ring>, OpenError>
     ensures opened { IfOk result (λ boxed. AreOpened full table.now boxed.value) }
     ensures refused { IfErr result (IsOpenFault table.now) }
@@ -73,7 +73,7 @@ pub fn boxed_slaves(alloc: Global, table: &[u8], full: bool) -> Result<Box<Ring>
     }
 }
 
-/// Writes as much of a name as there is room for, and answers how many bytes that is.
+/// Writes as much of a name as `room` holds, and returns how many bytes that is.
 fn write_name(name: &str, room: &mut [u8]) -> usize
     ensures few { result ≡ min (length name.now) (length room.new) }
     ensures written { take result room.new ≡ take result name.now }
@@ -84,7 +84,7 @@ fn write_name(name: &str, room: &mut [u8]) -> usize
     count
 }
 
-/// How many values there are, and these.
+/// How many values there are, and these; 0 in place of a value that isn't there.
 fn spread(values: Values) -> (usize, u64, u64)
     ensures count { result.0 ≡ length (listed values) }
     ensures values { with_values result.0 result.1 result.2 ≡ listed values }

@@ -1,18 +1,18 @@
-//! The calls of a segment, over its slaves.
+//! The calls of a segment: each makes a call of its ring of slaves, and returns whether it did something.
 ghost use Rattle.ec_slave.specs.Serving.{served};
 ghost use Rattle.ec_slave.specs.State.{power_on};
 ghost use Rattle.ec_library.specs.Calling.{Does, HasFault, Passes, Reads, Writes};
 
 use ec_ring::Ring;
 
-/// A frame passes all slaves, and answers whether it was one.
+/// Passes a frame through all slaves, in place. Returns false and changes nothing if the bytes are no frame.
 pub fn pass(slaves: &mut Ring, frame: &mut [u8]) -> bool
     ensures { Passes slaves.old frame.old result frame.new slaves.new }
 {
     slaves.pass_all(frame).is_ok()
 }
 
-/// The firmware of a slave steps, if it is there.
+/// Makes a firmware step of a slave. Returns whether it is there.
 pub fn serve(slaves: &mut Ring, place: usize) -> bool
     ensures { Does slaves.old place served result slaves.new }
 {
@@ -23,7 +23,7 @@ pub fn serve(slaves: &mut Ring, place: usize) -> bool
     true
 }
 
-/// A slave is switched off and on, if it is there.
+/// Switches a slave off and on. Returns whether it is there.
 pub fn reset(slaves: &mut Ring, place: usize) -> bool
     ensures { Does slaves.old place (λ s. power_on s.kind s.identity) result slaves.new }
 {
@@ -34,7 +34,7 @@ pub fn reset(slaves: &mut Ring, place: usize) -> bool
     true
 }
 
-/// The application of a slave reads a byte of its outputs into `read`, if it is there and may.
+/// The application of a slave reads a byte of its outputs into `read`. Returns whether the slave is there and may read it.
 pub fn get(slaves: &mut Ring, place: usize, byte: usize, read: &mut u8) -> bool
     ensures { Reads slaves.old place byte read.old result read.new slaves.new }
 {
@@ -50,7 +50,7 @@ pub fn get(slaves: &mut Ring, place: usize, byte: usize, read: &mut u8) -> bool
     }
 }
 
-/// The application of a slave writes a byte of its inputs, if it is there and may.
+/// The application of a slave writes a byte of its inputs. Returns whether the slave is there and may write it.
 pub fn put(slaves: &mut Ring, place: usize, byte: usize, value: u8) -> bool
     ensures { Writes slaves.old place byte value result slaves.new }
 {
@@ -60,7 +60,7 @@ pub fn put(slaves: &mut Ring, place: usize, byte: usize, value: u8) -> bool
     slaves.slave_mut(place).app_put(byte, value)
 }
 
-/// The application of a slave has a fault, if it is there and in OP.
+/// The application of a slave has a fault. Returns whether the slave is there and in OP.
 pub fn fault(slaves: &mut Ring, place: usize) -> bool
     ensures { HasFault slaves.old place result slaves.new }
 {

@@ -1,5 +1,5 @@
--- Each kind of fault by itself, as a relation between a table and the place of the fault, and the law that the fault told is
--- the first that the table has. Nothing here says how a fault is looked for.
+-- Each kind of fault by itself, as a relation between a table and the place of the fault; and the law that `compile` returns
+-- the first fault of the table. Nothing here says how a fault is looked for.
 use Rattle.std.specs.Prelude.{ℕ, ◌+◌, ◌<◌, ◌≤◌, ◌≡◌, ◌≢◌, ◌⊎◌, List, length, true, Some, None, slice_get}
 use Rattle.ec_bits.specs.Bits.{within}
 use Rattle.ec_device.specs.declared.slave_type.Entry.{Entry}
@@ -48,7 +48,7 @@ pub record IsWrongDirection (t : Contents) (l : LinkRow) : Type 0 where
 pub record IsNoEntry (t : Contents) (l : LinkRow) : Type 0 where
   pub not_here : HasEntry t (direction_of t l) l → ⊥
 
--- it has a bit past the entry, or past the variable; of an entry assigned twice the first is meant
+-- it has a bit past the entry, or past the variable; if the entry is assigned twice, the first is meant
 pub record IsOutsideEntry (t : Contents) (l : LinkRow) : Type 0 where
   pub place : ℕ
   pub entry : Entry
@@ -169,7 +169,7 @@ HasFault t (AreasOverlap k) = AtPlace t.slaves (λ r. HaveOneByte t k) k
 HasFault t (OutsideRam k) = AtPlace t.slaves (λ r. LeavesRam t k) k
 HasFault t (SplitVariable k) = AtPlace t.variables (IsSplit t k) k
 
--- by the number of its kind, and of one kind by its place
+-- by the number of the kind, and within a kind by the place
 abbrev pub ComesBefore : LinkFault → LinkFault → Type 0
 ComesBefore f g = (fault_number f < fault_number g) ⊎ ((fault_number f ≡ fault_number g) × (fault_value f < fault_value g))
 
@@ -178,7 +178,7 @@ pub record IsFirstFault (t : Contents) (f : LinkFault) : Type 0 where
   pub there : HasFault t f
   pub first : (g : LinkFault) → HasFault t g → ComesBefore g f → ⊥
 
--- Of a table that was read, the fault told is the first that it has, and where none is told it has none.
+-- In a table that was read, the fault that `compile` returns is the first that the table has; if it returns none, there is none.
 pub record FirstLinkFault : Type 0 where
   pub told : (t : Contents) (f : LinkFault) → IsSound t → compile_fault t ≡ Some f → IsFirstFault t f
   pub none : (t : Contents) (f : LinkFault) → IsSound t → compile_fault t ≡ None → HasFault t f → ⊥

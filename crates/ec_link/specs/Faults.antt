@@ -179,7 +179,7 @@ abbrev pub error_value : LinkError → Option ℕ
 error_value Memory = None
 error_value (Refused f) = Some (fault_value f)
 
--- what a call answers where it doesn't make a plan: memory ran out, or the table has this fault
+-- why a call doesn't make a plan: memory ran out, or the table has this fault
 abbrev pub Fails : LinkError → Option LinkFault → Type 0
 Fails Memory f = Unit {0}
 Fails (Refused g) f = f ≡ Some g

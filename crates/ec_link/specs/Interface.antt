@@ -73,7 +73,7 @@ pub record HasBit (t : Contents) (d : Direction) (x b : ℕ) : Type 0 where
 abbrev pub LinkedBitsAreThere : Type 0
 LinkedBitsAreThere = (t : Contents) → compile_fault t ≡ None → (d : Direction) (x b s o : ℕ) → IsLinked t d x b s o → HasBit t d x b
 
--- what is linked to the inputs of the image is an input of a slave
+-- only an input of a slave is linked to an input of the image
 abbrev pub LinkedInputsAreThere : Type 0
 LinkedInputsAreThere =
     (p : PlanState) → IsUsable p → (b : ℕ) (i : Linked) → in_source p.in_links b ≡ Some i → (i.slave < length p.slaves) × (i.bit_of < (slave_at p i.slave).share.ins)
@@ -84,7 +84,7 @@ LinkedInputsAreThere =
 abbrev pub unit_of : Contents → ℕ → ℕ
 unit_of t s = option_map_or (λ (r : SlaveRow). r.unit) (slice_get t.slaves s) 0
 
--- A plan lists the units of its slaves, each once; without slaves unit 0 alone.
+-- A plan lists the units of its slaves, each once; only unit 0 if there are no slaves.
 pub record AreItsUnits (t : Contents) (units : List ℕ) : Type 0 where
   pub each : (s : ℕ) → s < length t.slaves → Contains units (unit_of t s)
   pub once : (i j : ℕ) → i < length units → j < length units → get_or units i 0 ≡ get_or units j 0 → i ≡ j
@@ -96,8 +96,8 @@ PlansListTheUnits = (t : Contents) → table.IsSound t → AreItsUnits t (plan_o
 
 -- ---- what a plan has of a slave
 
--- It is of a type of the table: device, mailbox and PDOs keep the limits of a type, each direction has PDOs of it assigned, none
--- twice, and as many bits as these have; and its FMMUs are those of its area.
+-- It is of a type of the table: device, mailbox and PDOs keep the limits of a type. Each direction has PDOs of it assigned, none
+-- twice, and as many bits as these have. Its FMMUs are those of its area.
 pub record IsOfItsType (x : SlavePlan) : Type 0 where
   pub device : table.IsDevice x.kind.device
   pub limits : IsWithinLimits x.kind.mailbox x.kind.outputs x.kind.inputs

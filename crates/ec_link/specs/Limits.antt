@@ -62,12 +62,12 @@ HaveVariables ws xs = All (HasVariable ws) xs
 abbrev pub IsMemory : LinkError → Type 0
 IsMemory e = e ≡ Memory
 
--- what a test answers: done, or the fault
+-- what a test returns: nothing, or the fault
 abbrev pub Tested : {X : Type 0} → Result X LinkFault → Option LinkFault → Type 0
 Tested (Ok x) f = f ≡ None
 Tested (Err g) f = f ≡ Some g
 
--- of each of the 64 units it is told whether some slave has it
+-- for each of the 64 units, whether some slave has it
 pub record AreUsedUnits (zs : List SlaveSize) (used : List Bool) : Type 0 where
   pub as_many : length used ≡ 64
   pub each : (unit : ℕ) → unit < 64 → get_or used unit false ≡ is_unit_of zs unit

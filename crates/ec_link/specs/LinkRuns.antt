@@ -29,7 +29,7 @@ direction_of t l = option_map_or (λ (w : VariableRow). w.direction) (variable_a
 abbrev pub variable_bits : Contents → LinkRow → ℕ
 variable_bits t l = option_map_or (λ (w : VariableRow). w.bits) (variable_at t l) 0
 
--- the bits of the link's entry among a direction's object bits; of an entry assigned twice the first is meant
+-- the bits of the link's entry among a direction's object bits; if the entry is assigned twice, the first is meant
 abbrev pub run_toward : Contents → Direction → LinkRow → Option EntryRun
 run_toward t d l = entry_run (entries_of t l.slave d) l.index l.subindex
 
@@ -77,7 +77,7 @@ pub record IsLinked (t : Contents) (d : Direction) (variable bit slave object : 
 
 -- ---- a bit linked twice
 
--- n bits from a on and m bits from b on share one
+-- n bits that begin at a, and m bits that begin at b, share one
 abbrev pub runs_meet : (a n b m : ℕ) → Bool
 runs_meet a n b m = nat_lt a (b + m) && nat_lt b (a + n)
 

@@ -11,7 +11,7 @@ use Rattle.ec_link.specs.Faults.{Fails, compile_fault}
 abbrev pub StatesMachine : List ℕ → Contents → Type 0
 StatesMachine text t = (table_of text ≡ Ok t) × (compile_fault t ≡ None)
 
--- by what a text is refused that states none: its first fault as a table, or the first of the table that it states
+-- why a text states no machine: its first fault as a table, or the first fault of the table that it states
 abbrev pub Refuses : List ℕ → MachineError → Type 0
 Refuses text (Table error) = TableFails error (table_of text)
 Refuses text (Link error) = (t : Contents) × (table_of text ≡ Ok t) × Fails error (compile_fault t)

@@ -1,4 +1,4 @@
--- What a table shown in full changes in its plan: nothing but that each slave's kind has a face.
+-- A table shown in full changes nothing in its plan except that each slave's kind has a face.
 use Rattle.std.specs.Prelude.{◌≡◌, ℕ, option_map}
 use Rattle.ec_table.specs.Contents.{Contents, shown_full}
 use Rattle.ec_table.specs.Objects.{type_of, face_of}
@@ -15,7 +15,7 @@ with_face t s x = record x { kind = record x.kind { face = option_map (face_of t
 abbrev pub with_faces : Contents → PlanState → PlanState
 with_faces t p = record p { slaves = each_from (with_face t) 0 p.slaves }
 
--- A table shown in full is refused for what the table is refused for, and its plan is the table's plan, with faces.
+-- A table shown in full has the table's fault, if any, and the table's plan with faces.
 pub record ShownFullGivesFaces : Type 0 where
   pub fault : (t : Contents) → compile_fault (shown_full t) ≡ compile_fault t
   pub plan : (t : Contents) → plan_of (shown_full t) ≡ with_faces t (plan_of t)

@@ -1,5 +1,5 @@
--- Link runs as spans of one line of numbers, 2^17 for the output bits of each slave and as many for each variable, and a map from
--- where each span begins to where it ends: helpers of private code.
+-- Link runs as spans of one line of numbers: 2^17 for the output bits of each slave, and as many for each variable. A map leads
+-- from the beginning of each span to its end. These are helpers of private code.
 use Rattle.std.specs.Prelude.{ℕ, ◌+◌, ◌*◌, ◌^◌, ◌<◌, ◌≤◌, ◌≡◌, if◌then◌else◌, List, get_or, Some}
 use Rattle.std.specs.BTreeMap.{BTreeMap, get}
 use Rattle.std.specs.Ordering.{nat_cmp}

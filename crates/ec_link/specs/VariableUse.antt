@@ -1,4 +1,4 @@
--- What the links so far say of each variable: helpers of private code.
+-- The use of each variable by the links so far: helpers of private code.
 use Rattle.std.specs.Prelude.{ℕ, ◌≡◌, ◌<◌, ◌==◌, ◌||◌, not, false, List, [], ◌∷◌, length, get_or, Option, Some, None}
 use Rattle.ec_table.specs.declared.rows.LinkRow.{LinkRow}
 use Rattle.ec_table.specs.Contents.{Contents}
@@ -8,7 +8,7 @@ use Rattle.ec_link.specs.Faults.{differ, units_of_variable}
 abbrev pub nothing_seen : VariableUse
 nothing_seen = record { unit = None; differs = false }
 
--- with a link from one unit more
+-- the use with one more link from a unit
 abbrev pub more_by : Option ℕ → VariableUse → ℕ → VariableUse
 more_by None s u = record { unit = Some u; differs = s.differs }
 more_by (Some first) s u = record { unit = Some first; differs = s.differs || not (u == first) }
@@ -20,11 +20,11 @@ abbrev pub first_of_units : List ℕ → Option ℕ
 first_of_units [] = None
 first_of_units (u ∷ us) = Some u
 
--- what the units of a variable's links say
+-- the use of a variable, by the units of its links
 abbrev pub seen_of : List ℕ → VariableUse
 seen_of us = record { unit = first_of_units us; differs = differ us }
 
--- of each variable what these links say
+-- the use of each variable by these links
 pub record AreSeen (t : Contents) (ls : List LinkRow) (seen : List VariableUse) : Type 0 where
   pub as_many : length seen ≡ length t.variables
   pub each : (v : ℕ) (d : VariableUse) → v < length t.variables → get_or seen v d ≡ seen_of (units_of_variable t v ls)

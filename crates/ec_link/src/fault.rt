@@ -84,7 +84,7 @@ impl LinkFault {
         }
     }
 
-    /// Where it stands, or how many slaves or parts there are.
+    /// The place of the fault, or how many slaves or parts there are.
     pub fn value(self) -> usize
         ensures { result ≡ fault_value self }
     {
@@ -142,7 +142,7 @@ impl LinkError {
         }
     }
 
-    /// Where the fault stands, or how many slaves or parts there are; nothing for memory.
+    /// The place of the fault, or how many slaves or parts there are; none for memory.
     pub fn value(self) -> Option<usize>
         ensures { result ≡ error_value self }
     {

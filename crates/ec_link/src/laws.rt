@@ -1,4 +1,4 @@
-//! Laws of the definitions: each is the contract of a function that does nothing.
+//! Laws of the definitions. Each function does nothing: its contract is the law.
 
 ghost use Rattle.ec_link.specs.FaultLaw.{FirstLinkFault};
 ghost use Rattle.ec_link.specs.ShownFull.{ShownFullGivesFaces};
@@ -13,13 +13,13 @@ pub fn first_link_fault()
     ensures { FirstLinkFault }
 {}
 
-/// A table shown in full has the table's fault, if any, and the table's plan, but for the faces of its slaves.
+/// A table shown in full has the fault of the table, if any, and the plan of the table except for the faces of its slaves.
 #[tactic(auto, using(crate::proofs::FacesShown::faces))]
 pub fn shown_full_gives_faces()
     ensures { ShownFullGivesFaces }
 {}
 
-/// The compiler accepts a table: what is promised of accepted tables is not empty.
+/// The compiler accepts a table, so what is promised of accepted tables is not empty.
 #[tactic(auto, using(crate::proofs::Accepted::accepted_law))]
 pub fn a_table_is_accepted()
     ensures { AcceptedLaw }
@@ -59,7 +59,7 @@ pub fn linked_bits_are_there()
     ensures { LinkedBitsAreThere }
 {}
 
-/// What is linked to an input of the image is an input of a slave.
+/// Only an input of a slave is linked to an input of the image.
 pub fn linked_inputs_are_there()
     ensures { LinkedInputsAreThere }
 {}
@@ -77,7 +77,7 @@ pub fn slaves_are_of_their_types()
     ensures { SlavesAreOfTheirTypes }
 {}
 
-/// The settings of a slave of a usable plan are four managers of which no two share a byte, and two FMMUs, one for each direction.
+/// The settings of a slave of a usable plan are four managers, no two of which share a byte, and an FMMU for each direction.
 #[tactic(auto, using(crate::proofs::Listed::listed))]
 pub fn settings_are_listed()
     ensures { SettingsAreListed }

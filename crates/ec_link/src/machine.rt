@@ -49,7 +49,7 @@ impl From<LinkError> for MachineError {
     }
 }
 
-/// A link table that the compiler accepts, and its plan. Its value is the table alone, since that fixes the plan.
+/// A link table that the compiler accepts, and its plan. Its value is the table alone, which fixes the plan.
 #[derive(Debug, Drop)]
 pub struct Machine {
     table: Table,

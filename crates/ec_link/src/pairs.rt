@@ -1,4 +1,4 @@
-//! Whether two runs have a bit in common: by pairs, where they are few.
+//! Finds whether two runs have a bit in common: by pairs, if they are few.
 ghost use Rattle.std.specs.Prelude.{◌≡◌, ◌&&◌, All, IfOk};
 ghost use Rattle.std.specs.List.{list_any};
 ghost use Rattle.ec_link.specs.Faults.{first_at};
@@ -9,7 +9,7 @@ use crate::link_runs::{LinkRun, is_out};
 use crate::marks::first_of_many;
 use std::alloc::{AllocError, Global};
 
-/// Up to so many link runs are compared in pairs: that takes no memory, and no longer than to make the marks.
+/// The most link runs that are compared in pairs: this takes no memory, and no longer than to make the marks.
 const FEW: usize = 8;
 
 /// The first link run that gives a bit which an earlier one gives.
@@ -65,7 +65,7 @@ fn give_one_bit(one: &LinkRun, other: &LinkRun) -> bool
     }
 }
 
-/// Whether as many bits from one place on and as many from another share one.
+/// Whether two runs of this many bits, which begin at two places, share a bit.
 fn runs_meet(from: usize, count: usize, other: usize, other_count: usize) -> bool
     ensures { result ≡ runs_meet from count other other_count }
 {

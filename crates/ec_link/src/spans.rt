@@ -11,7 +11,7 @@ use crate::link_runs::{LinkRun, is_out};
 use std::alloc::{AllocError, Global};
 use std::collections::BTreeMap;
 
-/// The first link run that gives a bit which an earlier one gives, in a turn for each link run, by a map of those so far.
+/// The first link run that gives a bit which an earlier one gives, by a map of the runs so far.
 pub fn first_met(alloc: Global, link_runs: &[LinkRun]) -> Result<Option<usize>, AllocError>
     requires { All IsShortRun link_runs.now }
     ensures { IfOk result (λ o. o ≡ first_at (linked_twice link_runs.now) 0 link_runs.now) }
@@ -41,7 +41,7 @@ fn is_met(ends: &BTreeMap<u128, u128>, from: u128, end: u128) -> bool
     }
 }
 
-/// Where a link run begins on the line that has 2^17 numbers for the outputs of each slave and as many for each variable.
+/// The first number of a link run on the line: 2^17 numbers for the outputs of each slave, and as many for each variable.
 fn span_from(link_run: &LinkRun) -> u128
     requires { IsShortRun link_run.now }
     ensures value { result ≡ span_from link_run.now }

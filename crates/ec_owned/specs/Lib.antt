@@ -2,5 +2,5 @@
 
 -- a master with all that it needs, and what its calls do
 pub mod Machines
--- what a text is opened to, and why it isn't
+-- what a text is opened to, and why it can't be opened
 pub mod Opening

@@ -1,4 +1,4 @@
--- A master that owns all it needs, and what its calls do: each is a call of its start-up or of its master.
+-- A master that owns all it needs. Each of its calls is a call of its start-up or of its master.
 use Rattle.std.specs.Prelude.{◌≡◌, ℕ, ◌==◌, Bool, true, false, if◌then◌else◌, List, Option, None, option_and_then, position, slice_get}
 use Rattle.std.specs.Str.{bytes_eq}
 use Rattle.ec_table.specs.Contents.{Contents}
@@ -17,14 +17,14 @@ pub record MachineState : Type 0 where
   pub table : Contents
   pub startup : StartState
   pub master : MasterState
-  -- what the last closing said
+  -- the report of the last closed cycle
   pub report : Option ReportState
 
 -- the machine of a table: start-up and master are new
 abbrev pub new_machine : Contents → MachineState
 new_machine t = record { table = t; startup = begun (plan_of t).slaves 0; master = new_master (plan_of t); report = None }
 
--- a start-up that failed begins anew
+-- a start-up that failed begins again
 abbrev pub resumed : StartState → StartState
 resumed s = if has_failed s.phase then restarted s else s
 
@@ -39,11 +39,11 @@ is_up Idle = false
 is_up (Sent number) = false
 is_up (Failed error) = false
 
--- a master is ready with its start-up
+-- a master becomes ready if its start-up has ended Ready
 abbrev pub ready_with : MasterState → StartState → MasterState
 ready_with m s = if is_up s.phase then readied m s.next else m
 
--- A payload came. It is the start-up's until that has ended Ready, and from then on the master's.
+-- A payload came. The start-up takes it until the master is ready, and the master takes it then.
 pub record IsStarting (old : MachineState) (payload : List ℕ) (is_kept : Bool) (new : MachineState) : Type 0 where
   pub startup : IsStartTaken old.startup payload is_kept new.startup
   pub rest : new ≡ record old { startup = new.startup; master = ready_with old.master new.startup }

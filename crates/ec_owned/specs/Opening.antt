@@ -1,4 +1,4 @@
--- What a text is opened to.
+-- What a text is opened to, and the refusals of an opening.
 use Rattle.std.specs.Prelude.{◌≡◌, ℕ, Bool, List, [], ◌∷◌, Option, Some, None, Ok, IsUtf8, codes}
 use Rattle.ec_slave.specs.State.{SlaveState}
 use Rattle.ec_table.specs.Contents.{Contents, shown_as}
@@ -24,25 +24,25 @@ pub record States (text : List ℕ) (table : Contents) : Type 0 where
 abbrev pub IsOpened : List ℕ → MachineState → Type 0
 IsOpened text m = (table : Contents) × States text table × (m ≡ new_machine table)
 
--- the slaves of that table, full or as it states them, just switched on
+-- the slaves of that table, just switched on; all of them full slaves if `full`
 abbrev pub AreOpened : (full : Bool) → List ℕ → List SlaveState → Type 0
 AreOpened full text slaves = (table : Contents) × States text table × AreSlavesOf (shown_as full table) slaves
 
--- a fault of a table that was read
+-- why a table that was read has no plan: memory ran out, or it is the table's first fault
 abbrev pub IsLinkFault : Contents → OpenError → Type 0
 IsLinkFault table Memory = Unit {0}
 IsLinkFault table (Link error) = LinkFails error (compile_fault table)
 IsLinkFault table _ = ⊥
 
--- Why there are none: memory may run out at any time; the bytes are no text; or it is the first fault of the text or of its
--- table.
+-- Why a text can't be opened: memory may run out at any time; the bytes are not UTF-8; or it is the first fault of the text or
+-- of its table.
 abbrev pub IsOpenFault : List ℕ → OpenError → Type 0
 IsOpenFault text Memory = Unit {0}
 IsOpenFault text Text = IsUtf8 text → ⊥
 IsOpenFault text (Table error) = IsUtf8 text × TableFails error (table_of text)
 IsOpenFault text (Link error) = IsUtf8 text × ((table : Contents) × (table_of text ≡ Ok table) × LinkFails error (compile_fault table))
 
--- ---- the numbers and the names of the errors, and the values behind them
+-- ---- the numbers, the names and the values of the errors
 
 abbrev pub open_number : OpenError → ℕ
 open_number Memory = 1

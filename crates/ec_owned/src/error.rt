@@ -1,4 +1,4 @@
-//! Why a text has no machine.
+//! Why a text can't be opened: the errors of `open_machine` and `open_slaves`.
 ghost use Rattle.std.specs.Prelude.{◌≡◌};
 ghost use Rattle.ec_owned.specs.Opening.{listed, of_place, of_value, open_name, open_number, open_values};
 
@@ -6,20 +6,20 @@ use ec_link::LinkError;
 use ec_table::{Place, TableError};
 use std::alloc::AllocError;
 
-/// Why there is no machine and no slave of a text.
+/// Why a text gives no machine and no slaves.
 #[derive(Clone, Copy, Debug, PartialEq, Eq, Drop)]
 pub enum OpenError {
     /// Memory was refused; the text may be good or bad.
     Memory,
-    /// The bytes are no text in UTF-8.
+    /// The bytes are not UTF-8.
     Text,
-    /// The text is no link table.
+    /// The text is no link table; this is its first fault.
     Table(TableError),
-    /// The table has no plan.
+    /// The table has no plan; this is its first fault.
     Link(LinkError),
 }
 
-/// The values of a refusal.
+/// The values of a refusal, in the order in which they are printed.
 #[derive(Clone, Copy, Debug, PartialEq, Eq, Drop)]
 pub enum Values {
     Empty,
@@ -28,7 +28,7 @@ pub enum Values {
 }
 
 impl OpenError {
-    /// The number by which the program names it.
+    /// The number of the refusal, as the program prints it.
     pub fn number(self) -> u8
         ensures { result ≡ open_number self }
     {
@@ -40,7 +40,7 @@ impl OpenError {
         }
     }
 
-    /// Its name, one word.
+    /// The name of the refusal, one word.
     pub fn name(self) -> &'static str
         ensures { result.now ≡ open_name self }
     {
@@ -52,7 +52,7 @@ impl OpenError {
         }
     }
 
-    /// The values that stand behind the name.
+    /// The values behind the name: none, a fault's place or count, or the section and the place of a table's fault.
     pub fn values(self) -> Values
         ensures { listed result ≡ open_values self }
     {
@@ -97,7 +97,7 @@ impl From<AllocError> for OpenError {
     }
 }
 
-/// The place of a plan's fault, or how many there are.
+/// The value of a plan's fault, a place or a count, if it has one.
 fn values_of_fault(value: Option<usize>) -> Values
     ensures { listed result ≡ of_value value }
 {
@@ -107,7 +107,7 @@ fn values_of_fault(value: Option<usize>) -> Values
     }
 }
 
-/// The section and the place of a table's fault.
+/// The section and the place of a table's fault, if it has them.
 fn values_of_place(place: Option<Place>) -> Values
     ensures { listed result ≡ of_place place }
 {

@@ -1,5 +1,5 @@
-//! Machines that own all they need: the master of a link table, with its start-up, its plan and its names in one value, and the
-//! slaves of one, both opened from the bytes of the table.
+//! Machines that own all they need, opened from the bytes of a link table: a master with its start-up, its plan and its names
+//! in one value, and the table's slaves.
 #![tactic(auto)]
 
 mod error;

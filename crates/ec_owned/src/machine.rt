@@ -1,4 +1,4 @@
-//! A master that owns all it needs.
+//! A master with its start-up and its link table in one value.
 ghost use Rattle.std.specs.Prelude.{◌≡◌, ◌≢◌, ◌==◌, ◌≤◌, ◌<◌, ◌↔◌, true, false, Some, None, length, take, slice_get, is_some, option_and_then, position, IfOk, IfSome, IfNone, IsErr, IfErr, OnOk, OnErr, IsTrue};
 ghost use Rattle.ec_cycle.specs.Closing.{ReportState};
 ghost use Rattle.ec_cycle.specs.Master.{OpenCycle, Begun, IsClosed, begin_refusal, frame_of as part_of, holds_value, missing_of, refused_by, value_at, variable_set};
@@ -19,8 +19,8 @@ use ec_table::Table;
 use std::alloc::{AllocError, Global};
 use std::marker::Model;
 
-/// A master of a link table, with its start-up, its plan and the table's names: it needs nothing lent, and frees all of it
-/// when it is dropped. Whoever has it carries the frames.
+/// A master of a link table, with its start-up, its plan and the table's names. It borrows nothing, and frees all it owns
+/// when it is dropped. The caller carries the frames.
 #[derive(Drop)]
 pub struct MachineMaster {
     table: Table,
@@ -45,7 +45,7 @@ impl MachineMaster {
     ///
     /// # Errors
     ///
-    /// `AllocError` where memory was refused.
+    /// `AllocError` if memory was refused.
     #[tactic(auto, unfolding(ec_start::specs::Running::begun))]
     pub(crate) fn new(alloc: Global, table: Table, plan: Plan) -> Result<MachineMaster, AllocError>
         requires accepted { compile_fault table ≡ None }
@@ -63,9 +63,9 @@ impl MachineMaster {
         })
     }
 
-    /// The next frame of the start-up, written into `room`, and how many bytes it has: 0 where there is none, since one is
-    /// outstanding or the start-up has ended Ready. After a failure the start-up begins anew. A room of less than 1472 bytes
-    /// is answered by 0, and nothing changes.
+    /// Writes the next frame of the start-up into `room`, and returns its length in bytes. Returns 0 if a frame is
+    /// outstanding, the start-up has ended Ready, or no number is left. After a failure the start-up begins again. Returns 0
+    /// and changes nothing if `room` has less than 1472 bytes.
     pub fn next(&mut self, room: &mut [u8]) -> usize
         ensures short { length room.old < 1472 → (result ≡ 0) × (self.new ≡ self.old) }
         ensures state { 1472 ≤ length room.old → self.new ≡ record self.old { startup = asked (resumed self.old.startup) } }
@@ -83,7 +83,7 @@ impl MachineMaster {
         count
     }
 
-    /// Takes a payload that came in, and answers whether it was the answer to a frame of the start-up, or of the open cycle.
+    /// Takes a payload that came in. Returns whether it answers the outstanding frame of the start-up, or one of the open cycle.
     pub fn take(&mut self, payload: &[u8]) -> bool
         ensures { IsGiven self.old payload.now result self.new }
     {
@@ -94,14 +94,14 @@ impl MachineMaster {
         }
     }
 
-    /// How the start-up ended, if it has.
+    /// How the start-up ended; none while it runs.
     pub fn outcome(&self) -> Option<Result<(), StartError>>
         ensures { result ≡ outcome_of self.now.startup.phase }
     {
         self.startup.with_plan(self.master.plan()).outcome()
     }
 
-    /// An answer of the start-up is awaited no longer: one that runs ends as lost.
+    /// Ends a start-up that runs, as `Lost`: its answer is no longer awaited. An ended one stays as it is.
     pub fn give_up(&mut self)
         ensures { self.new ≡ record self.old { startup = given_up self.old.startup } }
     {
@@ -110,11 +110,11 @@ impl MachineMaster {
         self.startup = StartupRest::of(startup);
     }
 
-    /// Begins a cycle: one frame for each part, of the outputs as they are.
+    /// Begins a cycle: makes one frame for each part, from the outputs as they are.
     ///
     /// # Errors
     ///
-    /// `NotReady`, `Open` or `NumbersSpent`, the first that fits; nothing changes.
+    /// The first that holds of `NotReady`, `Open` and `NumbersSpent`; nothing changes.
     pub fn begin(&mut self) -> Result<(), CycleError>
         ensures answer { result ≡ refused_by (begin_refusal self.old.master) }
         ensures begun { OnOk result ((c : OpenCycle) × Begun self.old.master self.new.master c) }
@@ -124,14 +124,14 @@ impl MachineMaster {
         self.master.begin()
     }
 
-    /// How many parts a cycle has.
+    /// The number of parts of a cycle.
     pub fn parts(&self) -> usize
         ensures { result ≡ length self.now.master.plan.parts }
     {
         self.master.plan().parts().len()
     }
 
-    /// The frame of a part of the open cycle, if there is one.
+    /// The frame of a part of the open cycle; none if no cycle is open or there is no such part.
     pub fn part(&self, part: usize) -> Option<&[u8]>
         ensures some { IfSome result (λ frame. frame.now ≡ part_of self.now.master.cycle part) }
         ensures there { IsTrue (is_some result) ↔ ((is_some self.now.master.cycle ≡ true) × (part < length self.now.master.plan.parts)) }
@@ -143,18 +143,18 @@ impl MachineMaster {
         }
     }
 
-    /// How many parts of the open cycle have not come back; 0 where no cycle is open.
+    /// How many parts of the open cycle have not come back; 0 if no cycle is open.
     pub fn missing(&self) -> usize
         ensures { result ≡ missing_of self.now.master.cycle }
     {
         self.master.missing()
     }
 
-    /// Closes the cycle. What it says of it is the report from then on.
+    /// Closes the cycle. What came of it is the report until the next cycle is closed.
     ///
     /// # Errors
     ///
-    /// `NotOpen`; nothing changes.
+    /// `NotOpen` if no cycle is open; nothing changes.
     pub fn close(&mut self) -> Result<(), CycleError>
         ensures not_open { IsErr result ↔ (self.old.master.cycle ≡ None) }
         ensures cause { IfErr result (λ e. e ≡ NotOpen) }
@@ -167,7 +167,7 @@ impl MachineMaster {
         Ok(())
     }
 
-    /// The report of the last closing, if there was one.
+    /// The report of the last closed cycle; none if no cycle was closed yet.
     pub fn report(&self) -> Option<&Report>
         ensures some { IfSome result (λ r. self.now.report ≡ Some r.now) }
         ensures none { IfNone result (self.now.report ≡ None) }
@@ -175,7 +175,7 @@ impl MachineMaster {
         self.report.as_ref()
     }
 
-    /// Whether the inputs of a sync unit were taken in the last report, if that has the unit.
+    /// Whether the last report says that a sync unit was taken; none if there is no report or it doesn't have the unit.
     pub fn unit(&self, unit: u8) -> Option<bool>
         ensures { result ≡ option_and_then (unit_taken unit) self.now.report }
     {
@@ -185,8 +185,8 @@ impl MachineMaster {
         }
     }
 
-    /// A variable of the outputs becomes a value, and answers true; where it isn't there, is an input or doesn't hold the
-    /// value, it answers false, and nothing changes.
+    /// Sets a variable of the outputs, and returns true. Returns false and changes nothing if there is no such variable, it is an
+    /// input, or it has too few bits for the value.
     pub fn set(&mut self, variable: usize, value: u64) -> bool
         ensures answer { result ≡ holds_value value (slice_get self.old.master.plan.variables variable) }
         ensures set { result ≡ true → self.new ≡ record self.old { master = variable_set self.old.master variable value } }
@@ -199,7 +199,7 @@ impl MachineMaster {
         true
     }
 
-    /// What a variable is, if it is there.
+    /// The value of a variable; none if there is no such variable.
     pub fn get(&self, variable: usize) -> Option<u64>
         ensures some { IfSome result (λ value. value ≡ value_at self.now.master (slice_get self.now.master.plan.variables variable)) }
         ensures there { IsTrue (is_some result) ↔ (variable < length self.now.master.plan.variables) }
@@ -211,8 +211,8 @@ impl MachineMaster {
         }
     }
 
-    /// The image of all outputs becomes these bytes where they are as many as it has, and else nothing changes. It answers how
-    /// many it has.
+    /// Sets the image of all outputs if `outputs` has as many bytes as the image, and else changes nothing. Returns the number of
+    /// bytes of the image.
     pub fn set_outputs(&mut self, outputs: &[u8]) -> usize
         ensures size { result ≡ length self.old.master.outputs }
         ensures set { length outputs.now ≡ result → self.new ≡ record self.old { master = record self.old.master { outputs = outputs.now } } }
@@ -225,14 +225,14 @@ impl MachineMaster {
         size
     }
 
-    /// The image of all inputs.
+    /// The image of all inputs, as bytes.
     pub fn inputs(&self) -> &[u8]
         ensures { result.now ≡ self.now.master.inputs }
     {
         self.master.inputs()
     }
 
-    /// The number of the variable with this name, if there is one.
+    /// The number of the variable with this name; none if there is no such variable.
     pub fn variable(&self, name: &str) -> Option<usize>
         ensures { result ≡ variable_named self.now.table name.now }
     {
@@ -242,7 +242,7 @@ impl MachineMaster {
             .position(|row| row.name.as_str() == name)
     }
 
-    /// Gives a payload to the master.
+    /// Gives a payload to the master, and returns whether it was kept.
     fn take_cyclic(&mut self, payload: &[u8]) -> bool
         ensures { IsCyclic self.old payload.now result self.new }
     {
@@ -252,7 +252,7 @@ impl MachineMaster {
         }
     }
 
-    /// Gives a payload to the start-up; where that ends Ready by it, the master is ready.
+    /// Gives a payload to the start-up, and returns whether it was kept. If the start-up is Ready then, the master becomes ready.
     fn take_starting(&mut self, payload: &[u8]) -> bool
         ensures { IsStarting self.old payload.now result self.new }
     {
@@ -264,7 +264,7 @@ impl MachineMaster {
     }
 }
 
-/// Where a start-up has ended Ready, its master is ready.
+/// Makes the master ready if the start-up has ended Ready.
 fn make_ready(master: &mut OwnMaster, startup: StartupRest)
     requires { IsOfPlan master.old.plan.slaves startup }
     ensures ready { master.new ≡ ready_with master.old (rejoined master.old.plan.slaves startup) }
@@ -277,7 +277,7 @@ fn make_ready(master: &mut OwnMaster, startup: StartupRest)
     }
 }
 
-/// Gives a payload to a start-up, and answers whether it was kept.
+/// Gives a payload to a start-up, and returns whether it was kept.
 #[tactic(auto, using(crate::proofs::Plans::take_plan))]
 fn take_start(startup: &mut Startup<'_>, payload: &[u8]) -> bool
     ensures taken { IsStartTaken startup.old payload.now result startup.new }
@@ -289,8 +289,8 @@ fn take_start(startup: &mut Startup<'_>, payload: &[u8]) -> bool
     }
 }
 
-/// Writes the next frame of a start-up, which begins anew if it failed, and answers how many bytes it has, or 0 where there is
-/// none.
+/// Writes the next frame of a start-up into `room`, and returns its length in bytes; 0 if there is none. A start-up that failed
+/// begins again.
 #[tactic(auto, using(crate::proofs::Plans::next_plan))]
 fn write_next(startup: &mut Startup<'_>, room: &mut [u8]) -> usize
     requires { 1472 ≤ length room.old }
@@ -312,7 +312,7 @@ fn write_next(startup: &mut Startup<'_>, room: &mut [u8]) -> usize
     }
 }
 
-/// A start-up that failed begins anew.
+/// Begins a start-up again if it failed.
 fn resume(startup: &mut Startup<'_>)
     ensures { startup.new ≡ resumed startup.old }
 {
@@ -321,14 +321,14 @@ fn resume(startup: &mut Startup<'_>)
     }
 }
 
-/// Whether the inputs of a unit were taken, if a report has the unit.
+/// Whether a report says that a sync unit was taken; none if the report doesn't have the unit.
 fn unit_in(report: &Report, unit: u8) -> Option<bool>
     ensures { result ≡ unit_taken unit report.now }
 {
     answer_at(report.units_taken(), place_of(report.units(), unit))
 }
 
-/// What stands at a place, if there is one.
+/// The element at a place, if there is one.
 fn answer_at(answers: &[bool], place: Option<usize>) -> Option<bool>
     ensures { result ≡ option_and_then (λ k. slice_get answers.now k) place }
 {
@@ -338,7 +338,7 @@ fn answer_at(answers: &[bool], place: Option<usize>) -> Option<bool>
     }
 }
 
-/// The place of a number.
+/// The first place of a number.
 fn place_of(numbers: &[u8], wanted: u8) -> Option<usize>
     ensures { result ≡ position (λ n. n == wanted) numbers.now }
 {

@@ -18,7 +18,7 @@ use Rattle.ec_sii.specs.declared.categories.ShownManager.{ShownManager}
 abbrev pub pair : ℕ → ℕ → ℕ
 pair low high = low + 256 * high
 
--- bytes in words; where their number is odd, a byte 0 follows the last
+-- bytes in words; if their number is odd, a byte 0 follows the last
 abbrev pub words_of : List ℕ → List ℕ
 words_of [] = []
 words_of (last ∷ []) = pair last 0 ∷ []
@@ -56,12 +56,12 @@ strings_words name = words_of (1 ∷ length name ∷ name)
 
 -- ---- general (type 30), 32 bytes
 
--- byte 5, the CoE details: bit 0, SDO, and bit 2, PDO assignment, where there is a mailbox
+-- byte 5, the CoE details: bit 0, SDO, and bit 2, PDO assignment, if there is a mailbox
 abbrev pub coe_details : Option Mailbox → ℕ
 coe_details None = 0
 coe_details (Some m) = 0x05
 
--- byte 11, the flags: bit 1, no LRW, where the type takes no part in it
+-- byte 11, the flags: bit 1, no LRW, if the type takes no part in it
 abbrev pub general_flags : Bool → ℕ
 general_flags true = 0
 general_flags false = 0x02
@@ -92,7 +92,7 @@ fmmus_words kind = pair (for_outputs kind.outputs) (for_inputs kind.inputs) ∷ 
 -- ---- sync managers (type 41), eight bytes each: the settings that a master gives them, and what they are used for. The
 -- usages 1 and 2 are the mailboxes that a master writes and reads, 3 and 4 the process data, outputs and inputs.
 
--- managers 0 and 1, where there are mailboxes
+-- managers 0 and 1, if there are mailboxes
 abbrev pub mailbox_managers : Option Mailbox → List ShownManager
 mailbox_managers None =
     record { settings = no_settings; usage = 0 } ∷ record { settings = no_settings; usage = 0 } ∷ []
@@ -134,7 +134,7 @@ abbrev pub pdo_words : ℕ → Pdo → List ℕ
 pdo_words manager p =
     (p.index ∷ pair (length p.entries) manager ∷ pair 0 0 ∷ 0 ∷ []) ++ flat_map entry_words p.entries
 
--- the category of a direction, which is left out where it has no PDOs
+-- the category of a direction, which is left out if it has no PDOs
 abbrev pub pdos_category : (number manager : ℕ) → List Pdo → List ℕ
 pdos_category number manager [] = []
 pdos_category number manager (p ∷ ps) = category number (flat_map (pdo_words manager) (p ∷ ps))

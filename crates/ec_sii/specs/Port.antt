@@ -45,7 +45,7 @@ sii_byte p address =
 
 -- ---- what datagrams write
 
--- the byte that a datagram, whose bytes lie from `from` on, has for an address
+-- the byte that a datagram, whose bytes begin at `from`, has for an address
 abbrev pub byte_for : ℕ → List ℕ → ℕ → Option ℕ
 byte_for from bytes address = if within from (length bytes) address then Some (slice_index bytes (address - from)) else None
 

@@ -17,7 +17,7 @@ low_word n = n % 65536
 abbrev pub high_word : ℕ → ℕ
 high_word n = n / 65536
 
--- the eight words from 0x08 on
+-- the eight words at 0x08 and behind
 abbrev pub identity_words : Identity → List ℕ
 identity_words i =
     low_word i.vendor ∷ high_word i.vendor
@@ -29,7 +29,7 @@ identity_words i =
 abbrev pub coe_protocol : ℕ
 coe_protocol = 4
 
--- the five words from 0x18 on
+-- the five words at 0x18 and behind
 abbrev pub mailbox_words : Option Mailbox → List ℕ
 mailbox_words None = 0 ∷ 0 ∷ 0 ∷ 0 ∷ 0 ∷ []
 mailbox_words (Some m) = m.receive_start ∷ m.receive_size ∷ m.send_start ∷ m.send_size ∷ coe_protocol ∷ []
@@ -71,7 +71,7 @@ word_at image address =
 
 -- ---- the image of a slave
 
--- a slave of a type is full where the type has a face
+-- a slave of a type is full if the type has a face
 abbrev pub image_of : SlaveKind → Identity → SiiImage
 image_of kind identity = record {
   identity = identity;

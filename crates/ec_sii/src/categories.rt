@@ -10,17 +10,17 @@ use ec_regs::{
 };
 use std::alloc::{AllocError, Global};
 
-/// The type of the strings.
+/// The type of the category of strings.
 const STRINGS: u16 = 10;
-/// The type of what is common to the slave.
+/// The type of the general category.
 const GENERAL: u16 = 30;
-/// The type of the FMMUs.
+/// The type of the category of FMMUs.
 const FMMUS: u16 = 40;
-/// The type of the sync managers.
+/// The type of the category of sync managers.
 const MANAGERS: u16 = 41;
-/// The type of the PDOs that the slave sends (TxPDO).
+/// The type of the category of PDOs that the slave sends (TxPDO).
 const INPUT_PDOS: u16 = 50;
-/// The type of the PDOs that the slave receives (RxPDO).
+/// The type of the category of PDOs that the slave receives (RxPDO).
 const OUTPUT_PDOS: u16 = 51;
 
 /// The categories of a slave of a type, with this name. The error says that memory was refused.
@@ -135,7 +135,7 @@ fn general(kind: &SlaveType) -> [u16; 16]
     words
 }
 
-/// What the FMMUs are for: the first for outputs (1) and the second for inputs (2), where there are any.
+/// The uses of the FMMUs: the first is for outputs (1) and the second for inputs (2), if there are any.
 fn fmmus(kind: &SlaveType) -> [u16; 2]
     ensures { result ≡ fmmus_words kind.now }
 {

@@ -12,9 +12,9 @@ use std::alloc::{AllocError, Global};
 /// The words of a slave's SII (ETG.1000.6, "Slave information interface area").
 #[derive(Debug, Drop)]
 pub struct SiiImage {
-    /// Who the slave is.
+    /// The identity of the slave.
     pub identity: Identity,
-    /// Where its mailboxes lie, if it has any.
+    /// The places of its mailboxes, if it has any.
     pub mailbox: Option<Mailbox>,
     /// The words of the categories of a full slave, one category after another.
     pub categories: Option<Listed<u16>>,
@@ -32,7 +32,7 @@ impl SiiImage {
         }
     }
 
-    /// The image of a slave of a type, which is full where the type has a face. The error says that memory was
+    /// The image of a slave of a type, which is full if the type has a face. The error says that memory was
     /// refused; the image of a slave that isn't full takes none.
     pub fn of(alloc: Global, kind: &SlaveType, identity: Identity) -> Result<SiiImage, AllocError>
         ensures { IfOk result (λ image. image ≡ image_of kind.now identity) }
@@ -45,7 +45,7 @@ impl SiiImage {
         })
     }
 
-    /// How many kibibits, of 64 words each, the image has: 1, or of a full slave as many as its categories need.
+    /// The size of the image in kibibits, of 64 words each: 1, or as many as the categories of a full slave need.
     pub(crate) fn size(&self) -> usize
         ensures value { result ≡ size_of self.now.categories }
         ensures limit { result < 2 ^ 57 }
@@ -58,8 +58,8 @@ impl SiiImage {
 
     /// The word at a word address: 0x08 vendor, 0x0A product, 0x0C revision and 0x0E serial number, two words each
     /// and the low one first; 0x18 offset and 0x19 size of the receive mailbox, 0x1A and 0x1B those of the send
-    /// mailbox, 0x1C the mailbox protocols (bit 2: CoE). Of a full slave 0x3E is the size in kibibits less 1, 0x3F the
-    /// version, 1, and from 0x40 on the categories stand, with 0xFFFF behind them. All others are 0.
+    /// mailbox, 0x1C the mailbox protocols (bit 2: CoE). A full slave has at 0x3E the size in kibibits less 1, at 0x3F the
+    /// version, 1, and at 0x40 and above the categories, with 0xFFFF behind them. All others are 0.
     #[tactic(auto, unfolding(crate::specs::SiiImage::word_at))]
     pub fn word(&self, address: usize) -> u16
         ensures { result ≡ word_at self.now address }
@@ -71,7 +71,7 @@ impl SiiImage {
         }
     }
 
-    /// The word at a word address where neither the identity nor the mailboxes stand.
+    /// The word at a word address, outside those of the identity and the mailboxes.
     fn other_word(&self, address: usize) -> u16
         ensures { result ≡ other_word self.now.categories address }
     {
@@ -82,13 +82,13 @@ impl SiiImage {
     }
 }
 
-/// Where the size of a full slave's image stands, in kibibits less 1.
+/// The word address of the size of a full slave's image, in kibibits less 1.
 const SIZE: usize = 0x3E;
-/// Where the version of its image stands.
+/// The word address of the version of its image.
 const VERSION: usize = 0x3F;
-/// Where its categories begin.
+/// The word address of its categories.
 const CATEGORIES: usize = 0x40;
-/// What stands behind them.
+/// The end mark behind them.
 const END_MARK: u16 = 0xFFFF;
 
 /// The fewest kibibits, of 64 words each, that hold the first 64 words, these categories, the end mark and one
@@ -100,7 +100,7 @@ fn kibibits(categories: &[u16]) -> usize
     (CATEGORIES + categories.len() + 2).div_ceil(64)
 }
 
-/// A word of a full slave, with these categories, where neither the identity nor the mailboxes stand.
+/// A word of a full slave, with these categories, outside those of the identity and the mailboxes.
 fn category_word(categories: &[u16], address: usize) -> u16
     ensures { result ≡ other_word (Some categories.now) address }
 {

@@ -9,13 +9,13 @@ pub fn images_spell_identities()
     ensures { ImagesSpellIdentities }
 {}
 
-/// The words of an image say where the mailboxes lie; without mailboxes, and past a plain image, they are 0.
+/// The words of an image give the places of the mailboxes; without mailboxes, and past a plain image, they are 0.
 #[tactic(auto, unfolding(crate::specs::SiiImage::word_at))]
 pub fn images_spell_mailboxes()
     ensures { ImagesSpellMailboxes }
 {}
 
-/// An image has 64 words, and more of a full slave.
+/// An image has 64 words; that of a full slave has more.
 pub fn images_have_sixty_four_words()
     ensures { ImagesHaveSixtyFourWords }
 {}
@@ -25,7 +25,7 @@ pub fn plain_types_have_plain_images()
     ensures { PlainTypesHavePlainImages }
 {}
 
-/// The categories stand from 0x40 on, and the end mark fills the image behind them.
+/// The categories begin at 0x40, and the end mark fills the image behind them.
 pub fn categories_are_shown()
     ensures { CategoriesAreShown }
 {}

@@ -1,7 +1,7 @@
-//! The slave information interface (SII) of a simulated slave: an image of 64 words that says who the slave is and
-//! where its mailboxes lie, and behind them, of a full slave, the categories, which say what it is called and what its
-//! sync managers and PDOs are; and the port by which a master reads the image (ETG.1000.4 and ETG.1000.6, "Slave
-//! information interface"). It can't be written.
+//! The slave information interface (SII) of a simulated slave: an image of 64 words with the identity of the slave and
+//! the places of its mailboxes. A full slave has categories behind them, with its name, its
+//! sync managers and its PDOs. A master reads the image by a port (ETG.1000.4 and ETG.1000.6, "Slave
+//! information interface"), and can't write it.
 #![tactic(auto)]
 
 mod categories;

@@ -7,7 +7,7 @@ use ec_regs::SiiControl;
 use ec_regs::registers::{SII_ADDRESS, SII_CONTROL, SII_DATA};
 use std::marker::Model;
 
-/// Where the command stands: the high byte of the control and status word, whose low byte reads 0.
+/// The address of the command: the high byte of the control and status word, whose low byte reads 0.
 const COMMAND: usize = SII_CONTROL + 1;
 
 /// The first address after the four bytes of the data.
@@ -52,7 +52,7 @@ impl Port {
         }
     }
 
-    /// Does nothing. Its contract says what holds of every port: the word address has 32 bits.
+    /// Does nothing. Its contract says that the word address of every port has 32 bits.
     pub fn is_sound(&self)
         ensures { self.now.address < 2 ^ 32 }
     {
@@ -66,7 +66,7 @@ impl Port {
         self.is_busy
     }
 
-    /// The byte that an address reads, 0 where it is none of 0x0502 to 0x050B.
+    /// The byte that an address reads, 0 if it is none of 0x0502 to 0x050B.
     #[tactic(auto, unfolding(crate::specs::Port::sii_byte))]
     pub fn read(&self, address: usize) -> u8
         ensures { result ≡ sii_byte self.now address }
@@ -79,8 +79,8 @@ impl Port {
         }
     }
 
-    /// A datagram writes bytes to the addresses from `from` on; those outside 0x0502 to 0x0507 are left alone. While
-    /// the port is busy nothing changes. Else the bytes are stored, and then that of 0x0503, if there is one, gives a
+    /// A datagram writes bytes to the addresses that begin at `from`; those outside 0x0502 to 0x0507 are ignored. While
+    /// the port is busy nothing changes. Otherwise the bytes are stored, and then that of 0x0503, if there is one, gives a
     /// command by its bits 0 to 2: 0 clears the error, 1 begins a read, any other is an error.
     #[tactic(auto, unfolding(crate::specs::Port::written))]
     pub fn write(&mut self, from: usize, bytes: &[u8])
@@ -117,7 +117,7 @@ impl Port {
         }
     }
 
-    /// The port is as at power-on, with the image that it has.
+    /// Puts the port back to power-on, with the image that it has.
     pub fn reset(&mut self)
         ensures { self.new ≡ idle_port self.old.image }
     {
@@ -135,7 +135,7 @@ impl Port {
         (SiiControl::new(self.is_busy as u8, self.is_error, self.is_busy).0 / 256) as u8
     }
 
-    /// The last word address at which two words stand in the image: 62, or of a full slave more.
+    /// The last word address at which the image has two words: 62, or more in a full slave.
     fn last_address(&self) -> usize
         ensures { result ≡ last_address self.now.image }
     {
@@ -143,7 +143,7 @@ impl Port {
     }
 }
 
-/// The byte that a datagram, whose bytes lie from `from` on, has for an address.
+/// The byte that a datagram, whose bytes begin at `from`, has for an address.
 fn byte_for(from: usize, bytes: &[u8], address: usize) -> Option<u8>
     ensures { result ≡ byte_for from bytes.now address }
 {

@@ -1,5 +1,5 @@
--- The rule of the lowest manager said of all managers at once: a manager's value gets what a datagram brings to the bytes
--- that this manager governs among all, only a datagram that gets at such a byte writes or reads it, and no manager is
+-- The rule of the lowest manager, stated for all managers at once. A manager's value gets what a datagram brings to the bytes
+-- that this manager governs among all; only a datagram that gets at such a byte writes or reads it; and no manager is
 -- judged by what another has become.
 use Rattle.std.specs.Prelude.{ℕ, ◌+◌, ◌*◌, ◌/◌, ◌≡◌, ◌==◌, ◌&&◌, List, [], ◌∷◌, Bool, false, if◌then◌else◌, Option, Some, None}
 use Rattle.ec_bits.specs.Bits.{overlay, zeros}
@@ -28,7 +28,7 @@ governs_among all n a = is_governor n (governor all a)
 abbrev pub value_among : List SyncManager → Window → ℕ → ℕ → ℕ → List ℕ
 value_among all w n start len = retold (zeros len) (λ k. if governs_among all n (start + k) then byte_from w (start + k) else None)
 
--- the same bit by bit
+-- this value bit by bit
 abbrev pub bits_among : List SyncManager → List FmmuSettings → Place → List ℕ → ℕ → ℕ → ℕ → List ℕ
 bits_among all fs p bytes n start len =
     overlay (zeros len) (λ k. only_if (governs_among all n ((8 * start + k) / 8)) (brought fs p bytes (8 * start + k)))

@@ -14,24 +14,24 @@ is_running SafeOp = true
 is_running Op = true
 is_running state = false
 
--- the last outputs that were published whole; none where manager 2 isn't a set buffered manager
+-- the last outputs that were published whole; none if manager 2 isn't a set buffered manager
 abbrev pub outputs_shown : SlaveState → List ℕ
 outputs_shown s =
     let m = manager_at s.managers 2 in
     if is_set m.settings && is_buffered m.settings then m.buffer.published else []
 
--- how many bytes of outputs the application may read now, 0 where it is denied every byte
+-- how many bytes of outputs the application may read now, 0 if every byte is denied
 abbrev pub get_size : SlaveState → ℕ
 get_size s = let m = manager_at s.managers 2 in if is_running s.al.state && may_app_get m then m.settings.length else 0
 
--- how many bytes of inputs it may write now, 0 where it is denied every byte
+-- how many bytes of inputs it may write now, 0 if every byte is denied
 abbrev pub put_size : SlaveState → ℕ
 put_size s = let m = manager_at s.managers 3 in if is_running s.al.state && may_app_put m then m.settings.length else 0
 
 abbrev pub with_manager : SlaveState → ℕ → SyncManager → SlaveState
 with_manager s n m = record s { managers = slice_set s.managers n m }
 
--- the application writes byte i of the inputs: nothing where it is denied
+-- the slave after its application wrote byte i of the inputs; none if it is denied
 abbrev pub input_put : SlaveState → ℕ → ℕ → Option SlaveState
 input_put s i x = if is_running s.al.state then option_map (with_manager s 3) (app_put (manager_at s.managers 3) i x) else None
 
@@ -40,7 +40,7 @@ unfoldable pub inputs_put : SlaveState → List ℕ → ℕ → SlaveState
 inputs_put s inputs zero = s
 inputs_put s inputs (suc n) = unwrap_or (input_put (inputs_put s inputs n) n (slice_index inputs n)) (inputs_put s inputs n)
 
--- the application reads byte i of the outputs: nothing where it is denied
+-- what the application gets of byte i of the outputs; none if it is denied
 abbrev pub output_got : SlaveState → ℕ → Option Got
 output_got s i = if is_running s.al.state then app_got (manager_at s.managers 2) i else None
 

@@ -1,5 +1,5 @@
 -- What a datagram carries from slave to slave, as private code holds it: command, address, working counter and data. No
--- slave asks for the other fields.
+-- slave reads the other fields.
 use Rattle.std.specs.Prelude.{ℕ, Bool, true, false, List}
 use Rattle.ec_frame.specs.declared.command.Command.{Command}
 use Rattle.ec_frame.specs.declared.command.Command.TheVariants.{Nop, Aprd, Apwr, Aprw, Fprd, Fpwr, Fprw, Brd, Bwr, Brw, Lrd, Lwr, Lrw, Armw, Frmw}

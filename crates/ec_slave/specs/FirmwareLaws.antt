@@ -53,8 +53,8 @@ pub record IsGranted (s : SlaveState) (old new : State) : Type 0 where
   pub waits : s.al.requested ≡ true
   pub asked : requested_number (control_word s) ≡ state_number new
 
--- OP is reached only from SAFEOP, by a request for it. From PREOP to SAFEOP a firmware step leads only where managers 2 and 3 are
--- as the PDOs that are assigned want them, and from INIT to PREOP only where managers 0 and 1 are the type's mailboxes.
+-- OP is reached only from SAFEOP, by a request for it. A firmware step leads from PREOP to SAFEOP only if managers 2 and 3 are
+-- as the PDOs that are assigned want them. It leads from INIT to PREOP only if managers 0 and 1 are the type's mailboxes.
 abbrev pub StatesAreEntered : Type 0
 StatesAreEntered =
     (s : SlaveState) →
@@ -62,7 +62,7 @@ StatesAreEntered =
     × ((served s).al.state ≡ SafeOp → s.al.state ≡ PreOp → ((checks_of s).outputs ≡ true) × ((checks_of s).inputs ≡ true))
     × ((served s).al.state ≡ PreOp → s.al.state ≡ Init → (checks_of s).mailbox ≡ true)
 
--- Where PREOP is entered from INIT, the next reply has number 1.
+-- If PREOP is entered from INIT, the next reply has number 1.
 abbrev pub FirstReplyIsOne : Type 0
 FirstReplyIsOne = (s : SlaveState) → s.al.state ≡ Init → (request_decided s).al.state ≡ PreOp → reply_counter (request_decided s).replies ≡ 1
 
@@ -87,7 +87,7 @@ pub record FitTogether (ps : List Pdo) : Type 0 where
   pub apart : AllPairs (λ p q. p.index ≢ q.index) ps
   pub bits : pdos_bits ps ≤ max_bits
 
--- Where the power comes on all PDOs are assigned; so the assignments are of that kind where a type's PDOs fit together.
+-- All PDOs are assigned when the power comes on. So the assignments are of that kind if a type's PDOs fit together.
 abbrev pub PowerOnAssigns : Type 0
 PowerOnAssigns = (kind : SlaveKind) (identity : Identity) → FitTogether kind.outputs → FitTogether kind.inputs → IsAssigned (power_on kind identity)
 

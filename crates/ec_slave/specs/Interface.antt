@@ -156,7 +156,7 @@ pub record KeepsBesideMessages (s t : SlaveState) : Type 0 where
 abbrev pub MessagesKeep : Type 0
 MessagesKeep = (s : SlaveState) → KeepsBesideMessages s (message_served s)
 
--- No message is taken where none is, in INIT, and by a type without a mailbox.
+-- No message is taken if there is none, in INIT, or by a type without a mailbox.
 pub record RestsWithoutMessages (s t : SlaveState) : Type 0 where
   pub waits : is_served s ≡ false → t ≡ s
   pub empty : (manager_at s.managers 0).mail ≡ None → t ≡ s
@@ -180,7 +180,7 @@ RequestsAreAnswered =
 
 -- ---- a fault, and the application
 
--- In OP a fault takes the state back and empties and locks the outputs; elsewhere there is none.
+-- In OP a fault takes the state back, and empties and locks the outputs; in other states it does nothing.
 pub record IsAfterFault (s t : SlaveState) : Type 0 where
   pub in_op : al.is_operational s.al.state ≡ true → t ≡ record s { al = al.faulted s.al; managers = slice_set s.managers 2 (locked_empty (manager_at s.managers 2)) }
   pub elsewhere : al.is_operational s.al.state ≡ false → t ≡ s
@@ -198,16 +198,16 @@ pub record GoByBytes (s : SlaveState) (inputs : List ℕ) : Type 0 where
 abbrev pub ApplicationsGoByBytes : Type 0
 ApplicationsGoByBytes = (s : SlaveState) (inputs : List ℕ) → GoByBytes s inputs
 
--- nothing is left of a read of its outputs that was begun
+-- the manager after a read of its outputs has ended
 abbrev pub view_closed : SyncManager → SyncManager
 view_closed m = record m { buffer = record m.buffer { view = None } }
 
--- its inputs are published, and nothing is left of what was begun to be written
+-- the manager with these inputs published, and without a draft
 abbrev pub inputs_published : SyncManager → List ℕ → SyncManager
 inputs_published m inputs = record m { buffer = record m.buffer { published = inputs; draft = None } }
 
 -- Whole values. An application that reads all bytes of its outputs, one after the other, sees those that were published last, and
--- closes its view; one that writes all bytes of its inputs publishes them as one value. Where it has none, the slave stays.
+-- closes its view; one that writes all bytes of its inputs publishes them as one value. If it has none, the slave stays.
 pub record GoesWhole (s : SlaveState) : Type 0 where
   pub seen : take (get_size s) (outputs_shown s) ≡ (if get_size s == 0 then [] else (manager_at s.managers 2).buffer.published)
   pub taken : outputs_taken s (get_size s) ≡ (if get_size s == 0 then s else with_manager s 2 (view_closed (manager_at s.managers 2)))
@@ -312,7 +312,7 @@ pub record IsLogical (s : SlaveState) (d : Datagram) : Type 0 where
 abbrev pub LogicalCommandsMeet : Type 0
 LogicalCommandsMeet = (s : SlaveState) (d : Datagram) → IsLogical s d
 
--- a list that is retold: each number that is told anew, and all others as they were
+-- a list some of whose numbers are replaced: f has the new number at such a place, and none at any other
 pub record IsRetold (xs : List ℕ) (f : ℕ → Option ℕ) : Type 0 where
   pub long : length (retold xs f) ≡ length xs
   pub each : (k : ℕ) → k < length xs → slice_index (retold xs f) k ≡ unwrap_or (f k) (slice_index xs k)
@@ -320,7 +320,7 @@ pub record IsRetold (xs : List ℕ) (f : ℕ → Option ℕ) : Type 0 where
 abbrev pub RetoldByPlace : Type 0
 RetoldByPlace = (xs : List ℕ) (f : ℕ → Option ℕ) → IsRetold xs f
 
--- told anew at each place, it is what was told
+-- if f has a number at each place, the list is these numbers
 abbrev pub RetoldWhole : Type 0
 RetoldWhole = (xs ys : List ℕ) (f : ℕ → Option ℕ) → length xs ≡ length ys → ((k : ℕ) → k < length ys → f k ≡ Some (slice_index ys k)) → retold xs f ≡ ys
 
@@ -384,7 +384,7 @@ SlavesShowThemselves = (s : SlaveState) → ShowsItself s
 
 -- ---- the RAM, and the managers that govern it
 
--- a byte of the RAM may be read, and written, where its governor lets it, and reads what it shows
+-- a byte of the RAM may be read, and written, if its governor lets it, and reads what that shows
 pub record IsRam (s : SlaveState) (a : ℕ) : Type 0 where
   pub reads : (touched : ℕ → Bool) → may_read_byte s.managers touched a ≡ reads_under s.managers touched a (governor s.managers a)
   pub writes : (busy : Bool) (touched : ℕ → Bool) → may_write_byte s.managers busy touched a ≡ writes_under s.managers touched a (governor s.managers a)
@@ -393,7 +393,7 @@ pub record IsRam (s : SlaveState) (a : ℕ) : Type 0 where
 abbrev pub RamIsGoverned : Type 0
 RamIsGoverned = (s : SlaveState) (a : ℕ) → ram_start ≤ a → a < ram_end → IsRam s a
 
--- one manager under a read, or under a write that sets nothing of it: read or written where the access gets at it and is let
+-- one manager under a read, or under a write that sets nothing of it: it is read or written if the access gets at it and may be
 pub record IsAccessed (lower : List SyncManager) (w : Window) (n : ℕ) (m : SyncManager) : Type 0 where
   pub read : physical_manager lower true false w n m ≡ (if is_read_by (touches w) (is_ungoverned lower) m then ring_read m else m)
   pub written : is_configured w n ≡ false

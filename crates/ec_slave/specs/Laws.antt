@@ -43,7 +43,7 @@ CountsWhatItChanges =
     (s : SlaveState) (d : Datagram) → IsSlave s → d.counter < 65536 → (datagram_met s d).counter ≡ d.counter
     → (slave_met s d ≡ s) × ((datagram_met s d).data_bytes ≡ d.data_bytes)
 
--- the byte of address a after a write: where the memory itself keeps it, the data byte that belongs to it; else what it was
+-- the byte of address a after a write: the data byte that belongs to it if the memory itself keeps it; else what it was
 pub record IsWrittenAt (ms : List SyncManager) (w : Window) (memory : List ℕ) (a : ℕ) : Type 0 where
   pub taken : touches w a ≡ true → is_kept ms a ≡ true → slice_index (memory_written ms w memory) a ≡ slice_index w.bytes (a - w.from)
   pub refused : is_kept ms a ≡ false → slice_index (memory_written ms w memory) a ≡ slice_index memory a
@@ -54,7 +54,7 @@ WritesByByte =
     (ms : List SyncManager) (w : Window) (memory : List ℕ)
     → (length (memory_written ms w memory) ≡ length memory) × ((a : ℕ) → a < length memory → IsWrittenAt ms w memory a)
 
--- data byte k after a read: what its address reads, in a broadcast joined by OR, or what it was where it may not be read
+-- data byte k after a read: what its address reads, joined by OR in a broadcast, or what it was if it may not be read
 pub record IsReadAt (s : SlaveState) (joining : Bool) (w : Window) (k : ℕ) : Type 0 where
   pub given : may_read_byte s.managers (touches w) (w.from + k) ≡ true
       → slice_index (retold w.bytes (byte_read s joining w)) k ≡ (if joining then bit_or (slice_index w.bytes k) (byte_at s (w.from + k)) else byte_at s (w.from + k))

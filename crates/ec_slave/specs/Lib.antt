@@ -12,7 +12,7 @@ pub mod Application
 pub mod Checking
 pub mod Serving
 pub mod Faulting
--- Laws: what follows from that, as statements: what holds of every slave, and laws, the same in other words.
+-- Laws: what follows from that, as statements: what holds of every slave, and laws, these definitions in other words.
 pub mod Sound
 pub mod Laws
 pub mod AgainstAll

@@ -11,7 +11,7 @@ abbrev pub reads_under : List SyncManager → (ℕ → Bool) → ℕ → Option 
 reads_under ms touched a None = true
 reads_under ms touched a (Some n) = in_first_buffer (manager_at ms n) a && (covers touched (manager_at ms n) && may_read (manager_at ms n))
 
--- the same for a write
+-- whether it is written so
 abbrev pub writes_under : List SyncManager → (ℕ → Bool) → ℕ → Option ℕ → Bool
 writes_under ms touched a None = true
 writes_under ms touched a (Some n) = in_first_buffer (manager_at ms n) a && (covers touched (manager_at ms n) && may_write (manager_at ms n))
@@ -21,8 +21,8 @@ abbrev pub shown_under : List ℕ → List SyncManager → ℕ → Option ℕ �
 shown_under memory ms q None = bit memory q
 shown_under memory ms q (Some n) = bit (shown (manager_at ms n)) (q - 8 * (manager_at ms n).settings.start)
 
--- One manager after an access: written, if the access writes, gets at it and is let; else read likewise, which empties a
--- mailbox; else as it was. `value` says what a write leaves in a manager that begins at an address and has so many bytes.
+-- One manager after an access. It is written, if the access writes, gets at it and may; else read in the same way, which empties
+-- a mailbox; else as it was. `value` is what a write leaves in a manager, by its start and its length in bytes.
 abbrev pub manager_after : Bool → Bool → (ℕ → Bool) → (ℕ → Bool) → (ℕ → Bool) → (ℕ → ℕ → List ℕ) → SyncManager → SyncManager
 manager_after reads writes read_touches write_touches own value m =
     if writes && is_written_by write_touches own m then ring_written m (value m.settings.start m.settings.length)

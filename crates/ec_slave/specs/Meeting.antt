@@ -12,8 +12,8 @@ use Rattle.ec_slave.specs.Logical.{meets_logically}
 abbrev pub window_of : Datagram → Window
 window_of d = record { from = ado_of d; bytes = d.data_bytes }
 
--- A physical command: the role goes by the station address as it is when the datagram comes, so that a station address
--- that a datagram writes counts from the next datagram on.
+-- A physical command. The role goes by the station address as it is when the datagram comes, so a station address that a
+-- datagram writes counts for the next datagram.
 abbrev pub meets_physically : SlaveState → Datagram → Met
 meets_physically s d =
     let m = physical_met s (role_of d.command (adp_of d) (station_of s)) (window_of d) in

@@ -21,7 +21,7 @@ abbrev pub writes_at : SlaveState → Datagram → Bool
 writes_at s d = is_writing (role_of d.command (adp_of d) (station_of s))
 
 -- A register outside the sync managers and the SII port reads the byte that a writing datagram brings, if it is stored, or a data
--- link register of a full slave that keeps writes; else what it read before.
+-- link register of a full slave that keeps writes; else it reads what it read before.
 abbrev pub RegistersAfterWrite : Type 0
 RegistersAfterWrite =
     (s : SlaveState) (d : Datagram) (a : ℕ) → IsSlave s → writes_at s d ≡ true → a < sync_managers → within sii_control 6 a ≡ false
@@ -36,8 +36,8 @@ ManagersAfterWrite =
     manager_at (slave_met s d).managers n
     ≡ (if is_configured (window_of d) n then empty_manager (settings_written (window_of d) n m) m.locked else m)
 
--- A logical datagram moves bits: a data bit becomes what the read set shows for it, where it may be read, and a bit of the
--- memory itself what the write set brings it, where no manager governs it. All other bits are as they were.
+-- A logical datagram moves bits. A data bit becomes what the read set shows for it, if it may be read. A bit of the memory
+-- itself becomes what the write set brings it, if no manager governs it. All other bits are as they were.
 pub record MovesBits (reading writing : Bool) (s : SlaveState) (d : Datagram) : Type 0 where
   pub data_bits : (i : ℕ) → i < 8 * length d.data_bytes
       → bit (datagram_met s d).data_bytes i
@@ -51,7 +51,7 @@ pub record LogicalBitByBit : Type 0 where
   pub write : (s : SlaveState) (d : Datagram) → d.command ≡ Lwr → MovesBits false true s d
   pub both : (s : SlaveState) (d : Datagram) → d.command ≡ Lrw → s.kind.lrw ≡ true → MovesBits true true s d
 
--- Of the value that a logical datagram writes into a manager each bit is what the write set brings there, in the bytes
+-- Each bit of the value that a logical datagram writes into a manager is what the write set brings there, in the bytes
 -- that this manager itself governs; all others are 0.
 abbrev pub IsValueWritten : SlaveState → Datagram → ℕ → Type 0
 IsValueWritten s d n =

@@ -28,7 +28,7 @@ touches w a = within w.from (length w.bytes) a
 abbrev pub byte_from : Window → ℕ → Option ℕ
 byte_from w a = if touches w a then Some (slice_index w.bytes (a - w.from)) else None
 
--- the numbers of a list, the first of which has place k: each that f tells as it tells it, all others as they were
+-- the numbers of a list, the first of which has place k: f has the new number of some places, and all others stay
 abbrev pub retold_from : ℕ → List ℕ → (ℕ → Option ℕ) → List ℕ
 retold_from k [] f = []
 retold_from k (x ∷ xs) f = unwrap_or (f k) x ∷ retold_from (k + 1) xs f
@@ -61,11 +61,11 @@ byte_at s a = if nat_lt a ram_start then register_byte s a else ram_byte s.memor
 
 -- ---- which bytes a datagram reads and writes, of those that it touches
 
--- every register, and the RAM where its governor lets it
+-- every register, and the RAM if its governor lets it
 unfoldable pub may_read_byte : List SyncManager → (ℕ → Bool) → ℕ → Bool
 may_read_byte ms touched a = nat_lt a ram_start || (nat_lt a ram_end && reads_under ms touched a (governor ms a))
 
--- the registers that take writes, while the SII is busy or not, and the RAM where its governor lets it
+-- the registers that take writes, while the SII is busy or not, and the RAM if its governor lets it
 unfoldable pub may_write_byte : List SyncManager → Bool → (ℕ → Bool) → ℕ → Bool
 may_write_byte ms busy touched a =
     if nat_lt a ram_start then takes_writes busy a else nat_lt a ram_end && writes_under ms touched a (governor ms a)
@@ -140,7 +140,7 @@ abbrev pub is_written : SlaveState → Window → Bool
 is_written s w = some_byte_written s.managers s.sii.busy w || dl_takes s.link w.from (length w.bytes)
 
 -- A slave of a role meets the bytes of a datagram. The data get the memory as it was, and the memory the data as they were
--- received. A read counts 1; a write counts 1, in a datagram that reads as well 2.
+-- received. A read counts 1; a write counts 1, or 2 in a datagram that also reads.
 unfoldable pub physical_met : SlaveState → Role → Window → MetBytes
 physical_met s role w = record {
   slave = physical_after s (is_reading role) (is_writing role) w;

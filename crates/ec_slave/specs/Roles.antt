@@ -6,8 +6,8 @@ use Rattle.ec_slave.specs.declared.role.Role.{Role}
 use Rattle.ec_slave.specs.declared.role.Role.TheVariants.{Nothing, Read, Write, ReadWrite, OrRead, OrReadWrite}
 
 -- The role of a slave of a station address that receives an ADP. Auto increment commands mean the slave that receives 0,
--- configured address commands the slave whose station address is the ADP, broadcasts every slave. Of the multiple write
--- commands the slave that is meant reads and every other one writes. Logical commands go by the FMMUs and have no role.
+-- configured address commands the slave whose station address is the ADP, broadcasts every slave. In the multiple write
+-- commands the slave that is meant reads, and every other one writes. Logical commands go by the FMMUs and have no role.
 abbrev pub role_of : Command → ℕ → ℕ → Role
 role_of Nop adp station = Nothing
 role_of Aprd adp station = if adp == 0 then Read else Nothing

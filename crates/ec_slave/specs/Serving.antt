@@ -42,7 +42,7 @@ is_safeop Op = false
 abbrev pub unlocked_empty : SyncManager → SyncManager
 unlocked_empty m = empty_manager m.settings false
 
--- What the managers become where one state is left for another. Where INIT is entered they are unlocked and empty; where
+-- The managers as one state is left for another. When INIT is entered they are unlocked and empty. When
 -- SAFEOP is entered from PREOP, manager 3 publishes zeros, and an open draft or view stays.
 abbrev pub managers_entered : State → State → List SyncManager → List SyncManager
 managers_entered old new ms =
@@ -71,7 +71,7 @@ read_finished s = record s { sii = port.stepped s.sii }
 
 -- ---- one message
 
--- where messages are answered: in PREOP, SAFEOP and OP, by a type with a mailbox
+-- whether messages are answered: in PREOP, SAFEOP and OP, by a type with a mailbox
 abbrev pub has_mailbox : SlaveState → Bool
 has_mailbox s = not (is_init s.al.state) && is_some s.kind.mailbox
 
@@ -88,7 +88,7 @@ is_request Request = true
 is_request Response = false
 is_request (Other number) = false
 
--- a request that is well-formed, where there is room for the reply
+-- a request that is well-formed, if there is room for the reply
 abbrev pub request_for : SyncManager → Option Message → Option Message
 request_for m None = None
 request_for m (Some r) = if is_request r.service && not (nat_lt m.settings.length message_length) then Some r else None
@@ -122,7 +122,7 @@ replied s r = record s {
   replies = reply_counter s.replies;
 }
 
--- where it is no request a full slave refuses the message, if there is room for that; any other slave drops it
+-- a message that is no request is refused by a full slave, if there is room for that; any other slave drops it
 abbrev pub refuses : SlaveState → Bool
 refuses s = is_some s.kind.face && not (nat_lt (manager_at s.managers 1).settings.length message_length)
 

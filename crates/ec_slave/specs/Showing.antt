@@ -1,5 +1,5 @@
--- Who reads of a sync manager of a slave, on the ring or as its application, is shown what a run of that manager shows, and so
--- only values that were published whole (`ec_sync`, specs/Runs.antt), whatever has happened to the slave since it was switched on.
+-- A read of a sync manager of a slave, on the ring or by its application, gets what a run of that manager shows. So it gets
+-- only values that were published whole (`ec_sync`, specs/Runs.antt), whatever happened to the slave since it was switched on.
 use Rattle.std.specs.Prelude.{ℕ, ◌+◌, ◌-◌, ◌*◌, ◌/◌, ◌≡◌, ◌≤◌, List, [], ◌∷◌, ◌++◌, Bool, if◌then◌else◌, bit_or, slice_index, Some, Contains}
 use Rattle.ec_bits.specs.Bits.{bit}
 use Rattle.ec_device.specs.declared.slave_type.Identity.{Identity}
@@ -25,12 +25,12 @@ pub record IsShown {X : Type 0} (m : SyncManager) (o : Operation) (f : List ℕ 
   pub shown : shown_by m o ≡ Some value
   pub found : x ≡ f value
 
--- a byte that is read, where a datagram brought another: a broadcast joins the two
+-- a byte after a read, if the datagram brought another: a broadcast joins the two
 abbrev pub as_read : Bool → ℕ → ℕ → ℕ
 as_read joining brought found = if joining then bit_or brought found else found
 
--- What is read of a manager is of the value that its run shows to that read: a byte that a physical datagram brings back, of
--- the RAM that the manager governs; a bit that a logical one does; a byte that the application gets of the outputs.
+-- A read of a manager gets a part of the value that its run shows to that read: a byte of the RAM that the manager governs, which
+-- a physical datagram brings back; a bit that a logical one does; a byte that the application gets of the outputs.
 pub record ReadsShowTheRun : Type 0 where
   pub byte : (s : SlaveState) (joining : Bool) (w : Window) (k n x : ℕ) → ram_start ≤ w.from + k → governor s.managers (w.from + k) ≡ Some n
       → byte_read s joining w k ≡ Some x
@@ -58,14 +58,14 @@ abbrev pub steps_since : List Operation → SlaveState → List Happening → �
 steps_since before s [] n = before
 steps_since before s (h ∷ hs) n = steps_since (steps_behind before s h n) (after_one s h) hs n
 
--- These steps lead from a new manager to this one; and what it shows to any reader was published as a whole by one of them,
+-- These steps lead from a new manager to this one. What it shows to any reader was published as a whole by one of them,
 -- or is what a new manager holds.
 pub record ShowsWholeValues (operations : List Operation) (m : SyncManager) : Type 0 where
   pub leads : run no_manager operations ≡ m
   pub whole : (o : Operation) (value : List ℕ) → shown_by m o ≡ Some value
       → Contains (no_manager.buffer.published ∷ history no_manager operations) value
 
--- So it is with each manager of a slave that was switched on, whatever happened to it since: the steps are those that datagrams,
+-- This holds for each manager of a slave that was switched on, whatever happened to it since: the steps are those that datagrams,
 -- firmware, faults and application did to it.
 abbrev pub SlavesShowWholeValues : Type 0
 SlavesShowWholeValues =

@@ -7,7 +7,7 @@ use Rattle.ec_sync.specs.SyncManager.{SyncManager, shown}
 use Rattle.ec_sync.specs.Governing.{governor, in_first_buffer}
 use Rattle.ec_slave.specs.State.{manager_at}
 
--- what a physical bit shows that the manager governs, where the datagram gets at it or does not
+-- what a physical bit shows that the manager governs; `readable` says whether the datagram gets at the manager
 abbrev pub seen_behind : SyncManager → Bool → ℕ → Option Bool
 seen_behind m readable q =
     if in_first_buffer m (q / 8) && readable then Some (bit (shown m) (q - 8 * m.settings.start)) else None
@@ -16,18 +16,18 @@ abbrev pub seen_under : List ℕ → List SyncManager → List Bool → ℕ → 
 seen_under memory ms readable q None = Some (bit memory q)
 seen_under memory ms readable q (Some n) = seen_behind (manager_at ms n) (get_or readable n false) q
 
--- what a physical bit shows, where `readable` has a truth value for each manager
+-- what a physical bit shows; `readable` has a truth value for each manager
 abbrev pub seen_bit : List ℕ → List SyncManager → List Bool → ℕ → Option Bool
 seen_bit memory ms readable q = seen_under memory ms readable q (governor ms (q / 8))
 
--- `count` bits from a physical bit on lie in the memory, and as many data bits from `to` on in `len` bytes of data
+-- `count` bits that begin at a physical bit lie in the memory, and as many data bits that begin at `to` in `len` bytes of data
 abbrev pub HasRoom : ℕ → ℕ → ℕ → ℕ → Type 0
 HasRoom physical to count len = (physical + count ≤ 8 * ram_end) × ((to + count ≤ 8 * len) × (to + count < 2 ^ 64))
 
--- the data once those bits show in them what they show
+-- the data after these bits were read into them
 abbrev pub run_over : (ℕ → Option Bool) → ℕ → ℕ → ℕ → List ℕ → List ℕ
 run_over shown physical to count bytes = overlay bytes (run_shown shown physical to count)
 
--- whether one of them shows a thing
+-- whether one of these bits shows something
 abbrev pub some_of_run : (ℕ → Option Bool) → ℕ → ℕ → ℕ → List ℕ → Bool
 some_of_run shown physical to count bytes = any_below (8 * length bytes) (λ i. is_some (run_shown shown physical to count i))

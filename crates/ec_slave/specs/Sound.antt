@@ -1,4 +1,4 @@
--- What holds of every slave, from the power-on on, whatever datagrams, firmware and application do.
+-- What holds of every slave since the power-on, whatever datagrams, firmware and application do.
 use Rattle.std.specs.Prelude.{ℕ, ◌≡◌, ◌<◌, ◌≤◌, ◌^◌, List, length, slice_index}
 use Rattle.ec_sync.specs.Sound.{IsManager}
 use Rattle.ec_device.specs.declared.slave_type.Identity.{Identity}

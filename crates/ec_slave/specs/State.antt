@@ -21,7 +21,7 @@ pub record SlaveState : Type 0 where
   pub kind : SlaveKind
   pub identity : Identity
   -- One byte for each address: below `ram_start` what datagrams stored, the sync managers' registers and the SII port
-  -- aside; from there on the RAM as it is where no manager governs it.
+  -- aside; at `ram_start` and above, the RAM as it is if no manager governs it.
   pub memory : List ℕ
   -- the four sync managers
   pub managers : List SyncManager

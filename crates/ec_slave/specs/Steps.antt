@@ -1,5 +1,5 @@
 -- The sync managers of a slave go by the steps of a manager's run, of which the laws over whole runs speak (`ec_sync`,
--- specs/Runs.antt): nothing that happens to a slave does anything else to one. Which steps these are is said here.
+-- specs/Runs.antt); nothing else happens to one. This file says which steps these are.
 use Rattle.std.specs.Prelude.{ℕ, zero, suc, ◌+◌, ◌==◌, ◌&&◌, not, ◌≡◌, ◌≤◌, List, [], ◌∷◌, ◌++◌, length, Bool, true, false, if◌then◌else◌, Option, Some, None, is_some, unwrap_or}
 use Rattle.std.specs.List.{All}
 use Rattle.ec_al.specs.Al.{decided, is_operational}
@@ -58,21 +58,21 @@ after_one s Resets = power_on s.kind s.identity
 
 -- ---- the steps that it does to manager n
 
--- what f says of manager n, if there is one; the first of the list has number k
+-- the steps that f gives manager n, if there is one; the first of the list has number k
 abbrev pub said_from : ℕ → (ℕ → SyncManager → List Operation) → List SyncManager → ℕ → List Operation
 said_from k f [] n = []
 said_from k f (m ∷ ms) zero = f k m
 said_from k f (m ∷ ms) (suc n) = said_from (k + 1) f ms n
 
--- the same steps to every manager; to manager k alone
+-- these steps to every manager; to manager k alone
 abbrev pub to_each : List Operation → List SyncManager → ℕ → List Operation
 to_each ops ms n = said_from 0 (λ j m. ops) ms n
 
 abbrev pub to_one : ℕ → List Operation → List SyncManager → ℕ → List Operation
 to_one k ops ms n = said_from 0 (λ j m. if j == k then ops else []) ms n
 
--- An access that writes brings a value to the manager, and counts where it gets at the first byte and the last; one that reads
--- likewise. One that does both reads where it doesn't write.
+-- An access that writes brings a value to the manager, and counts if it gets at the first byte and the last; one that reads
+-- likewise. One that does both reads if it doesn't write.
 abbrev pub access_steps : Bool → Bool → (ℕ → Bool) → (ℕ → Bool) → (ℕ → Bool) → (ℕ → ℕ → List ℕ) → SyncManager → List Operation
 access_steps true true read_touches write_touches own value m =
     (if is_written_by write_touches own m then RingWrite true (value m.settings.start m.settings.length) else RingRead (gets_at read_touches own m)) ∷ []
@@ -112,7 +112,7 @@ steps_met Lrw s d n = if s.kind.lrw then logical_steps s true true d n else []
 steps_met Armw s d n = physical_steps s d n
 steps_met Frmw s d n = physical_steps s d n
 
--- where a state is left for another: INIT unlocks and empties all managers, SAFEOP behind PREOP publishes zeros in manager 3
+-- one state is left for another: INIT unlocks and empties all managers, SAFEOP behind PREOP publishes zeros in manager 3
 abbrev pub steps_entered : State → State → List SyncManager → ℕ → List Operation
 steps_entered old new ms n =
     if is_init new && not (is_init old) then to_each (Lock false ∷ Empty ∷ []) ms n
@@ -141,8 +141,8 @@ steps_answered s n =
     then said_from 0 (message_steps (bytes_back (with_manager s 0 (message_taken (manager_at s.managers 0))) (refusal_in s) (request_in s))) s.managers n
     else []
 
--- A fault locks and empties the outputs; a byte that the application may put or get is put or got. Who is switched off and on
--- has new managers.
+-- A fault locks and empties the outputs. A byte that the application may put or get is put or got. A slave that is switched off
+-- and on has new managers.
 abbrev pub steps_at : SlaveState → Happening → ℕ → List Operation
 steps_at s (Meets d) n = steps_met d.command s d n
 steps_at s Serves n = steps_decided s n ++ steps_answered (read_finished (request_decided s)) n

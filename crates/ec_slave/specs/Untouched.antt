@@ -1,4 +1,4 @@
--- What an access doesn't touch stays 0 in a value that it writes: lemmas that the impls of `Writing` show it by, no definitions.
+-- Bytes that an access doesn't touch stay 0 in a value that it writes: lemmas for the impls of `Writing`, no definitions.
 use Rattle.std.proofs.Common.{ℕ, zero, suc, ◌+◌, ◌*◌, ◌/◌, ◌%◌, ◌<◌, ◌≡◌, ◌≢◌, Bool, true, false, if◌then◌else◌, Option, Some, None, is_some, is_none, option_map, List, length, get_or, slice_index, inl, inr, refl, sym, ◌∙◌, ap, arith, get_or-set_other}
 use Rattle.std.proofs.lemmas.Bool.{cases_lt, false≢true}
 use Rattle.std.proofs.lemmas.List.{get_or-replicate}
@@ -20,7 +20,7 @@ byte-below zero xs f a h = refl
 byte-below (suc n) xs f a h =
     set-told (overlay_below n xs f) n a (f n) (λ b e q. let z : None ≡ Some b = sym (h n (sym q)) ∙ e in cc) ∙ byte-below n xs f a h
 
--- a byte of which no bit is told
+-- a byte without a bit that is replaced
 pub byte-overlay : (xs : List ℕ) (f : ℕ → Option Bool) (a : ℕ) → ((i : ℕ) → i / 8 ≡ a → f i ≡ None) → slice_index (overlay xs f) a ≡ slice_index xs a
 unfolding overlay
 byte-overlay xs f a h = byte-below (8 * length xs) xs f a h
@@ -29,7 +29,7 @@ both_fail : (b r : Bool) → (if b then true else r) ≡ false → (b ≡ false)
 both_fail true r h = absurd (false≢true (sym h))
 both_fail false r h = (refl, h)
 
--- where none of n passes a test, the j-th fails it
+-- if none of n passes a test, the j-th fails it
 none_passes : (n : ℕ) (p : ℕ → Bool) (j : ℕ) → any_below n p ≡ false → j < n → p j ≡ false
 unfolding any_below
 none_passes zero p j h lt = absurd (omega arith)
@@ -40,7 +40,7 @@ none_passes (suc n) p j h lt =
       | inr high ↦ let same : j ≡ n = omega (arith, lt, high) in ap p same ∙ parts.0
     ]
 
--- a bit that nothing is brought to is not told
+-- a bit that nothing is brought to is not replaced
 none-brought : (b : Bool) (o : Option ℕ) (bytes : List ℕ) → is_some o ≡ false → (if b then option_map (bit bytes) o else None) ≡ None
 none-brought true None bytes h = refl
 none-brought true (Some x) bytes h = absurd (let e : true ≡ false = h in cc)

@@ -1,4 +1,4 @@
-//! What a slave's application reads and writes, and the slave switched off and on.
+//! What a slave's application reads and writes, and a reset of the slave.
 
 ghost use Rattle.std.specs.Prelude.{◌≡◌, ◌<◌, [], ◌∷◌, length, if◌then◌else◌, is_some, option_map, unwrap_or};
 ghost use Rattle.ec_sync.specs.SyncManager.{no_manager};
@@ -13,15 +13,15 @@ use ec_regs::SyncManagerSettings;
 use ec_sync::SyncManager;
 
 impl Slave {
-    /// The outputs that were published last, of manager 2; empty where that manager isn't set or is a mailbox.
+    /// The outputs that were published last, in manager 2; empty if that manager isn't set or is a mailbox.
     pub fn outputs(&self) -> &[u8]
         ensures { result.now ≡ outputs_shown self.now }
     {
         self.managers[2].published()
     }
 
-    /// How many bytes of outputs `app_get` has now, and how many bytes of inputs `app_put` has: 0 where it is denied every
-    /// byte.
+    /// How many bytes of outputs `app_get` can read now, and how many bytes of inputs `app_put` can write; 0 if every byte is
+    /// denied.
     pub fn app_sizes(&self) -> (usize, usize)
         ensures get { result.0 ≡ get_size self.now }
         ensures put { result.1 ≡ put_size self.now }
@@ -34,9 +34,9 @@ impl Slave {
         )
     }
 
-    /// The application writes byte `place` of the inputs: byte 0 opens a draft of zeros, the last byte publishes it. False,
-    /// and nothing changes, exactly where it is denied: in SAFEOP and OP alone, on manager 3 enabled, buffered and read by
-    /// the ring, and below its length, the bytes after the first on an open draft.
+    /// The application writes byte `place` of the inputs: byte 0 opens a draft of zeros, the last byte publishes it. Returns
+    /// false and changes nothing if it is denied. It is granted only in SAFEOP and OP, if manager 3 is enabled, buffered and
+    /// read by the ring, and the byte is below its length. Each byte after the first needs an open draft.
     pub fn app_put(&mut self, place: usize, byte: u8) -> bool
         ensures granted { result ≡ is_some (input_put self.old place byte) }
         ensures after { self.new ≡ unwrap_or (input_put self.old place byte) self.old }
@@ -47,8 +47,8 @@ impl Slave {
         self.managers[3].app_put(place, byte)
     }
 
-    /// The application writes all bytes of the inputs, as many as `app_sizes` says, as by `app_put` one after the other: they
-    /// are published.
+    /// The application writes all bytes of the inputs, as many as `app_sizes` returns, as by `app_put` one after the other.
+    /// This publishes them.
     pub fn app_put_all(&mut self, inputs: &[u8])
         requires { length inputs.now ≡ put_size self.old }
         ensures { self.new ≡ inputs_put self.old inputs.now (length inputs.now) }
@@ -60,8 +60,8 @@ impl Slave {
     }
 
     /// The application reads byte `place` of the outputs: byte 0 opens a view of what is published, the last byte closes it.
-    /// `None`, and nothing changes, exactly where it is denied: in SAFEOP and OP alone, on manager 2 enabled, buffered and
-    /// written by the ring, and below its length, the bytes after the first on an open view.
+    /// Returns none and changes nothing if it is denied. It is granted only in SAFEOP and OP, if manager 2 is enabled, buffered
+    /// and written by the ring, and the byte is below its length. Each byte after the first needs an open view.
     pub fn app_get(&mut self, place: usize) -> Option<u8>
         ensures byte { result ≡ option_map (λ got. got.byte) (output_got self.old place) }
         ensures after { self.new ≡ output_taken self.old (output_got self.old place) }
@@ -72,7 +72,7 @@ impl Slave {
         self.managers[2].app_get(place)
     }
 
-    /// The application reads all bytes of the outputs, as many as `app_sizes` says, as by `app_get` one after the other.
+    /// The application reads all bytes of the outputs, as many as `app_sizes` returns, as by `app_get` one after the other.
     pub fn app_get_all(&mut self)
         ensures { self.new ≡ outputs_taken self.old (get_size self.old) }
     {
@@ -85,7 +85,7 @@ impl Slave {
 }
 
 impl Slave {
-    /// The power goes off and on: the slave is as `new` makes one of its type and identity.
+    /// Switches the slave off and on: it is as `new` makes a slave of its type and identity.
     #[tactic(auto, unfolding(crate::specs::State::power_on))]
     pub fn reset(&mut self)
         ensures { self.new ≡ power_on self.old.kind self.old.identity }
@@ -101,7 +101,7 @@ impl Slave {
     }
 }
 
-/// How many bytes a manager has that the application is granted, or 0.
+/// The length of a manager in bytes if its application is granted, or 0.
 fn size_if(is_granted: bool, manager: &SyncManager) -> usize
     ensures { result ≡ (if is_granted then manager.now.settings.length else 0) }
 {

@@ -26,9 +26,9 @@ const OUTPUTS: u8 = CONTROL_OUTPUTS % 16;
 const INPUTS: u8 = CONTROL_INPUTS % 16;
 
 impl Slave {
-    /// A step of the slave's firmware. In this order: an AL request that waits is decided, by the checks of the managers
-    /// against the type and the PDOs that are assigned; a read of the SII is finished; and one mailbox message is taken
-    /// and answered, or dropped where it is no SDO request. It takes no memory.
+    /// A step of the slave's firmware, in this order. It decides an AL request that waits, by the checks of the managers
+    /// against the type and the PDOs that are assigned. It finishes a read of the SII. It takes one mailbox message, and
+    /// answers it, or refuses or drops it if it is no SDO request. It takes no memory.
     #[tactic(auto, unfolding(crate::specs::Serving::served))]
     pub fn serve(&mut self)
         ensures { self.new ≡ served self.old }
@@ -38,8 +38,8 @@ impl Slave {
         self.serve_message();
     }
 
-    /// A fault of the slave's application: in OP, and only there, it leads to SAFEOP with an error, locks and empties
-    /// manager 2, and the answer is true.
+    /// A fault of the slave's application. Returns whether the slave is in OP, and only then does something: the slave goes to
+    /// SAFEOP with an error, and manager 2 is locked and emptied.
     #[tactic(auto, unfolding(crate::specs::Faulting::faulted))]
     pub fn fault(&mut self) -> bool
         ensures taken { IsTrue result ↔ (self.old.al.state ≡ Op) }
@@ -120,7 +120,7 @@ impl Slave {
     }
 }
 
-/// The counter of the last reply after a state was entered: PREOP entered from INIT begins anew.
+/// The counter of the last reply after a state was entered: 0 if PREOP was entered from INIT.
 fn replies_in(old: State, new: State, replies: u8) -> u8
     ensures { result ≡ replies_entered old new replies }
 {
@@ -130,7 +130,7 @@ fn replies_in(old: State, new: State, replies: u8) -> u8
     }
 }
 
-/// What entering a state does to the managers.
+/// Changes the managers as a state is entered.
 fn enter_state(managers: &mut [SyncManager], old: State, new: State)
     requires { length managers.old ≡ 4 }
     ensures { managers.new ≡ managers_entered old new managers.old }
@@ -163,7 +163,7 @@ fn unlock(manager: &mut SyncManager)
     manager.empty();
 }
 
-/// Whether a manager fits so many bits of process data: it has their bytes, and for none it isn't activated.
+/// Whether a manager fits `bits` bits of process data: it has their bytes, or, if there are none, it isn't activated.
 fn fits_process_data(manager: &SyncManager, bits: usize, start: u16, mode: u8) -> bool
     requires { bits < 2 ^ 20 }
     ensures { result ≡ process_check manager.now bits start mode }

@@ -1,4 +1,4 @@
-//! Laws of the definitions: each is the contract of a function that does nothing.
+//! Laws of the definitions. Each function does nothing: its contract is the law.
 
 ghost use Rattle.ec_slave.specs.Laws.{OtherStationPasses};
 ghost use Rattle.ec_slave.specs.Laws.{OtherPositionPasses};
@@ -44,8 +44,8 @@ pub fn slaves_stay_slaves()
     ensures met { MetIsSlave }
 {}
 
-/// After a datagram that writes, a register reads the byte that it brought, if it is stored, else what it read before; and
-/// each manager has the settings that were written to it and is empty, or is as it was.
+/// After a datagram that writes, a register reads the byte that it brought, if it is stored, and else what it read before.
+/// Each manager has the settings that were written to it and is empty, or is as it was.
 pub fn registers_after_write()
     ensures registers { RegistersAfterWrite }
     ensures managers { ManagersAfterWrite }
@@ -101,26 +101,26 @@ pub fn logical_against_all()
     ensures { LogicalAgainstAll }
 {}
 
-/// What an access does to a manager is a step of a manager's run, of which the laws of `ec_sync` speak.
+/// An access changes a manager by a step of a manager's run, of which the laws of `ec_sync` speak.
 pub fn accesses_are_steps()
     ensures { AccessesAreSteps }
 {}
 
-/// Whatever datagrams, firmware and application do, each manager of a slave goes by a few steps that are theirs, and it is said
-/// which: what is proved of all runs holds of it.
+/// Whatever datagrams, firmware and application do, they change each manager of a slave by a few steps, which are named. So
+/// what is proved of all runs holds of it.
 #[tactic(auto, using(crate::proofs::Steps::managers_go_by_runs))]
 pub fn managers_go_by_runs()
     ensures { ManagersGoByRuns }
 {}
 
-/// What a datagram reads of a sync manager, byte by byte or bit by bit, and what the application gets of the outputs, is of the
-/// value that the run of that manager shows.
+/// What a datagram reads of a sync manager, byte by byte or bit by bit, is part of the value that the run of that manager
+/// shows. So is what the application gets of the outputs.
 pub fn reads_show_the_run()
     ensures { ReadsShowTheRun }
 {}
 
-/// Whatever happened to a slave since it was switched on, each of its managers shows whoever reads only values that were
-/// published whole, by a step that one of these happenings did to it.
+/// Whatever happened to a slave since it was switched on, each of its managers shows any reader only values that were published
+/// whole, by a step that one of these happenings made.
 pub fn slaves_show_whole_values()
     ensures { SlavesShowWholeValues }
 {}
@@ -149,8 +149,8 @@ pub fn serves_keep_buffers()
     ensures { ServesKeepBuffers }
 {}
 
-/// OP is reached only from SAFEOP, by a request for it; SAFEOP is entered from PREOP only where managers 2 and 3 are as the
-/// PDOs that are assigned want them, and PREOP from INIT only where managers 0 and 1 are the type's mailboxes.
+/// OP is reached only from SAFEOP, by a request for it. SAFEOP is entered from PREOP only if managers 2 and 3 are as the PDOs
+/// that are assigned want them. PREOP is entered from INIT only if managers 0 and 1 are the type's mailboxes.
 #[tactic(auto, using(crate::proofs::Entering::states_entered))]
 pub fn states_are_entered()
     ensures { StatesAreEntered }
@@ -169,9 +169,9 @@ pub fn serves_keep_assignments()
     ensures { ServesKeepAssignments }
 {}
 
-/// The assignments of a slave that was just switched on are lists of the type's own PDOs, with none of them twice and with
-/// at most 2048 bits, where the type has at most 2048 bits each way; and whatever firmware, datagrams and application do,
-/// they stay so. A reset makes the slave as the power comes on, so they are so again then.
+/// The assignments of a slave that was just switched on are lists of the type's own PDOs. None is in them twice, and they have
+/// at most 2048 bits, if no two PDOs of a direction have one index and all have at most 2048 bits together. They stay so,
+/// whatever firmware, datagrams and application do. A reset makes the slave as the power comes on, so they are so again then.
 pub fn assignments_are_proper()
     ensures power_on { PowerOnAssigns }
     ensures stay { AssignmentsStay }
@@ -203,7 +203,7 @@ pub fn reads_are_finished()
     ensures { ReadsAreFinished }
 {}
 
-/// A message changes the mailboxes, the assignments and the counter of the replies alone, and nothing where none is taken; a
+/// A message changes only the mailboxes, the assignments and the counter of the replies, and nothing if none is taken. A
 /// request is answered.
 pub fn messages_are_answered()
     ensures keep { MessagesKeep }
@@ -234,7 +234,7 @@ pub fn values_stay_whole()
     ensures { ValuesStayWhole }
 {}
 
-/// What a datagram that writes, or reads, at a slave does to both, which commands go through the FMMUs, and with which command
+/// What a datagram that writes, or reads, at a slave does to both; which commands go through the FMMUs; and with which command
 /// and ADP it goes on.
 pub fn datagrams_meet()
     ensures on { DatagramsGoOn }
@@ -258,8 +258,8 @@ pub fn slaves_show_themselves()
     ensures { SlavesShowThemselves }
 {}
 
-/// Who governs a byte of the RAM says whether it is read and written, and what it shows; what an access does to one manager,
-/// and to the slave.
+/// The governor of a byte of the RAM decides whether it is read and written, and what it shows. What an access does to one
+/// manager, and to the slave.
 pub fn ram_is_governed()
     ensures governed { RamIsGoverned }
     ensures managers { ManagersAreAccessed }
@@ -267,7 +267,7 @@ pub fn ram_is_governed()
     ensures leaves { AccessesLeave }
 {}
 
-/// What a list is that is told anew, at some places or at all.
+/// What a list becomes if some of its numbers, or all, are replaced.
 pub fn lists_are_retold()
     ensures by_place { RetoldByPlace }
     ensures whole { RetoldWhole }

@@ -74,7 +74,7 @@ impl Slave {
         self.access_any_bits(role, from, bytes)
     }
 
-    /// A datagram that reads and writes: its data are copied only where a bit that is read may also
+    /// A datagram that reads and writes. It copies its data only if a bit that is read may also
     /// be written.
     fn exchange_bits(&mut self, from: u64, bytes: &mut [u8]) -> u16
         requires { FitsFrame from bytes.old }
@@ -89,7 +89,7 @@ impl Slave {
         }
     }
 
-    /// A datagram that reads and writes, where it may write first: its data need no copy.
+    /// A datagram that reads and writes, and may write first: its data need no copy.
     fn write_and_read_bits(&mut self, from: u64, bytes: &mut [u8]) -> u16
         requires small { from + 8 * length bytes.old < 2 ^ 64 }
         requires first { MayWriteFirst self.old }
@@ -125,7 +125,7 @@ impl Slave {
         is_read as u16 + 2 * is_written as u16
     }
 
-    /// A datagram that writes through the FMMUs, and may read as well, and whether a bit was written.
+    /// A datagram that writes through the FMMUs, and may read as well. Returns whether a bit was written.
     fn write_bits(&mut self, reading: bool, from: u64, bytes: &[u8]) -> bool
         requires { from + 8 * length bytes.now < 2 ^ 64 }
         ensures slave { self.new ≡ logical_after self.old reading true (record { from = from; bits = 8 * length bytes.now }) bytes.now }
@@ -137,7 +137,7 @@ impl Slave {
         in_memory | in_manager
     }
 
-    /// A datagram that reads through the FMMUs, and whether a bit was read.
+    /// A datagram that reads through the FMMUs. Returns whether a bit was read.
     fn read_bits(&mut self, from: u64, bytes: &mut [u8]) -> bool
         requires { from + 8 * length bytes.old < 2 ^ 64 }
         ensures slave { self.new ≡ logical_after self.old true false (record { from = from; bits = 8 * length bytes.old }) bytes.old }

@@ -1,4 +1,4 @@
-//! The mailbox of a slave: one message is taken and answered, or refused by a full slave.
+//! The mailbox of a slave: it takes one message, and answers it, or refuses or drops it.
 
 ghost use Rattle.std.specs.Prelude.{◌≡◌, is_some, option_map, true};
 ghost use Rattle.ec_sync.specs.SyncManager.{message_in, message_taken};
@@ -21,8 +21,8 @@ fn is_preop(state: State) -> bool
 }
 
 impl Slave {
-    /// Takes a message, where one lies in manager 0 and the reply can lie in manager 1, and answers it where it is a request; a
-    /// full slave refuses any other, and any other slave drops it.
+    /// Takes a message, if one lies in manager 0 and the reply can lie in manager 1. It answers a request. A full slave refuses
+    /// any other message, if there is room for the refusal, and any other slave drops it.
     #[tactic(auto, unfolding(crate::specs::Serving::message_served))]
     pub(crate) fn serve_message(&mut self)
         ensures { self.new ≡ message_served self.old }
@@ -68,7 +68,7 @@ impl Slave {
         self.replies = self.replies % 7 + 1;
     }
 
-    /// What the message in manager 0 is answered with where it is no request, if it is refused.
+    /// The refusal of the message in manager 0, which is no request; none if the slave doesn't refuse it.
     fn refusal(&self) -> Option<RefusalBytes>
         ensures { option_map (λ bytes. bytes.items) result ≡ refusal_in self.now }
     {
@@ -79,7 +79,7 @@ impl Slave {
         Some(refuse(raw, self.replies % 7 + 1))
     }
 
-    /// Whether a message that is no request is refused: by a full slave, where manager 1 has room for that.
+    /// Whether the slave refuses a message that is no request: it is full, and manager 1 has room for the refusal.
     fn refuses(&self) -> bool
         ensures { result ≡ refuses_in self.now }
     {
@@ -100,7 +100,7 @@ impl Slave {
         self.replies = counter;
     }
 
-    /// The request that lies in manager 0: a message of CoE with the service of a request, where manager 1 has room for
+    /// The request that lies in manager 0: a message of CoE with the service of a request. None if manager 1 has no room for
     /// the reply.
     fn request(&self) -> Option<Message>
         ensures { result ≡ request_in self.now }

@@ -11,12 +11,12 @@ use crate::slave::Slave;
 use ec_frame::{Handler, pass};
 use std::slice;
 
-/// The data of a datagram have at most so many bytes.
+/// The most bytes of data that a datagram has.
 pub(crate) const MAX_DATA: usize = 2047;
 
 impl Slave {
-    /// A frame passes the slave: its datagrams act in order, each on the slave as the one before
-    /// left it. Allocates nothing.
+    /// Passes a frame through the slave: its datagrams act in order, each on the slave as the one before
+    /// left it. It takes no memory.
     pub fn pass(&mut self, frame: &mut [u8])
         requires { (p : Payload) × IsFrame frame.old p }
         ensures kind { self.new.kind ≡ self.old.kind }

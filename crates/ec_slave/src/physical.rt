@@ -36,7 +36,7 @@ fn request_if(al: &mut Al, is_written: bool)
     }
 }
 
-/// What a write does to the AL and the SII port. Where it begins in the RAM, neither is asked.
+/// Writes to the AL and the SII port. A write that begins in the RAM concerns neither.
 #[tactic(auto, using(crate::proofs::InRam::port_aside))]
 fn write_control(al: &mut Al, port: &mut Port, from: usize, bytes: &[u8])
     requires { from + length bytes.now < 2 ^ 32 }
@@ -51,7 +51,7 @@ fn write_control(al: &mut Al, port: &mut Port, from: usize, bytes: &[u8])
     port.write(from, bytes);
 }
 
-/// Decodes the FMMUs again after a write of `len` bytes from an address on that may reach their registers.
+/// Decodes the FMMUs again after a write of `len` bytes that begin at `from`, if it reaches their registers.
 fn renew_fmmus(fmmus: &mut FmmuTable, memory: &[u8], from: usize, len: usize)
     requires room { length memory.now ≡ ram_end }
     requires small { from + len < 2 ^ 32 }
@@ -62,7 +62,7 @@ fn renew_fmmus(fmmus: &mut FmmuTable, memory: &[u8], from: usize, len: usize)
     }
 }
 
-/// What a write does to the managers. Below their registers, and so below the RAM, it is none of theirs.
+/// Writes to the managers. A write below their registers, and so below the RAM, concerns none of them.
 fn write_managers(managers: &mut [SyncManager], reads: bool, from: usize, bytes: &[u8])
     requires four { length managers.old ≡ 4 }
     requires small { from + length bytes.now < 2 ^ 32 }
@@ -123,7 +123,7 @@ impl Slave {
         is_read as u16
     }
 
-    /// What a read does to the managers: a mailbox that it had is empty. Registers belong to none.
+    /// Changes the managers after a read: each mailbox that it had is empty. A read of registers concerns none of them.
     #[tactic(auto, unfolding(crate::specs::Physical::physical_after))]
     fn after_read(&mut self, from: usize, bytes: &[u8])
         requires { from + length bytes.now < 2 ^ 32 }
@@ -150,8 +150,8 @@ impl Slave {
         is_some | is_kept
     }
 
-    /// Reads into the bytes of a datagram, and returns whether one was read. Who governs bytes, and whether they may be
-    /// read, is asked once for each part of which all or none are.
+    /// Reads into the bytes of a datagram, and returns whether one was read. It finds once for each part who governs its bytes
+    /// and whether they may be read: all of the part, or none, are.
     fn read_parts(&self, joining: bool, from: usize, bytes: &mut [u8]) -> bool
         requires { from + length bytes.old < 2 ^ 32 }
         ensures bytes { bytes.new ≡ retold bytes.old (byte_read self.now joining (record { from = from; bytes = bytes.old })) }
@@ -173,7 +173,7 @@ impl Slave {
         is_some
     }
 
-    /// Reads the AL status word, which a master asks for most, into the two bytes of a datagram.
+    /// Reads the AL status word, which masters read most often, into the two bytes of a datagram.
     fn read_status(&self, joining: bool, bytes: &mut [u8])
         requires { length bytes.old ≡ 2 }
         ensures { bytes.new ≡ retold bytes.old (byte_read self.now joining (record { from = al_status; bytes = bytes.old })) }
@@ -215,8 +215,8 @@ impl Slave {
         }
     }
 
-    /// Reads what the addresses from `first` on show, that have this governor, or none, as far as they lie in the RAM,
-    /// into as many bytes: one by one.
+    /// Reads what the addresses that begin at `first` show into as many bytes, one by one. `owner` is the governor of those that
+    /// lie in the RAM.
     #[inline(never)]
     fn read_each(&self, owner: Option<usize>, joining: bool, first: usize, bytes: &mut [u8])
         requires memory { (k : ℕ) → k < length bytes.old → first + k < ram_end }
@@ -231,8 +231,8 @@ impl Slave {
         }
     }
 
-    /// Reads into the `count` bytes of a datagram from `at` on, all of which it reads and that have this governor, or
-    /// none, as far as they lie in the RAM: at once where what they show lies together.
+    /// Reads into the `count` bytes of a datagram that begin at `at`, all of which it reads. `owner` is the governor of those
+    /// that lie in the RAM. It is one copy if what they show lies together.
     fn read_part(
         &self,
         owner: Option<usize>,

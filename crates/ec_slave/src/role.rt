@@ -48,7 +48,7 @@ impl Role {
         }
     }
 
-    /// What the working counter grows by where bits were read, written, or both: a write counts 2 in a role that also reads.
+    /// What the working counter grows by if bits were read, written, or both. A write counts 2 in a role that also reads.
     pub(crate) fn count(self, is_read: bool, is_written: bool) -> u16
         ensures { result ≡ from_bool is_read + weight self * from_bool is_written }
     {
@@ -68,14 +68,14 @@ impl Role {
         if is_meant { self } else { Role::Nothing }
     }
 
-    /// In this role, and the ADP stays.
+    /// A meeting in this role; the ADP stays.
     fn leaving(self, adp: u16) -> Encounter
         ensures { result ≡ Physical self adp }
     {
         Encounter::Physical { role: self, adp }
     }
 
-    /// In this role, and the slave is counted.
+    /// A meeting in this role; the slave adds 1 to the ADP.
     fn counting(self, adp: u16) -> Encounter
         ensures { result ≡ Physical self ((adp + 1) % 65536) }
     {
@@ -104,8 +104,8 @@ pub(crate) enum Encounter {
 
 impl Encounter {
     /// How a datagram with this command and ADP meets a slave, by the table of commands (ETG.1000.4, "EtherCAT
-    /// commands"): each slave counts a position, reached or not, and a station's number stays; a slave whose type takes
-    /// no part in LRW lets it pass. Only a command that names a station asks for the slave's address.
+    /// commands"). Each slave adds 1 to a position, reached or not, and a station's number stays. A slave whose type takes
+    /// no part in LRW lets it pass. Only a command that names a station reads the slave's address.
     #[inline]
     pub fn of(command: Command, adp: u16, slave: &Slave) -> Encounter
         ensures { result ≡ encounter_of command adp slave.now }

@@ -10,7 +10,7 @@ ghost use Rattle.ec_slave.specs.Managers.{is_ungoverned};
 use ec_exchange::governor;
 use ec_sync::SyncManager;
 
-/// The end of the bytes from `start` on, and below `end`, that lie on one side of a border.
+/// The end of a part of the bytes from `start` to before `end` that lies on one side of a border.
 pub(crate) fn cut(start: usize, end: usize, border: usize) -> usize
     requires { start < end }
     ensures inside { (start < result) × (result ≤ end) }
@@ -23,7 +23,7 @@ pub(crate) fn cut(start: usize, end: usize, border: usize) -> usize
     }
 }
 
-/// The end of the bytes from `start` on, and below `end`, that have one governor, or none, and lie on one side of the
+/// The end of a part of the bytes from `start` to before `end`. The part has one governor, or none, and lies on one side of the
 /// end of its value.
 pub(crate) fn end_of_alike(managers: &[SyncManager], start: usize, end: usize) -> usize
     requires { start < end }
@@ -39,7 +39,7 @@ pub(crate) fn end_of_alike(managers: &[SyncManager], start: usize, end: usize) -
     stop
 }
 
-/// Whether none of these managers governs one of the `len` bytes from `start` on.
+/// Whether none of these managers governs one of the `len` bytes that begin at `start`. False says nothing.
 pub(crate) fn are_ungoverned(managers: &[SyncManager], start: usize, len: usize) -> bool
     requires some { 0 < len }
     requires fits { start + len < 2 ^ 32 }
@@ -52,7 +52,7 @@ pub(crate) fn are_ungoverned(managers: &[SyncManager], start: usize, len: usize)
     end_of_alike(managers, start, end) == end
 }
 
-/// How many of the `count` bits from a physical bit on lie in bytes that are alike in that.
+/// How many of the `count` bits that begin at a physical bit lie in bytes that are alike in that.
 pub(crate) fn count_alike(managers: &[SyncManager], physical: u32, count: usize) -> usize
     requires some { 0 < count }
     requires fits { physical + count < 2 ^ 32 }
@@ -67,8 +67,8 @@ pub(crate) fn count_alike(managers: &[SyncManager], physical: u32, count: usize)
     (8 * end - first).min(count)
 }
 
-/// The end of the bytes from `start` on, and below `end`, that a manager has all or none of, and, if it has them, of
-/// which all lie before the end of its value, or none.
+/// The end of a part of the bytes from `start` to before `end`. A manager has all of the part or none; if it has them, all lie
+/// before the end of its value, or none.
 fn cut_at_borders(manager: &SyncManager, start: usize, end: usize) -> usize
     requires { start < end }
     ensures inside { (start < result) × (result ≤ end) }

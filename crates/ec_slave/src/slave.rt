@@ -39,7 +39,7 @@ pub struct Slave {
     // its type, its identity and the PDOs that are assigned
     pub(crate) dictionary: Dictionary,
     pub(crate) memory: Vec<u8>,
-    // as the registers in `memory` say them
+    // as the registers in `memory` state them
     pub(crate) fmmus: FmmuTable,
     pub(crate) managers: Vec<SyncManager>,
     pub(crate) al: Al,
@@ -72,7 +72,7 @@ impl Model for Slave {
 }
 
 impl Slave {
-    /// A slave of a type that was just switched on. Each later call finds the memory that it needs.
+    /// A slave of a type that was just switched on. No later call takes memory.
     ///
     /// # Errors
     ///
@@ -118,7 +118,7 @@ impl Slave {
         self.memory[at] as u16 + 256 * self.memory[at + 1] as u16
     }
 
-    /// What an address reads now, as a datagram would find it; none past the RAM's end.
+    /// The byte that a datagram would read at an address now; none past the RAM's end.
     pub fn byte(&self, address: u16) -> Option<u8>
         ensures { result ≡ (if nat_lt address ram_end then Some (byte_at self.now address) else None) }
     {
@@ -130,7 +130,7 @@ impl Slave {
         }
     }
 
-    /// What an address reads that has this governor, or none, if it lies in the RAM.
+    /// The byte that an address reads. `owner` is its governor, if it lies in the RAM.
     pub(crate) fn byte_under(&self, owner: Option<usize>, address: usize) -> u8
         requires inside { address < ram_end }
         requires within { IfSome owner (λ n. n < length self.now.managers) }
@@ -146,8 +146,8 @@ impl Slave {
         }
     }
 
-    /// What the `count` addresses from `first` on read that have this governor, or none, where that lies together: in
-    /// the RAM itself, or in the value of the governor. None says nothing.
+    /// The bytes that the `count` addresses from `first` read, if they lie together in the RAM itself or in the value of their
+    /// governor `owner`. None says nothing.
     pub(crate) fn shown_together(
         &self,
         owner: Option<usize>,
@@ -174,7 +174,7 @@ impl Slave {
         }
     }
 
-    /// What the two registers of the AL status read, the low byte first.
+    /// The bytes that the two registers of the AL status read, the low byte first.
     #[tactic(auto, unfolding(crate::specs::Physical::byte_at, crate::specs::Physical::register_byte))]
     pub(crate) fn status_bytes(&self) -> (u8, u8)
         ensures low { result.0 ≡ byte_at self.now al_status }
@@ -184,7 +184,7 @@ impl Slave {
         ((word % 256) as u8, (word / 256) as u8)
     }
 
-    /// What the address of a register reads.
+    /// The byte that a register reads.
     pub(crate) fn register(&self, address: usize) -> u8
         requires { address < ram_start }
         ensures { result ≡ byte_at self.now address }
@@ -212,7 +212,7 @@ impl Slave {
     }
 }
 
-/// What the registers read that say how much a slave has.
+/// The byte that a register reads that says how many FMMUs, managers or KiB of RAM a slave has.
 #[tactic(auto, unfolding(crate::specs::Physical::register_byte))]
 fn constant(address: usize) -> u8
     requires { within 4 3 address ≡ true }
@@ -234,7 +234,7 @@ fn is_in_memory(address: usize) -> bool
         || within(FMMUS, FMMUS_END - FMMUS, address)
 }
 
-/// So many bytes from a place on, if there are as many.
+/// The `count` bytes that begin at `at`, if there are as many.
 fn part_of(bytes: &[u8], at: usize, count: usize) -> Option<&[u8]>
     requires { at + count < 2 ^ 64 }
     ensures long { IfSome result (λ xs. length xs.now ≡ count) }

@@ -71,7 +71,7 @@ datagram_of AwaitInit number = sent Brd 0 al_status (zeros 2) number
 datagram_of ClearFmmus number = sent Bwr 0 fmmus (zeros 64) number
 datagram_of ClearManagers number = sent Bwr 0 sync_managers (zeros 32) number
 datagram_of ClearStations number = sent Bwr 0 station_address (zeros 2) number
--- the slave at position i gets the ADP that i slaves before it have counted up to 0
+-- the slave at position i sees the ADP 0: each of the i slaves before it has added 1
 datagram_of (NameSlave i) number = sent Apwr (65536 - i) station_address (station i % 256 ∷ station i / 256 ∷ []) number
 datagram_of (AskWord i which) number = sent Fpwr (station i) sii_control (read_command (word_place which)) number
 datagram_of (AwaitWord i which) number = sent Fprd (station i) sii_control (zeros 10) number

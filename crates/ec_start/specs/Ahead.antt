@@ -1,4 +1,4 @@
--- A place in the script by stretch, slave and place, and the actions ahead of it. What the script is stands in Scripts.
+-- A place in the script by stretch, slave and place, and the actions ahead of it. Scripts has the script itself.
 use Rattle.std.specs.Prelude.{ℕ, ◌+◌, ◌*◌, ◌-◌, ◌≡◌, ◌≤◌, ◌==◌, ◌&&◌, not, List, [], ◌∷◌, ◌++◌, drop, Bool, true, false, if◌then◌else◌, nat_lt, slice_get, Option, Some, None, option_map}
 use Rattle.ec_al.specs.declared.state.State.TheVariants.{PreOp, SafeOp, Op}
 use Rattle.ec_link.specs.declared.settings.SlavePlan.{SlavePlan}
@@ -25,7 +25,7 @@ share Mapping = mapped
 share ToSafeOp = raised SafeOp
 share ToOp = raised Op
 
--- with no slaves, counting them is all
+-- without slaves, counting them is all
 abbrev pub opening : Bool → List Action
 opening false = CountSlaves ∷ []
 opening true = CountSlaves ∷ cleared
@@ -59,7 +59,7 @@ following Mapping = Some ToSafeOp
 following ToSafeOp = Some ToOp
 following ToOp = None
 
--- a whole stretch, and all that are behind one
+-- a whole stretch, and all stretches behind one
 abbrev pub whole : Stretch → List SlavePlan → List Action
 whole st ps = each_slave (share st) 0 ps
 
@@ -78,17 +78,17 @@ later Opening ps = whole Naming ps ++ (whole Identifying ps ++ (whole Mailboxes 
 abbrev pub beyond : Stretch → List SlavePlan → ℕ → List Action
 beyond st ps i = (if is_for_all st then [] else each_slave (share st) (i + 1) (drop (i + 1) ps)) ++ later st ps
 
--- the actions ahead, from the one here on
+-- the actions ahead, with the one at this place first
 abbrev pub ahead : List SlavePlan → Cursor → List Action
 ahead ps c = drop c.place (share_at c.stretch ps c.slave) ++ beyond c.stretch ps c.slave
 
--- where the next share begins
+-- the beginning of the next share
 abbrev pub behind : ℕ → Cursor → Option Cursor
 behind n c =
     if not (is_for_all c.stretch) && nat_lt (c.slave + 1) n then Some (record { stretch = c.stretch; slave = c.slave + 1; place = 0 })
     else option_map (λ st. record { stretch = st; slave = 0; place = 0 }) (following c.stretch)
 
--- how many shares are behind at most
+-- how many stretches are behind
 abbrev pub rank : Stretch → ℕ
 rank Opening = 8
 rank Naming = 7
@@ -103,7 +103,7 @@ rank ToOp = 0
 abbrev pub shares_left : Cursor → ℕ
 shares_left c = 66 * rank c.stretch + (65 - c.slave)
 
--- ---- the first step from a cursor on
+-- ---- the first step at a cursor or behind it
 
 pub record IsSettled (ps : List SlavePlan) (c : Cursor) (s : Step) : Type 0 where
   pub same : ahead ps c ≡ ahead ps s.cursor

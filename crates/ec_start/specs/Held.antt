@@ -1,4 +1,4 @@
--- What a start-up holds beside its value: where it is in the script, which isn't stored.
+-- What a start-up holds beside its value: its place in the script, which isn't stored.
 use Rattle.std.specs.Prelude.{ℕ, ◌<◌, ◌≤◌, ◌≡◌, List, length, drop, slice_get, All, true, false, Some}
 use Rattle.ec_link.specs.declared.settings.SlavePlan.{SlavePlan}
 use Rattle.ec_start.specs.declared.action.Action.TheVariants.{CountSlaves}

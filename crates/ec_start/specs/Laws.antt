@@ -1,4 +1,4 @@
--- What the definitions of this crate say together.
+-- Laws of the definitions of this crate.
 use Rattle.std.specs.Prelude.{ℕ, ◌+◌, ◌<◌, ◌≤◌, ◌≡◌, List, [], ◌∷◌, ◌++◌, length, get_or, Bool, true, false, All}
 use Rattle.ec_link.specs.declared.settings.SlavePlan.{SlavePlan}
 use Rattle.ec_start.specs.declared.action.Transfer.{Transfer}
@@ -18,7 +18,7 @@ use Rattle.ec_start.specs.ThreeSlaves.{three_slaves}
 
 -- ---- the script
 
--- Of the three slaves of the example the script has 75 actions, and step 10 is the first wait for slave 0's SII.
+-- The script of the example's three slaves has 75 actions, and step 10 is the first wait for slave 0's SII.
 pub record IsScriptOfThree : Type 0 where
   pub steps : length (script three_slaves) ≡ 75
   pub ninth : get_or (script three_slaves) 9 CountSlaves ≡ AskWord 0 0
@@ -47,7 +47,7 @@ pub record IsUploadsFirst (rs : List SdoRequest) : Type 0 where
 abbrev pub UploadsComeFirst : Type 0
 UploadsComeFirst = (p : SlavePlan) → IsUploadsFirst (requests p)
 
--- The mailbox counter begins at 1, goes up by 1, and after 7 begins again.
+-- The mailbox counter begins at 1, goes up by 1, and begins at 1 again after 7.
 pub record CountersRunToSeven : Type 0 where
   pub begins : (r : SdoRequest) → (request_message 0 r).counter ≡ 1
   pub rises : (before : ℕ) (r : SdoRequest) → (request_message before r).counter < 7 → (request_message (before + 1) r).counter ≡ (request_message before r).counter + 1
@@ -56,7 +56,7 @@ pub record CountersRunToSeven : Type 0 where
 
 -- ---- a start-up as it runs
 
--- Whatever is called, an ended start-up stays as it is.
+-- An ended start-up stays as it is, whatever is called.
 pub record StaysEnded (s : StartState) : Type 0 where
   pub next_is : next_frame s ≡ Ended
   pub next_leaves : asked s ≡ s
@@ -72,7 +72,7 @@ pub record PollsEnd : Type 0 where
   pub last : (s : StartState) → s.polls + 1 ≡ max_polls → (judged s Again).phase ≡ Failed (TooSlow s.place)
   pub more : (s : StartState) → s.polls + 1 < max_polls → (judged s Again).polls ≡ s.polls + 1
 
--- Whatever is called, a start-up is one of the same plan.
+-- A start-up keeps its plan, whatever is called.
 pub record KeepsPlan (s : StartState) : Type 0 where
   pub next_keeps : (asked s).plan ≡ s.plan
   pub take_keeps : (payload : List ℕ) (is_kept : Bool) (new : StartState) → IsStartTaken s payload is_kept new → new.plan ≡ s.plan
@@ -86,8 +86,8 @@ PlansStay = (s : StartState) → KeepsPlan s
 abbrev pub ForeignChangesNothing : Type 0
 ForeignChangesNothing = (s new : StartState) (payload : List ℕ) → IsStartTaken s payload false new → new ≡ s
 
--- A frame that comes back as it was sent is an answer, and so is one whose addresses, data and counters have changed: an answer
--- is told by commands, indices, lengths, order and number.
+-- A frame that comes back as it was sent is an answer. So is one whose addresses, data and counters have changed: commands,
+-- indices, lengths, order and number alone make an answer.
 abbrev pub FramesAreAnswered : Type 0
 FramesAreAnswered = (s : StartState) → IsStartAnswer (sending s) s.next (frame_of (action_of s) s.next)
 

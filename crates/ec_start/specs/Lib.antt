@@ -8,7 +8,7 @@ pub mod Verdicts
 pub mod Running
 pub mod Errors
 pub mod Planned
--- Laws: other words for the same, proved; ThreeSlaves is the plan of an example.
+-- Laws: other words for these definitions, proved; ThreeSlaves is the plan of an example.
 pub mod ThreeSlaves
 pub mod Laws
 pub mod ShownFull
@@ -17,7 +17,7 @@ pub mod Interface
 -- To be believed, too: what an action must be for its own calls.
 pub mod Doable
 -- To be believed, of a start-up whose plan stands apart from it: where it is in the script, what it holds of that, and what it is
--- with the plan. Whoever makes and keeps a start-up by its calls alone needs none of it.
+-- with the plan. You need none of it if you make and keep a start-up by its calls alone.
 pub mod Ahead
 pub mod Held
 pub mod Apart

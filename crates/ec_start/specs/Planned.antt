@@ -72,7 +72,7 @@ pub record IsStartable (p : SlavePlan) : Type 0 where
   pub no_in_fmmu : f1.active ≡ false → f1 ≡ no_fmmu
   pub readable : (n : ℕ) → n < 4 → IsFmmu (fmmu_at p.fmmus n)
   pub requests : AreRequests (requests p)
-  -- a slave without a mailbox has all its PDOs assigned, and none are assigned where there are none
+  -- a slave without a mailbox has all its PDOs assigned, and none if its type has none
   pub all_assigned : p.kind.mailbox ≡ None → (p.outputs ≡ indices p.kind.outputs) × (p.inputs ≡ indices p.kind.inputs)
   pub no_outs : has_some p.kind.outputs ≡ false → p.outputs ≡ []
   pub no_ins : has_some p.kind.inputs ≡ false → p.inputs ≡ []

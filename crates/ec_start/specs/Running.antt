@@ -54,7 +54,7 @@ type_of ps i = device_or (slice_get ps i)
 
 -- ---- sending
 
--- the number that no frame has: where it is the next one, the numbers are spent
+-- the number that no frame has: when it would be next, the numbers are spent
 abbrev pub last_number : ℕ
 last_number = 2 ^ 64 - 1
 
@@ -69,7 +69,7 @@ asked_by s (Sent number) = s
 asked_by s Ready = s
 asked_by s (Failed error) = s
 
--- what `next` leaves
+-- the start-up after `next`
 abbrev pub asked : StartState → StartState
 asked s = asked_by s s.phase
 
@@ -79,7 +79,7 @@ next_frame_by s (Sent number) = Waiting
 next_frame_by s Ready = Ended
 next_frame_by s (Failed error) = Ended
 
--- and what it answers
+-- what `next` returns
 abbrev pub next_frame : StartState → NextFrame
 next_frame s = next_frame_by s s.phase
 
@@ -149,7 +149,7 @@ abbrev pub is_kept : Taken → Bool
 is_kept Kept = true
 is_kept Foreign = false
 
--- what `take` does: an answer to the outstanding frame is kept and judged by its second datagram; whatever else came changes
+-- what `take` does: an answer to the outstanding frame is kept and judged by its second datagram; any other payload changes
 -- nothing
 pub record IsStartTaken (old : StartState) (payload : List ℕ) (is_kept : Bool) (new : StartState) : Type 0 where
   pub answers : (number : ℕ) (p : Payload) → old.phase ≡ Sent number → IsFrame payload p → (is_kept ≡ true) ↔ IsStartAnswer old number p.datagrams
@@ -169,7 +169,7 @@ given_up_by s (Failed error) = s
 abbrev pub given_up : StartState → StartState
 given_up s = given_up_by s s.phase
 
--- after a failure it may begin anew, with the next number
+-- after a failure it may begin again, with the next number
 abbrev pub has_failed : Phase → Bool
 has_failed (Failed error) = true
 has_failed Idle = false

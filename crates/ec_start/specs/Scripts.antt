@@ -1,4 +1,4 @@
--- The script of a start-up: all its actions in order. A reader lays `phases` beside the table of phases: each line of it is
+-- The script of a start-up: all its actions in order. Lay `phases` beside the table of phases: each line of it is
 -- one phase of the table for all slaves, slave after slave.
 --
 -- | Phase | Action for each slave | Here |
@@ -38,7 +38,7 @@ downloads index subindex value = record { index = index; subindex = subindex; tr
 abbrev pub uploads : (index subindex : ℕ) → SdoValue → SdoRequest
 uploads index subindex value = record { index = index; subindex = subindex; transfer = Upload value }
 
--- the entries of a PDO from subindex k on
+-- the entries of a PDO, the first with subindex k
 abbrev pub entries_read : ℕ → ℕ → List Entry → List SdoRequest
 entries_read index k [] = []
 entries_read index k (e ∷ es) = uploads index k (long_value (entry_number e)) ∷ entries_read index (k + 1) es
@@ -48,7 +48,7 @@ abbrev pub pdo_read : Option Pdo → List SdoRequest
 pdo_read None = []
 pdo_read (Some p) = uploads p.index 0 (byte_value (length p.entries)) ∷ entries_read p.index 1 p.entries
 
--- the indices of an assignment from subindex k on
+-- the indices of an assignment, the first with subindex k
 abbrev pub slots_written : ℕ → ℕ → List ℕ → List SdoRequest
 slots_written object k [] = []
 slots_written object k (p ∷ ps) = downloads object k (word_value p) ∷ slots_written object (k + 1) ps
@@ -57,7 +57,7 @@ abbrev pub count_written : ℕ → List ℕ → List SdoRequest
 count_written object [] = []
 count_written object (p ∷ ps) = slots_written object 1 (p ∷ ps) ++ downloads object 0 (byte_value (length (p ∷ ps))) ∷ []
 
--- count 0, then each index, then the count; nothing where the type has no PDO of the direction
+-- count 0, then each index, then the count; nothing if the type has no PDO of the direction
 abbrev pub assignment_written : ℕ → List ℕ → Bool → List SdoRequest
 assignment_written object indices false = []
 assignment_written object indices true = downloads object 0 (byte_value 0) ∷ count_written object indices
@@ -125,7 +125,7 @@ phases ps =
     ++ (each_slave (raised SafeOp) 0 ps
     ++ each_slave (raised Op) 0 ps)))))))
 
--- with no slaves the first action is all
+-- without slaves the first action is all
 abbrev pub script : List SlavePlan → List Action
 script [] = CountSlaves ∷ []
 script (p ∷ ps) = CountSlaves ∷ phases (p ∷ ps)

@@ -15,7 +15,7 @@ seek [] place = Past place
 seek (r ∷ rs) zero = Found r
 seek (r ∷ rs) (suc place) = seek rs place
 
--- and on in those that follow
+-- and the same in the requests that follow
 abbrev pub seek_on : Seek → List SdoRequest → Seek
 seek_on (Found r) rs = Found r
 seek_on (Past place) rs = seek rs place

@@ -1,5 +1,5 @@
--- Law: a master doesn't see whether the slaves of its table are full. The script of a table that is shown in full is the
--- table's, and so are the devices that it wants to find.
+-- Law: a master doesn't see whether the slaves of its table are full. A table that is shown in full has the script, and its
+-- slaves have the devices, of the table as it is stated.
 use Rattle.std.specs.Prelude.{◌≡◌, ℕ}
 use Rattle.ec_table.specs.Contents.{Contents, shown_full}
 use Rattle.ec_link.specs.Plan.{plan_of}

@@ -28,19 +28,19 @@ word_at bytes k = slice_index bytes k + 256 * slice_index bytes (k + 1)
 abbrev pub long_at : List ℕ → ℕ → ℕ
 long_at bytes k = slice_index bytes k + 256 * slice_index bytes (k + 1) + 65536 * slice_index bytes (k + 2) + 16777216 * slice_index bytes (k + 3)
 
--- ---- the identity: what its words have shown so far, 0 where one wasn't read yet
+-- ---- the identity: the words that were read so far, 0 for each other
 
 abbrev pub nothing_seen : Device
 nothing_seen = record { vendor = 0; product = 0; revision = 0 }
 
--- word 0 is of another slave than the words before it, so it begins anew
+-- word 0 is of another slave than the words before it, so it clears them
 abbrev pub with_word : Device → ℕ → ℕ → Device
 with_word s which value =
     if which == 0 then record { vendor = value; product = 0; revision = 0 }
     else (if which == 1 then record { vendor = s.vendor; product = value; revision = 0 }
     else record { vendor = s.vendor; product = s.product; revision = value })
 
--- what this slave has shown before the word `which`
+-- the words that were read from this slave before the word `which`
 abbrev pub seen_before : Device → ℕ → Device
 seen_before s which =
     if which == 0 then nothing_seen else (if which == 1 then record { vendor = s.vendor; product = 0; revision = 0 } else record { vendor = s.vendor; product = s.product; revision = 0 })
@@ -51,8 +51,8 @@ differs i s = Fails (Identity i s)
 abbrev pub is_device : Device → Device → Bool
 is_device t s = (t.vendor == s.vendor) && ((t.product == s.product) && (t.revision == s.revision))
 
--- the SII's control and status word, the word address, and at 6 the data: an error ends the start-up at once, busy is a poll
--- more, and the third word is compared with the type
+-- the SII's control and status word, the word address, and at 6 the data: an error ends the start-up at once, busy means one
+-- more poll, and after the third word the identity is compared with the type's
 abbrev pub word_verdict : Device → Device → ℕ → ℕ → List ℕ → Verdict
 word_verdict t s i which bytes =
     if sii_error (word_at bytes 0) then differs i (seen_before s which)
@@ -85,7 +85,7 @@ reply_verdict i r (Upload value) (Uploaded seen) = upload_verdict i r value seen
 reply_verdict i r (Upload value) (Aborted code) = Fails (Abort i code)
 reply_verdict i r (Upload value) Unexpected = Fails (BadMailbox i)
 
--- what a mailbox says as the reply to a request
+-- the verdict on a mailbox's message as the reply to a request
 abbrev pub message_verdict : ℕ → SdoRequest → Option Message → Verdict
 message_verdict i r m = reply_verdict i r r.transfer (reply_of r.index r.subindex m)
 

@@ -1,4 +1,4 @@
-//! What a start-up does, one action after another, and the datagram of each.
+//! The actions of a start-up, and the datagram of each.
 
 ghost use Rattle.std.specs.Prelude.{◌≡◌, ◌≤◌, ◌-◌, ◌%◌, ◌/◌, length};
 ghost use Rattle.ec_bits.specs.Bits.{zeros};
@@ -17,25 +17,25 @@ use ec_regs::registers::{
 };
 use ec_regs::{AlWord, FmmuSettings, SiiControl, SyncManagerSettings, encode_fmmu, encode_manager};
 
-/// The most data of an action: a mailbox.
+/// The most bytes of data that an action has: a mailbox.
 pub const MAX_DATA: usize = 1024;
 
-/// The station address of slave 0; the others follow.
+/// The station address of slave 0; slave i gets this plus i.
 const FIRST_STATION: u16 = 0x1001;
 
-/// The bytes of one word: AL control, AL status, or a station address.
+/// The length of one word in bytes: AL control, AL status, or a station address.
 const WORD: usize = 2;
-/// The bytes from the AL status to the end of its code.
+/// The length in bytes from the AL status to the end of its code.
 const STATE_WITH_CODE: usize = AL_STATUS_CODE + WORD - AL_STATUS;
-/// The command of the SII's control word that reads.
+/// The read command in the SII's control word.
 const SII_READ: u8 = 1;
-/// Where the SII's word address stands behind the SII's control word.
+/// The offset of the SII's word address from the SII's control word, in bytes.
 const WORD_ADDRESS: usize = SII_ADDRESS - SII_CONTROL;
-/// The bytes of the SII's control and word address: an order to read.
+/// The length in bytes of the SII's control word and word address: an order to read.
 const SII_ORDER: usize = SII_DATA - SII_CONTROL;
-/// The bytes from the SII's control to the end of the two words that it read.
+/// The length in bytes from the SII's control word to the end of the two words that were read.
 const SII_ANSWER: usize = SII_ORDER + 2 * WORD;
-/// The SII word where the vendor stands; product and revision follow, two words each.
+/// The SII word of the vendor; product and revision follow, two words each.
 const VENDOR_WORD: u32 = 0x08;
 
 /// What an SDO request transfers.
@@ -43,7 +43,7 @@ const VENDOR_WORD: u32 = 0x08;
 pub enum Transfer {
     /// A download of this value.
     Download(SdoValue),
-    /// An upload, which has to bring back this value.
+    /// An upload, which must bring back this value.
     Upload(SdoValue),
 }
 
@@ -54,7 +54,7 @@ pub struct SdoRequest {
     pub index: u16,
     /// The subindex.
     pub subindex: u8,
-    /// What is transferred.
+    /// Whether it is a download or an upload, and of which value.
     pub transfer: Transfer,
 }
 
@@ -83,7 +83,7 @@ pub enum Action {
         slave: usize,
         which: usize,
     },
-    /// Waits for what it reads.
+    /// Waits for the word that the SII reads.
     AwaitWord {
         slave: usize,
         which: usize,
@@ -105,12 +105,12 @@ pub enum Action {
         slave: usize,
         state: State,
     },
-    /// Waits until it is there.
+    /// Waits until the slave is in the state.
     AwaitState {
         slave: usize,
         state: State,
     },
-    /// Writes a request into a slave's mailbox; so many were sent to it before.
+    /// Writes a request into a slave's mailbox; `before` is how many were sent to it before.
     SendRequest {
         slave: usize,
         before: usize,
@@ -126,7 +126,7 @@ pub enum Action {
 }
 
 impl SdoRequest {
-    /// A download.
+    /// A download of a value.
     pub(crate) fn download(index: u16, subindex: u8, value: SdoValue) -> Self
         ensures { result ≡ downloads index subindex value }
     {
@@ -137,7 +137,7 @@ impl SdoRequest {
         }
     }
 
-    /// An upload that has to bring a value back.
+    /// An upload that must bring a value back.
     pub(crate) fn upload(index: u16, subindex: u8, value: SdoValue) -> Self
         ensures { result ≡ uploads index subindex value }
     {
@@ -148,7 +148,7 @@ impl SdoRequest {
         }
     }
 
-    /// Its message, before which so many were sent to the slave.
+    /// The mailbox message of the request; `before` is how many were sent to the slave before it.
     fn message(&self, before: usize) -> Message
         ensures { result ≡ request_message before self.now }
     {
@@ -168,7 +168,7 @@ impl SdoRequest {
 }
 
 impl Action {
-    /// The command of its datagram.
+    /// The command of the action's datagram.
     pub fn command(&self) -> Command
         ensures { result ≡ (datagram_of self.now 0).command }
     {
@@ -188,7 +188,7 @@ impl Action {
         }
     }
 
-    /// The address of its datagram.
+    /// The address of the action's datagram: the ADP in the low 16 bits, the ADO in the high 16 bits.
     pub fn address(&self) -> u32
         requires { IsDoable self.now }
         ensures { result ≡ (datagram_of self.now 0).address }
@@ -196,7 +196,7 @@ impl Action {
         address_of(self.adp(), self.ado())
     }
 
-    /// How many bytes of data its datagram has.
+    /// The length in bytes of the data of the action's datagram, at most 1024.
     pub fn data_length(&self) -> usize
         requires { IsDoable self.now }
         ensures value { result ≡ length (datagram_of self.now 0).data_bytes }
@@ -221,7 +221,7 @@ impl Action {
         }
     }
 
-    /// Writes the data of its datagram over as many zeros.
+    /// Writes the data of the action's datagram into `bytes`, which must be as many zeros.
     pub(crate) fn write_data(&self, bytes: &mut [u8])
         requires doable { IsDoable self.now }
         requires zeroed { bytes.old ≡ zeros (length (datagram_of self.now 0).data_bytes) }
@@ -257,7 +257,7 @@ impl Action {
         }
     }
 
-    /// The ADO of its datagram.
+    /// The ADO of the action's datagram.
     fn ado(&self) -> u16
         requires { IsDoable self.now }
         ensures { result ≡ (datagram_of self.now 0).address / 65536 }
@@ -276,7 +276,7 @@ impl Action {
         }
     }
 
-    /// The ADP of its datagram.
+    /// The ADP of the action's datagram.
     fn adp(&self) -> u16
         requires { IsDoable self.now }
         ensures { result ≡ (datagram_of self.now 0).address % 65536 }
@@ -296,7 +296,7 @@ impl Action {
     }
 }
 
-/// The ADP with which an auto increment datagram acts at a slave: each slave before it adds 1, and it gets 0.
+/// The ADP of an auto increment datagram for a slave: each slave before it adds 1, so that it sees 0.
 fn position(slave: usize) -> u16
     requires { slave ≤ 64 }
     ensures { result ≡ (65536 - slave) % 65536 }
@@ -304,7 +304,7 @@ fn position(slave: usize) -> u16
     (0 as u16).wrapping_sub(slave as u16)
 }
 
-/// The SII word where a number of the identity stands.
+/// The SII word of a number of the identity: 0 the vendor, 1 the product, 2 the revision.
 fn word_place(which: usize) -> u32
     requires { which ≤ 2 }
     ensures { result ≡ word_place which }

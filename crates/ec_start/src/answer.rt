@@ -11,13 +11,13 @@ ghost use Rattle.ec_start.specs.Answered.{Answers, IsAnswerAt};
 use crate::action::Action;
 use ec_frame::{Command, DatagramCursor, DatagramSpan, Header, check, read_data};
 
-/// How many datagrams a frame of a start-up has: the one that names it, and the action's.
+/// How many datagrams a frame of a start-up has: one that names the frame, and the action's.
 const DATAGRAMS: usize = 2;
 
-/// How many bytes name a frame: its number, and part 0.
+/// The length in bytes of a frame's name: its number, and part 0.
 const NAME_LENGTH: usize = 10;
 
-/// Where the datagram stands that answers an action, in a payload that answers the action's frame of this number.
+/// The bytes of the action's datagram in a payload that answers the action's frame of this number; none if it doesn't.
 pub fn answer_in(payload: &[u8], action: &Action, number: u64) -> Option<DatagramSpan>
     requires { IsDoable action.now }
     ensures { MatchOption result
@@ -61,7 +61,7 @@ fn is_pair(payload: &[u8]) -> bool
     }
 }
 
-/// Whether the data of a datagram begin with a number.
+/// Whether the data of a datagram begin with a number of eight bytes, little-endian.
 fn tells(part: &[u8], number: u64) -> bool
     requires { IsSpelling part.now }
     ensures { (more : Bool) (d : Datagram) → IsDatagram d → part.now ≡ spelling more d
@@ -71,7 +71,7 @@ fn tells(part: &[u8], number: u64) -> bool
     data.len() >= 8 && are_bytes_of(&data[..8], number)
 }
 
-/// Whether eight bytes are those of a number. They are compared at once.
+/// Whether eight bytes are a number, little-endian. It compares them as one number.
 fn are_bytes_of(bytes: &[u8], number: u64) -> bool
     requires { length bytes.now ≡ 8 }
     ensures { (result ≡ true) ↔ (bytes.now ≡ to_le_bytes w64 number) }

@@ -7,18 +7,18 @@ use arrayvec::ArrayVec;
 use ec_device::Device;
 use thiserror::Error;
 
-/// How many values an error has at most.
+/// The most values of an error.
 const MAX_VALUES: usize = 4;
 
 /// Why a start-up failed. Slaves are counted from 0 in the order of the table, steps from 0 in the order of the script.
 #[derive(Clone, Copy, Debug, PartialEq, Eq, Error)]
 pub enum StartError {
-    /// What a slave's mailbox held is no reply to the request.
+    /// A slave's mailbox held something that is no reply to the request.
     #[error("slave {slave}: no fitting reply in its mailbox")]
     BadMailbox {
         slave: usize,
     },
-    /// There are not as many slaves as the plan has.
+    /// Another number of slaves is there than the plan has.
     #[error("{seen} slaves are there")]
     Count {
         seen: u16,
@@ -29,18 +29,18 @@ pub enum StartError {
         slave: usize,
         seen: Device,
     },
-    /// The frame of a step came back with another working counter than it must have.
+    /// The frame of a step came back with an unexpected working counter.
     #[error("step {step}: an unexpected working counter")]
     Counter {
         step: usize,
     },
-    /// A slave refused a state, and shows this AL status code.
+    /// The AL status of a slave had the error flag, with this AL status code.
     #[error("slave {slave}: AL status code {code}")]
     AlError {
         slave: usize,
         code: u16,
     },
-    /// A slave aborted a transfer with this code.
+    /// A slave aborted an SDO transfer with this abort code.
     #[error("slave {slave}: abort code {code}")]
     Abort {
         slave: usize,
@@ -51,13 +51,13 @@ pub enum StartError {
     TooSlow {
         step: usize,
     },
-    /// It was given up.
+    /// The start-up was given up.
     #[error("given up")]
     Lost,
     /// No frame number is left.
     #[error("no frame number is left")]
     NumbersSpent,
-    /// A slave shows another mapping than its type has.
+    /// An entry or a count of a slave's PDO is another than its type has.
     #[error("slave {slave}: object {index}:{subindex} is {seen}")]
     Mapping {
         slave: usize,
@@ -104,7 +104,7 @@ impl StartError {
         }
     }
 
-    /// Its values in the order in which they are printed: a slave or a step first, an identity as vendor, product and revision.
+    /// The values of the refusal as they are printed: a slave or a step first, an identity as vendor, product and revision.
     pub fn values(self) -> ArrayVec<u64, 4>
         ensures { result.items ≡ error_values self }
     {

@@ -1,4 +1,4 @@
-//! What the definitions of this crate say together. The functions do nothing: their contracts are the laws.
+//! Laws of the definitions of this crate. Each function does nothing: its contract is the law.
 
 ghost use Rattle.ec_start.specs.ShownFull.{ShownFullHasTheScript};
 ghost use Rattle.ec_start.specs.Interface.{PlannedSlavesAreStartable, ScriptsAreShort};
@@ -10,25 +10,25 @@ pub fn script_of_three_slaves()
     ensures { IsScriptOfThree }
 {}
 
-/// A slave's mappings are read back before anything is written.
+/// A start-up reads a slave's mappings back before it writes anything by SDO.
 #[tactic(auto, using(crate::proofs::LawLemmas::uploads_come_first))]
 pub fn uploads_come_first()
     ensures { UploadsComeFirst }
 {}
 
-/// The mailbox counter begins at 1, goes up by 1, and after 7 begins again.
+/// The mailbox counter begins at 1, goes up by 1, and begins at 1 again after 7.
 #[tactic(auto, using(crate::proofs::LawLemmas::counters_run_to_seven))]
 pub fn counters_run_to_seven()
     ensures { CountersRunToSeven }
 {}
 
-/// Whatever is called, an ended start-up stays as it is.
+/// An ended start-up stays as it is, whatever is called.
 #[tactic(auto, using(crate::proofs::LawLemmas::ended_stays))]
 pub fn ended_stays()
     ensures { EndedStays }
 {}
 
-/// Whatever is called, a start-up keeps its plan: `next`, `take`, `give_up` and `restart` leave it.
+/// A start-up keeps its plan: `next`, `take`, `give_up` and `restart` leave it.
 pub fn plans_stay()
     ensures { PlansStay }
 {}
@@ -56,8 +56,8 @@ pub fn startables_are_taken()
     ensures { StartablesAreTaken }
 {}
 
-/// A master brings full slaves up by the script that it has for slaves that aren't full: the script of a table that is shown in
-/// full is the table's.
+/// A master brings full slaves up by the script that it has for slaves that aren't full. A table that is shown in full has the
+/// script of the table.
 #[tactic(auto, using(crate::proofs::FullScripts::full_scripts))]
 pub fn shown_full_has_the_script()
     ensures { ShownFullHasTheScript }

@@ -1,8 +1,8 @@
-//! Where a start-up stands, and what its calls answer.
+//! The phase of a start-up, and what its calls return.
 
 use crate::error::StartError;
 
-/// Where a start-up stands.
+/// How far a start-up is.
 #[derive(Clone, Copy, Debug, PartialEq, Eq)]
 pub enum Phase {
     /// It runs, and no frame is outstanding.
@@ -15,22 +15,22 @@ pub enum Phase {
     Failed(StartError),
 }
 
-/// What a start-up says of its next frame.
+/// What `next` did.
 #[derive(Clone, Copy, Debug, PartialEq, Eq)]
 pub enum NextFrame {
-    /// It was written, and is to be sent.
+    /// It wrote the next frame, which is to be sent.
     Send,
-    /// The last one is still outstanding.
+    /// It wrote nothing: the last frame is still outstanding.
     Waiting,
-    /// There is none: the start-up has ended.
+    /// It wrote nothing: the start-up has ended.
     Ended,
 }
 
-/// Whether a payload was taken.
+/// Whether a payload was kept.
 #[derive(Clone, Copy, Debug, PartialEq, Eq)]
 pub enum Taken {
-    /// It is what was waited for.
+    /// It answers an outstanding frame, and was kept.
     Kept,
-    /// It is something else, and nothing changed.
+    /// It answers none, and nothing changed.
     Foreign,
 }

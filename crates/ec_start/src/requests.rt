@@ -13,16 +13,16 @@ use ec_coe::{INPUT_ASSIGNMENT, OUTPUT_ASSIGNMENT, SdoValue, entry_number, find_p
 use ec_device::Pdo;
 use ec_link::SlavePlan;
 
-/// What a place is in a run of requests.
+/// What a place in a run of requests is.
 #[derive(Clone, Copy)]
 pub enum Seek {
     /// The place of this request.
     Found(SdoRequest),
-    /// So many places past the run.
+    /// A place this far past the run.
     Past(usize),
 }
 
-/// The request with a place among all of a slave.
+/// The request at a place, of all requests to a slave; none past the last.
 pub fn request_at(settings: &SlavePlan, place: usize) -> Option<SdoRequest>
     requires { HasFewAssigned settings.now }
     ensures { result ≡ slice_get (requests settings.now) place }
@@ -36,7 +36,7 @@ pub fn request_at(settings: &SlavePlan, place: usize) -> Option<SdoRequest>
     }
 }
 
-/// The download with a place among all of a slave.
+/// The download at a place, of all downloads to a slave.
 fn download_in(settings: &SlavePlan, place: usize) -> Seek
     requires { HasFewAssigned settings.now }
     ensures { result ≡ seek (downloads_of settings.now) place }
@@ -51,7 +51,7 @@ fn download_in(settings: &SlavePlan, place: usize) -> Seek
     }
 }
 
-/// The upload with a place among all of a slave.
+/// The upload at a place, of all uploads from a slave.
 fn upload_in(settings: &SlavePlan, place: usize) -> Seek
     ensures { result ≡ seek (uploads_of settings.now) place }
 {
@@ -62,7 +62,7 @@ fn upload_in(settings: &SlavePlan, place: usize) -> Seek
     }
 }
 
-/// The download with a place among those of one assignment object: count 0, each index, the count.
+/// The download at a place, of those of one assignment object: count 0, each index, the count.
 fn downloads_at(object: u16, indices: &[u16], has_pdos: bool, place: usize) -> Seek
     requires { length indices.now < 256 }
     ensures { result ≡ seek (assignment_written object indices.now has_pdos) place }
@@ -87,7 +87,7 @@ fn downloads_at(object: u16, indices: &[u16], has_pdos: bool, place: usize) -> S
     Seek::Past(place - 2 - count)
 }
 
-/// The upload with a place among those of the PDOs with these indices.
+/// The upload at a place, of those of the PDOs with these indices.
 fn uploads_at(pdos: &[Pdo], indices: &[u16], place: usize) -> Seek
     requires { All (λ p. (length p.entries ≤ 64) × (pdo_bits p ≤ 4096)) pdos.now }
     ensures { result ≡ seek (flat_map (λ index. pdo_read (pdo_at pdos.now index)) indices.now) place }
@@ -102,7 +102,7 @@ fn uploads_at(pdos: &[Pdo], indices: &[u16], place: usize) -> Seek
     Seek::Past(left)
 }
 
-/// The upload with a place among those of the PDO with an index.
+/// The upload at a place, of those of the PDO with an index.
 fn upload_at(pdos: &[Pdo], index: u16, place: usize) -> Seek
     requires { All (λ p. (length p.entries ≤ 64) × (pdo_bits p ≤ 4096)) pdos.now }
     ensures { result ≡ seek (pdo_read (pdo_at pdos.now index)) place }
@@ -113,7 +113,7 @@ fn upload_at(pdos: &[Pdo], index: u16, place: usize) -> Seek
     }
 }
 
-/// The upload with a place among those of one PDO: how many entries it has, and each of them.
+/// The upload at a place, of those of one PDO: its number of entries, and each of them.
 fn pdo_upload(pdo: &Pdo, place: usize) -> Seek
     requires { length pdo.now.entries ≤ 64 }
     ensures { result ≡ seek (pdo_read (Some pdo.now)) place }

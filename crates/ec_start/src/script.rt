@@ -1,4 +1,4 @@
-//! Where a start-up is in its script: no step of it is stored.
+//! The place of a start-up in its script. No step of the script is stored.
 
 ghost use Rattle.std.specs.Prelude.{◌≡◌, ◌≤◌, ◌<◌, length, All, Option, Some, None, IfSome, get_or, slice_get};
 ghost use Rattle.ec_start.specs.Planned.{HasFewAssigned};
@@ -11,26 +11,26 @@ use crate::requests::request_at;
 use ec_al::State;
 use ec_link::SlavePlan;
 
-/// A run of actions for each slave, slave after slave; the opening is for all slaves at once.
+/// A stretch of the script: a share of actions for each slave, slave after slave; the opening is for all slaves at once.
 #[derive(Clone, Copy)]
 pub enum Stretch {
     /// The slaves are counted, asked for INIT and cleared.
     Opening,
-    /// Each gets its station address.
+    /// Each slave gets its station address.
     Naming,
-    /// Each shows what it is.
+    /// The identity of each slave is read.
     Identifying,
     /// Mailboxes are set.
     Mailboxes,
-    /// Each is led to PREOP.
+    /// Each slave is brought to PREOP.
     ToPreOp,
     /// Mappings are read back, and assignments written.
     Talking,
     /// Process data managers and FMMUs are set.
     Mapping,
-    /// Each is led to SAFEOP.
+    /// Each slave is brought to SAFEOP.
     ToSafeOp,
-    /// Each is led to OP.
+    /// Each slave is brought to OP.
     ToOp,
 }
 
@@ -45,7 +45,7 @@ pub struct Cursor {
     pub place: usize,
 }
 
-/// A step of the script: where it is, and its action.
+/// A step of the script: its place, and its action.
 #[derive(Clone, Copy)]
 pub struct Step {
     pub cursor: Cursor,
@@ -53,7 +53,7 @@ pub struct Step {
 }
 
 impl Stretch {
-    /// Whether it is for all slaves at once.
+    /// Whether the stretch is for all slaves at once.
     fn is_for_all(self) -> bool
         ensures { result ≡ is_for_all self }
     {
@@ -63,7 +63,7 @@ impl Stretch {
         }
     }
 
-    /// The stretch behind it.
+    /// The next stretch, if there is one.
     fn following(self) -> Option<Stretch>
         ensures { result ≡ following self }
     {
@@ -80,7 +80,7 @@ impl Stretch {
         })
     }
 
-    /// The action with a place in a slave's share.
+    /// The action at a place of a slave's share; none past the share's end.
     fn action_in(self, slave: usize, settings: &SlavePlan, place: usize) -> Option<Action>
         requires low { slave < 64 }
         requires few { HasFewAssigned settings.now }
@@ -102,7 +102,7 @@ impl Stretch {
 }
 
 impl Cursor {
-    /// The first step from here on, which may be some shares behind; none at the script's end.
+    /// The first step at this place or behind it; none at the script's end. Shares without actions are passed over.
     pub fn settle(self, slaves: &[SlavePlan]) -> Option<Step>
         requires few { length slaves.now ≤ 64 }
         requires assigned { All HasFewAssigned slaves.now }
@@ -119,7 +119,7 @@ impl Cursor {
         }
     }
 
-    /// Where the share behind this one begins.
+    /// The beginning of the next share; none behind the last.
     fn behind(self, count: usize) -> Option<Cursor>
         requires { self.slave ≤ 64 }
         ensures { result ≡ behind count self }
@@ -138,7 +138,7 @@ impl Cursor {
         })
     }
 
-    /// The action here, none past the end of the slave's share.
+    /// The action at this place; none past the end of the slave's share.
     fn action(self, slaves: &[SlavePlan]) -> Option<Action>
         requires few { length slaves.now ≤ 64 }
         requires assigned { All HasFewAssigned slaves.now }
@@ -174,7 +174,7 @@ fn mapping(slave: usize, settings: &SlavePlan, place: usize) -> Option<Action>
     None
 }
 
-/// What a mapping sets, if it is there: managers 2 and 3, then FMMUs 0 and 1.
+/// The setting with a number, if the plan has it: managers 2 and 3, then FMMUs 0 and 1.
 fn mapping_chosen(slave: usize, settings: &SlavePlan, number: usize) -> Option<Action>
     requires low { slave < 64 }
     requires there { number < 4 }
@@ -220,7 +220,7 @@ fn manager_chosen(slave: usize, settings: &SlavePlan, number: usize) -> Option<A
     }
 }
 
-/// The requests of a slave, each with the wait for its reply.
+/// The action at a place: each request to a slave, with the wait for its reply behind it.
 fn talking(slave: usize, settings: &SlavePlan, place: usize) -> Option<Action>
     requires low { slave < 64 }
     requires few { HasFewAssigned settings.now }
@@ -261,7 +261,7 @@ fn setting_mailboxes(slave: usize, settings: &SlavePlan, place: usize) -> Option
     }
 }
 
-/// Sets one of the managers that the plan has of a slave.
+/// The action that sets a slave's sync manager as the plan has it.
 fn set_manager(slave: usize, settings: &SlavePlan, number: usize) -> Action
     requires low { slave < 64 }
     requires there { number < 4 }
@@ -314,7 +314,7 @@ fn naming(slave: usize, settings: &SlavePlan, place: usize) -> Option<Action>
     }
 }
 
-/// The action with a place in the opening.
+/// The action at a place of the opening.
 fn opening_action(has_slaves: bool, place: usize) -> Option<Action>
     ensures value { result ≡ slice_get (opening has_slaves) place }
     ensures doable { IfSome result IsDoable }

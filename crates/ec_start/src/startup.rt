@@ -28,17 +28,17 @@ mod rest;
 
 pub use self::rest::StartupRest;
 
-/// So many bytes are enough for the data of each datagram but a mailbox message.
+/// Enough bytes for the data of each datagram that is no mailbox message.
 const SHORT_DATA: usize = 64;
 
-/// And so many for most mailbox messages, with what is behind them in the mailbox.
+/// Enough bytes for most mailboxes.
 const USUAL_MAILBOX: usize = 256;
 
-/// How often a wait is tried.
+/// How often a wait is polled at most.
 const MAX_POLLS: u16 = 1000;
 
-/// A start-up of a segment by init commands (ETG.1000.6, "AL state machine"), one frame at a time: `next` writes a frame, which
-/// is then outstanding until `take` keeps its answer. It ends Ready, with all slaves in OP, or by a failure.
+/// A start-up of a segment by init commands (ETG.1000.6, "AL state machine"), one frame at a time. `next` writes a frame, which
+/// is outstanding until `take` keeps its answer. The start-up ends Ready, with all slaves in OP, or with a failure.
 #[derive(Drop)]
 pub struct Startup<'p> {
     slaves: &'p [SlavePlan],
@@ -47,7 +47,7 @@ pub struct Startup<'p> {
     polls: u16,
     seen: Device,
     phase: Phase,
-    // where it is in the script, which is not stored
+    // the step of the script that it is at; the script itself is not stored
     step: Step,
 }
 
@@ -70,7 +70,7 @@ impl<'p> Model for Startup<'p> {
 }
 
 impl<'p> Startup<'p> {
-    /// Whether `new` takes a plan: at most 255 PDOs are assigned in a direction. It takes each that the link compiler makes.
+    /// Whether `new` takes a plan: at most 255 PDOs are assigned in a direction. It takes each plan of the link compiler.
     pub fn can_start(plan: &Plan) -> bool
         ensures { IsTrue result ↔ All HasFewAssigned plan.now.slaves }
     {
@@ -79,7 +79,7 @@ impl<'p> Startup<'p> {
             .all(|settings| has_few_assigned(settings))
     }
 
-    /// A start-up of a plan whose first frame has this number. Neither it nor any later call takes memory.
+    /// A start-up of a plan. Its first frame has the number `from_number`. Neither this nor any later call takes memory.
     #[tactic(auto, unfolding(crate::specs::Running::begun))]
     pub fn new(plan: &'p Plan, from_number: u64) -> Startup<'p>
         requires { All HasFewAssigned plan.now.slaves }
@@ -96,14 +96,14 @@ impl<'p> Startup<'p> {
         }
     }
 
-    /// Where it stands.
+    /// How far it is.
     pub fn phase(&self) -> Phase
         ensures { result ≡ self.now.phase }
     {
         self.phase
     }
 
-    /// Whether it failed, and may begin anew.
+    /// Whether it failed. It may then be begun again by `restart`.
     pub fn has_failed(&self) -> bool
         ensures { result ≡ has_failed self.now.phase }
     {
@@ -113,7 +113,7 @@ impl<'p> Startup<'p> {
         }
     }
 
-    /// How it ended, if it has.
+    /// How it ended; none while it runs.
     pub fn outcome(&self) -> Option<Result<(), StartError>>
         ensures { result ≡ outcome_of self.now.phase }
     {
@@ -124,15 +124,15 @@ impl<'p> Startup<'p> {
         }
     }
 
-    /// The number of the next frame: the one behind the last that it sent.
+    /// The number of the next frame: one more than the last that was sent.
     pub fn next_number(&self) -> u64
         ensures { result ≡ self.now.next }
     {
         self.next
     }
 
-    /// Writes the next frame, in place of what was in `frame`. `Waiting` where the last one is still outstanding, `Ended` where
-    /// the start-up has ended, or ends now since no number is left; then `frame` stays as it was.
+    /// Writes the next frame in place of what was in `frame`. Returns `Waiting` if the last frame is outstanding, and `Ended` if
+    /// the start-up has ended, or ends now because no number is left; `frame` stays as it was then.
     pub fn next(&mut self, frame: &mut Frame) -> NextFrame
         ensures answer { result ≡ next_frame self.old }
         ensures state { self.new ≡ asked self.old }
@@ -154,9 +154,9 @@ impl<'p> Startup<'p> {
         NextFrame::Send
     }
 
-    /// Takes a payload that came. It is kept where it answers the outstanding frame: the commands, the indices, the lengths,
-    /// the order and the number are that frame's. What it says then decides: the next step, one poll more, or the end. Any
-    /// other payload is foreign, and changes nothing.
+    /// Takes a payload that came in. It is kept if it answers the outstanding frame: the commands, the indices, the lengths,
+    /// the order and the number are those of the frame. Its second datagram then decides: the next step, one more poll, or the
+    /// end. Any other payload is foreign, and changes nothing.
     pub fn take(&mut self, payload: &[u8]) -> Taken
         ensures { IsStartTaken self.old payload.now (is_kept result) self.new }
     {
@@ -179,7 +179,7 @@ impl<'p> Startup<'p> {
         Taken::Kept
     }
 
-    /// Ends a start-up that runs, as lost. One that has ended stays as it is.
+    /// Ends a start-up that runs, as `Lost`. One that has ended stays as it is.
     pub fn give_up(&mut self)
         ensures { self.new ≡ given_up self.old }
     {
@@ -189,7 +189,7 @@ impl<'p> Startup<'p> {
         }
     }
 
-    /// Begins anew after a failure, with the next number.
+    /// Begins again after a failure, with the next number.
     #[tactic(auto, unfolding(crate::specs::Running::begun))]
     pub fn restart(&mut self)
         requires { has_failed self.old.phase ≡ true }
@@ -202,7 +202,7 @@ impl<'p> Startup<'p> {
         self.step = first_step();
     }
 
-    /// Goes by what the answer to the outstanding frame says.
+    /// Follows the verdict on the outstanding frame's answer.
     fn judge(&mut self, verdict: Verdict)
         requires { is_sent self.old.phase ≡ true }
         ensures { self.new ≡ judged self.old verdict }
@@ -215,7 +215,7 @@ impl<'p> Startup<'p> {
         }
     }
 
-    /// What was seen of the identity, with what a read of the SII showed.
+    /// The identity that was read so far, with the word that was read now.
     fn with_shown(&self, value: u32) -> Device
         requires { is_sent self.now.phase ≡ true }
         ensures { result ≡ with_shown self.now (action_of self.now) value }
@@ -226,7 +226,7 @@ impl<'p> Startup<'p> {
         }
     }
 
-    /// Tries a wait again, unless it was tried often enough.
+    /// Polls a wait once more; it fails as `TooSlow` after `MAX_POLLS` polls.
     fn poll(&mut self)
         requires { is_sent self.old.phase ≡ true }
         ensures { self.new ≡ judged self.old Again }
@@ -239,7 +239,7 @@ impl<'p> Startup<'p> {
         }
     }
 
-    /// Goes to the next step of the script; behind the last one it is Ready.
+    /// Goes to the next step of the script, or becomes Ready behind the last.
     fn advance(&mut self, seen: Device)
         requires { is_sent self.old.phase ≡ true }
         ensures { self.new ≡ advanced self.old seen }
@@ -259,7 +259,7 @@ impl<'p> Startup<'p> {
     }
 }
 
-/// Writes the frame of an action with a number, by way of a buffer that is long enough.
+/// Writes the frame of an action with a number. It picks the least of three buffers that is long enough.
 fn write_frame(action: &Action, number: u64, frame: &mut Frame)
     requires { IsDoable action.now }
     ensures { IsFrame frame.new.items (bare_payload (frame_of action.now number)) }
@@ -294,8 +294,8 @@ fn write_usual(action: &Action, number: u64, frame: &mut Frame)
     write_through(&mut [0; USUAL_MAILBOX], action, number, frame);
 }
 
-/// Writes the frame of an action with a number: the datagram that names it, and the action's, whose data come by way of
-/// a buffer of zeros.
+/// Writes the frame of an action with a number: the datagram that names the frame, and the action's. `buffer` has zeros,
+/// and takes the action's data.
 fn write_through(buffer: &mut [u8], action: &Action, number: u64, frame: &mut Frame)
     requires doable { IsDoable action.now }
     requires zeroed { buffer.old ≡ zeros (length buffer.old) }
@@ -321,7 +321,7 @@ fn write_through(buffer: &mut [u8], action: &Action, number: u64, frame: &mut Fr
     write_pair(frame, naming, asking);
 }
 
-/// What names a frame: its number, and part 0.
+/// The name of a frame: its number in eight bytes, little-endian, and part 0 in two.
 fn name_of(number: u64) -> [u8; 10]
     ensures { result ≡ to_le_bytes w64 number ++ to_le_bytes w16 0 }
 {
@@ -329,7 +329,7 @@ fn name_of(number: u64) -> [u8; 10]
     [a, b, c, d, e, f, g, h, 0, 0]
 }
 
-/// Whether each slot of a slave's assignments has a subindex of one byte.
+/// Whether each slot of a slave's assignments has a subindex that fits one byte.
 fn has_few_assigned(settings: &SlavePlan) -> bool
     ensures { IsTrue result ↔ HasFewAssigned settings.now }
 {

@@ -1,4 +1,4 @@
-//! What the answer to a step says.
+//! Verdicts: what the answer to a step says of it.
 
 ghost use Rattle.std.specs.Prelude.{◌≡◌, ◌≤◌, length};
 ghost use Rattle.ec_device.specs.declared.slave_type.Device.{Device};
@@ -17,25 +17,25 @@ use ec_link::SlavePlan;
 use ec_regs::registers::{AL_STATUS, AL_STATUS_CODE, SII_CONTROL, SII_DATA};
 use ec_regs::{AlWord, SiiControl};
 
-/// In what is read from the AL status on: where the status code stands.
+/// The offset in bytes of the AL status code from the AL status.
 const CODE: usize = AL_STATUS_CODE - AL_STATUS;
-/// In what is read from the SII control on: where the data stand.
+/// The offset in bytes of the SII's data from the SII's control word.
 const DATA: usize = SII_DATA - SII_CONTROL;
 
-/// What a returned datagram says of the action that it was sent for.
+/// What a returned datagram says of its action.
 #[derive(Clone, Copy)]
 pub enum Verdict {
     /// The action is done.
     Next,
-    /// It is done, and a read of the SII showed this.
+    /// The action is done, and read this word of the SII.
     Shows(u32),
-    /// It is tried again.
+    /// The action must be tried again.
     Again,
     /// The start-up fails.
     Fails(StartError),
 }
 
-/// The identity before any word of it was read.
+/// An identity of which no word was read yet: all 0.
 pub fn nothing_seen() -> Device
     ensures { result ≡ nothing_seen }
 {
@@ -46,7 +46,7 @@ pub fn nothing_seen() -> Device
     }
 }
 
-/// The identity with one word more: 0 the vendor, of a slave that hasn't shown any yet, 1 the product, 2 the revision.
+/// The identity with one more word: 0 the vendor, which clears the others, 1 the product, 2 the revision.
 pub fn with_word(seen: Device, which: usize, value: u32) -> Device
     ensures { result ≡ with_word seen which value }
 {
@@ -74,7 +74,7 @@ pub fn with_word(seen: Device, which: usize, value: u32) -> Device
     }
 }
 
-/// What the counter and the data of a returned datagram say of the action that it was sent for.
+/// The verdict on an action, by the working counter and the data of the returned datagram.
 pub fn verdict_on(
     slaves: &[SlavePlan],
     step: usize,
@@ -109,7 +109,7 @@ pub fn verdict_on(
     }
 }
 
-/// A verdict that holds only where the working counter is the one that it must be.
+/// The verdict if the working counter is the expected one, and else the failure `Counter`.
 fn counted(counter: u16, expected: usize, step: usize, verdict: Verdict) -> Verdict
     ensures { result ≡ counted counter expected step verdict }
 {
@@ -191,7 +191,7 @@ fn differs(slave: usize, seen: Device) -> Verdict
     Verdict::Fails(StartError::Identity { slave, seen })
 }
 
-/// The device of a slave's type.
+/// The device of a slave's type; all 0 if there is no such slave.
 fn type_of(slaves: &[SlavePlan], slave: usize) -> Device
     ensures { result ≡ type_of slaves.now slave }
 {
@@ -208,7 +208,7 @@ fn is_device(kind: Device, seen: Device) -> bool
     kind.vendor == seen.vendor && kind.product == seen.product && kind.revision == seen.revision
 }
 
-/// The words before one, as far as they are of the same slave.
+/// The words of the identity that were read from this slave before word `which`.
 fn seen_before(seen: Device, which: usize) -> Device
     ensures { result ≡ seen_before seen which }
 {

@@ -1,4 +1,4 @@
--- A manager's bytes, decoded: what `Bounds::of` answers. What a call answers of them is said by `governs` and `in_first_buffer`.
+-- A manager's bytes, decoded: what `Bounds::of` returns. `governs` and `in_first_buffer` say what a call returns of them.
 use Rattle.std.specs.Prelude.{ℕ, ◌+◌, if◌then◌else◌}
 use Rattle.ec_regs.specs.declared.manager.SyncManagerSettings.{SyncManagerSettings}
 use Rattle.ec_regs.specs.Managers.{is_set, span}

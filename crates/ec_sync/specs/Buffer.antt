@@ -29,7 +29,7 @@ abbrev pub draft_next : Buffer → ℕ → ℕ → Option (List ℕ) → Option 
 draft_next b i x None = None
 draft_next b i x (Some d) = Some (drafted b i (slice_set d i x))
 
--- The application writes byte i: byte 0 opens a draft of zeros, and drops an older one. Nothing where it is denied.
+-- The application writes byte i: byte 0 opens a draft of zeros, and drops an older one. None if it is denied.
 unfoldable pub app_written : Buffer → ℕ → ℕ → Option Buffer
 app_written b i x =
     if nat_lt i (length b.published)
@@ -49,7 +49,7 @@ view_next b i (Some v) = Some (record {
   buffer = record b { view = if i + 1 == length b.published then None else Some v };
 })
 
--- The application reads byte i: byte 0 opens a view of the published value. Nothing where it is denied.
+-- The application reads byte i: byte 0 opens a view of the published value. None if it is denied.
 unfoldable pub app_read : Buffer → ℕ → Option Got
 app_read b i =
     if nat_lt i (length b.published)

@@ -19,8 +19,8 @@ governor ms a = position_from (λ m. governs m a) 0 ms
 abbrev pub covers : (ℕ → Bool) → SyncManager → Bool
 covers touched m = touched m.settings.start && touched (m.settings.start + m.settings.length - 1)
 
--- The manager after an access that writes: the addresses that it touches, and what it leaves in so many bytes from an
--- address on. What is denied changes nothing.
+-- The manager after an access that writes. It is given the addresses that it touches, and what it leaves in bytes that begin at
+-- an address. A denied access changes nothing.
 abbrev pub after_ring_write : (ℕ → Bool) → (ℕ → ℕ → List ℕ) → SyncManager → SyncManager
 after_ring_write touched written m =
     if covers touched m && may_write m then ring_written m (written m.settings.start m.settings.length) else m

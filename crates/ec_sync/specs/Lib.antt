@@ -8,5 +8,5 @@ pub mod Sound
 -- Laws: over whole runs.
 pub mod Runs
 pub mod Messages
--- Private: for those who say what a datagram touches: a lemma that they want
+-- Private: a lemma on what a datagram touches, for the impls of `Writing`
 pub mod Touching

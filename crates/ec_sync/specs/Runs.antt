@@ -59,7 +59,7 @@ closed_draft m i x =
     then option_map (λ d. slice_set d i x) (draft_for m i)
     else None
 
--- The values that an operation publishes as a whole: zeros where it empties, the value of a granted ring write, a draft
+-- The values that an operation publishes as a whole: zeros if it empties, the value of a granted ring write, a draft
 -- that its last byte closes, and the message that the firmware puts.
 abbrev pub publications : SyncManager → Operation → List (List ℕ)
 publications m (Configure settings) = zeros (buffer_length settings) ∷ []
@@ -122,7 +122,7 @@ ViewsStay =
     (m : SyncManager) (ops : List Operation) (i : ℕ) (value : List ℕ) → is_some (app_got m 0) ≡ true → All OpensNoView ops
     → viewed (run (step m (AppGet 0)) ops) (suc i) ≡ Some value → value ≡ m.buffer.published
 
--- a value with the bytes that the application put in a run, where each was granted
+-- a value with the bytes that the application put in a run, if each was granted
 abbrev pub with_puts : SyncManager → List Operation → List ℕ → List ℕ
 with_puts m [] value = value
 with_puts m (AppPut i x ∷ ops) value = with_puts (step m (AppPut i x)) ops (if is_some (app_put m i x) then slice_set value i x else value)
@@ -136,7 +136,7 @@ DraftsAreTheBytesPut =
     → closed_draft (run (step m (AppPut 0 x)) ops) (suc i) y ≡ Some value
     → value ≡ slice_set (with_puts (step m (AppPut 0 x)) ops (slice_set (zeros (length m.buffer.published)) 0 x)) (suc i) y
 
--- the value that was published last, where v was before
+-- the value that was published last; v if none was
 abbrev pub newest : List ℕ → List (List ℕ) → List ℕ
 newest v [] = v
 newest v (x ∷ xs) = newest x xs
@@ -168,8 +168,8 @@ abbrev pub gets_from : ℕ → ℕ → List Operation
 gets_from i zero = []
 gets_from i (suc n) = AppGet i ∷ gets_from (i + 1) n
 
--- What the contract of each call says of the manager after it is the step of that name, or, of a call that takes all
--- bytes of a value, the steps of all of them.
+-- The contract of each call says that the manager goes by the step of that name. A call that takes all bytes of a
+-- value goes by the steps of all of them.
 pub record CallsAreSteps : Type 0 where
   pub configure : (m : SyncManager) (settings : SyncManagerSettings) → empty_manager settings m.locked ≡ step m (Configure settings)
   pub set_locked : (m : SyncManager) (locked : Bool) → record m { locked = locked } ≡ step m (Lock locked)

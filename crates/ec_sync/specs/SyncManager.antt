@@ -1,4 +1,4 @@
--- One sync manager (ETG.1000.4, "Sync manager"). Who may do what, and what is left after it; where the standard leaves
+-- One sync manager (ETG.1000.4, "Sync manager"). Who may do what, and what is left after it; if the standard leaves
 -- it free, the rule is the profile of the simulated slaves.
 use Rattle.std.specs.Prelude.{ℕ, ◌+◌, ◌-◌, ◌<◌, ◌≤◌, ◌&&◌, not, List, [], ◌++◌, length, Bool, true, false, if◌then◌else◌, nat_le, Option, Some, None, is_some, is_none, option_map, unwrap_or}
 use Rattle.ec_bits.specs.Bits.{zeros}
@@ -7,8 +7,8 @@ use Rattle.ec_regs.specs.declared.manager.SyncManagerSettings.{SyncManagerSettin
 use Rattle.ec_regs.specs.Managers.{no_settings, is_set, is_mailbox, is_buffered, is_master_written, is_master_read}
 use Rattle.ec_sync.specs.Buffer.{Buffer, Got, emptied_buffer, publishing, app_written, app_read}
 
--- `locked` is its deactivate bit, which the slave's side sets. `buffer` counts where it is set and buffered, `mail`,
--- the message of a full mailbox, where it is a mailbox.
+-- `locked` is its deactivate bit, which the slave's side sets. `buffer` counts if it is set and buffered, `mail`,
+-- the message of a full mailbox, if it is a mailbox.
 pub record SyncManager : Type 0 where
   pub settings : SyncManagerSettings
   pub locked : Bool
@@ -17,7 +17,7 @@ pub record SyncManager : Type 0 where
 
 -- ---- empty
 
--- how long its published value is: 0 where it isn't a set buffered manager
+-- the length of its published value in bytes: 0 if it isn't a set buffered manager
 abbrev pub buffer_length : SyncManagerSettings → ℕ
 buffer_length m = if is_set m && is_buffered m then m.length else 0
 
@@ -25,7 +25,7 @@ buffer_length m = if is_set m && is_buffered m then m.length else 0
 abbrev pub empty_manager : SyncManagerSettings → Bool → SyncManager
 empty_manager m locked = record { settings = m; locked = locked; buffer = emptied_buffer (buffer_length m); mail = None }
 
--- where a set manager has its value: a byte at least, inside the RAM
+-- the place of a set manager's value: a byte at least, inside the RAM
 pub record LiesInRam (m : SyncManagerSettings) : Type 0 where
   pub some : 0 < m.length
   pub from : ram_start ≤ m.start
@@ -73,11 +73,11 @@ may_app_put m = is_enabled m && (is_buffered m.settings && is_master_read m.sett
 abbrev pub may_app_get : SyncManager → Bool
 may_app_get m = is_enabled m && (is_buffered m.settings && is_master_written m.settings)
 
--- the application writes byte i: nothing where it is denied
+-- the application writes byte i: none if it is denied
 abbrev pub app_put : SyncManager → ℕ → ℕ → Option SyncManager
 app_put m i x = if may_app_put m then option_map (λ b. record m { buffer = b }) (app_written m.buffer i x) else None
 
--- the application reads byte i: nothing where it is denied
+-- the application reads byte i: none if it is denied
 abbrev pub app_got : SyncManager → ℕ → Option Got
 app_got m i = if may_app_get m then app_read m.buffer i else None
 
@@ -86,7 +86,7 @@ abbrev pub after_get : SyncManager → Option Got → SyncManager
 after_get m None = m
 after_get m (Some got) = record m { buffer = got.buffer }
 
--- the message that the firmware finds in a mailbox that the ring writes; none in an empty one, and where it is denied
+-- the message that the firmware finds in a mailbox that the ring writes; none if it is empty or access is denied
 abbrev pub message_in : SyncManager → Option (List ℕ)
 message_in m = if is_enabled m && (is_mailbox m.settings && is_master_written m.settings) then m.mail else None
 
@@ -107,6 +107,6 @@ padded m message = message ++ zeros (m.settings.length - length message)
 abbrev pub message_put : SyncManager → List ℕ → SyncManager
 message_put m message = if may_put_message m (length message) then record m { mail = Some (padded m message) } else m
 
--- zeros are published where there is a published value; an open draft and an open view stay
+-- zeros are published if there is a published value; an open draft and an open view stay
 abbrev pub zeros_published : SyncManager → SyncManager
 zeros_published m = record m { buffer = publishing m.buffer (zeros (length m.buffer.published)) }

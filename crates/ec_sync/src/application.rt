@@ -1,4 +1,4 @@
-//! Bytes of the slave's application.
+//! Reads and writes of the slave's application, byte by byte or as a whole.
 
 ghost use Rattle.std.specs.Prelude.{◌≡◌, true, length, None, is_some, unwrap_or, option_map};
 ghost use Rattle.ec_sync.specs.SyncManager.{may_app_put as application_may_put, may_app_get as application_may_get, app_put as put_by_application, app_got, after_get};
@@ -20,9 +20,9 @@ impl SyncManager {
         self.is_enabled() && self.settings.is_buffered() && self.settings.is_master_written()
     }
 
-    /// The application writes byte `place`: byte 0 opens a draft of zeros, the last byte publishes it. False, and nothing
-    /// changes, exactly where it is denied: it must be an enabled buffered manager that the ring reads, the place below
-    /// its length, and a draft open for the bytes after the first.
+    /// The application writes byte `place`: byte 0 opens a draft of zeros, the last byte publishes it. Returns false and
+    /// changes nothing if it is denied. It is granted if this is an enabled buffered manager that the ring reads, and the
+    /// place is below its length. Each byte after the first needs an open draft.
     pub fn app_put(&mut self, place: usize, byte: u8) -> bool
         ensures granted { result ≡ is_some (put_by_application self.old place byte) }
         ensures after { self.new ≡ unwrap_or (put_by_application self.old place byte) self.old }
@@ -33,7 +33,7 @@ impl SyncManager {
         self.buffer.put(place, byte)
     }
 
-    /// The application writes all bytes in turn, as by `app_put`: the last one publishes them. The caller asks for the right.
+    /// The application writes all bytes in turn, as by `app_put`: the last one publishes them. The caller has checked the right.
     pub fn app_put_all(&mut self, value: &[u8])
         requires allowed { application_may_put self.old ≡ true }
         requires long { length value.now ≡ length self.old.buffer.published }
@@ -42,9 +42,9 @@ impl SyncManager {
         self.buffer.put_all(value);
     }
 
-    /// The application reads byte `place`: byte 0 opens a view of the published value, the last byte closes it. `None`,
-    /// and nothing changes, exactly where it is denied: it must be an enabled buffered manager that the ring writes, the
-    /// place below its length, and a view open for the bytes after the first.
+    /// The application reads byte `place`: byte 0 opens a view of the published value, the last byte closes it. Returns none
+    /// and changes nothing if it is denied. It is granted if this is an enabled buffered manager that the ring writes, and
+    /// the place is below its length. Each byte after the first needs an open view.
     pub fn app_get(&mut self, place: usize) -> Option<u8>
         ensures byte { result ≡ option_map (λ got. got.byte) (app_got self.old place) }
         ensures after { self.new ≡ after_get self.old (app_got self.old place) }
@@ -56,7 +56,7 @@ impl SyncManager {
     }
 
     /// The application reads all bytes of what is published in turn, as by `app_get`: the last one closes its view. The
-    /// caller asks for the right.
+    /// caller has checked the right.
     pub fn app_get_all(&mut self)
         requires { application_may_get self.old ≡ true }
         ensures { self.new ≡ record self.old { buffer = record self.old.buffer { view = None } } }

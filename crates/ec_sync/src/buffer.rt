@@ -42,7 +42,7 @@ impl Model for Buffer {
 }
 
 impl Buffer {
-    /// Without a value.
+    /// A buffer without a value.
     pub fn new(alloc: Global) -> Result<Buffer, AllocError>
         ensures { IfOk result (λ b. b ≡ emptied_buffer 0) }
     {
@@ -72,7 +72,7 @@ impl Buffer {
         &self.published[..self.len]
     }
 
-    /// Publishes so many zeros, and drops draft and view.
+    /// Publishes `len` zeros, and drops draft and view.
     pub fn empty(&mut self, len: usize)
         requires { len ≤ 2730 }
         ensures { self.new ≡ emptied_buffer len }
@@ -103,7 +103,7 @@ impl Buffer {
         fill_front(&mut self.published, len, start, writing);
     }
 
-    /// The application writes a byte: false, and nothing changes, where there is no open draft, or no such byte.
+    /// The application writes a byte. Returns false and changes nothing if there is no open draft, or no such byte.
     #[tactic(auto, unfolding(crate::specs::Buffer::app_written))]
     pub fn put(&mut self, place: usize, byte: u8) -> bool
         ensures granted { result ≡ is_some (app_written self.old place byte) }
@@ -131,7 +131,7 @@ impl Buffer {
         self.is_drafting = false;
     }
 
-    /// The application reads a byte: `None`, and nothing changes, where there is no open view, or no such byte.
+    /// The application reads a byte. Returns none and changes nothing if there is no open view, or no such byte.
     #[tactic(auto, unfolding(crate::specs::Buffer::app_read))]
     pub fn get(&mut self, place: usize) -> Option<u8>
         ensures byte { result ≡ option_map (λ got. got.byte) (app_read self.old place) }

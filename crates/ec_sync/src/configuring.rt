@@ -8,7 +8,7 @@ use crate::manager::SyncManager;
 use ec_regs::SyncManagerSettings;
 
 impl SyncManager {
-    /// A ring write to its settings: it takes them and is empty, also where they are what they were. It stays locked or
+    /// A ring write to its settings: it takes them and is empty, even if they are as before. It stays locked or
     /// not.
     pub fn configure(&mut self, settings: SyncManagerSettings)
         ensures { self.new ≡ empty_manager settings self.old.locked }
@@ -34,7 +34,7 @@ impl SyncManager {
         self.buffer.empty(buffer_length(self.settings));
     }
 
-    /// Publishes zeros, as a slave that enters SAFEOP does, and leaves an open draft and an open view. Where there is no
+    /// Publishes zeros, as a slave that enters SAFEOP does, and leaves an open draft and an open view. If there is no
     /// published value nothing changes.
     pub fn publish_zeros(&mut self)
         ensures { self.new ≡ zeros_published self.old }
@@ -43,7 +43,7 @@ impl SyncManager {
     }
 }
 
-/// How long the published value is: 0 where it isn't a set buffered manager.
+/// The length of the published value in bytes; 0 if this isn't a set buffered manager.
 #[tactic(auto, unfolding(ec_regs::specs::Managers::is_set))]
 fn buffer_length(settings: SyncManagerSettings) -> usize
     ensures value { result ≡ buffer_length_of settings }

@@ -1,4 +1,4 @@
-//! Laws of the definitions, over every run of a manager. The functions are empty: each contract is a theorem.
+//! Laws of the definitions, over every run of a manager. Each function does nothing: its contract is the law.
 
 ghost use Rattle.ec_sync.specs.Runs.{OnlyWholeValues, BytesOfTheView, ViewsStay, DraftsAreTheBytesPut, ShowsTheNewest, RegistersReadBack, CallsAreSteps};
 ghost use Rattle.ec_sync.specs.Messages.{MessagesAreGivenOnce};
@@ -36,7 +36,7 @@ pub fn messages_are_given_once()
     ensures { MessagesAreGivenOnce }
 {}
 
-/// What the contract of each call says of the manager after it is the step of that name in a run.
+/// The contract of each call says that the manager goes by the step of that name in a run.
 #[tactic(auto, using(crate::proofs::Registers::calls_law))]
 pub fn calls_are_steps()
     ensures { CallsAreSteps }

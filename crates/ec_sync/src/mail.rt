@@ -31,7 +31,7 @@ impl Model for Mail {
 }
 
 impl Mail {
-    /// Without a message.
+    /// A mailbox without a message.
     pub fn new(alloc: Global) -> Result<Mail, AllocError>
         ensures { IfOk result (λ m. m ≡ None) }
     {

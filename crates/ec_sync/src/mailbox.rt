@@ -8,7 +8,7 @@ ghost use Rattle.ec_sync.specs.SyncManager.{message_in, message_taken, LiesInRam
 use crate::manager::SyncManager;
 
 impl SyncManager {
-    /// The message in a full mailbox that the ring writes. `None` exactly where it is denied: it must be an enabled
+    /// The message in a full mailbox that the ring writes. None if it is denied: this must be an enabled
     /// mailbox of that direction, and full.
     pub fn message(&self) -> Option<&[u8]>
         ensures { option_copied result ≡ message_in self.now }
@@ -24,8 +24,8 @@ impl SyncManager {
         }
     }
 
-    /// Takes the message out, which leaves the mailbox empty. False, and nothing changes, exactly where `message` is
-    /// `None`.
+    /// Takes the message out, which leaves the mailbox empty. Returns false and changes nothing exactly if `message`
+    /// returns none.
     pub fn mailbox_take(&mut self) -> bool
         ensures granted { result ≡ is_some (message_in self.old) }
         ensures after { self.new ≡ message_taken self.old }
@@ -50,8 +50,8 @@ impl SyncManager {
             && len <= self.settings.length as usize
     }
 
-    /// Puts a message, with zeros behind it to the mailbox's length. False, and nothing changes, exactly where it is
-    /// denied: it must be an enabled mailbox that the ring reads, empty, and no shorter than the message.
+    /// Puts a message, with zeros behind it to the mailbox's length. Returns false and changes nothing if it is
+    /// denied: this must be an enabled mailbox that the ring reads, empty, and no shorter than the message.
     pub fn mailbox_put(&mut self, message: &[u8]) -> bool
         ensures granted { result ≡ firmware_may_put self.old (length message.now) }
         ensures after { self.new ≡ message_put self.old message.now }

@@ -1,4 +1,4 @@
-//! One sync manager, and what can be asked of it.
+//! One sync manager: its settings, and what it allows.
 
 ghost use Rattle.std.specs.Prelude.{◌≡◌, ◌-◌, ◌<◌, ◌≤◌, length, IfOk, true, false};
 ghost use Rattle.std.specs.Bool.{OnTrue};
@@ -45,7 +45,7 @@ impl SyncManager {
     ///
     /// # Errors
     ///
-    /// `AllocError` where there is no memory.
+    /// `AllocError` if there is no memory.
     pub fn new(alloc: Global) -> Result<SyncManager, AllocError>
         ensures { IfOk result (λ m. m ≡ no_manager) }
     {
@@ -84,7 +84,7 @@ impl SyncManager {
         self.is_set() && !self.is_locked
     }
 
-    /// Where its bytes lie in the memory, in byte addresses.
+    /// The bounds of its bytes in the memory, in byte addresses.
     pub fn bounds(&self) -> Bounds
         ensures { result ≡ bounds_of self.now.settings }
     {
@@ -128,7 +128,7 @@ impl SyncManager {
             && (!self.settings.is_mailbox() || !self.mail.is_full())
     }
 
-    /// Whether the `len` bytes from `from` on have its first and its last byte.
+    /// Whether the `len` bytes that begin at `from` have its first and its last byte.
     pub fn is_covered(&self, from: usize, len: usize) -> bool
         ensures { result ≡ covers (within from len) self.now }
     {
@@ -154,7 +154,7 @@ impl SyncManager {
         }
     }
 
-    /// The last value that was published whole: empty where it isn't a set buffered manager.
+    /// The last value that was published whole; empty if this isn't a set buffered manager.
     pub fn published(&self) -> &[u8]
         ensures value { result.now ≡ self.now.buffer.published }
         ensures long { length self.now.buffer.published ≡ buffer_length_of self.now.settings }

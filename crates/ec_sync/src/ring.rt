@@ -9,8 +9,8 @@ use crate::manager::SyncManager;
 use crate::touching::{Touching, Writing};
 
 impl SyncManager {
-    /// A datagram writes: a mailbox is full then, a buffered manager has published a whole value. False, and nothing
-    /// changes, exactly where it is denied: it must touch the first and the last byte of an enabled manager that the
+    /// A datagram writes: a mailbox is full then, a buffered manager has published a whole value. Returns false and
+    /// changes nothing if it is denied: it must touch the first and the last byte of an enabled manager that the
     /// ring writes, and of a mailbox that is empty.
     pub fn ring_write<W: Writing>(&mut self, writing: &W) -> bool
         ensures granted { result ≡ (covers (W.touched writing.now) self.old && may_write self.old) }
@@ -24,8 +24,8 @@ impl SyncManager {
         true
     }
 
-    /// Stores the value that an access writes: what [`ring_write`] does where it is granted, for a
-    /// caller that has asked for the rights itself.
+    /// Stores the value that an access writes, as [`ring_write`] does if it is granted. The caller has
+    /// checked the right.
     ///
     /// [`ring_write`]: SyncManager::ring_write
     #[tactic(auto, using(crate::proofs::Lengths::buffer_length_set))]
@@ -46,8 +46,8 @@ impl SyncManager {
         }
     }
 
-    /// A datagram reads; `shown_byte` returns before what it gets. A mailbox is empty then. False, and nothing changes,
-    /// exactly if it is denied: it must touch the first and the last byte of an enabled manager that the ring reads,
+    /// A datagram reads what `shown_byte` returned before. A mailbox is empty then. Returns false and changes nothing
+    /// if it is denied: it must touch the first and the last byte of an enabled manager that the ring reads,
     /// and of a mailbox that is full.
     pub fn ring_read<T: Touching>(&mut self, access: &T) -> bool
         ensures granted { result ≡ (covers (T.touched access.now) self.old && may_read self.old) }

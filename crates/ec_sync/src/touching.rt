@@ -23,7 +23,7 @@ pub trait Touching {
 pub trait Writing: Touching {
     ghost use Rattle.std.specs.Prelude.{ℕ, List, false, slice_index};
 
-    /// The value that it leaves in so many bytes from an address on, if it touches the first and the last of them.
+    /// The value that it leaves in bytes that begin at an address, if it touches the first and the last of them.
     ghost written: { Self → ℕ → ℕ → List ℕ };
 
     /// Fills a value that begins at `start`, whatever stands there: 0 in each byte that it does not touch.
@@ -34,13 +34,13 @@ pub trait Writing: Touching {
         requires last { Self.touched self.now (start + length value.old - 1) ≡ true }
         ensures { value.new ≡ written self.now start (length value.old) };
 
-    /// What it does not touch is 0.
+    /// A byte that it does not touch is 0.
     ghost zero_untouched: { (w : Self) (start len k : ℕ) → Self.touched w start ≡ true
         → Self.touched w (start + len - 1) ≡ true → k < len → Self.touched w (start + k) ≡ false
         → slice_index (written w start len) k ≡ 0 };
 }
 
-/// The `len` bytes from `from` on, as a physical datagram reads them.
+/// The `len` bytes that begin at `from`, as a physical datagram reads them.
 #[derive(Clone, Copy, Debug)]
 pub struct Reach {
     /// The first address.

@@ -16,18 +16,18 @@ pub record Contents : Type 0 where
   pub slaves : List SlaveRow
   pub variables : List VariableRow
   pub links : List LinkRow
-  -- whether its slaves are full: what the segment shows to usual masters; no text states it, so a table that was read isn't
+  -- whether its slaves are full, as common masters expect them; no text states it, so the slaves of a table that was read aren't
   pub full : Bool
 
--- the same table, its slaves full
+-- the table with full slaves
 abbrev pub shown_full : Contents → Contents
 shown_full c = record c { full = true }
 
--- a table shown in full, where that is wanted
+-- the table with full slaves if `full`
 abbrev pub shown_as : (full : Bool) → Contents → Contents
 shown_as full c = if full then shown_full c else c
 
--- the same table as its text states it, its slaves not full
+-- the table as its text states it, its slaves not full
 abbrev pub as_stated : Contents → Contents
 as_stated c = record c { full = false }
 

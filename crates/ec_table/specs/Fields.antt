@@ -1,4 +1,4 @@
--- What stands under the keys of one table.
+-- The values under the keys of one table.
 use Rattle.std.specs.Prelude.{ℕ, ℤ, pos, Bool, true, false, ◌&&◌, ◌||◌, ◌==◌, nat_le, if◌then◌else◌, List, [], ◌∷◌, length, codes, not, Option, Some, None, option_map, option_and_then, is_some, Result, Ok, Err, Vec}
 use Rattle.std.specs.List.{list_all, list_any}
 use Rattle.std.specs.Option.{ok_or}
@@ -29,7 +29,7 @@ is_name_byte b = is_ascii_alphanumeric b || (b == 95)
 abbrev pub is_name : List ℕ → Bool
 is_name s = (nat_le 1 (length s) && nat_le (length s) 32) && list_all is_name_byte s
 
--- what a reference to a value shows
+-- the value behind a reference
 abbrev pub seen : Option (Bor Value) → Option Data
 seen o = option_map (λ v. view v.now) o
 
@@ -102,17 +102,17 @@ direction_in p value = do
   s ← ok_or (option_and_then as_str value) (BadValue p)
   if bytes_eq s (codes "out") then Ok Out else if bytes_eq s (codes "in") then Ok In else Err (BadValue p)
 
--- the version of the format, 1 where it is left out
+-- the version of the format, 1 if it is left out
 unfoldable pub version_in : Place → Option Data → Result Version Fault
 version_in p None = Ok versions.One
 version_in p (Some d) = number_in p 1 2 (Some d) >>= (λ n. Ok (if n == 1 then versions.One else versions.Two))
 
--- a number up to `most`, 0 where it is left out
+-- a number up to `most`, 0 if it is left out
 abbrev pub number_or_0 : Place → ℕ → Option Data → Result ℕ Fault
 number_or_0 p most None = Ok 0
 number_or_0 p most (Some d) = number_in p 0 most (Some d)
 
--- a truth value, true where it is left out
+-- a truth value, true if it is left out
 abbrev pub truth_in : Place → Option Data → Result Bool Fault
 truth_in p None = Ok true
 truth_in p (Some d) = ok_or (as_bool d) (BadValue p)
@@ -131,7 +131,7 @@ mailbox_of p d = do
   _ ← must (not (is_some (at 4 d))) (BadValue p)
   Ok (record { receive_start = receive_start; receive_size = receive_size; send_start = send_start; send_size = send_size })
 
--- a mailbox, where there is one
+-- a mailbox, if there is one
 unfoldable pub mailbox_in : Place → Option Data → Result (Option Mailbox) Fault
 mailbox_in p None = Ok None
 mailbox_in p (Some d) = mailbox_of p d >>= (λ m. Ok (Some m))
@@ -145,7 +145,7 @@ link_bits_of p d = do
   _ ← must (not (is_some (at 3 d))) (BadValue p)
   Ok (record { variable_bit = variable_bit; entry_bit = entry_bit; count = count })
 
--- a link's bits, where they are written
+-- a link's bits, if they are written
 unfoldable pub link_bits_in : Place → Option Data → Result (Option LinkBits) Fault
 link_bits_in p None = Ok None
 link_bits_in p (Some d) = link_bits_of p d >>= (λ b. Ok (Some b))
@@ -158,7 +158,7 @@ abbrev pub are_tables : Items → Bool
 are_tables no_items = true
 are_tables (item d ds) = is_table d && are_tables ds
 
--- the elements of a section, none where it is left out
+-- the elements of a section, none if it is left out
 unfoldable pub section_in : Place → Option Data → Result Items Fault
 section_in p None = Ok no_items
 section_in p (Some d) = do

@@ -30,7 +30,7 @@ use Rattle.ec_table.specs.declared.keys.Shape.TheVariants as shape
 abbrev pub AcceptedIsSound : Type 0
 AcceptedIsSound = (text : List ℕ) (c : Contents) → table_of text ≡ Ok c → IsSound c
 
--- Every fault that an element has carries the element's section and place.
+-- Every fault of an element has the element's section and place.
 abbrev pub place_in : Section → ℕ → Option Place
 place_in s n = Some (record { section = s; element = n })
 
@@ -67,7 +67,7 @@ pub record AllRead (type_data slave_data variable_data link_data : List Data) (c
 abbrev pub AcceptedElementByElement : Type 0
 AcceptedElementByElement = (ms : Members) (types slaves variables links : List Data) (c : Contents) → HasSections ms c.version types slaves variables links → AllRead types slaves variables links c → table_of_document ms ≡ Ok (as_stated c)
 
--- The first element in order that fails a test is told: all types before it, then all types and all slaves before it, and so on.
+-- The fault of a table is that of the first element, in order, that fails a test: all types before it pass, then all types and all slaves before it, and so on.
 pub record FirstFaultIsTold : Type 0 where
   pub types : (ms : Members) (v : Version) (before : List Data) (d : Data) (after slaves variables links : List Data) (ts : List TypeRow) (f : Fault) → HasSections ms v (before ++ d ∷ after) slaves variables links
       → EachReads (type_element v) before ts → type_element v (length before) d ts ≡ Err f → table_of_document ms ≡ Err f
@@ -80,7 +80,7 @@ pub record FirstFaultIsTold : Type 0 where
 
 -- ---- the document itself
 
--- What is told of a document before its elements, in this order: that the text is no TOML, a bad version, a bad key, a section that is no array of tables.
+-- The faults of a document that come before those of its elements, in this order: the text is no TOML, a bad version, a bad key, a section that is no array of tables.
 pub record DocumentFaultsInOrder : Type 0 where
   pub text : (text : List ℕ) → parse_document text ≡ None → table_of text ≡ Err Toml
   pub version : (ms : Members) (f : Fault) → version_in top (get_member (codes "version") ms) ≡ Err f → table_of_document ms ≡ Err (BadValue top)

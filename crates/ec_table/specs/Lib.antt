@@ -8,7 +8,7 @@ pub mod InOrder
 pub mod Pdos
 pub mod Reading
 pub mod Objects
--- Laws: other words for the same, which laws tie to them: what every table keeps, the document of a table, and the laws.
+-- Laws: other words for these definitions, which laws tie to them: what every table keeps, the document of a table, and the laws.
 pub mod Sound
 pub mod Writing
 pub mod Laws

@@ -1,4 +1,4 @@
--- What a table says of one slave or one link: its type, its identity, what it shows besides where it is full, and the entries of the PDOs that it assigns (ETG.1000.6, "Object dictionary").
+-- What a table says of one slave or one link: its type, its identity, its face if it is full, and the entries of the PDOs that it assigns (ETG.1000.6, "Object dictionary").
 use Rattle.std.specs.Prelude.{ℕ, ◌+◌, ◌==◌, if◌then◌else◌, List, [], length, Option, Some, None, slice_get, option_map, option_and_then}
 use Rattle.std.specs.List.{flat_map}
 use Rattle.std.specs.Option.{option_map_or}
@@ -25,11 +25,11 @@ variable_of c l = option_and_then (λ (r : LinkRow). slice_get c.variables r.var
 abbrev pub slave_of : Contents → ℕ → Option SlaveRow
 slave_of c l = option_and_then (λ (r : LinkRow). slice_get c.slaves r.slave) (slice_get c.links l)
 
--- what slave s shows as its identity: its type's device, and its own serial number
+-- the identity of slave s: its type's device, and its own serial number
 abbrev pub identity_of : Contents → ℕ → Option Identity
 identity_of c s = option_and_then (λ (r : SlaveRow). option_map (λ (t : TypeRow). device_identity t.device r.serial) (slice_get c.types r.type_place)) (slice_get c.slaves s)
 
--- a type as its slaves have it where they are not full
+-- a type as its slaves have it if they are not full
 abbrev pub kind_of_type : TypeRow → SlaveKind
 kind_of_type t = record {
   device = t.device;
@@ -42,11 +42,11 @@ kind_of_type t = record {
   face = None;
 }
 
--- what slave s, of that type, shows besides where it is full: the name of its type, and whether it is the last of its ring
+-- the face of slave s, of that type, if it is full: the name of its type, and whether it is the last of its ring
 abbrev pub face_of : Contents → ℕ → TypeRow → Face
 face_of c s t = record { name = t.name; is_last = s + 1 == length c.slaves }
 
--- slave s, of that type: it has a face where the table's slaves are full
+-- slave s, of that type: it has a face if the table's slaves are full
 abbrev pub kind_at : Contents → ℕ → TypeRow → SlaveKind
 kind_at c s t = record (kind_of_type t) { face = if c.full then Some (face_of c s t) else None }
 

@@ -13,7 +13,7 @@ use Rattle.ec_table.specs.declared.keys.Shape.TheVariants as shape
 use Rattle.ec_table.specs.Fields.{◌>>=◌, must, keys_are, number_in}
 use Rattle.ec_table.specs.InOrder.{members_in, rows_after}
 
--- [index, subindex, bits], where a gap has index and subindex 0
+-- [index, subindex, bits]; a gap has index and subindex 0
 unfoldable pub entry_of : Place → Data → Result Entry Fault
 entry_of p d = do
   index ← number_in p 0 65535 (at 0 d)
@@ -34,7 +34,7 @@ module _ {X : Type 0} (row : ℕ → Data → List X → Result X Fault) where
     _ ← must (nat_le (length xs) most) (BadValue p)
     Ok xs
 
-  -- none where it is left out
+  -- none if it is left out
   abbrev pub array_in : Place → ℕ → Option Data → Result (List X) Fault
   array_in p most None = Ok []
   array_in p most (Some d) = array_of p most d
@@ -53,7 +53,7 @@ pdo_row p low high n d found = members_in p d >>= (λ ms. pdo_of p low high ms)
 abbrev pub pdos_in : Place → ℕ → ℕ → Option Data → Result (List Pdo) Fault
 pdos_in p low high value = array_in (pdo_row p low high) p 16 value
 
--- where the indices of the output PDOs end (receive PDOs, ETG.1000.6, "Object dictionary"), and those of the input PDOs
+-- the last indices of the output PDOs (receive PDOs, ETG.1000.6, "Object dictionary") and of the input PDOs
 -- (transmit PDOs)
 abbrev pub last_output_index : ℕ
 last_output_index = 0x17FF

@@ -28,7 +28,7 @@ use Rattle.ec_table.specs.Fields.{◌>>=◌, must, keys_are, name_in, direction_
 
 -- ---- types
 
--- vendor, product, revision, by what stands under their keys
+-- vendor, product and revision, by the values under their keys
 unfoldable pub device_in : Place → Option Data → Option Data → Option Data → Result Device Fault
 device_in p vendor_written product_written revision_written = do
   vendor ← number_in p 0 4294967295 vendor_written
@@ -36,7 +36,7 @@ device_in p vendor_written product_written revision_written = do
   revision ← number_in p 0 4294967295 revision_written
   Ok (record { vendor = vendor; product = product; revision = revision })
 
--- where the process data begin, and their objects, by what stands under `out_start`, `in_start`, `rxpdo` and `txpdo`
+-- where the process data begin, and their objects, by the values under `out_start`, `in_start`, `rxpdo` and `txpdo`
 unfoldable pub process_in : Place → Option Data → Option Data → Option Data → Option Data → Result ProcessData Fault
 process_in p out_written in_written rxpdo txpdo = do
   out_start ← number_in p 0 65535 out_written
@@ -118,7 +118,7 @@ slave_element v types n d found =
 
 -- ---- variables
 
--- the variable of this name, where no other has it, by what stands under `dir` and `bits`
+-- the variable of this name, if no other has it, by the values under `dir` and `bits`
 abbrev pub variable_named : Place → Option Data → Option Data → List ℕ → Bool → Result VariableRow Fault
 variable_named p dir bits_written name is_taken = do
   direction ← direction_in p dir

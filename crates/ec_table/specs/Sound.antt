@@ -34,12 +34,12 @@ pub record IsDevice (d : Device) : Type 0 where
   pub product : d.product ≤ 4294967295
   pub revision : d.revision ≤ 4294967295
 
--- where mailboxes lie has 16 bits
+-- the addresses of mailboxes have 16 bits
 pub record HasMailboxStarts (m : Mailbox) : Type 0 where
   pub receive : m.receive_start ≤ 65535
   pub send : m.send_start ≤ 65535
 
--- what an entry stands for: an index of 16 bits and a subindex of 8
+-- an entry's name: an index of 16 bits and a subindex of 8
 pub record HasName (e : Entry) : Type 0 where
   pub index : e.index ≤ 65535
   pub subindex : e.subindex ≤ 255
@@ -103,7 +103,7 @@ pub record IsBits (b : LinkBits) : Type 0 where
   pub least : 1 ≤ b.count
   pub most : b.count ≤ 64
 
--- a link joins a variable and an object, no gap, of a slave that there are; whether the slave has the object is not said
+-- a link joins a variable and an object, no gap, of a slave that exist; this doesn't say whether the slave has the object
 pub record IsLink (ss : List SlaveRow) (ws : List VariableRow) (l : LinkRow) : Type 0 where
   pub variable : l.variable < length ws
   pub slave : l.slave < length ss

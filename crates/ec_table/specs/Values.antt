@@ -1,4 +1,4 @@
--- What stands under the keys of a table, which are in one list.
+-- The values under the keys of a table, in one list.
 use Rattle.std.specs.Prelude.{◌≡◌, ◌+◌, ◌++◌, List, [], ◌∷◌, ℕ, Option, None, get_or}
 use Rattle.std.specs.Borrow.{Bor}
 use Rattle.toml.specs.Data.{Members, get_member}
@@ -11,7 +11,7 @@ use Rattle.ec_table.specs.declared.rows.Version.{Version}
 abbrev pub keys_of : Shape → Version → List (List ℕ)
 keys_of s v = required s ++ optional s v
 
--- the values from one place on are what stands under these keys
+-- the values that begin at a place are those under these keys
 abbrev pub AreUnder : List (Option (Bor Value)) → ℕ → List (List ℕ) → Members → Type 0
 AreUnder values place [] ms = Unit {0}
 AreUnder values place (key ∷ keys) ms = (seen (get_or values place None) ≡ get_member key ms) × AreUnder values (place + 1) keys ms

@@ -17,7 +17,7 @@ pub enum Section {
 }
 
 impl Section {
-    /// The number by which the machine form of a refusal names the section.
+    /// The number of the section in a printed refusal.
     pub fn number(self) -> u8
         ensures { result ≡ section_number self }
     {
@@ -30,7 +30,7 @@ impl Section {
         }
     }
 
-    /// What a place calls an element of the section.
+    /// The word for an element of the section, in messages for people.
     fn word(self) -> &'static str {
         match self {
             Section::Top => "document",
@@ -45,9 +45,9 @@ impl Section {
 /// An element of a section, counted from 0 in file order; the document itself is element 0 of `Top`.
 #[derive(Clone, Copy, Debug, PartialEq, Eq)]
 pub struct Place {
-    /// The section that it stands in.
+    /// The section of the element.
     pub section: Section,
-    /// Which of the section's elements it is.
+    /// The number of the element in its section, counted from 0.
     pub element: usize,
 }
 
@@ -75,7 +75,7 @@ pub enum Fault {
     /// A name that its section has already, or a process data object that its list has already.
     #[error("{0}: a name or an index stands twice")]
     TwiceNamed(Place),
-    /// A reference to a type, slave, variable or process data object that there is not.
+    /// A reference to a type, slave, variable or process data object that doesn't exist.
     #[error("{0}: a name or an index is unknown")]
     UnknownName(Place),
 }
@@ -107,7 +107,7 @@ impl Fault {
         }
     }
 
-    /// Where it stands; a text that is no TOML has no place.
+    /// The place of the fault; none if the text is no TOML.
     pub fn place(self) -> Option<Place>
         ensures { result ≡ fault_place self }
     {
@@ -153,7 +153,7 @@ impl TableError {
         }
     }
 
-    /// Where the fault stands; memory and a text that is no TOML have no place.
+    /// The place of the fault; none for memory and for a text that is no TOML.
     pub fn place(self) -> Option<Place>
         ensures { result ≡ error_place self }
     {

@@ -1,4 +1,4 @@
-//! Values of keys, with their ranges.
+//! Reads the values of keys, and checks their ranges.
 ghost use Rattle.std.specs.Prelude.{◌≡◌, ◌≤◌, [], IfOk, option_map};
 ghost use Rattle.std.specs.List.{list_all};
 ghost use Rattle.std.specs.Str.{bytes_eq};
@@ -49,7 +49,7 @@ pub fn member<'a>(members: &'a toml::Table, key: &str) -> Option<&'a Value>
     members.get(key)
 }
 
-/// A number from `low` to `high`.
+/// A number from `low` to `high`, or the fault `BadValue`.
 #[tactic(auto, unfolding(crate::specs::Fields::number_in))]
 pub fn number_in(place: Place, value: Option<&Value>, low: u32, high: u32) -> Result<u32, Fault>
     ensures value { result ≡ number_in place low high (seen value.entry) }
@@ -68,7 +68,7 @@ pub fn number_in(place: Place, value: Option<&Value>, low: u32, high: u32) -> Re
     }
 }
 
-/// A name.
+/// A name, or the fault `BadValue`.
 #[tactic(auto, unfolding(crate::specs::Fields::name_in), using(crate::proofs::Naming::name_fits))]
 pub fn name_in(place: Place, value: Option<&Value>) -> Result<Name, Fault>
     ensures { result ≡ name_in place (seen value.entry) }
@@ -86,7 +86,7 @@ pub fn name_in(place: Place, value: Option<&Value>) -> Result<Name, Fault>
     }
 }
 
-/// The version of the format, 1 where it is left out.
+/// The version of the format, 1 if it is left out.
 #[tactic(auto, unfolding(crate::specs::Fields::version_in))]
 pub fn version_in(place: Place, value: Option<&Value>) -> Result<Version, Fault>
     ensures { result ≡ version_in place (seen value.entry) }
@@ -102,7 +102,7 @@ pub fn version_in(place: Place, value: Option<&Value>) -> Result<Version, Fault>
     }
 }
 
-/// A number up to `most`, 0 where it is left out.
+/// A number up to `most`, 0 if it is left out.
 pub fn number_or_0(place: Place, value: Option<&Value>, most: u32) -> Result<u32, Fault>
     ensures value { result ≡ number_or_0 place most (seen value.entry) }
     ensures range { IfOk result (λ n. n ≤ most) }
@@ -129,7 +129,7 @@ pub fn numbers_in(
     }
 }
 
-/// The elements of a section, none where it is left out.
+/// The elements of a section, none if it is left out.
 #[tactic(auto, unfolding(crate::specs::Fields::section_in))]
 pub fn section_in<'a>(place: Place, value: Option<&'a Value>) -> Result<&'a [Value], Fault>
     ensures { result_items result ≡ section_in place (seen value.entry) }
@@ -147,7 +147,7 @@ pub fn section_in<'a>(place: Place, value: Option<&'a Value>) -> Result<&'a [Val
     }
 }
 
-/// The elements of a section that was taken out of its document, none where it is left out.
+/// The elements of a section that was taken out of its document, none if it is left out.
 #[tactic(auto, unfolding(crate::specs::Fields::section_in))]
 pub fn elements_in(alloc: Global, place: Place, value: Option<Value>) -> Result<Vec<Value>, Fault>
     ensures { result_elements result ≡ section_in place (option_map view value) }

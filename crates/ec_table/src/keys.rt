@@ -1,4 +1,4 @@
-//! The keys of the tables in a document, and what stands under them.
+//! The keys of the tables in a document, and the values under them.
 ghost use Rattle.std.specs.Prelude.{◌≡◌, ◌<◌, IfSome, None, Some, get_or, is_some, length, map};
 ghost use Rattle.std.specs.List.{list_all, position};
 ghost use Rattle.std.specs.Option.{option_or};
@@ -23,14 +23,14 @@ pub enum Shape {
     Link,
 }
 
-/// The values under the keys of a table, in the order of its shape's keys, as far as they are there.
+/// The values under the keys of a table, in the order of its shape's keys, none for a key that the table doesn't have.
 #[derive(Clone, Copy)]
 pub struct Values<'a> {
     found: [Option<&'a Value>; MAX_KEYS],
 }
 
 impl<'a> Values<'a> {
-    /// What stands under a key, by its place among the keys of the table's shape.
+    /// The value under a key, by the key's place among the keys of the table's shape.
     pub fn at(&self, place: usize) -> Option<&'a Value>
         requires { place < 10 }
         ensures { result ≡ get_or self.now.found place None }
@@ -40,7 +40,7 @@ impl<'a> Values<'a> {
     }
 }
 
-/// The values under the keys of a table; none where some key isn't known in this version of the format, or one is missing that
+/// The values under the keys of a table; none if some key isn't known in this version of the format, or one is missing that
 /// the table must have.
 pub fn values_of<'a>(shape: Shape, version: Version, members: &'a toml::Table) -> Option<Values<'a>>
     ensures keys { is_some result ≡ keys_are shape version (table_view members.now) }
@@ -60,11 +60,11 @@ pub fn values_of<'a>(shape: Shape, version: Version, members: &'a toml::Table) -
     }
 }
 
-/// A table has at most so many keys.
+/// The most keys of a table.
 const MAX_KEYS: usize = 10;
 
-// Of each shape first the keys that a table must have, and then the others, both in the order in which a document's map has
-// its keys, so that most keys stand behind the one before them.
+// The keys of each shape: first those that a table must have, and then the others. Both are in the order in which a document's
+// map has its keys, so that most keys stand behind the one before them.
 static DOCUMENT_KEYS: [&str; 5] = ["link", "slave", "type", "variable", "version"];
 
 static TYPE_KEYS: [&str; MAX_KEYS] = [
@@ -113,7 +113,7 @@ impl Shape {
         }
     }
 
-    /// The place of a key among those that are known in a version of the format. It is tried first at `next`.
+    /// The place of a key among those that are known in a version of the format. It tries the place `next` first.
     fn place_of(self, version: Version, key: &str, next: usize) -> Option<usize>
         ensures { result ≡ position (bytes_eq key.now) (keys_of self version) }
     {
@@ -146,7 +146,7 @@ fn place_among(names: &[&str], key: &str) -> Option<usize>
     names.iter().position(|name| are_same(key, *name))
 }
 
-/// The first of the values that were met under a key: the one that was found, else this.
+/// The first value that was met under a key: `found` if there is one, else `value`.
 fn first<'a>(found: Option<&'a Value>, value: &'a Value) -> Option<&'a Value>
     ensures { seen result ≡ option_or (seen found.entry) (Some (view value.now)) }
 {

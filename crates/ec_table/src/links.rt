@@ -1,4 +1,4 @@
-//! The links that elements state.
+//! Reads the links that elements state.
 ghost use Rattle.std.specs.Prelude.{◌≡◌, [], unwrap_or};
 ghost use Rattle.toml.specs.View.{view, table_view, items_view};
 ghost use Rattle.ec_table.specs.Fields.{link_bits_of, link_bits_in, seen};
@@ -14,15 +14,15 @@ use ec_listed::Listed;
 use std::alloc::Global;
 use toml::Value;
 
-/// Where a link's variable and slave are looked for first.
+/// The places where a link's variable and slave are looked for first.
 #[derive(Clone, Copy)]
 struct Near {
     variable: usize,
     slave: usize,
 }
 
-/// The links of the section, in order. Each element is let go as soon as it is read, while it is near. A link's variable is looked
-/// for first behind that of the link before it, its slave where that has its own.
+/// The links of the section, in order. It frees each element as soon as it is read, while it is in the cache. It looks for a
+/// link's variable first behind that of the link before it, and for its slave first at the slave of that link.
 #[tactic(auto, using(crate::proofs::InOrder::rows_left))]
 pub fn links_of(
     alloc: Global,
@@ -107,7 +107,7 @@ fn link_at(
     })
 }
 
-/// A link's bits, where they are written.
+/// A link's bits, if they are written.
 #[tactic(auto, unfolding(crate::specs::Fields::link_bits_in))]
 fn link_bits_in(place: Place, value: Option<&Value>) -> Result<Option<LinkBits>, Fault>
     ensures { result ≡ link_bits_in place (seen value.entry) }

@@ -1,4 +1,4 @@
-//! Names, each of which stands once.
+//! Rows with names, each of which stands once.
 ghost use Rattle.std.specs.Prelude.{◌≡◌, [], ◌∷◌, ◌++◌, false, IfOk, IfSome, Some, length, option_map, slice_get};
 ghost use Rattle.ec_table.specs.Names.{is_named, place_named};
 
@@ -21,7 +21,7 @@ pub trait Named: Drop {
         ensures { result.now ≡ name self.now };
 }
 
-/// The rows of a section in order, and the place of each name, so that none is looked for row by row.
+/// The rows of a section in order, and a map from each name to its place.
 #[derive(Drop)]
 pub struct NamedRows<X: Named> {
     rows: Listed<X>,
@@ -43,7 +43,7 @@ impl<X: Named> Model for NamedRows<X> {
 }
 
 impl<X: Named> NamedRows<X> {
-    /// No rows.
+    /// A section without rows.
     pub fn new(alloc: Global) -> Self
         ensures { result ≡ [] }
     {
@@ -53,7 +53,7 @@ impl<X: Named> NamedRows<X> {
         }
     }
 
-    /// The place of the row with a name. The row at `near` is asked first: whoever knows where it may stand spares the map.
+    /// The place of the row with a name. It tries the row at `near` first: a good guess spares the look into the map.
     pub fn place_of(&self, name: &Name, near: usize) -> Option<usize>
         ensures { result ≡ place_named X.name name.now self.now }
     {
@@ -65,7 +65,7 @@ impl<X: Named> NamedRows<X> {
         }
     }
 
-    /// The row with a name, and its place. The row at `near` is asked first.
+    /// The row with a name, and its place. It tries the row at `near` first.
     pub fn find(&self, name: &Name, near: usize) -> Option<(usize, &X)>
         ensures place { option_map (λ r. r.0) result ≡ place_named X.name name.now self.now }
         ensures row { IfSome result (λ r. slice_get self.now r.0 ≡ Some r.1.now) }
@@ -82,7 +82,7 @@ impl<X: Named> NamedRows<X> {
         self.by_map(name).is_some()
     }
 
-    /// The rows with one more behind them, whose name no other has.
+    /// These rows and one more behind them, whose name no other row has.
     pub fn with(self, row: X) -> Result<Self, AllocError>
         requires { is_named X.name (X.name row) self ≡ false }
         ensures { IfOk result (λ a. a ≡ self ++ row ∷ []) }
@@ -96,7 +96,7 @@ impl<X: Named> NamedRows<X> {
         Ok(NamedRows { rows, places })
     }
 
-    /// The place of the row with a name, as the map has it.
+    /// The place of the row with a name, from the map.
     fn by_map(&self, name: &Name) -> Option<usize>
         ensures { result ≡ place_named X.name name.now self.now }
     {

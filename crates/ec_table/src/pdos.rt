@@ -1,4 +1,4 @@
-//! The PDOs that a type states.
+//! Reads the PDOs that a type states.
 ghost use Rattle.std.specs.Prelude.{◌≡◌, ◌==◌, ◌||◌, [], IfOk, not};
 ghost use Rattle.std.specs.List.{list_any};
 ghost use Rattle.toml.specs.View.{view, table_view, items_view};
@@ -23,7 +23,7 @@ pub const LAST_OUTPUT_INDEX: u16 = FIRST_OUTPUT_INDEX + (PDO_INDICES - 1);
 /// The last index of an input PDO.
 pub const LAST_INPUT_INDEX: u16 = FIRST_INPUT_INDEX + (PDO_INDICES - 1);
 
-/// The PDOs of one direction, none where they are left out.
+/// The PDOs of one direction, none if they are left out.
 pub fn pdos_in(
     alloc: Global,
     place: Place,

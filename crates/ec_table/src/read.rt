@@ -1,4 +1,4 @@
-//! Reading a table from its text.
+//! Reads a table from its text.
 ghost use Rattle.std.specs.Prelude.{◌≡◌, List, ℕ, false, option_map};
 ghost use Rattle.std.specs.Cmp.Lexicographic.{slice_cmp};
 ghost use Rattle.std.specs.Ordering.{is_eq, nat_cmp};
@@ -24,7 +24,7 @@ use toml::Value;
 /// # Errors
 ///
 /// The first fault of the text as `TableError::Refused`, in the order of `docs/TABLES.md`, "Refusals", or `TableError::Memory`
-/// where memory ran out.
+/// if memory ran out.
 #[tactic(auto, unfolding(crate::specs::Reading::table_of))]
 pub fn read_table(alloc: Global, text: &str) -> Result<Table, TableError>
     ensures { Gives result (table_of text.now) }
@@ -36,7 +36,7 @@ pub fn read_table(alloc: Global, text: &str) -> Result<Table, TableError>
     }
 }
 
-/// The table that a document states. Its variables and links are taken out, so that each is let go once it is read.
+/// The table that a document states. It takes the variables and links out, so that each is freed once it is read.
 #[tactic(auto, unfolding(crate::specs::Reading::table_of_document))]
 fn table_of_document(alloc: Global, document: &mut toml::Table) -> Result<Table, TableError>
     ensures { Gives result (table_of_document (table_view document.old)) }
@@ -58,7 +58,7 @@ fn table_of_document(alloc: Global, document: &mut toml::Table) -> Result<Table,
     table_of_sections(alloc, version, types, slaves, variables, links)
 }
 
-/// Takes out what stands under a key; what stands under others stays.
+/// Takes out the value under a key; the values under other keys stay.
 fn take_member(document: &mut toml::Table, key: &str) -> Option<Value>
     ensures value { option_map view result ≡ get_member key.now (table_view document.old) }
     ensures others { (other : List ℕ) → is_eq (slice_cmp nat_cmp other key.now) ≡ false

@@ -7,7 +7,7 @@ use ec_device::{Device, Mailbox, Pdo};
 use ec_listed::Listed;
 use std::marker::Model;
 
-/// A name: in a table that was read 1 to 32 ASCII letters, digits and `_`.
+/// A name. In a table that was read it has 1 to 32 ASCII letters, digits and `_`.
 #[derive(Debug, Drop)]
 pub struct Name {
     text: ArrayString<32>,
@@ -22,7 +22,7 @@ impl Model for Name {
 }
 
 impl Name {
-    /// A copy of a text as a name; the caller has tested it.
+    /// A copy of a text as a name. The caller has checked that it is one.
     pub(crate) fn new(text: &str) -> Name
         requires { length text.now ≤ 32 }
         ensures { result ≡ text.now }
@@ -56,19 +56,19 @@ pub enum Version {
     Two,
 }
 
-/// Which way data go: `Out` from the master to a slave, `In` from a slave to the master.
+/// The direction of data: `Out` from the master to a slave, `In` from a slave to the master.
 #[derive(Clone, Copy, Debug, PartialEq, Eq)]
 pub enum Direction {
     Out,
     In,
 }
 
-/// A type's process data: where they begin in a slave's memory, in bytes, and their objects.
+/// A type's process data: the byte addresses where they begin in a slave's memory, and their objects.
 #[derive(Debug, Drop)]
 pub struct ProcessData {
-    /// Where the outputs begin in a slave's memory.
+    /// The byte address where the outputs begin in a slave's memory.
     pub out_start: u16,
-    /// Where the inputs begin.
+    /// The byte address where the inputs begin.
     pub in_start: u16,
     /// The objects that the master writes (RxPDOs).
     pub outputs: Listed<Pdo>,
@@ -83,7 +83,7 @@ pub struct TypeRow {
     pub name: Name,
     /// Vendor, product and revision of its slaves.
     pub device: Device,
-    /// Where its mailboxes lie, if it has them.
+    /// The places of its mailboxes, if it has them.
     pub mailbox: Option<Mailbox>,
     /// Its process data objects and where their bytes begin.
     pub process: ProcessData,
@@ -114,7 +114,7 @@ pub struct SlaveRow {
     pub outputs: Listed<u16>,
     /// The indices of the input objects that it assigns, in order.
     pub inputs: Listed<u16>,
-    /// Its serial number; 0 where the table has none.
+    /// Its serial number; 0 if the table states none.
     pub serial: u32,
     /// Its sync unit, 0 to 63; 0 in version 1.
     pub unit: u8,
@@ -143,7 +143,7 @@ pub struct VariableRow {
     pub bits: u8,
 }
 
-/// Which bits a link joins: `count` bits, from one of the variable and one of the entry on.
+/// The bits that a link joins: `count` bits of the variable, and as many of the entry.
 #[derive(Clone, Copy, Debug, PartialEq, Eq)]
 pub struct LinkBits {
     /// The first bit of the variable, 0 to 63.
@@ -165,6 +165,6 @@ pub struct LinkRow {
     pub index: u16,
     /// The subindex of the entry.
     pub subindex: u8,
-    /// Which bits of both are joined.
+    /// The bits of both that are joined.
     pub bits: LinkBits,
 }

@@ -1,4 +1,4 @@
-//! The slaves that elements state.
+//! Reads the slaves that elements state.
 ghost use Rattle.std.specs.Prelude.{◌≡◌, ◌||◌, [], false, Err, IfErr, IfOk, Ok, OnOk, unwrap_or};
 ghost use Rattle.toml.specs.View.{view, table_view, items_view};
 ghost use Rattle.ec_table.specs.Pdos.{has_twice, indices_of};
@@ -26,7 +26,7 @@ impl Named for SlaveRow {
     }
 }
 
-/// What a slave's element writes beside names.
+/// What a slave's element states beside names.
 #[derive(Drop)]
 pub struct Written {
     pub outputs: Option<Listed<u16>>,
@@ -53,7 +53,7 @@ pub fn slaves_of(
     Ok(found)
 }
 
-/// The slave that an element of the section states, whose name no slave found has.
+/// The slave that an element of the section states. No slave in `found` has its name.
 fn slave_element(
     alloc: Global,
     version: Version,
@@ -114,7 +114,7 @@ fn slave_at(
     slave_of_type(alloc, types, place, name, &type_name, written)
 }
 
-/// The slave of this name and type, with what its element writes.
+/// The slave of this name and type, with what its element states.
 #[tactic(auto, unfolding(crate::specs::Reading::slave_of_type))]
 fn slave_of_type(
     alloc: Global,
@@ -135,7 +135,7 @@ fn slave_of_type(
     Ok(row)
 }
 
-/// A slave's row: of objects that aren't written, all of its type.
+/// A slave's row. If its element states no objects, it has all objects of its type.
 fn row_of(
     alloc: Global,
     name: Name,
@@ -162,7 +162,7 @@ fn row_of(
     })
 }
 
-/// Tests whether the objects that a slave assigns are its type's, and all of them in order where it has no mailbox.
+/// Tests whether the objects that a slave assigns are its type's, and, without a mailbox, all of them in order.
 #[tactic(auto, unfolding(crate::specs::Reading::assigned_in))]
 fn test_assigned(place: Place, slave_type: &TypeRow, row: &SlaveRow) -> Result<(), Fault>
     ensures passes { OnOk result (assigned_in place slave_type.now row.now ≡ Ok row.now) }
@@ -183,7 +183,7 @@ fn test_assigned(place: Place, slave_type: &TypeRow, row: &SlaveRow) -> Result<(
     Ok(())
 }
 
-/// The objects that are written, else all of the type's in order.
+/// The objects that the element states, else all of the type's in order.
 fn written_or_all(
     alloc: Global,
     written: Option<Listed<u16>>,

@@ -1,4 +1,4 @@
-//! Tables, and what the layers above ask of them.
+//! Tables, and what the crates above read of them.
 ghost use Rattle.std.specs.Prelude.{◌≡◌, ◌==◌, ◌++◌, ◌<◌, ◌≤◌, length, find, All, Some, option_map, false, IfOk, OnOk};
 ghost use Rattle.std.specs.Option.{option_copied};
 ghost use Rattle.ec_device.specs.declared.slave_type.Pdo.{Pdo};
@@ -14,11 +14,11 @@ use ec_listed::Listed;
 use std::alloc::{AllocError, Global};
 use std::marker::Model;
 
-/// What a text states: a version, and the rows of each section in file order. Besides, which no text states, whether the
-/// table is shown in full: its slaves then have a face, so that they look to usual masters as those expect.
+/// What a text states: a version, and the rows of each section in file order. A table is also shown in full or not, which no
+/// text states. If it is, its slaves have a face: they look to common masters as those expect.
 ///
-/// Each table is sound: names stand once in their section, what refers to a row refers to one that there is,
-/// assigned objects are the type's, each once, and all values are in their ranges.
+/// Each table is sound. Names stand once in their section, and each reference to a row finds one. Assigned objects are
+/// the type's, each once. All values are in their ranges.
 #[derive(Debug, Drop)]
 pub struct Table {
     version: Version,
@@ -90,8 +90,8 @@ impl Table {
         }
     }
 
-    /// Shows the table in full: each slave has a face from now on, with the name of its type, and the last one says that
-    /// it is the last of its ring. No row changes.
+    /// Shows the table in full. Each slave then has a face with the name of its type, and the last one says that it is the
+    /// last of its ring. No row changes.
     #[tactic(auto, using(crate::proofs::Shown::sound_shown))]
     pub fn show_full(&mut self)
         ensures { self.new ≡ shown_full self.old }
@@ -99,7 +99,7 @@ impl Table {
         self.is_full = true;
     }
 
-    /// Shows the table in full, where that is wanted.
+    /// Shows the table in full if `full`; otherwise it stays as it is.
     pub fn show_as(&mut self, full: bool)
         ensures { self.new ≡ shown_as full self.old }
     {
@@ -116,7 +116,7 @@ impl Table {
         self.version
     }
 
-    /// Does nothing. Its contract says what holds of every table.
+    /// Does nothing. Its contract says that every table is sound.
     pub fn is_sound(&self)
         ensures { IsSound self.now }
     {
@@ -184,7 +184,7 @@ impl Table {
         &self.slaves.as_slice()[row.slave]
     }
 
-    /// What the slave at a place shows as its identity: its type's device, and its own serial number.
+    /// The identity of the slave at a place: its type's device, and its own serial number.
     pub fn identity_of(&self, slave: usize) -> Identity
         requires { slave < length self.now.slaves }
         ensures { identity_of self.now slave ≡ Some result }
@@ -194,8 +194,8 @@ impl Table {
         device.identity(row.serial)
     }
 
-    /// The type of the slave at a place, as a slave has it: with a face where the table is shown in full. The error says
-    /// that memory was refused.
+    /// The type of the slave at a place, as a slave has it: with a face if the table is shown in full. The error says that
+    /// memory was refused.
     pub fn kind_of(&self, alloc: Global, slave: usize) -> Result<SlaveType, AllocError>
         requires { slave < length self.now.slaves }
         ensures { IfOk result (λ k. kind_of self.now slave ≡ Some k) }
@@ -237,7 +237,7 @@ impl Table {
         assigned_entries(alloc, slave_type.pdos(direction), row.assigned(direction))
     }
 
-    /// What the slave at a place shows besides where it is full. The error says that memory was refused.
+    /// The face of the slave at a place, if the table is shown in full. The error says that memory was refused.
     fn face(&self, alloc: Global, slave: usize) -> Result<Face, AllocError>
         requires { slave < length self.now.slaves }
         ensures value { IfOk result (λ f. option_map (face_of self.now slave) (type_of self.now slave) ≡ Some f) }
@@ -277,7 +277,7 @@ fn push_all(found: &mut Listed<Entry>, entries: &[Entry]) -> Result<(), AllocErr
     Ok(())
 }
 
-/// The entries of the PDO with an index, none where there is no such PDO.
+/// The entries of the PDO with an index, none if there is no such PDO.
 fn entries_at(pdos: &[Pdo], index: u16) -> &[Entry]
     ensures { result.now ≡ entries_at pdos.now index }
 {

@@ -1,4 +1,4 @@
-//! The types of slaves that elements state.
+//! Reads the types of slaves that elements state.
 ghost use Rattle.std.specs.Prelude.{◌≡◌, ◌||◌, [], false, IfOk};
 ghost use Rattle.toml.specs.View.{view, table_view, items_view};
 ghost use Rattle.ec_table.specs.Fields.{mailbox_of, mailbox_in, seen, truth_in};
@@ -44,7 +44,7 @@ pub fn types_of(
     Ok(found)
 }
 
-/// The type that an element of the section states, whose name no type found has.
+/// The type that an element of the section states. No type in `found` has its name.
 fn type_element(
     alloc: Global,
     version: Version,
@@ -108,7 +108,7 @@ fn is_twice(process: &ProcessData) -> bool
     have_twice(process.outputs.as_slice()) || have_twice(process.inputs.as_slice())
 }
 
-/// Where the process data begin, and their objects.
+/// The addresses where the process data begin, and their objects.
 #[tactic(auto, unfolding(crate::specs::Reading::process_in))]
 fn process_in(
     alloc: Global,
@@ -152,7 +152,7 @@ fn device_in(
     })
 }
 
-/// A mailbox, where there is one.
+/// A mailbox, if there is one.
 #[tactic(auto, unfolding(crate::specs::Fields::mailbox_in))]
 fn mailbox_in(place: Place, value: Option<&Value>) -> Result<Option<Mailbox>, Fault>
     ensures { result ≡ mailbox_in place (seen value.entry) }
@@ -183,7 +183,7 @@ fn mailbox_of(place: Place, value: &Value) -> Result<Mailbox, Fault>
     })
 }
 
-/// A truth value, true where it is left out.
+/// A truth value, true if it is left out.
 fn truth_in(place: Place, value: Option<&Value>) -> Result<bool, Fault>
     ensures { result ≡ truth_in place (seen value.entry) }
 {

@@ -1,4 +1,4 @@
-//! The variables that elements state.
+//! Reads the variables that elements state.
 ghost use Rattle.std.specs.Prelude.{◌≡◌, [], false, IfOk};
 ghost use Rattle.toml.specs.View.{view, table_view, items_view};
 ghost use Rattle.ec_table.specs.Fields.{direction_in, seen};
@@ -23,7 +23,7 @@ impl Named for VariableRow {
     }
 }
 
-/// The variables of the section, in order. Each element is let go as soon as it is read, while it is near.
+/// The variables of the section, in order. It frees each element as soon as it is read, while it is in the cache.
 #[tactic(auto, using(crate::proofs::InOrder::rows_left))]
 pub fn variables_of(
     alloc: Global,
@@ -40,7 +40,7 @@ pub fn variables_of(
     Ok(found)
 }
 
-/// The variable that an element of the section states, whose name no variable found has.
+/// The variable that an element of the section states. No variable in `found` has its name.
 fn variable_element(
     version: Version,
     element: usize,

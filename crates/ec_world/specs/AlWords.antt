@@ -32,14 +32,14 @@ pub record IsHeard (old : WorldState) (events : List Event) (new : WorldState) (
 abbrev pub AreHeard : WorldState → List Event → WorldState → ℕ → ℕ → List ℕ → Type 0
 AreHeard old events new number k words = (s : ℕ) → s < length words → IsHeard old events new number k s (get_or words s 0)
 
--- What part k adds to the report: nothing where its frame isn't back, else what all slaves said, joined by OR.
+-- What part k adds to the report: nothing if its frame isn't back, else what all slaves said, joined by OR.
 pub data PartSays (t : Contents) (old : WorldState) (events : List Event) (new : WorldState) (number k : ℕ) (counters : Option ExpectedCounters) (word : ℕ) : Type 0 where
   IsNotBack : counters ≡ None → word ≡ 0 → PartSays t old events new number k counters word
   IsBack : is_some counters ≡ true → (words : List ℕ) → length words ≡ length t.slaves → AreHeard old events new number k words → word ≡ joined words → PartSays t old events new number k counters word
 
--- The cycle that is open is closed: the report's AL word is what its parts say, joined by OR.
+-- The open cycle is closed: the report's AL word is what its parts say, joined by OR.
 pub record WordShows (t : Contents) (old : WorldState) (events : List Event) (w v : WorldState) : Type 0 where
-  -- the number of the cycle that is open
+  -- the number of the open cycle
   pub number : ℕ
   pub is_open : option_map (λ (c : OpenCycle). c.number) w.master.cycle ≡ Some number
   pub begun : IsBegun old events w number
@@ -52,14 +52,14 @@ pub record WordShows (t : Contents) (old : WorldState) (events : List Event) (w 
   pub each : (k : ℕ) → k < length words → PartSays t begun.event.next begun.event.behind w number k (get_or report.counters k None) (get_or words k 0)
   pub word : report.al_word ≡ joined words
 
--- Of a new world of a table that `compile` accepts, after any list of events at whose end the start-up is Ready: a close.
+-- A close in a new world of a table that `compile` accepts, after any list of events that ends with a Ready start-up.
 abbrev pub WordLaw : Type 0
 WordLaw =
     (t : Contents) (identities : List Identity) (old : WorldState) (events : List Event) (w : WorldState) (made : ℕ)
     → IsNew t identities old → IsRun old events w made → is_up w.start ≡ true
     → (v : WorldState) → IsStep w Close v true → WordShows t old events w v
 
--- Where each frame of the cycle passed slaves in OP without error alone, and one of them is back, the word is 8.
+-- If the frames of the cycle passed only slaves in OP without error, and one of them is back, the word is 8.
 abbrev pub OpWordLaw : Type 0
 OpWordLaw =
     (t : Contents) (old : WorldState) (events : List Event) (w v : WorldState) (x : WordShows t old events w v) → 0 < length t.slaves

@@ -1,4 +1,4 @@
--- When a cyclic frame shows a plain frame: the outputs of its snapshot for every slave to come, the noted inputs of every
+-- When a cyclic frame shows a plain frame: it has the outputs of its snapshot for every slave to come, the noted inputs of every
 -- slave that it passed, and the working counters that those gave.
 use Rattle.std.specs.Prelude.{ℕ, ◌+◌, ◌-◌, ◌*◌, ◌^◌, ◌<◌, ◌≤◌, ◌≡◌, ◌≢◌, List, length, get_or, Bool, false, unwrap_or, option_map}
 use Rattle.std.specs.Int.{from_bool}
@@ -21,7 +21,7 @@ pub record IsShort (h : Share) (g : Gave) : Type 0 where
   pub read : from_bool g.read ≤ from_bool (has_ins h)
   pub less : lrw_count g < lrw_count (whole_share h)
 
--- No slave gives more than its share: all of it where the note is full, less where it is short.
+-- No slave gives more than its share: all of it if the note is full, less if it is short.
 abbrev pub GaveAs : Share → Note → Gave → Type 0
 GaveAs h Other g = g ≡ nothing_given
 GaveAs h Short g = IsShort h g
@@ -45,7 +45,7 @@ pub record ShowsData (m : Meaning) (area : ℕ → Area) (p : Place) (f : PlainF
   pub as_many : length gave ≡ length f.notes
   pub each : (t : ℕ) → t < length f.notes → GaveAs (share_of m t) (note_at f.notes t) (get_or gave t nothing_given)
 
--- the datagrams are a plain frame's on its way
+-- the datagrams are those of a plain frame on its way
 pub record DatagramsShow (plan : PlanState) (f : PlainFrame) (ds : List Datagram) : Type 0 where
   pub al : List ℕ
   pub al_word : length al ≡ 2

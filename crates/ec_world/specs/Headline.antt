@@ -103,8 +103,8 @@ abbrev pub input_bits : Contents → ℕ → ℕ
 input_bits t s = length (object_bits t s In)
 
 -- ---- 3. Events of a run
--- From world `old` over a list of events to world `new`: one event of the list that was made, with the worlds before and behind
--- it. A run has one outcome (`OneOutcomeLaw`, RunLaws), so these are the worlds at this place of the list.
+-- A run goes from world `old` over a list of events to world `new`: one event of the list that was made, with the worlds before
+-- and behind it. A run has one outcome (`OneOutcomeLaw`, RunLaws), so these are the worlds at this place of the list.
 
 -- e was made, from world `at` to world `next`
 pub record IsMade (old : WorldState) (events : List Event) (new : WorldState) (e : Event) : Type 0 where
@@ -148,7 +148,7 @@ pub record IsUnderWay (t : Contents) (w : WorldState) (number u : ℕ) : Type 0 
   pub unit_is : unit_of_part t frame.part ≡ u
 
 -- ---- 4. Trouble
--- Whoever isn't in OP under a Ready start-up had trouble: a fault of its application, or a reset. It counts since the last
+-- A slave that isn't in OP under a Ready start-up had trouble: a fault of its application, or a reset. It counts since the last
 -- start-up began, which brings every slave to OP or fails.
 
 -- the event sends the first frame of a start-up: of the first one, or of one that begins again after a failure
@@ -169,7 +169,7 @@ pub record HadTrouble (old : WorldState) (events : List Event) (new : WorldState
   pub since : IsRunWithoutStart made.next made.behind new
 
 -- ---- 5. Outputs
--- A frame of a cycle passes the slave that it meets next. A slave in OP, of the frame's part, shows from then on exactly the
+-- A frame of a cycle passes the slave that it meets next. If that is in OP and of the frame's part, it then shows exactly the
 -- linked bits of the output variables as they were when the cycle began, whatever was set since, and 0 elsewhere.
 
 -- Slave s shows each linked bit as the variables are in world `source`, and 0 in every other bit of its outputs.
@@ -184,8 +184,8 @@ pub record OnlyPublishes (old : SlaveState) (n : ℕ) (value : List ℕ) (new : 
   pub there : buffer_of old n ≡ Some buffer
   pub is : new ≡ with_buffer old n (record buffer { published = value })
 
--- Frame f in slot k passed slave f.passed. In OP and of the frame's part, the slave shows the linked bits of the world in which
--- the cycle began, and nothing else of it changes; in another state, or of another part, it stays as it is. No other slave
+-- Frame f in slot k passed slave f.passed. If the slave is in OP and of the frame's part, it shows the linked bits of the world
+-- in which the cycle began, and nothing else of it changes; otherwise it stays as it is. No other slave
 -- changes, no variable, no other slot, nothing else.
 pub record PassShows (t : Contents) (old : WorldState) (events : List Event) (w : WorldState) (k : ℕ) (f : Progress) (v : WorldState) : Type 0 where
   pub begun : IsBegun old events w f.number
@@ -198,18 +198,18 @@ pub record PassShows (t : Contents) (old : WorldState) (events : List Event) (w 
   pub rest : v ≡ record w { slaves = v.slaves; slots = v.slots }
 
 -- ---- 6. Inputs
--- A close takes each sync unit as a whole or not at all, and the report says which. It is not taken exactly where there is a
+-- A close takes each sync unit completely or not at all, and the report says which. It is not taken exactly if there is a
 -- cause, and there are three: a frame of the unit was lost in this cycle, or is still under way, or passed a slave that gave
--- less than its share, since it had trouble.
+-- less than its share after a trouble.
 
--- Bit b of variable x is, in world v, bit o of what slave s published as the frame of its part passed it, in a cycle that was
--- begun so.
+-- Bit b of variable x is, in world v, bit o of what slave s published when the frame of its part passed it, in the cycle that
+-- `begun` began.
 pub record IsRead (t : Contents) {old : WorldState} {events : List Event} {w : WorldState} {number : ℕ} (begun : IsBegun old events w number) (v : WorldState) (x b s o : ℕ) : Type 0 where
   pub pass : HasPassed begun.event.next begun.event.behind w number (part_of (plan_of t) s) s
   pub value : variable_bit v x b ≡ input_bit pass.event.at s o
 
--- A slave gives a frame less than its share: fallen back to SAFEOP by a fault it doesn't take outputs; as it is switched on it
--- neither takes outputs nor gives inputs. That counts where it has such bits.
+-- A slave gives a frame less than its share: in SAFEOP after a fault it doesn't take outputs; in INIT after a reset it neither
+-- takes outputs nor gives inputs. This counts only if it has such bits.
 abbrev pub GivesLess : Contents → WorldState → ℕ → Type 0
 GivesLess t w s =
     (((slave_of w s).al.state ≡ SafeOp) × (0 < output_bits t s))
@@ -229,7 +229,7 @@ pub data Cause (t : Contents) {old : WorldState} {events : List Event} {w : Worl
   ByEarlyClose : IsUnderWay t w number u → Cause t begun u
   ByFallingShort : FellShort t begun u → Cause t begun u
 
--- the report lists each sync unit of the table once, and no other; of a table without slaves it lists unit 0
+-- the report lists each sync unit of the table once, and no other; it lists unit 0 if the table has no slaves
 pub record ListsUnits (t : Contents) (units : List ℕ) : Type 0 where
   pub each : (s : ℕ) → s < length t.slaves → Contains units (unit_of t s)
   pub once : (i j : ℕ) → i < length units → j < length units → get_or units i 0 ≡ get_or units j 0 → i ≡ j
@@ -240,7 +240,7 @@ pub record ListsUnits (t : Contents) (units : List ℕ) : Type 0 where
 abbrev pub Says : ReportState → ℕ → Bool → Type 0
 Says r u taken = (i : ℕ) → i < length r.units → get_or r.units i 0 ≡ u → slice_get r.taken i ≡ Some taken
 
--- how many slaves the broadcast in the frame of part k counted, of the open cycle, where that frame is back
+-- how many slaves the broadcast in the frame of part k of the open cycle counted, if that frame is back
 abbrev pub broadcast_at : WorldState → ℕ → Option ℕ
 broadcast_at w k = option_and_then (λ (c : OpenCycle). option_map (λ (p : KeptPart). p.broadcast) (get_or c.kept k None)) w.master.cycle
 
@@ -259,10 +259,10 @@ pub record IsMissed (t : Contents) {old : WorldState} {events : List Event} {w :
   pub unchanged : (x b s o : ℕ) → IsLinked t In x b s o → unit_of t s ≡ u → variable_bit v x b ≡ variable_bit w x b
   pub cause : Cause t begun u
 
--- The cycle that is open is closed. Each unit is taken or missed; a bit of a variable that no input is linked to stays, and so
--- does everything but the inputs, the cycle and the report.
+-- The open cycle is closed. Each unit is taken or missed. A bit of a variable that no input is linked to stays, and so does
+-- everything but the inputs, the cycle and the report.
 pub record CloseShows (t : Contents) (old : WorldState) (events : List Event) (w v : WorldState) : Type 0 where
-  -- the number of the cycle that is open
+  -- the number of the open cycle
   pub number : ℕ
   pub begun : IsBegun old events w number
   pub is_open : option_map (λ (c : OpenCycle). c.number) w.master.cycle ≡ Some number
@@ -274,7 +274,7 @@ pub record CloseShows (t : Contents) (old : WorldState) (events : List Event) (w
   pub rest : v ≡ record w { master = record w.master { inputs = v.master.inputs; cycle = None }; report = v.report }
 
 -- ---- 7. The other events
--- What they leave of variables, of slaves and of frames. A start-up that is Ready sends no frame more, and a firmware step of a
+-- What they leave of variables, slaves and frames. A Ready start-up sends no more frames, and a firmware step of a
 -- slave changes nothing. Begin, Lose and Return touch no slave and no variable.
 
 -- Set gives variable x this value, and touches no other variable, no slave and no frame.
@@ -283,12 +283,12 @@ pub record SetShows (w : WorldState) (x value : ℕ) (v : WorldState) : Type 0 w
   pub others : (y : ℕ) → y ≢ x → variable v y ≡ variable w y
   pub rest : v ≡ record w { master = record w.master { outputs = v.master.outputs } }
 
--- Of slave s, only the buffer of its sync manager n changes; besides it, only the byte that was read last.
+-- Only the buffer of sync manager n of slave s changes, and the byte that was read last.
 pub record TouchShows (w : WorldState) (s n : ℕ) (got : Option ℕ) (v : WorldState) : Type 0 where
   pub buffer : Buffer
   pub rest : v ≡ record (with_slave w s (with_buffer (slave_of w s) n buffer)) { got = got }
 
--- AppPut touches only the inputs of slave s. The byte behind which no other comes publishes them, with that byte; no other does.
+-- AppPut touches only the inputs of slave s. The last byte publishes them, with that byte; no other byte does.
 pub record PutShows (w : WorldState) (s i byte : ℕ) (v : WorldState) : Type 0 where
   pub touches : TouchShows w s 3 w.got v
   pub last : i + 1 ≡ length (published (slave_of w s) 3) → slice_get (published (slave_of v s) 3) i ≡ Some byte
@@ -301,8 +301,8 @@ pub record FallShows (w : WorldState) (s : ℕ) (state : State) (v : WorldState)
   pub rest : v ≡ with_slave w s (slave_of v s)
 
 -- ---- 8. The law
--- Of a new world of a table that `compile` accepts, after ANY events at whose end the start-up is Ready: one event more that is
--- made. `World::step` ensures it of its event.
+-- A new world of a table that `compile` accepts came by ANY events to a world whose start-up is Ready, and then one more event
+-- is made. `World::step` ensures the law of its event.
 
 -- what a made event shows
 abbrev pub HeadlineShows : Contents → WorldState → List Event → WorldState → Event → WorldState → Type 0
@@ -326,7 +326,7 @@ HeadlineLaw =
     → (e : Event) (v : WorldState) → IsStep w e v true → HeadlineShows t old events w e v
 
 -- ---- 9. The law over a list of events
--- `World::run` ensures the same of each event of its list, wherever the list is cut: the new world `first` came to world `old`
+-- `World::run` ensures this of each event of its list, wherever the list is cut: the new world `first` came to world `old`
 -- by the events `past`, and the call came from there to world `new`.
 
 -- one event e of the list, made or not, with the worlds before and behind it

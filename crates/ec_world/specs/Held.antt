@@ -26,7 +26,7 @@ FitSlots frames = (k : ℕ) → k < length frames → length (get_or frames k []
 abbrev pub AreFrames : List (List ℕ) → Type 0
 AreFrames frames = (k : ℕ) → k < length frames → (p : Payload) × IsFrame (get_or frames k []) p
 
--- a payload came back to the start-up, which makes the master ready where it ends so
+-- a payload came back to the start-up; if the start-up is Ready then, the master becomes ready
 pub record IsAnswered (s : StartState) (m : MasterState) (payload : List ℕ) (t : StartState) (n : MasterState) : Type 0 where
   pub is_kept : Bool
   pub start : IsStartTaken s payload is_kept t

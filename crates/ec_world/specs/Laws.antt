@@ -27,7 +27,7 @@ abbrev pub notes_round : Meaning → ℕ → PlainFrame → List PlainSlave → 
 notes_round m t f [] = []
 notes_round m t f (q ∷ qs) = met_note m t f q ∷ notes_round m (t + 1) f qs
 
--- the slaves from number t on show these plain slaves
+-- the slaves show these plain slaves; the first of both has number t
 abbrev pub SlavesFrom : PlanState → ℕ → List SlaveState → List PlainSlave → Type 0
 SlavesFrom plan t ss qs = (i : ℕ) → i < length ss → SlaveShows (t + i) (slave_at plan (t + i)) (get_or ss i no_slave) (get_or qs i no_plain_slave)
 
@@ -45,7 +45,7 @@ pub record RoundTripped (plan : PlanState) (f : PlainFrame) (ss : List SlaveStat
   pub frame : DatagramsShow plan (record f { notes = f.notes ++ notes_round (meaning plan) (length f.notes) f qs }) after.datagrams
   pub word : (w : ℕ) → BringsWord ds w → BringsWord after.datagrams (word_past w ss)
 
--- A cyclic frame that goes round leaves in every slave, working or not, and brings back, what the plain machine says.
+-- A cyclic frame that goes round leaves each slave, working or not, as the plain machine says, and brings back what it says.
 abbrev pub RoundTrip : Type 0
 RoundTrip =
     (plan : PlanState) (f : PlainFrame) (ss : List SlaveState) (qs : List PlainSlave) (ds : List Datagram)
@@ -82,7 +82,7 @@ CycleLaw =
 
 -- ---- one event, and a run
 
--- One event: a world that shows a plain state goes on to show the plain machine's, and makes the same events.
+-- One event: a world that shows a plain state shows the plain machine's next one, and the two make the same events.
 pub record StepShows (old : WorldState) (event : Event) (new : WorldState) (made : Bool) : Type 0 where
   pub same_plan : (p : Plain) → Shows old p → new.plan ≡ old.plan
   pub made_is : (p : Plain) → Shows old p → made ≡ is_some (step (meaning old.plan) p event)
@@ -103,7 +103,7 @@ IsRun old [] new made = (new ≡ old) × (made ≡ 0)
 IsRun old (e ∷ es) new made =
     (mid : WorldState) × (one : Bool) × (rest : ℕ) × IsStep old e mid one × IsRun mid es new rest × (made ≡ (if one then 1 else 0) + rest)
 
--- From a world that shows a plain state, a run ends in one that shows the plain run's, and makes as many events.
+-- A run from a world that shows a plain state ends in one that shows the plain run's, and makes as many events.
 pub record RunShows (old : WorldState) (events : List Event) (new : WorldState) (made : ℕ) : Type 0 where
   pub shown : (p : Plain) → Shows old p → Shows new (run (meaning old.plan) p events).plain
   pub made_is : (p : Plain) → Shows old p → made ≡ (run (meaning old.plan) p events).made

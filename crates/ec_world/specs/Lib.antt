@@ -9,7 +9,7 @@ pub mod RunLaws
 pub mod Undisturbed
 -- Laws: how it is proved, each a law too, in this order.
 
--- the plain machine: what a segment under a master does, told without addresses, FMMUs, registers and counters
+-- the plain machine: what a segment under a master does, without addresses, FMMUs, registers and counters
 pub mod Plain
 -- the world as a value, when each event can be made, and what it does
 pub mod World
@@ -20,7 +20,7 @@ pub mod FrameShows
 pub mod Shows
 -- what is promised to a user, in words of the image, the links and the slaves' values
 pub mod Promises
--- the laws under it: of one frame, of a step and a run, of a world from its making on
+-- the laws under it: of one frame, of a step and a run, of a world since it was made
 pub mod Exchanging
 pub mod Laws
 pub mod Whole
@@ -32,7 +32,7 @@ pub mod Watching
 -- Private: the rest serves the code and the proofs alone, and no public clause cites it.
 -- slots in use, and a frame in its slot as it passes its next slave
 pub mod Slots
--- the frames of an open cycle, and who is handed a payload that comes back
+-- the frames of an open cycle, and which side gets a payload that comes back
 pub mod Held
 -- what holds of a world that starts up
 pub mod Rising

@@ -1,4 +1,4 @@
--- A start-up that nothing disturbs ends Ready: that of a new world, and one that begins anew after a failure.
+-- A start-up that nothing disturbs ends Ready: that of a new world, and one that begins again after a failure.
 use Rattle.std.specs.Prelude.{ℕ, zero, suc, ◌+◌, ◌<◌, ◌≤◌, ◌≡◌, ◌⊎◌, List, [], ◌∷◌, ◌++◌, length, get_or, set, replicate, max, Bool, true, false, None}
 use Rattle.ec_device.specs.declared.slave_type.Identity.{Identity}
 use Rattle.ec_table.specs.Contents.{Contents}
@@ -18,8 +18,8 @@ use Rattle.ec_world.specs.Whole.{IsNew, IsOfMachine}
 
 -- ---- a frame that nothing disturbs
 
--- What is left of a turn past n slaves, whose frame is in slot 0. The marks say of each slave that the frame has passed whether
--- it has made its firmware step since; `back` says whether the frame came back. In any order otherwise, each once.
+-- The rest of a turn past n slaves, whose frame is in slot 0. There is a mark for each slave that the frame has passed: whether
+-- it made its firmware step since. `back` says whether the frame came back. Apart from that the order is free, and each is once.
 pub data IsRest (n : ℕ) : (marks : List Bool) (back : Bool) → List Event → Type 0 where
   Passes : (marks : List Bool) (events : List Event) → length marks < n → IsRest n (marks ++ (false ∷ [])) false events → IsRest n marks false (Pass 0 ∷ events)
   Returns : (marks : List Bool) (events : List Event) → length marks ≡ n → IsRest n marks true events → IsRest n marks false (Return 0 ∷ events)
@@ -46,7 +46,7 @@ abbrev pub servings : ℕ → ℕ → List Event
 servings s zero = []
 servings s (suc n) = Serve s ∷ servings (s + 1) n
 
--- The order in which a script's `ready` makes these events is one: each slave serves when the frame has passed all.
+-- The order in which a script's `ready` makes these events: each slave serves when the frame has passed all.
 abbrev pub turn_of : ℕ → List Event
 turn_of n = StartNext ∷ (replicate n (Pass 0) ++ (servings 0 n ++ (Return 0 ∷ [])))
 

@@ -1,5 +1,5 @@
 -- What a user is promised, in words of the image, the links and the values of slaves. It is proved of every world that shows a
--- plain state, so of every world from the step on that makes it Ready.
+-- plain state, so of every world after the step that makes it Ready.
 use Rattle.std.specs.Prelude.{ℕ, ◌+◌, ◌*◌, ◌<◌, ◌≡◌, ◌≢◌, ◌⊎◌, ◌==◌, ◌&&◌, ◌||◌, List, ◌∷◌, ◌++◌, length, map, get_or, set, Bool, true, false, if◌then◌else◌, nat_le, Option, Some, None, slice_get}
 use Rattle.std.specs.List.{list_any}
 use Rattle.ec_bits.specs.Bits.{bit, bytes_of_bits}
@@ -32,7 +32,7 @@ next_slave f = length f.notes
 abbrev pub has_outputs_for : Meaning → PlainFrame → ℕ → Bool
 has_outputs_for m f s = ((share_of m s).part == f.part) && has_outs (share_of m s)
 
--- The frame in slot k passed the slave. Where it carries its outputs, the slave publishes them: they are exactly the linked
+-- The frame in slot k passed the slave. If it carries outputs of the slave, the slave publishes them: they are exactly the linked
 -- bits of the image that the frame was made of, and 0 elsewhere. Nothing else of the slave changes, and no other slave, nor the
 -- image. The frame is one slave further, and no other slot changes.
 pub record IsPublished (old : WorldState) (k : ℕ) (f : PlainFrame) (new : WorldState) : Type 0 where
@@ -94,9 +94,9 @@ pub record IsCounted (plan : PlanState) (kept : List (Option KeptPart)) (report 
   pub counters : part.counters ≡ predicted plan k
   pub told : get_or report.counters k None ≡ Some part.counters
 
--- A cycle was closed. Of a unit that is taken each linked bit of the inputs is the one that its slave published as the frame
--- passed it; of another unit no bit changes, nor does a bit without a link. Each part of a unit that is taken came back with
--- the predicted working counters. The report names the units of the plan, says of each whether it was taken, and how many
+-- A cycle was closed. If a unit is taken, each linked bit of its inputs is the one that its slave published as the frame
+-- passed it. No bit of another unit changes, nor does a bit without a link. Each part of a unit that is taken came back with
+-- the predicted working counters. The report names the units of the plan, whether each was taken, and how many
 -- parts are missing. Nothing else of the world changes.
 pub record IsClosedAs (old : WorldState) (c : Cycle) (new : WorldState) : Type 0 where
   pub taken : (b : ℕ) (i : Linked) → b < 8 * length old.master.inputs → (meaning old.plan).in_source b ≡ Some i
@@ -128,7 +128,7 @@ InputsLaw =
 abbrev pub HasNoFrame : Plain → Type 0
 HasNoFrame p = (k : ℕ) → frame_at p k ≡ None
 
--- a cycle is begun after some events, of which the first found no frame on its way
+-- a cycle is begun after some events, and no frame was on its way before them
 pub record IsBegun (m : Meaning) (p begun : Plain) : Type 0 where
   pub first : Plain
   pub no_frame : HasNoFrame first
@@ -143,7 +143,7 @@ SnapshotsLaw =
     → (k : ℕ) (f : PlainFrame) → frame_at (run m begun after).plain k ≡ Some f → f.number ≡ p.next → f.snapshot ≡ p.outputs
 
 -- As the frame of part k of the cycle with this number passed slave s, it noted n. That pass is one of the events since the
--- cycle began, and the note is of the slave as it stood then: of a slave that gave its whole share it is what it published.
+-- cycle began. The note is of the slave as it was then: what it published, if it gave its whole share.
 pub record IsNotedAt (m : Meaning) (begun : Plain) (number : ℕ) (after : List Event) (k s : ℕ) (n : Note) : Type 0 where
   -- the pass, and the events before and behind it
   pub before : List Event
@@ -195,7 +195,7 @@ abbrev pub is_awaited : Meaning → (number s : ℕ) → Plain → Bool
 is_awaited m number s p = list_any (still_comes m number s) p.slots
 
 -- An event disturbs unit u in a cycle: the loss of a frame of one of its parts, or what makes one of its slaves fall short while
--- the frame of its part is on its way to it: a fault, where the slave has outputs, or a reset, where it has bits at all.
+-- the frame of its part is on its way to it: a fault if the slave has outputs, or a reset if it has bits at all.
 abbrev pub disturbs : Meaning → (number u : ℕ) → Plain → Event → Bool
 disturbs m number u p StartNext = false
 disturbs m number u p (Set v x) = false
@@ -218,15 +218,15 @@ pub record IsQuiet (m : Meaning) (p begun : Plain) (after : List Event) (u : ℕ
       → disturbs m p.next u (run m begun before).plain e ≡ false
   pub back : (k : ℕ) (f : PlainFrame) → frame_at (run m begun after).plain k ≡ Some f → is_of_unit m p.next u f ≡ false
 
--- Only a loss, a fault, a reset or an early close can keep a unit from being taken, and only such as are its own, and in time:
--- where a cycle is quiet for a unit, a close takes the unit, whatever becomes of other units, and of a slave that its frame
--- has passed.
+-- Only a loss, a fault, a reset or an early close can keep a unit from being taken, and only of its own frames and slaves and in
+-- time: if a cycle is quiet for a unit, a close takes the unit. This does not depend on other units, or on what happens to a
+-- slave after its frame.
 abbrev pub TakenLaw : Type 0
 TakenLaw =
     (m : Meaning) (p begun : Plain) (after : List Event) (c : Cycle) (u : ℕ) → IsBegun m p begun → IsQuiet m p begun after u
     → (run m begun after).plain.cycle ≡ Some c → c.number ≡ p.next → unit_full m c u ≡ true
 
--- And each of these does keep a unit from being taken: a close takes a unit only where the cycle was quiet for it. So no input
+-- Each of these does keep a unit from being taken: a close takes a unit only if the cycle was quiet for it. So no input
 -- bit is set in a cycle in which a slave of its unit fell short as its frame came, or a frame of the unit got lost or was late.
 abbrev pub QuietLaw : Type 0
 QuietLaw =

@@ -11,7 +11,7 @@ use Rattle.ec_world.specs.Laws.{IsRun}
 use Rattle.ec_world.specs.Whole.{IsNew, no_trouble, flags_of}
 use Rattle.ec_world.specs.Headline.{IsBegun, HasPassed, HadTrouble}
 
--- By the same events a new world comes to the same world, and as many of them are made.
+-- The same events lead a new world to the same world, and as many of them are made.
 abbrev pub OneOutcomeLaw : Type 0
 OneOutcomeLaw =
     (t : Contents) (identities : List Identity) (old : WorldState) → IsNew t identities old → (events : List Event)
@@ -29,7 +29,7 @@ PassedOnceLaw =
     (t : Contents) (identities : List Identity) (old : WorldState) (events : List Event) (w : WorldState) (made : ℕ) → IsNew t identities old → IsRun old events w made → is_up w.start ≡ true
     → (more : List Event) (v : WorldState) (number part s : ℕ) (x y : HasPassed w more v number part s) → x.event.before ≡ y.event.before
 
--- Of two frames that passed one slave, the older one passed it in the earlier event.
+-- If two frames passed one slave, the older one passed it in the earlier event.
 abbrev pub OrderLaw : Type 0
 OrderLaw =
     (t : Contents) (identities : List Identity) (old : WorldState) (events : List Event) (w : WorldState) (made : ℕ) → IsNew t identities old → IsRun old events w made → is_up w.start ≡ true

@@ -7,12 +7,12 @@ use Rattle.ec_world.specs.declared.progress.Progress.{Progress}
 use Rattle.ec_world.specs.Plain.{is_older}
 use Rattle.ec_world.specs.World.{Flight, flight_progress}
 
--- all slots from number k on are free
+-- all slots with number k or more are free
 pub record AreFreeFrom (slots : List (Option Flight)) (k : ℕ) : Type 0 where
   pub within : k ≤ length slots
   pub free : (i : ℕ) → k ≤ i → get_or slots i None ≡ None
 
--- the first of the slots, behind which all are free
+-- the first of the slots; all behind them are free
 pub record AreInUse (slots used : List (Option Flight)) : Type 0 where
   pub is : used ≡ take (length used) slots
   pub behind : AreFreeFrom slots (length used)
@@ -21,18 +21,18 @@ pub record AreInUse (slots used : List (Option Flight)) : Type 0 where
 abbrev pub no_end : ℕ
 no_end = 2 ^ 64 - 1
 
--- so many slaves, but no more than an older frame has passed
+-- `far` slaves, but no more than an older frame has passed
 abbrev pub way_behind : Progress → ℕ → Option Progress → ℕ
 way_behind f far None = far
 way_behind f far (Some g) = if is_older g f then min far g.passed else far
 
--- every frame that is older than the one in slot k has passed so many slaves
+-- every frame that is older than the one in slot k has passed at least `until` slaves
 abbrev pub HasWay : List (Option Flight) → ℕ → ℕ → Type 0
 HasWay slots k until =
     (i : ℕ) (f g : Flight) → get_or slots k None ≡ Some f → get_or slots i None ≡ Some g → is_older (flight_progress g) (flight_progress f) ≡ true
     → until ≤ g.passed
 
--- what is kept of slots: from number `used` on they are free, and the frame in slot k has its way
+-- what slots keep true: those with number `used` or more are free, and the frame in slot k has its way
 pub record AreHeld (slots : List (Option Flight)) (used k until : ℕ) : Type 0 where
   pub free : AreFreeFrom slots used
   pub way : HasWay slots k until
@@ -48,7 +48,7 @@ pub record HasPassed (slaves : List SlaveState) (f : Flight) (after : List Slave
   pub met : (s : SlaveState) → slice_get slaves f.passed ≡ Some s → IsPassedAt slaves f.passed s f.bytes after bytes
   pub is : slot ≡ Some (record f { bytes = bytes; passed = f.passed + 1 })
 
--- the same of the frame in slot k; the other slots stay
+-- as above for the frame in slot k; the other slots stay
 pub record HavePassed (slaves : List SlaveState) (slots : List (Option Flight)) (k : ℕ) (f : Flight) (after : List SlaveState) (slots_after : List (Option Flight)) : Type 0 where
   pub slot : Option Flight
   pub passed : HasPassed slaves f after slot

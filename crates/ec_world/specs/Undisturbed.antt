@@ -1,4 +1,4 @@
--- A cycle that nothing disturbs; and how each thing that the headline names as a cause keeps a unit from being taken.
+-- A cycle that nothing disturbs; and how each cause that the headline names keeps a unit from being taken.
 use Rattle.std.specs.Prelude.{ℕ, zero, suc, ◌+◌, ◌<◌, ◌≡◌, List, [], ◌∷◌, ◌++◌, length, replicate, true, false, Some, None}
 use Rattle.ec_device.specs.declared.slave_type.Identity.{Identity}
 use Rattle.ec_table.specs.declared.rows.Direction.TheVariants.{In}
@@ -20,7 +20,7 @@ use Rattle.ec_world.specs.Headline.{variable_bit, input_bit, IsInOp, unit_of, un
 abbrev pub round_of : (n k : ℕ) → List Event
 round_of n k = replicate n (Pass k) ++ (Return k ∷ [])
 
--- one frame after another, so many from slot k on
+-- one frame after another, the first in slot k
 abbrev pub rounds_of : (n k count : ℕ) → List Event
 rounds_of n k zero = []
 rounds_of n k (suc count) = round_of n k ++ rounds_of n (k + 1) count

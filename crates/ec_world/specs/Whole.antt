@@ -1,4 +1,4 @@
--- A world from its making on: a start-up until it is Ready, and from then on the plain machine.
+-- A world since it was made: a start-up until it is Ready, and then the plain machine.
 use Rattle.std.specs.Prelude.{ℕ, ◌+◌, ◌<◌, ◌≡◌, ◌⊎◌, List, [], ◌∷◌, ◌++◌, length, map, set, replicate, Bool, true, false, if◌then◌else◌, None}
 use Rattle.ec_device.specs.declared.slave_type.Identity.{Identity}
 use Rattle.ec_cycle.specs.Master.{new_master}
@@ -70,8 +70,8 @@ plain_of w = record {
   slots = map (λ o. None) w.slots;
 }
 
--- It shows this; who doesn't work had a fault or a reset since the first frame of that start-up was sent; and the outputs of each
--- slave are zeros.
+-- It shows this. Each slave that doesn't work had a fault or a reset since the first frame of that start-up was sent. The outputs
+-- of each slave are zeros.
 pub record IsReadyWorld (flags : List Bool) (w : WorldState) : Type 0 where
   pub shows : Shows w (plain_of w)
   pub told : (i : ℕ) → i < length w.plan.slaves → ((plain_slave (plain_of w) i).health ≡ Working) ⊎ (trouble_at flags i ≡ true)
@@ -100,7 +100,7 @@ pub record IsNew (t : Contents) (identities : List Identity) (w : WorldState) : 
   pub one_each : length identities ≡ length t.slaves
   pub is : w ≡ new_world (plan_of t) identities
 
--- the world is a new one of a machine: its slaves show the identities that the table says
+-- the world is a new one of a machine: its slaves have the identities that the table states
 pub record IsOfMachine (t : Contents) (w : WorldState) : Type 0 where
   pub identities : List Identity
   pub shown : AreIdentities t identities
@@ -117,7 +117,7 @@ abbrev pub flags_of : (old : WorldState) (es : List Event) (new : WorldState) (m
 flags_of old [] new made h flags = flags
 flags_of old (e ∷ es) new made h flags = flags_of h.0 es new h.2 h.4 (if h.1 then flags_after old e flags else flags)
 
--- the event that makes it ready, the world then, and the run from there on
+-- the event that makes it ready, the world then, and the run after it
 pub record HasStarted (old : WorldState) (es : List Event) (new : WorldState) (made : ℕ) (flags : List Bool) : Type 0 where
   pub before : List Event
   pub event : Event
@@ -139,15 +139,15 @@ pub data Told (old : WorldState) (es : List Event) (new : WorldState) (made : �
   NotYet : is_up new.start ≡ false → ((p : Plain) → Shows new p → ⊥) → Told old es new made flags
   Started : HasStarted old es new made flags → Told old es new made flags
 
--- From a new world of a usable plan that can be started up, over every list of events: until the start-up is ready nothing is
--- shown. From then on the world shows the run of the plain machine, from the state that it is ready in.
+-- A new world of a usable plan that can be started up, over every list of events: nothing is shown until the start-up is ready.
+-- Then the world shows the run of the plain machine, beginning with the state that it is ready in.
 abbrev pub WholeLaw : Type 0
 WholeLaw =
     (plan : PlanState) (identities : List Identity) → IsUsable plan → AreStartable plan.slaves → length identities ≡ length plan.slaves
     → (es : List Event) (w : WorldState) (made : ℕ) → IsRun (new_world plan identities) es w made
     → Told (new_world plan identities) es w made (replicate (length plan.slaves) false)
 
--- The same of a table that `compile` accepts.
+-- As above, for a table that `compile` accepts.
 abbrev pub CompiledLaw : Type 0
 CompiledLaw =
     (t : Contents) (identities : List Identity) → table.IsSound t → compile_fault t ≡ None → length identities ≡ length t.slaves

@@ -65,7 +65,7 @@ pub record WorldState : Type 0 where
   pub slots : List (Option Flight)
   -- the byte that an application read last
   pub got : Option ℕ
-  -- what the last closing said
+  -- the report of the last closed cycle
   pub report : Option ReportState
 
 abbrev pub no_slave : SlaveState
@@ -80,7 +80,7 @@ flight_at w k = get_or w.slots k None
 abbrev pub with_slave : WorldState → ℕ → SlaveState → WorldState
 with_slave w s x = record w { slaves = set w.slaves s x }
 
--- ---- where an event can be made
+-- ---- when an event can be made
 
 abbrev pub is_slave : WorldState → ℕ → Bool
 is_slave w s = nat_lt s (length w.slaves)
@@ -88,7 +88,7 @@ is_slave w s = nat_lt s (length w.slaves)
 abbrev pub can_begin : WorldState → Bool
 can_begin w = w.master.is_ready && (is_none w.master.cycle && (nat_le (length w.plan.parts) (nones w.slots) && nat_lt w.master.next cycle_limit))
 
--- a start-up that isn't Ready goes on, and after a failure begins again, where nothing is on its way
+-- a start-up that isn't Ready goes on, or begins again after a failure, if nothing is on its way
 abbrev pub can_start : WorldState → Bool
 can_start w = not (is_up w.start) && (not (awaits w.start) && ((nones w.slots == length w.slots) && nat_lt w.start.next last_number))
 
@@ -118,7 +118,7 @@ pub record Begins (old new : WorldState) : Type 0 where
   pub master : Begun old.master new.master cycle
   pub is : new ≡ record old { master = new.master; slots = filled (flights_from old.master.next 0 cycle.frames) old.slots }
 
--- the frame in slot k passes its next slave, as the ring says it
+-- the frame in slot k passes its next slave, as the ring passes a frame
 pub record Passes (old : WorldState) (k : ℕ) (new : WorldState) : Type 0 where
   pub flight : Flight
   pub there : flight_at old k ≡ Some flight
@@ -151,7 +151,7 @@ pub record Gets (old : WorldState) (s i : ℕ) (new : WorldState) : Type 0 where
 
 -- ---- the events of a start-up
 
--- after a failure a start-up begins anew, with the next number
+-- after a failure a start-up begins again, with the next number
 abbrev pub resumed : StartState → Phase → StartState
 resumed s Idle = s
 resumed s (Sent number) = s
@@ -167,11 +167,11 @@ pub record Sends (old new : WorldState) : Type 0 where
     slots = filled (record { bytes = bytes; number = old.start.next; part = 0; passed = 0 } ∷ []) old.slots;
   }
 
--- a master is ready with its start-up
+-- a master becomes ready if its start-up is Ready
 abbrev pub ready_with : MasterState → StartState → MasterState
 ready_with m s = if is_up s then readied m s.next else m
 
--- the frame in slot k comes back to the start-up, which makes the master ready where it ends so
+-- the frame in slot k comes back to the start-up; if the start-up is Ready then, the master becomes ready
 pub record StartReturns (old : WorldState) (k : ℕ) (new : WorldState) : Type 0 where
   pub flight : Flight
   pub there : flight_at old k ≡ Some flight

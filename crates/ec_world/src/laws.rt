@@ -20,23 +20,23 @@ pub fn frames_keep_their_image()
     ensures { SnapshotsLaw }
 {}
 
-/// What a frame notes of a slave of its part is what the slave publishes as the frame passes. Only a slave that was reset and
-/// has bits, or one that had a fault and has outputs, falls short.
+/// A frame notes of a slave of its part what the slave publishes as the frame passes. A slave falls short only if it was reset
+/// and has bits, or had a fault and has outputs.
 #[tactic(auto, using(crate::proofs::Promising::notes_law))]
 pub fn notes_are_published()
     ensures { NotesLaw }
 {}
 
-/// A closed cycle sets the linked inputs of a unit to exactly the bits that were published as its frames passed: each part of it
-/// came back, all slaves answered its broadcast, and its working counters are the predicted ones. Or it changes none of them:
-/// then a frame of the unit was lost or isn't back, or it passed a slave that fell short. The report says which units were
-/// taken, and how many parts are missing.
+/// A closed cycle takes a unit or not. If it does, the linked inputs become exactly the bits that were published as the frames
+/// passed: each part came back, all slaves answered its broadcast, and its working counters are the predicted ones. If not, none
+/// of them changes: a frame of the unit was lost, isn't back, or passed a slave that fell short. The report says which units
+/// were taken, and how many parts are missing.
 #[tactic(auto, using(crate::proofs::Promising::inputs_law))]
 pub fn inputs_are_linked()
     ensures { InputsLaw }
 {}
 
-/// What a cycle keeps of a slave was noted as the frame of the slave's part passed it, in an event since this cycle began: where
+/// What a cycle keeps of a slave was noted when the frame of the slave's part passed it, in an event since this cycle began. If
 /// the slave gave its whole share, these are the inputs that it published at that moment.
 #[tactic(auto, using(crate::proofs::Published::published_law))]
 pub fn notes_are_of_their_pass()
@@ -51,17 +51,17 @@ pub fn slaves_stay_in_op()
 
 /// Only a loss, a fault, a reset or an early close can keep a unit from being taken, and only its own: the loss of a frame of
 /// one of its parts, a fault or a reset of one of its slaves before the frame passed it, or a close before its frames are back.
-/// What becomes of other units doesn't matter, nor what becomes of a slave behind its frame.
+/// This does not depend on other units, or on what happens to a slave after its frame.
 pub fn quiet_cycles_are_taken()
     ensures { TakenLaw }
 {}
 
-/// And each of these keeps the unit from being taken: no input is set in a cycle that wasn't quiet for its unit.
+/// Each of these keeps the unit from being taken: no input is set in a cycle that wasn't quiet for its unit.
 pub fn taken_cycles_were_quiet()
     ensures { QuietLaw }
 {}
 
-/// A cyclic frame that goes round leaves in every slave, working or not, and brings back, what the plain machine says.
+/// A cyclic frame that goes round leaves each slave, working or not, as the plain machine says, and brings back what it says.
 pub fn round_trips()
     ensures { RoundTrip }
 {}
@@ -72,15 +72,15 @@ pub fn cycles_exchange()
     ensures { CycleLaw }
 {}
 
-/// From a world that shows a plain state, an event is made exactly where the plain machine makes it, and the world then
-/// shows the plain machine's next state.
+/// In a world that shows a plain state, an event is made exactly if the plain machine makes it, and the world then shows the
+/// plain machine's next state.
 #[tactic(auto, using(crate::proofs::StepLaws::steps_show))]
 pub fn steps_show()
     ensures { StepsShow }
 {}
 
-/// From a world that shows a plain state, over every list of events, the world shows the plain machine's run, and as many events
-/// are made.
+/// If a world shows a plain state, every list of events leads it to a world that shows the plain machine's run of these events,
+/// and as many of them are made.
 #[tactic(auto, using(crate::proofs::StepLaws::runs_show))]
 pub fn runs_show()
     ensures { RunsShow }
@@ -92,27 +92,27 @@ pub fn plans_stay()
     ensures { PlanLaw }
 {}
 
-/// Two runs, one after the other, are one: a caller may make the events of a list piece by piece.
+/// Two runs, one after the other, are one: you may make the events of a list piece by piece.
 #[tactic(auto, using(crate::proofs::StepLaws::runs_join))]
 pub fn runs_join()
     ensures { RunsJoin }
 {}
 
-/// From a new world of a usable plan that can be started up (`IsUsable`, `AreStartable`), over every list of events: until the
-/// start-up is ready nothing is shown, and from then on the world shows the run of the plain machine. Each slave that doesn't
-/// work when it is ready had a fault or a reset since that start-up began.
+/// A new world of a usable plan that can be started up (`IsUsable`, `AreStartable`), over every list of events. Nothing is shown
+/// until the start-up is ready; then the world shows the run of the plain machine. Each slave that doesn't work when the
+/// start-up is ready had a fault or a reset since that start-up began.
 pub fn whole_runs()
     ensures { WholeLaw }
 {}
 
-/// From a new world of the plan that the link compiler makes of a table, over every list of events, the same holds as of any
-/// usable plan (`whole_runs`).
+/// A new world of the plan that the link compiler makes of a table, over every list of events: what `whole_runs` says of any
+/// usable plan holds.
 pub fn compiled_runs()
     ensures { CompiledLaw }
 {}
 
-/// A new world of a table that the compiler accepts, with devices of its types, is one from which a start-up may begin. So is the
-/// world of a machine, whose slaves are the table's and of its types.
+/// A start-up may begin in a new world of a table that the compiler accepts, with devices of its types. It may also begin in
+/// the world of a machine, whose slaves are the table's and of its types.
 pub fn new_worlds_may_start()
     ensures devices { NewLaw }
     ensures machine { MachineLaw }
@@ -124,47 +124,47 @@ pub fn turns_of_a_script()
     ensures { TurnLaw }
 {}
 
-/// The headline, over what a world's calls show. In a new world of an accepted table, after any events at whose end the start-up
-/// is Ready: a cyclic frame that passes a slave in OP, of the frame's part, makes it show exactly the linked bits of the output
-/// variables as they were when the cycle began, and 0 elsewhere, and changes nothing else. A close takes each sync unit as a
-/// whole or not at all: either every linked input bit of the unit's slaves is the one that the slave had published as its frame
-/// passed it in this cycle, the working counters are the predicted ones, the broadcasts counted every slave, and the report says
-/// so; or no linked input bit of them changes, the report says so, and there is a cause: a frame of the unit was lost since the
-/// cycle began, or is under way, or passed a slave that gave less than its share, since it had a fault or was reset. Where there
-/// is a cause it is not taken. Each other event touches only the slave or the variable that it names, or none.
+/// The headline, in terms of what a world's calls return: a new world of an accepted table, after any events that end with a
+/// Ready start-up. A cyclic frame that passes a slave in OP, of the frame's part, makes it show exactly the linked bits of the
+/// output variables as they were when the cycle began, and 0 elsewhere. It changes nothing else. A close takes each sync unit
+/// completely or not at all, and the report says which. If it is taken, every linked input bit of the unit's slaves is the one
+/// that the slave had published when its frame passed it in this cycle. The working counters are the predicted ones, and the
+/// broadcasts counted every slave. If not, no linked input bit of them changes, and there is a cause: a frame of the unit was
+/// lost since the cycle began, is under way, or passed a slave that gave less than its share after a fault or a reset. If there
+/// is a cause, the unit is not taken. Each other event touches only the slave or the variable that it names, or none.
 #[tactic(auto, using(crate::proofs::HeadlineInputs::headline_law))]
 pub fn headline()
     ensures { HeadlineLaw }
 {}
 
-/// A run has one outcome: by the same events a new world comes to the same world, and as many of them are made.
+/// A run has one outcome: the same events lead a new world to the same world, and as many of them are made.
 #[tactic(auto, using(crate::proofs::OneOutcome::one_outcome))]
 pub fn runs_have_one_outcome()
     ensures { OneOutcomeLaw }
 {}
 
-/// A cycle is begun once: in a run of a new world no two begins have one number.
+/// A cycle is begun once: in a run of a new world no two begins have the same number.
 pub fn cycles_begin_once()
     ensures { BegunOnceLaw }
 {}
 
-/// A frame passes a slave once, of those that are on their way once the start-up is Ready.
+/// A frame passes a slave once, if it is on its way after the start-up is Ready.
 pub fn frames_pass_once()
     ensures { PassedOnceLaw }
 {}
 
-/// Frames keep their order: of two that pass one slave, the older one passes it first.
+/// Frames keep their order: if two pass the same slave, the older one passes it first.
 pub fn frames_keep_their_order()
     ensures { OrderLaw }
 {}
 
-/// The AL word of a report is the OR of what the slaves said of their AL status as the frames of the cycle passed them: of each
-/// part whose frame is back, all slaves.
+/// The AL word of a report is the OR of what the slaves said of their AL status as the frames of the cycle passed them: all
+/// slaves, for each part whose frame is back.
 pub fn reports_say_what_slaves_said()
     ensures { WordLaw }
 {}
 
-/// Past slaves in OP it is 8.
+/// The AL word is 8 if the frames passed only slaves in OP.
 pub fn reports_say_op()
     ensures { OpWordLaw }
 {}
@@ -175,13 +175,13 @@ pub fn troubles_are_faults()
     ensures { TroubleLaw }
 {}
 
-/// A cycle that nothing disturbs, of a Ready world at rest, can be made whole, and is taken in every unit: each slave then shows
-/// exactly its linked output bits, and each linked input bit is the one that its slave has published.
+/// A cycle that nothing disturbs can be made in a Ready world at rest, and every unit is taken. Each slave then shows exactly
+/// its linked output bits, and each linked input bit is the one that its slave has published.
 pub fn undisturbed_cycles_are_taken()
     ensures { UndisturbedLaw }
 {}
 
-/// A cycle of which a frame is lost can be made, and the unit of the frame is not taken.
+/// A cycle that loses a frame can be made, and the unit of the frame is not taken.
 pub fn a_loss_misses_its_unit()
     ensures { LossLaw }
 {}

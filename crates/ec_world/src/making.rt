@@ -1,4 +1,4 @@
-//! What each event does, in calls of the start-up, the master, the ring and its slaves.
+//! What each event does, by calls of the start-up, the master, the ring and its slaves.
 ghost use Rattle.std.specs.Prelude.{◌≡◌, Bool, length, is_some, true};
 ghost use Rattle.ec_start.specs.Running.{IsStartTaken};
 ghost use Rattle.ec_world.specs.declared.event.Event.TheVariants.{StartNext, Set, Begin, Pass, Lose, Return, Close, Serve, AppPut, AppGet, Fault, Reset as ResetSlave};
@@ -23,7 +23,7 @@ fn awaits(start: &Startup) -> bool
     }
 }
 
-/// After a failure the start-up begins anew, with the next number.
+/// Begins a start-up that failed again, with the next number.
 fn resume(start: &mut Startup)
     ensures { start.new ≡ resumed start.old start.old.phase }
 {
@@ -33,7 +33,7 @@ fn resume(start: &mut Startup)
     }
 }
 
-/// A payload comes back to the start-up, which makes the master ready where it ends so.
+/// Gives a payload to the start-up. If the start-up is Ready then, the master becomes ready.
 fn answer(start: &mut Startup, master: &mut Master<'_>, payload: &[u8])
     requires same { start.old.plan ≡ master.old.plan.slaves }
     ensures taken { (is_kept : Bool) × IsStartTaken start.old payload.now is_kept start.new }
@@ -46,7 +46,7 @@ fn answer(start: &mut Startup, master: &mut Master<'_>, payload: &[u8])
     }
 }
 
-/// A payload comes back, to the start-up while that awaits one, else to the master.
+/// Gives a payload to the start-up if it awaits one, and else to the master.
 fn hand_in(start: &mut Startup, master: &mut Master<'_>, payload: &[u8])
     requires same { start.old.plan ≡ master.old.plan.slaves }
     ensures { IsHandedIn start.old master.old payload.now start.new master.new }
@@ -58,7 +58,7 @@ fn hand_in(start: &mut Startup, master: &mut Master<'_>, payload: &[u8])
     let _ = master.take(payload);
 }
 
-/// The frames of the open cycle go into the lowest free slots, part after part.
+/// Puts the frames of the open cycle into the lowest free slots, part after part.
 fn place_frames(master: &Master<'_>, number: u64, slots: &mut Slots)
     requires opened { is_some master.now.cycle ≡ true }
     requires fit { FitSlots (cycle_frames master.now.cycle) }
@@ -72,7 +72,7 @@ fn place_frames(master: &Master<'_>, number: u64, slots: &mut Slots)
 }
 
 impl World<'_> {
-    /// Makes an event if it can be made.
+    /// Makes an event, and returns whether it can be made. If it can't, nothing changes.
     pub(crate) fn make(&mut self, event: Event) -> bool
         ensures { IsStep self.old event self.new result }
     {
@@ -92,7 +92,7 @@ impl World<'_> {
         }
     }
 
-    /// Whether the start-up goes on, or begins anew: it isn't Ready, it awaits no frame, none is on its way, and a number is
+    /// Whether the start-up goes on, or begins again: it isn't Ready, it awaits no frame, none is on its way, and a number is
     /// left.
     #[tactic(auto, using(crate::proofs::Filling::nones_counted))]
     fn can_start(&self) -> bool
@@ -104,7 +104,7 @@ impl World<'_> {
             && self.start.next_number() < u64::MAX
     }
 
-    /// The start-up sends its next frame, or begins anew after a failure.
+    /// The start-up sends its next frame; after a failure it begins again.
     fn start_next(&mut self) -> bool
         ensures { IsStep self.old StartNext self.new result }
     {
@@ -119,7 +119,7 @@ impl World<'_> {
         true
     }
 
-    /// A variable of the outputs becomes a value.
+    /// Sets a variable of the outputs.
     fn set(&mut self, variable: usize, value: u64) -> bool
         ensures { IsStep self.old (Set variable value) self.new result }
     {
@@ -178,7 +178,7 @@ impl World<'_> {
         true
     }
 
-    /// The frame in a slot comes back, to the start-up while that awaits one, else to the master.
+    /// The frame in a slot comes back: to the start-up if it awaits one, and else to the master.
     fn take_back(&mut self, slot: usize) -> bool
         ensures { IsStep self.old (Return slot) self.new result }
     {
@@ -191,7 +191,7 @@ impl World<'_> {
         true
     }
 
-    /// The start-up is given up while it awaits a frame, else the cycle is closed.
+    /// Gives the start-up up if it awaits a frame, and else closes the cycle.
     fn close(&mut self) -> bool
         ensures { IsStep self.old Close self.new result }
     {
@@ -208,7 +208,7 @@ impl World<'_> {
         }
     }
 
-    /// A slave makes a firmware step.
+    /// Makes a firmware step of a slave.
     fn serve(&mut self, slave: usize) -> bool
         ensures { IsStep self.old (Serve slave) self.new result }
     {
@@ -245,7 +245,7 @@ impl World<'_> {
         }
     }
 
-    /// A slave's application fails.
+    /// A slave's application has a fault.
     fn fault(&mut self, slave: usize) -> bool
         ensures { IsStep self.old (Fault slave) self.new result }
     {
@@ -255,7 +255,7 @@ impl World<'_> {
         self.ring.slave_mut(slave).fault()
     }
 
-    /// A slave is switched off and on.
+    /// Switches a slave off and on.
     fn reset(&mut self, slave: usize) -> bool
         ensures { IsStep self.old (ResetSlave slave) self.new result }
     {

@@ -1,4 +1,4 @@
-//! Room for one frame on its way.
+//! A slot: room for one frame on its way.
 ghost use Rattle.std.specs.Prelude.{◌≡◌, ◌≤◌, ◌<◌, length, Some, None, is_none, option_map};
 ghost use Rattle.ec_frame.specs.Frame.{Payload, IsFrame};
 ghost use Rattle.ec_world.specs.World.{flight_progress, Flight};
@@ -9,7 +9,7 @@ use ec_frame::Frame;
 use ec_ring::Ring;
 use std::marker::Model;
 
-/// Room for a frame on its way. What it holds is a frame of datagrams, so no slave has to test it.
+/// Room for a frame on its way. It holds only frames of datagrams, so no slave has to check them.
 #[derive(Drop)]
 pub struct Slot {
     progress: Option<Progress>,
@@ -60,7 +60,7 @@ impl Slot {
         self.frame.as_slice()
     }
 
-    /// A frame that has passed no slave comes in.
+    /// Puts a frame in that has passed no slave.
     pub fn put(&mut self, bytes: &[u8], number: u64, part: usize)
         requires room { length bytes.now ≤ 1472 }
         requires frame { (p : Payload) × IsFrame bytes.now p }
@@ -74,14 +74,14 @@ impl Slot {
         });
     }
 
-    /// Its frame, if it has one, is gone.
+    /// Removes its frame, if it has one.
     pub fn clear(&mut self)
         ensures { self.new ≡ None }
     {
         self.progress = None;
     }
 
-    /// Its frame passes its next slave.
+    /// Passes its frame through the next slave, if it has a frame.
     pub fn pass(&mut self, ring: &mut Ring)
         requires { (f : Flight) → self.old ≡ Some f → f.passed < length ring.old }
         ensures passed { (f : Flight) → self.old ≡ Some f → HasPassed ring.old f ring.new self.new }
@@ -97,7 +97,7 @@ impl Slot {
     }
 }
 
-/// Puts bytes in place of what is there.
+/// Replaces the bytes of a frame.
 fn replace(frame: &mut Frame, bytes: &[u8])
     requires { length bytes.now ≤ 1472 }
     ensures { frame.new.items ≡ bytes.now }

@@ -12,17 +12,17 @@ use ec_ring::Ring;
 use std::alloc::{AllocError, Global};
 use std::marker::Model;
 
-/// The frames that are on their way, each in a slot. All memory that they need is found when the slots are made.
+/// The frames that are on their way, each in a slot. All slots are allocated when they are made.
 #[derive(Drop)]
 pub struct Slots {
     slots: Vec<Slot>,
-    // the slots from here on are free, and needn't be looked at
+    // all slots with this number or more are free
     used: usize,
-    // a frame that has its way needn't look at the others at each slave
+    // spares a frame the look at all others before each slave
     way: Clearance,
 }
 
-/// How many slaves the frame in a slot may pass, whatever other frames do before a new one comes.
+/// How many slaves the frame in a slot may pass. No other frame can lower it before a new frame comes.
 #[derive(Clone, Copy, Drop)]
 struct Clearance {
     slot: usize,
@@ -30,7 +30,7 @@ struct Clearance {
 }
 
 impl Clearance {
-    /// The way of no frame.
+    /// A clearance of no frame.
     fn none() -> Clearance
         ensures { result.until ≡ 0 }
     {
@@ -51,7 +51,7 @@ impl Model for Slots {
 }
 
 impl Slots {
-    /// So many free slots.
+    /// `count` free slots.
     pub fn new(alloc: Global, count: usize) -> Result<Slots, AllocError>
         ensures { IfOk result (λ s. s ≡ replicate count None) }
     {
@@ -73,7 +73,7 @@ impl Slots {
         self.slots.len()
     }
 
-    /// How far the frame in a slot is; none where there is no frame, or no slot.
+    /// How far the frame in a slot is; none if there is no frame or no slot.
     pub fn progress(&self, slot: usize) -> Option<Progress>
         ensures { result ≡ option_map flight_progress (get_or self.now slot None) }
     {
@@ -92,7 +92,7 @@ impl Slots {
         self.len() - used.len() + free_of(used)
     }
 
-    /// Whether the frame in a slot may pass its next slave, of so many: there is one, and every older frame has passed it.
+    /// Whether the frame in a slot may pass its next slave, of `slaves`: there is one, and every older frame has passed it.
     pub fn may_pass(&mut self, slot: usize, slaves: usize) -> bool
         ensures may { result ≡ may_pass slaves (flights_progress self.old) (option_map flight_progress (get_or self.old slot None)) }
         ensures kept { self.new ≡ self.old }
@@ -103,7 +103,7 @@ impl Slots {
         frame.passed < slaves && frame.passed < self.way_of(slot, &frame)
     }
 
-    /// Whether the frame in a slot has passed all slaves, of so many.
+    /// Whether the frame in a slot has passed all slaves, which are `slaves`.
     pub fn may_return(&self, slot: usize, slaves: usize) -> bool
         ensures { result ≡ may_return slaves (option_map flight_progress (get_or self.now slot None)) }
     {
@@ -121,7 +121,7 @@ impl Slots {
         self.slots[slot].bytes()
     }
 
-    /// A frame goes into the lowest free slot, if there is one.
+    /// Puts a frame into the lowest free slot, if there is one.
     pub fn fill(&mut self, bytes: &[u8], number: u64, part: usize)
         requires room { length bytes.now ≤ 1472 }
         requires frame { (p : Payload) × IsFrame bytes.now p }
@@ -134,7 +134,7 @@ impl Slots {
         }
     }
 
-    /// The frame in a slot is gone.
+    /// Removes the frame in a slot.
     pub fn clear(&mut self, slot: usize)
         requires { slot < length self.old }
         ensures { self.new ≡ set self.old slot None }
@@ -145,7 +145,7 @@ impl Slots {
         }
     }
 
-    /// The frame in a slot passes its next slave.
+    /// Passes the frame in a slot through its next slave.
     pub fn pass(&mut self, slot: usize, ring: &mut Ring)
         requires there { slot < length self.old }
         requires next { (f : Flight) → get_or self.old slot None ≡ Some f → f.passed < length ring.old }
@@ -154,14 +154,14 @@ impl Slots {
         self.slots[slot].pass(ring);
     }
 
-    /// The slots that can hold a frame: all behind them are free.
+    /// The slots that can hold a frame: all slots behind them are free.
     fn in_use(&self) -> &[Slot]
         ensures { AreInUse self.now result.now }
     {
         &self.slots[..self.used]
     }
 
-    /// How many slaves the frame in a slot may pass, or fewer, but more than it has passed where it may pass another.
+    /// A number of slaves that the frame in a slot may pass. It is above `frame.passed` exactly if the next one may be passed.
     fn way_of(&mut self, slot: usize, frame: &Progress) -> usize
         requires there { option_map flight_progress (get_or self.old slot None) ≡ Some frame.now }
         requires few { frame.now.passed < no_end }
@@ -192,7 +192,7 @@ impl Slots {
     }
 }
 
-/// How many slaves a frame may pass as far as what some slots hold is concerned.
+/// How many slaves a frame may pass without overtaking an older frame in these slots.
 fn way_behind(slots: &[Slot], frame: &Progress) -> usize
     ensures { result ≡ fold (way_behind frame.now) no_end (flights_progress slots.now) }
 {
@@ -202,14 +202,14 @@ fn way_behind(slots: &[Slot], frame: &Progress) -> usize
         .fold(usize::MAX, |far, other| frame.way_behind(far, other))
 }
 
-/// The lowest free one of some slots.
+/// The lowest free slot of these.
 fn first_free(slots: &[Slot]) -> Option<usize>
     ensures { result ≡ position (λ o. is_none o) slots.now }
 {
     slots.iter().position(|slot| slot.is_free())
 }
 
-/// How many of some slots are free.
+/// How many of these slots are free.
 fn free_of(slots: &[Slot]) -> usize
     ensures { result ≡ count_by (λ o. is_none o) slots.now }
 {

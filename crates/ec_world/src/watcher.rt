@@ -1,25 +1,25 @@
-//! Who makes the events of a world, and may keep what it sees.
+//! Watchers: they make the events of a world, and may keep what they see.
 ghost use Rattle.std.specs.Prelude.{◌≡◌, true, false};
 ghost use Rattle.ec_world.specs.World.{WorldState, IsStep};
 
 use crate::event::Event;
 use crate::world::World;
 
-/// What makes the events of a world, one after another, and may keep what it sees of them.
+/// A watcher makes the events of a world, one after another, and may keep what it sees of them.
 pub trait Watcher {
     ghost use Rattle.ec_world.specs.declared.event.Event.{Event};
 
-    /// What it keeps of an event that was made, by the worlds before and after.
+    /// What the watcher keeps of an event that was made, by the worlds before and after.
     ghost saw: { Self → WorldState → Event → WorldState → Self → Type 0 };
 
-    /// Makes an event, and answers whether it can be made; if it can't, nothing changes.
+    /// Makes an event, and returns whether it can be made. If it can't, nothing changes.
     fn step(&mut self, world: &mut World<'_>, event: Event) -> bool
         ensures step { IsStep world.old event world.new result }
         ensures saw { result ≡ true → saw self.old world.old event world.new self.new }
         ensures unseen { result ≡ false → self.new ≡ self.old };
 }
 
-/// What makes events and keeps nothing.
+/// A watcher that keeps nothing.
 #[derive(Clone, Copy, Debug, PartialEq, Eq, Drop)]
 pub struct Unwatched;
 

@@ -33,9 +33,9 @@ use std::marker::Model;
 /// How many frames can be on their way at a time.
 const SLOTS: usize = 64;
 
-/// A segment of simulated slaves under a start-up and a master, with the frames that are on their way. It is moved by events,
-/// of which each that can be made is one call of the start-up, of the master, of a slave, or one frame that passes one slave.
-/// All memory that it needs is found when it is made.
+/// A segment of simulated slaves under a start-up and a master, with the frames that are on their way. Events move it: each
+/// that can be made is one call of the start-up, the master or a slave, or one frame that passes one slave. It allocates all
+/// its memory when it is made.
 #[derive(Drop)]
 pub struct World<'p> {
     pub(crate) plan: &'p Plan,
@@ -45,7 +45,7 @@ pub struct World<'p> {
     pub(crate) slots: Slots,
     // the byte that an application read last
     pub(crate) got: Option<u8>,
-    // what the last closing said
+    // the report of the last closed cycle
     pub(crate) report: Option<Report>,
 }
 
@@ -69,13 +69,13 @@ impl<'p> Model for World<'p> {
 }
 
 impl<'p> World<'p> {
-    /// The world of a table: its slaves as they are switched on, with these identities in the order of the table; a start-up
-    /// whose first frame has number 0; a master whose image is all 0; and 64 slots without a frame. The plan is the one that
-    /// `compile` makes of the table. No later call takes memory.
+    /// The world of a table. Its slaves are just switched on, with `identities` in the order of the table. The first frame of its
+    /// start-up has number 0, the image of its master is all 0, and its 64 slots have no frame. `plan` is the plan that `compile`
+    /// makes of the table. No later call takes memory.
     ///
     /// # Errors
     ///
-    /// `AllocError` where there is no memory.
+    /// `AllocError` if there is no memory.
     pub fn new(
         alloc: Global,
         table: &Table,
@@ -102,11 +102,11 @@ impl<'p> World<'p> {
         })
     }
 
-    /// The world of a machine: as [`World::new`] has it, and its slaves show the identities that the table says.
+    /// The world of a machine, as [`World::new`] makes it. Its slaves have the identities that the table states.
     ///
     /// # Errors
     ///
-    /// `AllocError` where there is no memory.
+    /// `AllocError` if there is no memory.
     pub fn of_machine(alloc: Global, machine: &'p Machine) -> Result<World<'p>, AllocError>
         ensures { IfOk result (IsOfMachine machine.now) }
     {
@@ -115,14 +115,14 @@ impl<'p> World<'p> {
         World::new(alloc, table, machine.plan(), identities.as_slice())
     }
 
-    /// Makes an event, and answers whether it can be made; if it can't, nothing changes.
+    /// Makes an event, and returns whether it can be made. If it can't, nothing changes.
     ///
-    /// Of a new world of an accepted table, once it is Ready: a cyclic frame that passes a slave in OP gives it exactly its linked
-    /// outputs, as they were when the cycle began; a close takes each sync unit's inputs as a whole, or none of them and for a
+    /// In a new world of an accepted table, once it is Ready: a cyclic frame that passes a slave in OP gives it exactly its
+    /// linked outputs as they were when the cycle began. A close takes all inputs of a sync unit, or none of them and for a
     /// cause. `Set` gives its variable the value, and touches no other variable and no slave. `AppPut`, `AppGet`, `Fault` and
-    /// `Reset` touch only their slave, and no variable; all other events touch no slave and no variable.
+    /// `Reset` touch only their slave, and no variable. All other events touch no slave and no variable.
     ///
-    /// From a world that shows a plain state it is made exactly where the plain machine makes it, and the world then shows the
+    /// If the world shows a plain state, the event is made exactly if the plain machine makes it, and the world then shows the
     /// plain machine's next state. The plan stays.
     pub fn step(&mut self, event: Event) -> bool
         ensures step { IsStep self.old event self.new result }
@@ -134,14 +134,14 @@ impl<'p> World<'p> {
         self.make(event)
     }
 
-    /// Makes those of the events that can be made, in their order, and answers how many they were.
+    /// Makes those of the events that can be made, in their order, and returns how many they were.
     ///
-    /// From a world that shows a plain state it ends in one that shows the run of the plain machine, of as many events. From
-    /// a new world nothing is shown until its start-up is Ready; at the event that makes it so the world shows a plain state,
-    /// in which each slave that isn't in OP had a fault or a reset since that start-up began; and from there on the run of the
-    /// plain machine. A new world of devices of its table's types, or one whose last start-up failed and that has no frame on
-    /// its way, is Ready after as many frames as the start-up has steps, where nothing disturbs it. Each of its events, made
-    /// once the start-up is Ready, shows what `step` says of it. The plan stays.
+    /// If the world shows a plain state, it ends in one that shows the run of the plain machine, of as many events. A new world
+    /// shows nothing until its start-up is Ready. With the event that makes it so, it shows a plain state in which each slave
+    /// that isn't in OP had a fault or a reset since that start-up began. Then it shows the run of the plain machine. If nothing
+    /// disturbs it, a start-up is Ready after as many frames as it has steps. This holds for a new world of devices of its
+    /// table's types, and for one whose last start-up failed and that has no frame on its way. Each event that is made once the
+    /// start-up is Ready does what `step` says of it. The plan stays.
     pub fn run(&mut self, events: &[Event]) -> usize
         ensures steps { IsRun self.old events.now self.new result }
         ensures plan { self.new.plan ≡ self.old.plan }
@@ -178,7 +178,7 @@ impl<'p> World<'p> {
         }
     }
 
-    /// How its start-up ended, if it has.
+    /// How its start-up ended; none while it runs.
     pub fn outcome(&self) -> Option<Result<(), StartError>>
         ensures { result ≡ outcome_of self.now.start.phase }
     {
@@ -199,7 +199,7 @@ impl<'p> World<'p> {
         self.master.variables()
     }
 
-    /// What a variable of the process image is now: of an input what the last closing took, of an output what was set last.
+    /// The value of a variable: an input has what the last closed cycle took, an output what was set last.
     pub fn input(&self, variable: usize) -> u64
         requires { variable < length self.now.master.plan.variables }
         ensures { result ≡ value_at self.now.master (slice_get self.now.master.plan.variables variable) }
@@ -207,7 +207,7 @@ impl<'p> World<'p> {
         self.master.get(variable)
     }
 
-    /// The outputs that a slave published last: manager 2's value, empty where that manager isn't set or is a mailbox.
+    /// The outputs that a slave published last, in its sync manager 2. Empty if that manager isn't set or is a mailbox.
     pub fn outputs(&self, slave: usize) -> &[u8]
         requires { slave < length self.now.slaves }
         ensures { result.now ≡ outputs_shown (slave_of self.now slave) }
@@ -215,7 +215,7 @@ impl<'p> World<'p> {
         self.ring.slave(slave).outputs()
     }
 
-    /// The slave at a place, the first at 0.
+    /// The slave at a place, counted from 0.
     pub fn slave(&self, slave: usize) -> &Slave
         requires { slave < length self.now.slaves }
         ensures { result.now ≡ slave_of self.now slave }
@@ -237,7 +237,7 @@ impl<'p> World<'p> {
         self.slots.len()
     }
 
-    /// The number of the frame in a slot; none where there is no frame, or no slot.
+    /// The number of the frame in a slot; none if there is no frame or no slot.
     pub fn slot(&self, slot: usize) -> Option<u64>
         ensures { result ≡ option_map (λ f. f.number) (flight_at self.now slot) }
     {
@@ -247,14 +247,14 @@ impl<'p> World<'p> {
         }
     }
 
-    /// How far the frame in a slot is: its number, its part, and how many slaves it has passed.
+    /// How far the frame in a slot is: its number, its part, and how many slaves it has passed; none if there is no frame.
     pub fn progress(&self, slot: usize) -> Option<Progress>
         ensures { result ≡ option_map flight_progress (flight_at self.now slot) }
     {
         self.slots.progress(slot)
     }
 
-    /// The bytes of the frame in a slot; none where there is no frame, or no slot.
+    /// The bytes of the frame in a slot; none if there is no frame or no slot.
     pub fn bytes(&self, slot: usize) -> Option<&[u8]>
         ensures { option_map (λ b. b.now) result ≡ option_map (λ f. f.bytes) (flight_at self.now slot) }
     {
@@ -264,7 +264,7 @@ impl<'p> World<'p> {
         }
     }
 
-    /// The frame of a part of the open cycle, as it was sent; none where no cycle is open, or where it has no such part.
+    /// The frame of a part of the open cycle, as it was sent; none if no cycle is open or there is no such part.
     pub fn sent(&self, part: usize) -> Option<&[u8]>
         ensures { option_map (λ b. b.now) result ≡ sent_of self.now part }
     {
@@ -275,21 +275,21 @@ impl<'p> World<'p> {
         }
     }
 
-    /// The byte that an application read last.
+    /// The byte that an application read last; none before the first.
     pub fn byte(&self) -> Option<u8>
         ensures { result ≡ self.now.got }
     {
         self.got
     }
 
-    /// What the last closing said.
+    /// The report of the last closed cycle; none if no cycle was closed yet.
     pub fn report(&self) -> Option<&Report>
         ensures { option_map (λ r. r.now) result ≡ self.now.report }
     {
         self.report.as_ref()
     }
 
-    /// Does nothing. Its contract says what holds of every world: its plan can be used.
+    /// Does nothing. Its contract says that the plan of every world can be used.
     fn is_sound(&self)
         ensures { IsUsable self.now.plan }
     {
@@ -297,7 +297,7 @@ impl<'p> World<'p> {
     }
 }
 
-/// The two ends of a plan's frames: a start-up whose first frame has number 0, and a master whose image is all 0.
+/// A start-up of a plan whose first frame has number 0, and a master whose image is all 0.
 fn ends_of<'p>(alloc: Global, plan: &'p Plan) -> Result<(Startup<'p>, Master<'p>), AllocError>
     requires few { All HasFewAssigned plan.now.slaves }
     requires usable { IsUsable plan.now }

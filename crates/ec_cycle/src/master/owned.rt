@@ -24,7 +24,7 @@ use std::marker::Model;
 #[derive(Drop)]
 pub struct OwnMaster {
     plan: Plan,
-    // it is away only while a call has made a master of both
+    // none only while a call has made a master of both
     rest: Option<Rest>,
 }
 
@@ -64,7 +64,7 @@ impl OwnMaster {
         &self.plan
     }
 
-    /// Cycles can begin, as by [`Master::ready`]: this is what the start-up has beside the plan.
+    /// Makes the master ready for cycles, as [`Master::ready`] does. `startup` is what the start-up has beside the plan.
     pub fn ready(&mut self, startup: StartupRest)
         requires ready { startup.phase ≡ Ready }
         requires same { IsOfPlan self.old.plan.slaves startup }
@@ -78,14 +78,14 @@ impl OwnMaster {
         self.rest = Some(Rest::of(master));
     }
 
-    /// Whether a variable is there, is one of the outputs and holds the value: what `set` asks.
+    /// Whether there is a variable, it is an output, and it has enough bits for the value: the condition of `set`.
     pub fn can_set(&self, variable: usize, value: u64) -> bool
         ensures { result ≡ holds_value value (slice_get self.now.plan.variables variable) }
     {
         can_hold(self.plan(), variable, value)
     }
 
-    /// A variable of the outputs becomes a value, as by [`Master::set`].
+    /// Sets a variable of the outputs, as [`Master::set`] does.
     pub fn set(&mut self, variable: usize, value: u64)
         requires { holds_value value (slice_get self.old.plan.variables variable) ≡ true }
         ensures { self.new ≡ variable_set self.old variable value }
@@ -98,7 +98,7 @@ impl OwnMaster {
         self.rest = Some(Rest::of(master));
     }
 
-    /// What a variable is now.
+    /// The value of a variable.
     pub fn get(&self, variable: usize) -> u64
         requires { variable < length self.now.plan.variables }
         ensures { result ≡ value_at self.now (slice_get self.now.plan.variables variable) }
@@ -112,7 +112,7 @@ impl OwnMaster {
         read_bits(image, place.from, usize::from(place.bits))
     }
 
-    /// The image of all outputs: bit by bit the variables, in the order of the plan.
+    /// The image of all outputs: the output variables bit by bit, in the order of the plan.
     pub fn outputs(&self) -> &[u8]
         ensures value { result.now ≡ self.now.outputs }
         ensures size { length result.now ≡ bytes_of_bits self.now.plan.out_bits }
@@ -120,7 +120,7 @@ impl OwnMaster {
         self.rest().outputs.as_slice()
     }
 
-    /// The image of all outputs becomes these bytes.
+    /// Sets the image of all outputs. `outputs` has as many bytes as the image.
     pub fn set_outputs(&mut self, outputs: &[u8])
         requires { length outputs.now ≡ length self.old.outputs }
         ensures { self.new ≡ record self.old { outputs = outputs.now } }
@@ -132,7 +132,7 @@ impl OwnMaster {
         self.rest = Some(rest);
     }
 
-    /// The image of all inputs.
+    /// The image of all inputs: the input variables bit by bit, in the order of the plan.
     pub fn inputs(&self) -> &[u8]
         ensures value { result.now ≡ self.now.inputs }
         ensures size { length result.now ≡ bytes_of_bits self.now.plan.in_bits }
@@ -144,7 +144,7 @@ impl OwnMaster {
     ///
     /// # Errors
     ///
-    /// `NotReady`, `Open` or `NumbersSpent`, the first that fits; nothing changes.
+    /// The first that holds of `NotReady`, `Open` and `NumbersSpent`; nothing changes.
     pub fn begin(&mut self) -> Result<(), CycleError>
         ensures answer { result ≡ refused_by (begin_refusal self.old) }
         ensures begun { OnOk result ((c : OpenCycle) × Begun self.old self.new c) }
@@ -197,7 +197,7 @@ impl OwnMaster {
         taken
     }
 
-    /// How many parts of the open cycle are not kept yet; 0 where no cycle is open.
+    /// How many parts of the open cycle are not kept yet; 0 if no cycle is open.
     pub fn missing(&self) -> usize
         ensures { result ≡ missing_of self.now.cycle }
     {
@@ -212,7 +212,7 @@ impl OwnMaster {
     ///
     /// # Errors
     ///
-    /// `NotOpen`; nothing changes.
+    /// `NotOpen` if no cycle is open; nothing changes.
     pub fn close(&mut self) -> Result<Report, CycleError>
         ensures not_open { IsErr result ↔ (self.old.cycle ≡ None) }
         ensures cause { IfErr result (λ e. e ≡ NotOpen) }
@@ -241,7 +241,7 @@ impl OwnMaster {
         self.rest = Some(Rest::of(master));
     }
 
-    /// What it has beside its plan.
+    /// All of the master except its plan.
     fn rest(&self) -> &Rest
         ensures fits { FitsPlan self.now.plan result.now }
         ensures same { rejoined self.now.plan result.now ≡ self.now }

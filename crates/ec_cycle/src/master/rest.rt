@@ -8,7 +8,7 @@ use crate::run::{BitRun, InputRun};
 use ec_link::{ExpectedCounters, Plan};
 use ec_listed::Listed;
 
-/// All that a master has beside its plan.
+/// All of a master except its plan.
 #[derive(Drop)]
 pub struct Rest {
     pub is_ready: bool,
@@ -24,7 +24,7 @@ pub struct Rest {
 }
 
 impl Rest {
-    /// What a master has beside its plan.
+    /// All of a master except its plan.
     pub fn of(master: Master<'_>) -> Rest
         ensures fits { FitsPlan master.entry.plan result }
         ensures same { rejoined master.entry.plan result ≡ master.entry }
@@ -43,7 +43,7 @@ impl Rest {
         }
     }
 
-    /// The master with the plan.
+    /// The master of this and the plan.
     pub fn with_plan(self, plan: &Plan) -> Master<'_>
         requires { FitsPlan plan.now self }
         ensures { result ≡ rejoined plan.entry.now self }

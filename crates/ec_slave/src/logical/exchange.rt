@@ -1,5 +1,5 @@
-//! A logical datagram at a slave that is set up as usual, all of whose process data it has: the outputs are taken and the inputs
-//! given, a copy each. They are the values of managers 2 and 3, or lie in the RAM itself.
+//! A logical datagram that has all process data of a slave that is set up as usual: it takes the outputs and gives the inputs by
+//! one copy each. They are the values of managers 2 and 3, or lie in the RAM itself.
 
 ghost use Rattle.std.specs.Prelude.{◌≡◌, ◌+◌, ◌-◌, ◌*◌, ◌<◌, ◌≤◌, ◌^◌, ◌&&◌, if◌then◌else◌, length, nat_lt, set};
 ghost use Rattle.std.specs.Int.{from_bool};
@@ -19,8 +19,8 @@ use ec_exchange::{get_inputs, give_inputs, put_outputs, take_outputs};
 use ec_fmmu::MappedArea;
 use ec_sync::SyncManager;
 
-/// A datagram that has a whole area, which managers 2 and 3 hold: its outputs are taken first, as they came, and then the inputs
-/// given.
+/// Exchanges a whole area that managers 2 and 3 hold: takes the outputs first, as they came, and then gives the inputs. Returns
+/// what the working counter grows by.
 fn exchange_values(
     managers: &mut [SyncManager],
     mapped: &MappedArea,
@@ -47,8 +47,8 @@ fn exchange_values(
     role.count(is_read, is_written)
 }
 
-/// A datagram that has a whole area, which lies in the memory itself: its outputs are put there first, as they came, and then
-/// the inputs gotten.
+/// Exchanges a whole area that lies in the memory itself: copies the outputs there first, as they came, and then the inputs from
+/// there. Returns what the working counter grows by.
 fn exchange_memory(
     memory: &mut [u8],
     mapped: &MappedArea,
@@ -78,7 +78,7 @@ fn exchange_memory(
 }
 
 impl Slave {
-    /// A datagram that has the whole area: its outputs are taken first, as they came, and then the inputs given.
+    /// Exchanges the whole area: takes its outputs first, as they came, and then gives the inputs.
     pub(super) fn exchange_area(
         &mut self,
         mapped: &MappedArea,
@@ -96,8 +96,8 @@ impl Slave {
         exchange_values(&mut self.managers, mapped, role, from, bytes)
     }
 
-    /// A datagram that has the whole area, which lies in the RAM itself: its outputs are put there first, as they came, and then
-    /// the inputs gotten, none of which is an output.
+    /// Exchanges the whole area, which lies in the RAM itself: copies its outputs there first, as they came, and then the inputs
+    /// from there. No bit of the inputs is an output.
     pub(super) fn exchange_plain(
         &mut self,
         mapped: &MappedArea,

@@ -15,7 +15,7 @@ use ec_exchange::{read_manager, take_value, write_manager};
 use ec_fmmu::{FmmuTable, apply_write, is_touched_by_reading, is_touched_by_writing, whole_source};
 use ec_sync::{SyncManager, Touching, Writing};
 
-/// The bits of a logical datagram, as they are read.
+/// The bits of a logical datagram that reads.
 #[derive(Clone, Copy)]
 struct ReadBits<'a> {
     fmmus: &'a FmmuTable,
@@ -34,7 +34,7 @@ impl Touching for ReadBits<'_> {
     }
 }
 
-/// The bits of a logical datagram, as a manager above these lower-numbered ones takes them.
+/// The bits of a logical datagram as a manager takes them whose lower-numbered managers are `lower`.
 #[derive(Clone, Copy)]
 struct Bits<'a> {
     lower: &'a [SyncManager],
@@ -76,8 +76,8 @@ impl Writing for Bits<'_> {
 }
 
 impl Bits<'_> {
-    /// The first of the data bits that are brought, one after the other, to the bits of the `len` bytes from `start` on,
-    /// of which no lower manager governs one: so none of what they held stays. None says nothing.
+    /// The first of the data bits that are brought, one after the other, to the bits of the `len` bytes that begin at `start`.
+    /// No lower manager governs one of these bytes, so none of what they held stays. None says nothing.
     fn source(&self, start: usize, len: usize) -> Option<usize>
         requires some { 0 < len }
         requires inside { start + len ≤ ram_end }
@@ -111,9 +111,9 @@ impl Bits<'_> {
 }
 
 /// Each of the four managers meets a logical datagram whose first logical bit is `from`, from the
-/// last to the first, so that each finds the lower-numbered ones as they were. One that the
-/// datagram writes takes a whole value: 0 in the bits that aren't brought to it. Answers whether one
-/// is written.
+/// last to the first, so that each finds the lower-numbered ones as they were. A manager that the
+/// datagram writes takes a whole value, with 0 in the bits that aren't brought to it. Returns
+/// whether one is written.
 pub(crate) fn access_managers(
     managers: &mut [SyncManager],
     reading: bool,
@@ -139,7 +139,7 @@ pub(crate) fn access_managers(
     is_written
 }
 
-/// One manager meets a datagram: written, or else read, or as it was. Answers whether it is written.
+/// One manager meets a datagram: it is written, or else read, or stays as it was. Returns whether it is written.
 fn access_manager(
     lower: &[SyncManager],
     manager: &mut SyncManager,
@@ -173,8 +173,8 @@ fn access_manager(
     false
 }
 
-/// A manager that a datagram gets at takes what is brought to it, if it is let. Answers whether. Most often all of its
-/// value is brought, as one run: then the datagram gets at it, and the value is one copy.
+/// A manager takes what is brought to it, if the datagram gets at it and the ring may write it. Returns whether it does. Usually
+/// all of its value is brought as one run: then the datagram gets at it, and the value is one copy.
 fn write_bits(manager: &mut SyncManager, access: &Bits<'_>) -> bool
     ensures written { let place : Place = record { from = access.now.from; bits = 8 * length access.now.bytes.now } in
         result ≡ is_written_by (touched_by_writing access.now.fmmus.now place) (is_ungoverned access.now.lower.now) manager.old }

@@ -1,4 +1,4 @@
-//! What a logical datagram reads.
+//! Reads for a logical datagram.
 
 ghost use Rattle.std.specs.Prelude.{◌≡◌, ◌<◌, ◌≤◌, ◌+◌, ◌-◌, ◌*◌, ◌/◌, ◌^◌, ◌&&◌, ℕ, None, Some, length};
 ghost use Rattle.ec_bits.specs.Bits.{overlay};
@@ -18,8 +18,8 @@ use ec_fmmu::{
 };
 use ec_sync::SyncManager;
 
-/// A slave's memory and managers as a datagram sees them. Whether it gets at a manager was found
-/// before, since that is one truth value for all bits behind it.
+/// A slave's memory and managers as a datagram sees them. `readable` says of each manager whether
+/// the datagram gets at it: it is found once for all bits of the manager.
 #[derive(Clone, Copy)]
 struct Sight<'a> {
     memory: &'a [u8],
@@ -56,7 +56,7 @@ impl ReadableRuns for Sight<'_> {
 }
 
 /// Reads what a slave shows into the data of a logical datagram whose first logical bit is `from`:
-/// each data bit that the read set leads to a bit that may be read, and no other. Answers whether a
+/// each data bit that the read set leads to a bit that may be read, and no other. Returns whether a
 /// bit was read.
 pub(crate) fn read_logical(
     memory: &[u8],
@@ -88,8 +88,8 @@ pub(crate) fn read_logical(
     apply_read(fmmus, &sight, from, bytes)
 }
 
-/// Brings a run of bits to the data that lie in bytes which are alike: one manager governs all of
-/// them, or none, and all lie before the end of its value, or none.
+/// Brings a run of bits to the data. They lie in bytes that are alike: one manager governs all of
+/// them, or none, and all lie before the end of its value, or none. Returns whether one was read.
 fn show_alike(sight: &Sight<'_>, physical: u32, count: usize, bytes: &mut [u8], to: usize) -> bool
     requires some { 0 < count }
     requires room { length sight.now.memory.now ≡ ram_end }
@@ -108,8 +108,8 @@ fn show_alike(sight: &Sight<'_>, physical: u32, count: usize, bytes: &mut [u8], 
     }
 }
 
-/// Brings a run of bits that one manager governs to the data, all of them before the end of its
-/// value or none: those of its value, where it may be read.
+/// Brings a run of bits of a manager's value to the data, if it may be read. All bits lie before the
+/// end of the value, or none. Returns whether one was read.
 fn show_value(
     sight: &Sight<'_>,
     place: usize,
@@ -147,7 +147,7 @@ fn show_value(
     true
 }
 
-/// Brings a run of bits that no manager governs to the data.
+/// Brings a run of bits that no manager governs to the data. Returns true.
 fn show_plain(sight: &Sight<'_>, physical: u32, count: usize, bytes: &mut [u8], to: usize) -> bool
     requires some { 0 < count }
     requires room { length sight.now.memory.now ≡ ram_end }
@@ -162,7 +162,7 @@ fn show_plain(sight: &Sight<'_>, physical: u32, count: usize, bytes: &mut [u8], 
     true
 }
 
-/// What a physical bit shows, where `readable` says of each manager whether the datagram gets at
+/// What a physical bit shows. `readable` says of each manager whether the datagram gets at
 /// it.
 fn seen_bit(
     memory: &[u8],

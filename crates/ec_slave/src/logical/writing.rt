@@ -1,4 +1,4 @@
-//! What a logical datagram writes into the memory itself.
+//! Writes a logical datagram into the memory itself.
 
 ghost use Rattle.std.specs.Prelude.{◌≡◌, ◌<◌, ◌+◌, ◌*◌, ◌^◌, length};
 ghost use Rattle.ec_regs.specs.Memory.{ram_end};
@@ -37,7 +37,7 @@ impl WritableBytes for Ungoverned<'_> {
 }
 
 /// Writes the data of a logical datagram whose first logical bit is `from` into the memory itself:
-/// each bit to which the write set brings a data bit and that no manager governs. Answers whether a
+/// each bit to which the write set brings a data bit and that no manager governs. Returns whether a
 /// bit was written.
 pub(crate) fn write_logical(
     memory: &mut [u8],

@@ -14,8 +14,8 @@ use ec_regs::registers::{FMMUS, FMMUS_END, RAM_END, RAM_START, SYNC_MANAGERS, SY
 use ec_regs::{is_stored, takes_writes};
 use ec_sync::SyncManager;
 
-/// Whether a datagram over `len` bytes from `from` on reads the byte at an address that it touches, and that has this
-/// owner.
+/// Whether a datagram over the `len` bytes that begin at `from` reads the byte at an address that it touches. `owner` is the
+/// byte's governor, if it lies in the RAM.
 #[tactic(auto, unfolding(crate::specs::Physical::may_read_byte))]
 pub(crate) fn reads_byte(
     managers: &[SyncManager],
@@ -44,7 +44,7 @@ pub(crate) fn reads_byte(
     }
 }
 
-/// The end of the bytes from `start` on, and below `end`, of which a datagram reads all or none: registers, or bytes
+/// The end of a part of the bytes from `start` to before `end`, of which a datagram reads all or none: registers, or bytes
 /// of the RAM that are alike.
 pub(crate) fn end_of_part(managers: &[SyncManager], start: usize, end: usize) -> usize
     requires { start < end }
@@ -66,7 +66,7 @@ pub(crate) fn end_of_part(managers: &[SyncManager], start: usize, end: usize) ->
 }
 
 /// Writes the bytes of a datagram into the memory itself, and returns whether one is written there or behind a manager.
-/// Who governs bytes of the RAM, and whether they may be written, is asked once for each part of which all or none are.
+/// It finds once for each part who governs bytes of the RAM and whether they may be written: all of the part, or none, are.
 pub(crate) fn write_physical(
     memory: &mut [u8],
     managers: &[SyncManager],
@@ -104,14 +104,14 @@ pub(crate) fn byte_for(from: usize, bytes: &[u8], address: usize) -> Option<u8>
     bytes.get(place).copied()
 }
 
-/// What a data byte becomes by a read.
+/// A data byte after a read that shows `shown`: joined by OR, or replaced.
 pub(crate) fn read_over(joining: bool, byte: u8, shown: u8) -> u8
     ensures { result ≡ (if joining then bit_or byte shown else shown) }
 {
     if joining { byte | shown } else { shown }
 }
 
-/// What data bytes become by a read of as many.
+/// Reads `shown` into as many data bytes: joined by OR, or replaced.
 pub(crate) fn read_slice(joining: bool, bytes: &mut [u8], shown: &[u8])
     requires { length shown.now ≡ length bytes.old }
     ensures { bytes.new ≡ retold bytes.old (λ k. Some (if joining
@@ -124,8 +124,8 @@ pub(crate) fn read_slice(joining: bool, bytes: &mut [u8], shown: &[u8])
     }
 }
 
-/// Whether a byte is kept in the memory itself that has this owner: a register that is, or a byte of the RAM that no
-/// manager governs.
+/// Whether the memory itself keeps a byte: a register that it stores, or a byte of the RAM that no manager governs. `owner` is
+/// the byte's governor, if it lies in the RAM.
 #[tactic(auto, unfolding(crate::specs::Physical::is_kept))]
 fn is_kept(owner: Option<usize>, address: usize) -> bool
     ensures value { (ms : List SyncManager) → (ram_start ≤ address → owner ≡ governor_of ms address) → result ≡ is_kept ms address }
@@ -137,7 +137,7 @@ fn is_kept(owner: Option<usize>, address: usize) -> bool
     address < RAM_END && owner.is_none()
 }
 
-/// Whether a register is kept in the memory itself: a stored one that is no sync manager's.
+/// Whether the memory itself keeps a register: a stored one that is no sync manager's.
 #[tactic(auto, unfolding(crate::specs::Physical::is_kept))]
 fn is_kept_register(address: usize) -> bool
     requires { address < ram_start }
@@ -146,8 +146,8 @@ fn is_kept_register(address: usize) -> bool
     is_stored(address) && !(SYNC_MANAGERS..SYNC_MANAGERS_END).contains(&address)
 }
 
-/// Whether a datagram over `len` bytes from `from` on writes the byte at an address that it touches, and that has this
-/// owner.
+/// Whether a datagram over the `len` bytes that begin at `from` writes the byte at an address that it touches. `owner` is the
+/// byte's governor, if it lies in the RAM.
 #[tactic(auto, unfolding(crate::specs::Physical::may_write_byte))]
 fn writes_byte(
     managers: &[SyncManager],
@@ -176,7 +176,7 @@ fn writes_byte(
     }
 }
 
-/// Stores bytes at the addresses from `start` on.
+/// Stores bytes at the addresses that begin at `start`.
 fn store_slice(memory: &mut [u8], start: usize, bytes: &[u8])
     requires { start + length bytes.now ≤ length memory.old }
     ensures { memory.new ≡ retold memory.old (λ a. if within start (length bytes.now) a
@@ -185,7 +185,7 @@ fn store_slice(memory: &mut [u8], start: usize, bytes: &[u8])
     memory[start..start + bytes.len()].copy_from_slice(bytes);
 }
 
-/// Stores a part of the bytes of a datagram that has this owner, of which the memory itself keeps all or none.
+/// Stores a part of the bytes of a datagram, if the memory itself keeps them: it keeps all or none. `owner` is their governor.
 fn store_part(memory: &mut [u8], owner: Option<usize>, start: usize, bytes: &[u8])
     requires room { length memory.old ≡ ram_end }
     requires aside { start < ram_end → start + length bytes.now ≤ ram_end }
@@ -199,7 +199,7 @@ fn store_part(memory: &mut [u8], owner: Option<usize>, start: usize, bytes: &[u8
     }
 }
 
-/// The end of the bytes from `start` on, and below `end`, of which a datagram writes all or none, and of which the
+/// The end of a part of the bytes from `start` to before `end`, of which a datagram writes all or none, and of which the
 /// memory itself keeps all or none: one register, or bytes of the RAM, or behind it, that are alike.
 fn end_of_written(managers: &[SyncManager], start: usize, end: usize) -> usize
     requires { start < end }
@@ -243,8 +243,8 @@ fn keep_each(memory: &mut [u8], from: usize, bytes: &[u8])
     }
 }
 
-/// Stores what the memory itself keeps of a datagram that lies within the registers. Of the managers' registers it keeps
-/// none.
+/// Stores what the memory itself keeps of a datagram that lies within the registers. It keeps no byte of the managers'
+/// registers.
 fn keep_registers(memory: &mut [u8], from: usize, bytes: &[u8])
     requires room { length memory.old ≡ ram_end }
     requires inside { from + length bytes.now ≤ ram_start }
@@ -255,7 +255,7 @@ fn keep_registers(memory: &mut [u8], from: usize, bytes: &[u8])
     }
 }
 
-/// Whether one of the bytes of a datagram that lies within the registers is written. Mostly the first is.
+/// Whether one of the bytes of a datagram that lies within the registers is written. The first usually is.
 fn takes_some(is_busy: bool, from: usize, bytes: &[u8]) -> bool
     requires { from + length bytes.now ≤ ram_start }
     ensures { (ms : List SyncManager) → result ≡ some_byte_written ms is_busy (record { from = from; bytes = bytes.now }) }

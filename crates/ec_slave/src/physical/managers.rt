@@ -15,7 +15,7 @@ use ec_regs::registers::manager_address;
 use ec_regs::{SyncManagerSettings, decode_manager, is_stored};
 use ec_sync::{Reach, SyncManager, Touching, Writing};
 
-/// The bytes of a datagram, as a manager below these lower-numbered ones takes them.
+/// The bytes of a datagram as a manager takes them whose lower-numbered managers are `lower`.
 #[derive(Clone, Copy)]
 struct Bytes<'a> {
     lower: &'a [SyncManager],
@@ -55,7 +55,7 @@ impl Writing for Bytes<'_> {
 }
 
 impl Bytes<'_> {
-    /// Fills a value that begins at `start`, of which no byte lies under a lower-numbered manager.
+    /// Fills a value that begins at `start`, no byte of which a lower-numbered manager governs.
     fn copy_own(&self, start: usize, value: &mut [u8])
         requires some { 0 < length value.old }
         requires own { (a : ℕ) → start ≤ a → a < start + length value.old → is_ungoverned self.now.lower.now a ≡ true }
@@ -68,7 +68,7 @@ impl Bytes<'_> {
         value.copy_from_slice(&self.bytes[place..place + value.len()]);
     }
 
-    /// Fills a value of zeros that begins at `start`: the bytes under a lower-numbered manager stay 0.
+    /// Fills a value of zeros that begins at `start`. Each byte that a lower-numbered manager governs stays 0.
     fn fill_zeros(&self, start: usize, value: &mut [u8])
         requires some { 0 < length value.old }
         requires inside { start + length value.old ≤ ram_end }

@@ -8,8 +8,8 @@ use crate::startup::Startup;
 use ec_device::Device;
 use ec_link::Plan;
 
-/// All that a start-up has beside its plan, for an owner of the plan, which can't keep what borrows it: it keeps this, and
-/// make the start-up of both for the time of a call.
+/// All of a start-up except its plan, for an owner of the plan that can't keep a borrow of it. The owner keeps this, and
+/// joins both for the time of a call.
 #[derive(Clone, Copy)]
 pub struct StartupRest {
     next: u64,
@@ -21,7 +21,7 @@ pub struct StartupRest {
 }
 
 impl StartupRest {
-    /// What a start-up has beside its plan.
+    /// All of a start-up except its plan.
     pub fn of(startup: Startup<'_>) -> StartupRest
         ensures fits { IsOfPlan startup.entry.plan result }
         ensures same { rejoined startup.entry.plan result ≡ startup.entry }
@@ -36,7 +36,7 @@ impl StartupRest {
         }
     }
 
-    /// The start-up with the plan.
+    /// The start-up of this and the plan.
     pub fn with_plan(self, plan: &Plan) -> Startup<'_>
         requires { IsOfPlan plan.now.slaves self }
         ensures { result ≡ rejoined plan.now.slaves self }
