@@ -3,8 +3,8 @@
 ghost use Rattle.std.specs.Prelude.{◌≡◌};
 ghost use Rattle.ec_link.specs.Plan.{plan_of};
 
-use crate::tests::fakes::Fake;
-use crate::tests::machines::{
+use crate::wire::fakes::Fake;
+use crate::wire::machines::{
     assert_same, bring_up, brought_up, ring_of, set, startup_of, value_of, wire_to,
 };
 use ec_cycle::{Master, Report};

@@ -3,10 +3,10 @@
 ghost use Rattle.std.specs.Prelude.{◌≡◌};
 ghost use Rattle.ec_link.specs.Plan.{plan_of};
 
-use crate::tests::cycles::{expect_error, expect_faults, expect_loop, expect_spent};
-use crate::tests::machines::{machine_of, master_of};
-use crate::tests::rounds::expect_frames;
-use crate::tests::startups::expect_ends;
+use crate::wire::cycles::{expect_error, expect_faults, expect_loop, expect_spent};
+use crate::wire::machines::{machine_of, master_of};
+use crate::wire::rounds::expect_frames;
+use crate::wire::startups::expect_ends;
 use ec_cycle::{CycleError, Master};
 use ec_link::Machine;
 use ec_wire::RunError;

@@ -1,6 +1,6 @@
 //! Calls of wires, one after another: of one over memory, and of those at both ends of the system's sockets.
-use crate::tests::machines::{READ, assert_same, machine_of, ring_of, wire_to};
-use crate::tests::tables::THREE_SLAVES;
+use crate::wire::machines::{READ, assert_same, machine_of, ring_of, wire_to};
+use crate::wire::tables::THREE_SLAVES;
 use ec_ring::Ring;
 use ec_wire::{Echo, MemoryWire, SocketFault, UdpWire, Wire, serve_segment};
 use std::net::{Ipv4Addr, Net, SocketAddr, SocketAddrV4, UdpSocket};

@@ -1,5 +1,5 @@
 //! Wires over memory to every number of slaves.
-use crate::tests::machines::{READ, assert_same, machine_of, ring_of, wire_to};
+use crate::wire::machines::{READ, assert_same, machine_of, ring_of, wire_to};
 use ec_wire::Wire;
 use std::alloc::AllocError;
 use std::process::Abort;

@@ -1,6 +1,6 @@
 //! Start-ups over wires.
-use crate::tests::fakes::Fake;
-use crate::tests::machines::{assert_same, ring_of, startup_of, wire_to};
+use crate::wire::fakes::Fake;
+use crate::wire::machines::{assert_same, ring_of, startup_of, wire_to};
 use ec_link::Machine;
 use ec_start::{StartError, Startup};
 use ec_wire::{Wire, bring_up_wire};

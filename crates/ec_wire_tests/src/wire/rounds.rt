@@ -2,7 +2,7 @@
 ghost use Rattle.std.specs.Prelude.{◌≡◌};
 ghost use Rattle.ec_link.specs.Plan.{plan_of};
 
-use crate::tests::machines::{assert_same, brought_up, set, value_of};
+use crate::wire::machines::{assert_same, brought_up, set, value_of};
 use ec_cycle::{Master, Taken};
 use ec_link::Machine;
 use ec_ring::Ring;
