@@ -1,7 +1,7 @@
 //! Tables of the machines.
 
 /// Three slaves: 4 outputs; 4 inputs; 12 outputs and 16 inputs. Variable `d` is what slave 2 makes of `b`.
-pub const THREE_SLAVES: &str = ec_examples::SHORT_THREE_SLAVES;
+pub const THREE_SLAVES: &str = ec_test_data::SHORT_THREE_SLAVES;
 
 /// A table of 64 slaves of 2048 bits each way, in 13 parts. Its input variable is what the last slave makes of its output
 /// variable.

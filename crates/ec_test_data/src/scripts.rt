@@ -1,5 +1,5 @@
 //! Scripts at random.
-use ec_random::Random;
+use crate::random::Random;
 use std::alloc::{AllocError, Global};
 use std::fmt::Write as _;
 

@@ -1,5 +1,5 @@
 //! Link tables at random.
-use ec_random::Random;
+use crate::random::Random;
 use std::alloc::{AllocError, Global};
 use std::fmt::Write as _;
 
