@@ -2,9 +2,9 @@
 #![tactic(auto)]
 
 #[cfg(test)]
-mod card;
+mod annotate;
 #[cfg(test)]
-mod carried;
+mod card;
 #[cfg(test)]
 mod ring;
 #[cfg(test)]

@@ -1,5 +1,5 @@
 use Rattle.std.proofs.Common.{rules}
-use Rattle.ec_carried.proofs.process.is_of.Goals as goal
+use Rattle.ec_annotate.proofs.carried.process.is_of.Goals as goal
 
 pub returns-then-split : goal.returns-then-split
 returns-then-split c = search rules

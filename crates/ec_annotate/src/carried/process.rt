@@ -2,7 +2,7 @@
 ghost use Rattle.std.specs.Prelude.{◌≡◌, ◌<◌, IfSome, length, position};
 ghost use Rattle.ec_link.specs.Plan.{part_at};
 ghost use Rattle.ec_link.specs.Shares.{predicted};
-ghost use Rattle.ec_carried.specs.Processes.{counter_of, is_of, is_split, process_by, process_of, way_of};
+ghost use Rattle.ec_annotate.specs.Processes.{counter_of, is_of, is_split, process_by, process_of, way_of};
 
 use ec_frame::Command;
 use ec_link::{ExpectedCounters, PartPlan, Plan};

@@ -1,9 +1,9 @@
-//! The process data of plans, by the public calls of `ec_carried`.
+//! The process data of plans, by the public calls of `ec_annotate`.
 ghost use Rattle.ec_link.specs.Usable.{IsUsable};
 
 use crate::rows::assert_same;
-use ec_carried::ProcessCommand::{Read, Write};
-use ec_carried::{
+use ec_annotate::ProcessCommand::{Read, Write};
+use ec_annotate::{
     Carried, ProcessCommand, carried_bits, find_process, predicted_counter, variable_at,
 };
 use ec_frame::Command;

@@ -8,7 +8,7 @@ use Rattle.ec_link.specs.declared.image.Variable.{Variable}
 use Rattle.ec_link.specs.declared.plan.Link.{Link}
 use Rattle.ec_link.specs.Plan.{PlanState, part_at, part_of}
 use Rattle.ec_link.specs.Meaning.{slave_at}
-use Rattle.ec_carried.specs.declared.bits.Carried.{Carried}
+use Rattle.ec_annotate.specs.declared.carried.bits.Carried.{Carried}
 
 abbrev pub links_of : Direction → PlanState → List Link
 links_of Out p = p.out_links

@@ -1,5 +1,5 @@
 use Rattle.std.proofs.Common.{rules}
-use Rattle.ec_carried.proofs.bits.same_direction.Goals as goal
+use Rattle.ec_annotate.proofs.carried.bits.same_direction.Goals as goal
 
 pub returns-in-Out-In : goal.returns-in-Out-In
 returns-in-Out-In c = search rules

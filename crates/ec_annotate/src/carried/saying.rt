@@ -3,8 +3,8 @@ ghost use Rattle.std.specs.Prelude.{◌≡◌, ◌<◌, length};
 ghost use Rattle.ec_link.specs.Plan.{part_at};
 ghost use Rattle.ec_link.specs.Usable.{IsUsable};
 
-use crate::bits::{Carried, carried_bits, variable_at};
-use crate::process::{Process, ProcessCommand, find_process, predicted_counter};
+use crate::carried::bits::{Carried, carried_bits, variable_at};
+use crate::carried::process::{Process, ProcessCommand, find_process, predicted_counter};
 use ec_frame::Command;
 use ec_link::{Link, Plan};
 use ec_table::{Direction, Table};

@@ -5,7 +5,7 @@ use Rattle.std.proofs.lemmas.List.Quantifiers.{position-Some}
 use Rattle.std.proofs.Math.Bool.{◌&&◌}
 use Rattle.ec_link.specs.declared.plan.PartPlan.{PartPlan}
 use Rattle.ec_link.specs.Plan.{no_part, part_at}
-use Rattle.ec_carried.specs.Processes.{is_of}
+use Rattle.ec_annotate.specs.Processes.{is_of}
 
 left_true : (a b : Bool) → (a && b) ≡ true → a ≡ true
 left_true true b h = refl

@@ -2,8 +2,8 @@
 ghost use Rattle.std.specs.Prelude.{◌≡◌, ◌<◌, ◌≤◌, IfOk, IfSome, length};
 ghost use Rattle.ec_link.specs.Plan.{part_at, part_of};
 ghost use Rattle.ec_link.specs.Usable.{IsUsable};
-ghost use Rattle.ec_carried.specs.Carrying.{carried, carried_by, has_bit, is_carried, links_of, same_direction, variable_of};
-ghost use Rattle.ec_carried.specs.Placing.{IsPlaced};
+ghost use Rattle.ec_annotate.specs.Carrying.{carried, carried_by, has_bit, is_carried, links_of, same_direction, variable_of};
+ghost use Rattle.ec_annotate.specs.Placing.{IsPlaced};
 
 use ec_bits::{read_bits, within};
 use ec_link::{Link, Plan, Variable};

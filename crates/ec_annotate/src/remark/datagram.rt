@@ -1,7 +1,7 @@
 //! The remarks on a datagram.
 
-use crate::mailbox::write_message;
-use crate::value::write_value;
+use crate::remark::mailbox::write_message;
+use crate::remark::value::write_value;
 use ec_coe::read_message;
 use ec_frame::Command;
 use ec_regs::registers::RAM_START;

@@ -7,9 +7,9 @@ use Rattle.ec_link.specs.declared.plan.PartPlan.{PartPlan}
 use Rattle.ec_link.specs.declared.plan.ExpectedCounters.{ExpectedCounters}
 use Rattle.ec_link.specs.declared.plan.ExpectedCounters.TheVariants as counters
 use Rattle.ec_link.specs.Plan.{PlanState}
-use Rattle.ec_carried.specs.declared.process.Process.{Process}
-use Rattle.ec_carried.specs.declared.process.ProcessCommand.{ProcessCommand}
-use Rattle.ec_carried.specs.declared.process.ProcessCommand.TheVariants.{Both, Write, Read}
+use Rattle.ec_annotate.specs.declared.carried.process.Process.{Process}
+use Rattle.ec_annotate.specs.declared.carried.process.ProcessCommand.{ProcessCommand}
+use Rattle.ec_annotate.specs.declared.carried.process.ProcessCommand.TheVariants.{Both, Write, Read}
 
 abbrev pub way_of : Command → Option ProcessCommand
 way_of Lrw = Some Both

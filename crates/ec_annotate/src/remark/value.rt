@@ -1,7 +1,7 @@
 //! What the bytes of a register say.
 
-use crate::sii::sii_text;
-use crate::state::{state_name, status_text};
+use crate::remark::sii::sii_text;
+use crate::remark::state::{state_name, status_text};
 use ec_regs::{AlWord, FmmuSettings, SiiControl, SyncManagerSettings, decode_fmmu, decode_manager};
 use ec_seen::Register;
 use std::alloc::AllocError;

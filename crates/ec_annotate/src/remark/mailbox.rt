@@ -1,6 +1,6 @@
 //! What a mailbox message says.
 
-use crate::abort::abort_text;
+use crate::remark::abort::abort_text;
 use ec_coe::{Message, SdoCommand, SdoValue, Service};
 use std::alloc::AllocError;
 use std::fmt::Write as _;
