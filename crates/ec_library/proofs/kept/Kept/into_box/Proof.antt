@@ -37,12 +37,12 @@ use Rattle.std_heap.specs.contracts.Global.{the_row as global_row}
 use Rattle.std_heap.specs.contracts.GlobalAllocator.TheImpl.{ghosts, dict}
 use Rattle.std_alloc.specs.contracts.boxed.Box.from_raw as callee
 use Rattle.std_alloc.proofs.boxed.Box.from_raw.Met.{met}
-use Rattle.ec_kept.proofs.Values.{Row, alone, boxed, heap_laws, heap_row, kept_out, no_drop}
-use Rattle.ec_kept.specs.contracts.Kept.into_box.{ended, clauses}
-use Rattle.ec_kept.specs.contracts.Kept.into_box.Key.{name as #self}
-use Rattle.ec_kept.proofs.Kept.into_box.Statement.{statement}
-use Rattle.ec_kept.proofs.Kept.into_box.Code as code
-use Rattle.ec_kept.proofs.Destruct++none.drop.Code as dropping
+use Rattle.ec_library.proofs.Values.{Row, alone, boxed, heap_laws, heap_row, kept_out, no_drop}
+use Rattle.ec_library.specs.contracts.kept.Kept.into_box.{ended, clauses}
+use Rattle.ec_library.specs.contracts.kept.Kept.into_box.Key.{name as #self}
+use Rattle.ec_library.proofs.kept.Kept.into_box.Statement.{statement}
+use Rattle.ec_library.proofs.kept.Kept.into_box.Code as code
+use Rattle.ec_library.proofs.Destruct++none.drop.Code as dropping
 
 pub into_box_spec : {M : Type 1} → statement M
 unfolding dropping.code
@@ -53,7 +53,7 @@ into_box_spec {M = M} 𝓤 𝓛 𝓜 𝓡 wired T L =
     let Ce = callee.ended T heap_row ghosts dict no_drop in let k = triple_of 𝓛 (callee.signature T heap_row ghosts dict no_drop) (callee.spec T heap_row ghosts dict no_drop 𝓛 𝓜.mem 𝓡.returns) in
     let known = met 𝓤 𝓛 𝓜 𝓡 (code.calls-std_alloc::boxed::Box::from_raw 𝓡.env wired) T heap_row L heap_laws ghosts dict no_drop
     (heap.passed 𝓡.env (code.calls-std_heap::GlobalAllocator::allocate 𝓡.env wired) (code.calls-std_heap::GlobalAllocator::deallocate 𝓡.env wired) (code.calls-std_heap::GlobalAllocator::grow 𝓡.env wired) (code.calls-std_heap::GlobalAllocator::shrink 𝓡.env wired) M 𝓤 𝓛 𝓜 𝓡)
-    (none.glues "ec_kept::Destruct++none::drop" 𝓡.env (code.calls-ec_kept::Destruct++none::drop 𝓡.env wired) heap_row heap_laws M 𝓤 𝓛 𝓜 𝓡) in
+    (none.glues "ec_library::Destruct++none::drop" 𝓡.env (code.calls-ec_library::Destruct++none::drop 𝓡.env wired) heap_row heap_laws M 𝓤 𝓛 𝓜 𝓡) in
     proved_at 𝓛 En hs c 𝓜 𝓡 (Goes-blank 𝓛 1 (plain (λ _. K)) no (λ κs x f. tt), (Goes-blank 𝓛 1 (plain (λ _. global_row)) yes (λ κs x f. tt), tt)) (#self inst) fn (code.unfolded 𝓤 H 𝓜 𝓡 wired (T, tt)) (λ z are.
     let κs = z.0.0 in let qs = z.0.1 in let v = z.0.3.0 in let a = z.0.3.1.0 in let Post : Val → SProp 𝓤 = (walk_of 𝓛 En hs c).post z in let Run : List Val → SProp 𝓤 = λ ws. WpFn 𝓤 H 𝓣.C 𝓣.Λ fn ws Post in
     let token = ‵ (flft κs.0 qs.0) in let asked = raw ((c κs z.0.3).requires z.1) in let Within = κs.0 ⊑ T.lives in let Always = [] ⊑ global_row.lives in

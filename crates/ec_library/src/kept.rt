@@ -1,8 +1,6 @@
 //! A box as the pointer to what is in it.
-#![tactic(auto)]
-
 ghost use Rattle.std.specs.Prelude.{◌≡◌};
-ghost use Rattle.ec_kept.specs.Keeping.{keeps};
+ghost use Rattle.ec_library.specs.Keeping.{keeps};
 
 use std::alloc::Global;
 use std::marker::Model;

@@ -22,8 +22,8 @@ use Rattle.std_alloc.proofs.BoxSteps.Form.{Bx}
 use Rattle.std_heap.proofs.Global.TheLaws.{the_row_laws as global_laws}
 use Rattle.std_heap.specs.contracts.Global.{the_row as global_row}
 use Rattle.std_heap.specs.contracts.GlobalAllocator.TheImpl.{ghosts, dict}
-use Rattle.ec_kept.specs.Keeping.{keeps}
-use Rattle.ec_kept.specs.contracts.Kept as kept
+use Rattle.ec_library.specs.Keeping.{keeps}
+use Rattle.ec_library.specs.contracts.kept.Kept as kept
 
 -- a struct of one pointer
 abbrev pub alone : Val → Val
@@ -38,7 +38,7 @@ heap_laws = arg_laws (bare (layout global_row)) no global_row global_laws refl
 
 -- what drops an allocator of the C library: nothing
 abbrev pub no_drop : Dict
-no_drop = impl ("ec_kept::Destruct++none::drop" ∷ []) (tcons (layout heap_row) tnil) dnil
+no_drop = impl ("ec_library::Destruct++none::drop" ∷ []) (tcons (layout heap_row) tnil) dnil
 
 -- a box whose block came from the C library
 abbrev pub boxed : (T : RattleType) → Laws T → Bx
