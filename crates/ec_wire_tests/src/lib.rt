@@ -10,6 +10,4 @@ mod ring;
 #[cfg(test)]
 mod rows;
 #[cfg(test)]
-mod tap;
-#[cfg(test)]
 mod wire;

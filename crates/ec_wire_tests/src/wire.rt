@@ -8,6 +8,7 @@ mod rounds;
 mod sizes;
 mod startups;
 mod tables;
+mod tap;
 mod trials;
 
 use self::calls::{expect_calls, expect_memory};

@@ -1,6 +1,6 @@
 use Rattle.std.proofs.Common.{false, take}
-use Rattle.ec_tap.proofs.Tapping.{tapped_more}
-use Rattle.ec_tap.proofs.tap.CapturedWireWire.recv.Goals as goal
+use Rattle.ec_wire.proofs.Tapping.{tapped_more}
+use Rattle.ec_wire.proofs.tap.CapturedWireWire.recv.Goals as goal
 
 pub invariant_of-self-2 : goal.invariant_of-self-2
 invariant_of-self-2 g c =

@@ -1,6 +1,6 @@
 use Rattle.std.proofs.Common.{true}
-use Rattle.ec_tap.proofs.Tapping.{tapped_more}
-use Rattle.ec_tap.proofs.tap.CapturedWireWire.send.Goals as goal
+use Rattle.ec_wire.proofs.Tapping.{tapped_more}
+use Rattle.ec_wire.proofs.tap.CapturedWireWire.send.Goals as goal
 
 pub invariant_of-self : goal.invariant_of-self
 invariant_of-self g c =

@@ -1,10 +1,10 @@
 //! A wire that notes its payloads in a capture.
 ghost use Rattle.std.specs.Prelude.{◌≡◌, ℕ, [], ◌∷◌};
 ghost use Rattle.ec_capture.specs.Recordings.{Notes};
-ghost use Rattle.ec_tap.specs.Taps.{has_passed, seen_of};
+ghost use Rattle.ec_wire.specs.Taps.{has_passed, seen_of};
 
+use crate::wire::{Wire, receive_on, send_on};
 use ec_capture::{Packet, Recorder};
-use ec_wire::{Wire, receive_on, send_on};
 use std::io::Write;
 use std::marker::Model;
 use std::time::{Clock, SystemTime, UNIX_EPOCH};
@@ -29,7 +29,7 @@ pub struct CapturedWire<'c, W: Wire + Drop, O: Write + Drop, C: Clock> {
 }
 
 impl<'c, W: Wire + Drop, O: Write + Drop, C: Clock> Model for CapturedWire<'c, W, O, C> {
-    ghost use Rattle.ec_tap.specs.Taps.{IsTapped, Tap};
+    ghost use Rattle.ec_wire.specs.Taps.{IsTapped, Tap};
 
     ghost Value = { Tap };
 
@@ -39,7 +39,7 @@ impl<'c, W: Wire + Drop, O: Write + Drop, C: Clock> Model for CapturedWire<'c, W
 }
 
 impl<'c, W: Wire + Drop, O: Write + Drop, C: Clock> CapturedWire<'c, W, O, C> {
-    ghost use Rattle.ec_tap.specs.Taps.{IsTapped, Tells};
+    ghost use Rattle.ec_wire.specs.Taps.{IsTapped, Tells};
 
     /// Joins a wire that has carried nothing yet with a capture.
     pub fn new(wire: W, capture: Recorder<O>, side: Side, clock: &'c C) -> CapturedWire<'c, W, O, C>

@@ -5,8 +5,8 @@ use Rattle.ec_capture.specs.Captures.{Seen}
 use Rattle.ec_capture.specs.Recordings.{Notes, Recording}
 use Rattle.ec_capture.proofs.Noting.{notes_nothing, notes_then}
 use Rattle.ec_wire.specs.Wires.{Carries, Nothing, Number, Payloads, Told, WireState, grown}
-use Rattle.ec_tap.specs.declared.tap.Side.{Side}
-use Rattle.ec_tap.specs.Taps.{Carried, IsTapped, Tells, received_of, seen_of, sent_of}
+use Rattle.ec_wire.specs.declared.tap.Side.{Side}
+use Rattle.ec_wire.specs.Taps.{Carried, IsTapped, Tells, received_of, seen_of, sent_of}
 
 sent_by : (is_sent : Bool) (p : List ℕ) (xs ys zs : List (List ℕ)) → xs ≡ ys ++ zs → (if is_sent then p ∷ xs else xs) ≡ (if is_sent then p ∷ ys else ys) ++ zs
 sent_by true p xs ys zs same = ap (λ (ps : List (List ℕ)). p ∷ ps) same

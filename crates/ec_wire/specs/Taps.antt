@@ -3,8 +3,8 @@ use Rattle.std.specs.Prelude.{ℕ, ◌≡◌, not, List, [], ◌∷◌, map, Boo
 use Rattle.ec_capture.specs.Captures.{Seen}
 use Rattle.ec_capture.specs.Recordings.{Notes, Recording}
 use Rattle.ec_wire.specs.Wires.{Nothing, Number, Payloads, Told, WireState}
-use Rattle.ec_tap.specs.declared.tap.Side.{Side}
-use Rattle.ec_tap.specs.declared.tap.Side.TheVariants.{Master, Segment}
+use Rattle.ec_wire.specs.declared.tap.Side.{Side}
+use Rattle.ec_wire.specs.declared.tap.Side.TheVariants.{Master, Segment}
 
 -- A payload that was sent or received, and when, in microseconds.
 pub record Carried : Type 0 where

@@ -1,12 +1,11 @@
-//! Wires whose payloads are noted in captures, by the public calls of `ec_tap`.
+//! Wires whose payloads are noted in captures, by the public calls of `ec_wire`.
 ghost use Rattle.std.specs.Prelude.{◌≡◌, []};
 ghost use Rattle.ec_wire.specs.Wires.{Payloads};
 
 use crate::rows::{assert_same, bytes_of};
 use ec_capture::Recorder;
 use ec_ring::Ring;
-use ec_tap::{CapturedWire, Side};
-use ec_wire::{MemoryWire, Wire};
+use ec_wire::{CapturedWire, MemoryWire, Side, Wire};
 use std::io;
 use std::process::Abort;
 use std::time::{Clock, Duration};
