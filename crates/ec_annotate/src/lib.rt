@@ -3,8 +3,15 @@
 #![tactic(auto)]
 
 mod annotate;
+mod carried;
 mod names;
+mod remark;
 mod remarks;
 
 pub use crate::annotate::{Links, annotate_text};
+pub use crate::carried::{
+    Carried, Process, ProcessCommand, Told, carried_bits, find_process, predicted_counter,
+    variable_at, write_process,
+};
 pub use crate::names::Names;
+pub use crate::remark::{abort_text, sii_text, status_text, write_remarks};

@@ -3,12 +3,12 @@ ghost use Rattle.std.specs.Option.{ForSome};
 ghost use Rattle.ec_link.specs.Usable.{IsUsable};
 
 use crate::annotate::Links;
+use crate::carried::{Told, write_process};
 use crate::names::Names;
-use ec_carried::{Told, write_process};
+use crate::remark::write_remarks;
 use ec_decode::check_placed;
 use ec_frame::FrameError;
 use ec_frame::field::FRAME_HEADER_LEN;
-use ec_remark::write_remarks;
 use ec_seen::{Seen, first_seen};
 use hex::FromHexError;
 use std::alloc::{AllocError, Global};

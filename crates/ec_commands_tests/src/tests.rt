@@ -10,7 +10,7 @@ mod streams;
 
 use self::streams::{Sink, Source, sink_of, source_of};
 use ec_commands::{App, InputStream, OutputStream, UdpWire, print_text, read_text, run_command};
-use ec_examples::THREE_SLAVES;
+use ec_test_data::THREE_SLAVES;
 use std::fs::Files;
 use std::net::Net;
 use std::process::Abort;

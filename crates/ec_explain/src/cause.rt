@@ -1,18 +1,17 @@
 //! A refusal explained.
 ghost use Rattle.std.specs.Prelude.{All, IfOk};
-ghost use Rattle.ec_told.specs.Remarks.{StandsIn};
-ghost use Rattle.ec_told.specs.Texts.{IsUnmarked};
+ghost use Rattle.ec_diagnostic.specs.Remarks.{StandsIn};
+ghost use Rattle.ec_diagnostic.specs.Texts.{IsUnmarked};
 
 use ec_cycle::CycleError;
+use ec_diagnostic::{Remarks, Telling, without_mark};
 use ec_explain_plan::tell_link_fault;
 use ec_explain_script::{tell_bad_line, tell_unmet};
 use ec_explain_start::{tell_cycle_error, tell_start_error, tell_wire_fault};
 use ec_explain_table::tell_fault;
 use ec_link::LinkFault;
-use ec_outline::Telling;
 use ec_start::StartError;
 use ec_table::{Fault, read_table};
-use ec_told::{Remarks, without_mark};
 use std::alloc::{AllocError, Global};
 
 /// Why a command was refused, as far as there is something to explain.

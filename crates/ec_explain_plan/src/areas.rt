@@ -1,6 +1,6 @@
 //! The memory that the sync managers of a slave take.
 use crate::places::SlaveAt;
-use ec_outline::Counted;
+use ec_diagnostic::Counted;
 use ec_regs::registers::{RAM_END, RAM_START};
 use ec_table::Direction;
 use std::fmt;

@@ -1,7 +1,7 @@
 //! The entries that a slave assigns.
 use crate::places::SlaveAt;
 use ec_device::{Entry, Pdo};
-use ec_outline::comma;
+use ec_diagnostic::comma;
 use ec_table::Direction;
 use std::fmt;
 

@@ -1,8 +1,8 @@
 //! Why a link table has no plan: refusals 16 to 25 and 44.
 use crate::links::tell_of_link;
 use crate::slaves::tell_of_slave;
+use ec_diagnostic::Telling;
 use ec_link::LinkFault;
-use ec_outline::Telling;
 use ec_table::{SlaveRow, Table};
 
 /// Adds remarks on why a table, with this first fault, has no plan.

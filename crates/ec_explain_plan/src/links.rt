@@ -1,8 +1,8 @@
 //! Why a link is none of a plan: refusals 16 to 19.
 use crate::entries::{EntryNames, has_entry};
 use crate::places::{LinkAt, assignment_key, word_of};
+use ec_diagnostic::{Counted, PathStep, Telling, Words};
 use ec_link::LinkFault;
-use ec_outline::{Counted, PathStep, Telling, Words};
 use ec_table::{Direction, Table};
 
 /// Adds remarks on a fault of the link at a place.

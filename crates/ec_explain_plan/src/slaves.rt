@@ -2,8 +2,8 @@
 use crate::areas::{Area, first_free, first_met, first_outside};
 use crate::places::{SlaveAt, assignment_key, word_of};
 use crate::twice::tell_entry_twice;
+use ec_diagnostic::{MarkedPart, PathStep, Telling};
 use ec_link::LinkFault;
-use ec_outline::{MarkedPart, PathStep, Telling};
 use ec_regs::registers::{RAM_END, RAM_START};
 use ec_table::{Direction, Table};
 

@@ -2,7 +2,7 @@
 use crate::entries::EntryName;
 use crate::places::{SlaveAt, assignment_key, pdos_key};
 use ec_device::Pdo;
-use ec_outline::{MarkedPart, PathStep, Telling, Words};
+use ec_diagnostic::{MarkedPart, PathStep, Telling, Words};
 use ec_table::Direction;
 
 /// Where an entry stands in a type: the direction, place and index of its PDO, its place in that, and its name.

@@ -1,7 +1,7 @@
 //! Why a word can't stand for what a line needs in its place.
 use crate::form::WordKind;
 use crate::word::Word;
-use ec_outline::{Printable, Telling, is_among};
+use ec_diagnostic::{Printable, Telling, is_among};
 use ec_table::Table;
 use std::alloc::{AllocError, Global};
 

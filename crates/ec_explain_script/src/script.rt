@@ -2,9 +2,8 @@
 use crate::form::{WordKind, form_of, verbs};
 use crate::misfit::{SEE_HELP, names_variable, tell_misfit};
 use crate::word::{Line, Word, without_comment};
-use ec_outline::{Printable, Telling};
+use ec_diagnostic::{Printable, Span, Telling};
 use ec_table::{Table, read_table};
-use ec_told::Span;
 
 /// Adds remarks on line `line`, counted from 1, of the script that begins at the byte `from` of a text. They say which word of
 /// it is at fault, and how it is written.

@@ -1,5 +1,5 @@
 //! The words of a line.
-use ec_told::Span;
+use ec_diagnostic::Span;
 
 /// A word of a line, and where it begins in the text, in bytes.
 #[derive(Clone, Copy)]

@@ -1,8 +1,8 @@
 //! What a start-up failed by, as a sentence.
 use crate::steps::{PlacedStep, step_of};
 use ec_device::Device;
+use ec_diagnostic::Counted;
 use ec_link::Plan;
-use ec_outline::Counted;
 use ec_start::StartError;
 use ec_table::{Table, TypeRow};
 use std::fmt;

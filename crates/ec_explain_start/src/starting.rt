@@ -2,8 +2,8 @@
 use crate::fault::{Shown, SlaveAt, StartFault};
 use ec_cycle::CycleError;
 use ec_device::{Device, Entry, FIRST_INPUT_INDEX};
+use ec_diagnostic::{MarkedPart, PathStep, Telling};
 use ec_link::compile;
-use ec_outline::{MarkedPart, PathStep, Telling};
 use ec_start::StartError;
 use ec_table::{Direction, Table, TypeRow};
 use std::fmt;

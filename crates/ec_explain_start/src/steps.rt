@@ -1,7 +1,7 @@
 //! The steps of a start-up in words, by their numbers in its script.
 use ec_device::Pdo;
+use ec_diagnostic::Counted;
 use ec_link::{Plan, SlavePlan};
-use ec_outline::Counted;
 use std::fmt;
 
 /// The steps for all slaves at once, before those of each slave.

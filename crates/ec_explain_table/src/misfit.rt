@@ -1,9 +1,8 @@
 //! Why a value doesn't fit what its key takes, in words.
 use crate::rule::{DIRECTIONS, Lacking, Rule, TRUTHS, last_index, word_of};
 use ec_device::{MAX_ENTRIES, MAX_PDOS};
-use ec_outline::{MarkedPart, Meant, PathStep, Printable, Words, is_among, nearest};
+use ec_diagnostic::{MarkedPart, Meant, PathStep, Printable, Words, is_among, nearest, printed};
 use ec_table::{Place, Section};
-use ec_told::printed;
 use std::alloc::Global;
 use toml::{Table, Value};
 

@@ -1,6 +1,6 @@
 //! Numbers in a list of a document.
 use crate::reading::items_of;
-use ec_outline::comma;
+use ec_diagnostic::comma;
 use std::fmt;
 use toml::Value;
 

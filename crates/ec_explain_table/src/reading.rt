@@ -4,9 +4,8 @@ ghost use Rattle.std.specs.Prelude.{◌≤◌};
 use crate::misfit::{Mark, Misfit};
 use crate::numbers::Numbers;
 use crate::rule::{Lacking, Named, Rule, Taken, is_key, keys_of, names_of, needs_of, word_of};
-use ec_outline::{MarkedPart, Meant, PathStep, Printable, Telling, Words};
+use ec_diagnostic::{MarkedPart, Meant, PathStep, Printable, Span, Telling, Words};
 use ec_table::{Fault, Place, Section};
-use ec_told::Span;
 use std::alloc::{AllocError, Global};
 use toml::{Table, Value};
 

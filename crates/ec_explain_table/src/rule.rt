@@ -1,6 +1,6 @@
 //! The keys of a link table, and what each takes.
 use ec_device::{FIRST_INPUT_INDEX, FIRST_OUTPUT_INDEX, MAX_PDOS, PDO_INDICES};
-use ec_outline::comma;
+use ec_diagnostic::comma;
 use ec_table::Section;
 use std::alloc::{AllocError, Global};
 use std::fmt;

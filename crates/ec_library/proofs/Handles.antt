@@ -15,8 +15,8 @@ use denote.Steps.{nothing}
 use denote.Struct.Struct.{within}
 use denote.Struct.Owning.{shape}
 use Rattle.libc.specs.Heap.{chunk}
-use Rattle.ec_kept.specs.Keeping.{keeps}
-use Rattle.ec_kept.proofs.Values.{alone}
+use Rattle.ec_library.specs.Keeping.{keeps}
+use Rattle.ec_library.proofs.Values.{alone}
 use Rattle.ec_owned.specs.Machines.{MachineState}
 use Rattle.ec_owned.specs.contracts.machine.MachineMaster.{the_row as machine_row}
 use Rattle.ec_ring.specs.contracts.ring.Ring.{the_row as ring_row}

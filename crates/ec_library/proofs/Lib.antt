@@ -1,3 +1,5 @@
+-- the machine value of a `Kept`
+pub mod Values
 -- the machine values of handles
 pub mod Handles
 -- what was done to what is behind a handle is what was done to it in its box

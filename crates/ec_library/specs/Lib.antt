@@ -4,5 +4,9 @@
 pub mod Calling
 -- what an opening returns
 pub mod Refusing
--- Private: this serves the code and its proofs alone, and no public clause cites it: what a handle owns.
+-- Private: these serve the code and its proofs alone, and no public clause cites them.
+
+-- what owns a box that is not there as one
+pub mod Keeping
+-- what a handle owns
 pub mod Owning

@@ -2,7 +2,7 @@
 use Rattle.std.specs.Prelude.{List, Option, None, Some}
 use base.Fml.{Fml, ftrue}
 use denote.RawPtr.{Ptr}
-use Rattle.ec_kept.specs.Keeping.{keeps}
+use Rattle.ec_library.specs.Keeping.{keeps}
 use Rattle.ec_owned.specs.Machines.{MachineState}
 use Rattle.ec_owned.specs.contracts.machine.MachineMaster.{the_row as machine_row}
 use Rattle.ec_ring.specs.contracts.ring.Ring.{the_row as ring_row}

@@ -4,7 +4,7 @@ ghost use Rattle.ec_owned.specs.Machines.{MachineState};
 ghost use Rattle.ec_slave.specs.State.{SlaveState};
 ghost use Rattle.ec_library.specs.Owning.{owns_machine, owns_slaves};
 
-use ec_kept::Kept;
+use crate::kept::Kept;
 use ec_owned::MachineMaster;
 use ec_ring::Ring;
 use std::marker::Model;

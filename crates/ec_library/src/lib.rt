@@ -15,6 +15,7 @@ ghost use Rattle.ec_library.specs.Refusing.{HasOpened};
 mod calls;
 mod done;
 mod handle;
+mod kept;
 mod opening;
 mod segments;
 
@@ -22,8 +23,8 @@ use crate::done::Done;
 use crate::handle::{
     MasterHandle, SegmentHandle, conceal_master, conceal_segment, reveal_master, reveal_segment,
 };
+use crate::kept::Kept;
 use crate::opening::{NotOpened, boxed_machine, boxed_slaves, opened, tell_refusal};
-use ec_kept::Kept;
 use std::alloc::Global;
 
 /// Opens the master of the table that bytes state, or writes the refusal into `told` and its name into `name`.

@@ -9,7 +9,7 @@ ghost use Rattle.ec_bringup.specs.SwitchedOn.{AreSlavesOf};
 ghost use Rattle.ec_slave.specs.State.{SlaveState};
 ghost use Rattle.ec_wire.specs.Running.{IsRun};
 ghost use Rattle.ec_wire.specs.Wires.{IsBack, opened_to};
-ghost use Rattle.ec_tap.specs.Taps.{Tells};
+ghost use Rattle.ec_wire.specs.Taps.{Tells};
 ghost use Rattle.ec_text.specs.ReportText.{report_text};
 ghost use Rattle.ec_console.specs.Capturing.{EndsWith, finished, is_complete};
 ghost use Rattle.ec_console.specs.declared.refusal.Refusal.{Refusal as RefusalValue};
@@ -27,9 +27,10 @@ use ec_console::{
 use ec_cycle::{Master, Report};
 use ec_link::{Machine, Plan, Variable};
 use ec_start::Startup;
-use ec_tap::{CapturedWire, Side};
 use ec_text::{input_lines, write_report};
-use ec_wire::{App, LoopWire, Loopback, RunError, Wire, bring_up_wire, run_cycle};
+use ec_wire::{
+    App, CapturedWire, LoopWire, Loopback, RunError, Side, Wire, bring_up_wire, run_cycle,
+};
 use std::alloc::Global;
 use std::fs::Files;
 use std::io::{Read, Write};

@@ -2,7 +2,7 @@
 use Rattle.std.proofs.Common.{◌≡◌, ◌∙◌, inl, inr, ℕ, List, [], ◌∷◌, ◌++◌, Bool, true, false, refl, sym, ap, subst, append-nil}
 use Rattle.std.specs.Prelude.{◌⊎◌}
 use Rattle.ec_table.specs.Contents.{Contents}
-use Rattle.ec_told.specs.Reason.{IsReason}
+use Rattle.ec_diagnostic.specs.Reason.{IsReason}
 use Rattle.ec_why.specs.declared.wanted.Reasons.{Reasons}
 use Rattle.ec_why.specs.declared.wanted.Reasons.TheVariants.{Untold}
 use Rattle.ec_why.specs.Reasons.{Part, ReasonIf, with_reasons, without_reasons}

@@ -1,6 +1,6 @@
 //! `ecat master`: a link table on the input, and behind it lines that move its master over a socket or a card.
 ghost use Rattle.std.specs.Prelude.{◌≡◌, [], IfOk, Result, is_some, option_map};
-ghost use Rattle.ec_tap.specs.Taps.{Tells};
+ghost use Rattle.ec_wire.specs.Taps.{Tells};
 ghost use Rattle.ec_console.specs.Capturing.{EndsWith, finished, is_complete};
 ghost use Rattle.ec_console.specs.declared.refusal.Refusal.{Refusal as RefusalValue};
 ghost use Rattle.ec_console.specs.Explaining.{IsLeft};
@@ -16,9 +16,8 @@ use ec_console::{
 };
 use ec_lines::take_text;
 use ec_link::Machine;
-use ec_tap::{CapturedWire, Side};
 use ec_why::Reasons;
-use ec_wire::{Patience, SocketFault, UdpWire, Wire};
+use ec_wire::{CapturedWire, Patience, Side, SocketFault, UdpWire, Wire};
 use std::alloc::Global;
 use std::fs::Files;
 use std::io::{Read, Write};

@@ -12,13 +12,13 @@ use std::process::Abort;
 use std::test::Fail;
 
 /// Three slaves: 4 outputs; 4 inputs; 12 outputs and 16 inputs.
-const TABLE: &str = ec_examples::SHORT_THREE_SLAVES;
+const TABLE: &str = ec_test_data::SHORT_THREE_SLAVES;
 
 /// The same, where the first slave takes no part in LRW.
-const WITHOUT_LRW: &str = ec_examples::SHORT_WITHOUT_LRW;
+const WITHOUT_LRW: &str = ec_test_data::SHORT_WITHOUT_LRW;
 
 /// The same, where the second slave is a sync unit of its own.
-const TWO_UNITS: &str = ec_examples::SHORT_TWO_UNITS;
+const TWO_UNITS: &str = ec_test_data::SHORT_TWO_UNITS;
 
 /// Cycle 100 as it comes back from three slaves in OP.
 const BACK: &str = "3310 \

@@ -2,7 +2,7 @@
 ghost use Rattle.std.specs.Prelude.{◌≡◌, [], IfErr, IfOk, Result, is_some, option_map};
 ghost use Rattle.ec_console.specs.Explaining.{IsLeft};
 ghost use Rattle.ec_console.specs.Printing.{IsTold, Shows};
-ghost use Rattle.ec_tap.specs.Taps.{Tells};
+ghost use Rattle.ec_wire.specs.Taps.{Tells};
 ghost use Rattle.ec_wire.specs.Wires.{IsOpened};
 ghost use Rattle.ec_console.specs.Capturing.{finished, is_complete};
 ghost use Rattle.ec_console.specs.declared.refusal.Refusal.{Refusal as RefusalValue};
@@ -18,9 +18,8 @@ use ec_console::{
     print_text,
 };
 use ec_ring::Ring;
-use ec_tap::{CapturedWire, Side};
 use ec_text::push_number;
-use ec_wire::{App, Patience, Served, SocketFault, UdpWire, Wire, serve_counted};
+use ec_wire::{App, CapturedWire, Patience, Served, Side, SocketFault, UdpWire, Wire, serve_counted};
 use std::fs::Files;
 use std::io::{Read, Write};
 use std::net::Net;

@@ -5,7 +5,7 @@ use Rattle.ec_table.specs.Contents.{Contents}
 use Rattle.ec_world.specs.World.{WorldState}
 use Rattle.ec_script.specs.declared.line.Line.{Line}
 use Rattle.ec_script.specs.Texts.{output_text}
-use Rattle.ec_told.specs.Reason.{IsReason}
+use Rattle.ec_diagnostic.specs.Reason.{IsReason}
 use Rattle.ec_why.specs.declared.wanted.Reasons.{Reasons}
 use Rattle.ec_why.specs.declared.wanted.Reasons.TheVariants.{Untold}
 use Rattle.ec_why.specs.Reasons.{Part, ReasonIf, with_reasons, without_reasons}

@@ -13,7 +13,7 @@ use Rattle.ec_script.specs.Halves.{Splits}
 use Rattle.ec_script.specs.Scripts.{repeated}
 use Rattle.ec_script.specs.Texts.{output_text}
 use Rattle.ec_script.specs.Work.{is_unmet}
-use Rattle.ec_told.specs.Reason.{IsReason}
+use Rattle.ec_diagnostic.specs.Reason.{IsReason}
 use Rattle.ec_why.specs.declared.wanted.Reasons.{Reasons}
 use Rattle.ec_why.specs.Reasons.{ReasonIf, is_reasoned}
 use Rattle.ec_console.specs.declared.refusal.Refusal.{Refusal}

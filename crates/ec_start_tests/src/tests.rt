@@ -9,7 +9,7 @@ mod rows;
 mod sizes;
 mod steps;
 
-const THREE_SLAVES: &str = ec_examples::BARE_THREE_SLAVES;
+const THREE_SLAVES: &str = ec_test_data::BARE_THREE_SLAVES;
 
 /// All frames of the three slaves byte by byte, the exchange of uploads and downloads among them.
 const READY: &str = "\

@@ -2,7 +2,7 @@
 use Rattle.std.specs.Prelude.{◌≡◌, ◌⊎◌, ℕ, Bool, true, false, List, [], ◌∷◌, ◌++◌}
 use Rattle.ec_script.specs.declared.said.LineOutput.{LineOutput}
 use Rattle.ec_script.specs.declared.said.LineOutput.TheVariants.{No}
-use Rattle.ec_told.specs.Reason.{IsReason}
+use Rattle.ec_diagnostic.specs.Reason.{IsReason}
 use Rattle.ec_why.specs.declared.wanted.Reasons.{Reasons}
 use Rattle.ec_why.specs.declared.wanted.Reasons.TheVariants.{Told, Untold}
 

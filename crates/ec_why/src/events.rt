@@ -1,7 +1,7 @@
 //! Why an event can't be made, in the world as it is.
 use crate::reasons::has_cycle;
 use crate::scene::{Firmware, Scene};
-use ec_outline::{Counted, Printable, Words};
+use ec_diagnostic::{Counted, Printable, Words};
 use ec_table::Direction;
 use ec_world::{Event, Progress};
 

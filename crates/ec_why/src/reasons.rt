@@ -1,14 +1,13 @@
 //! Why a line ended at an event that can't be made, as a printed line.
 ghost use Rattle.std.specs.Prelude.{◌≡◌, IfOk, is_some, string_bytes};
-ghost use Rattle.ec_told.specs.Reason.{IsReason};
+ghost use Rattle.ec_diagnostic.specs.Reason.{IsReason};
 ghost use Rattle.ec_world.specs.Watching.{sent_of};
 
 use crate::scene::{Firmware, Scene, greatest, misfit_words};
+use ec_diagnostic::{Words, reason_line};
 use ec_link::{Link, Variable};
-use ec_outline::Words;
 use ec_script::LineAction;
 use ec_table::{Direction, Table};
-use ec_told::reason_line;
 use ec_world::{Event, World};
 use std::alloc::{AllocError, Global};
 

@@ -1,5 +1,5 @@
 //! Words for people about a world: its slaves, variables and slots by name, and those that don't exist.
-use ec_outline::{Counted, Printable, Words};
+use ec_diagnostic::{Counted, Printable, Words};
 use ec_table::{Direction, Table, VariableRow};
 use ec_world::World;
 use std::alloc::Global;

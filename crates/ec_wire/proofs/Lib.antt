@@ -12,3 +12,5 @@ pub mod Serving
 pub mod Bringing
 -- a start-up over a wire that carries each frame past all slaves and back comes up
 pub mod ComingUp
+-- a payload more, noted
+pub mod Tapping

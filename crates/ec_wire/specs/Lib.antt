@@ -13,5 +13,7 @@ pub mod Applications
 pub mod Segments
 -- a start-up over a wire behind which a segment answers
 pub mod ComingUp
+-- what is noted of a wire
+pub mod Taps
 -- the errors' numbers and names
 pub mod Errors

@@ -1,6 +1,7 @@
 //! Wires, which carry a master's frames to a segment and back: cycles and start-ups over them, and segments of simulated slaves.
 //!
 //! A [`Wire`] sends and receives payloads and counts its faults. The contract of a cycle holds for every wire.
+//! A [`CapturedWire`] notes in a capture what passes over the wire in it.
 #![tactic(auto)]
 
 mod application;
@@ -12,6 +13,7 @@ mod patience;
 mod payload;
 mod segment;
 mod startup;
+mod tap;
 mod udp;
 mod wire;
 
@@ -24,5 +26,6 @@ pub use crate::patience::{Patience, PatientSocket};
 pub use crate::payload::Payload;
 pub use crate::segment::{Served, serve_counted, serve_segment};
 pub use crate::startup::bring_up_wire;
+pub use crate::tap::{CapturedWire, Side};
 pub use crate::udp::UdpWire;
 pub use crate::wire::{Wire, receive_on, send_on};

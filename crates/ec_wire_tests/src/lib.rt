@@ -1,5 +1,13 @@
-//! Cycles over wires that work and wires that fail, by the public calls of `ec_wire`.
+//! Frames on their way, past slaves and over wires that work and that fail, each by the public calls of its crate.
 #![tactic(auto)]
 
 #[cfg(test)]
-mod tests;
+mod annotate;
+#[cfg(test)]
+mod card;
+#[cfg(test)]
+mod ring;
+#[cfg(test)]
+mod rows;
+#[cfg(test)]
+mod wire;

@@ -5,6 +5,8 @@
 #[cfg(test)]
 mod annotate;
 #[cfg(test)]
+mod diagnostic;
+#[cfg(test)]
 mod explain;
 #[cfg(test)]
 mod live;
@@ -14,7 +16,5 @@ mod master;
 mod script;
 #[cfg(test)]
 mod streams;
-#[cfg(test)]
-mod told;
 #[cfg(test)]
 mod translate;

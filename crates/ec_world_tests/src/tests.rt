@@ -12,7 +12,7 @@ use std::alloc::AllocError;
 use std::process::Abort;
 
 /// Three slaves: 4 outputs; 4 inputs; 12 outputs and 16 inputs.
-const TABLE: &str = ec_examples::SHORT_THREE_SLAVES;
+const TABLE: &str = ec_test_data::SHORT_THREE_SLAVES;
 
 /// The machine of the table.
 fn machine_of(rt: &(impl AllocGlobal + Abort)) -> Machine {

@@ -8,7 +8,7 @@ mod payloads;
 use crate::args::number;
 use crate::frames::judge::is_told;
 use crate::frames::payloads::payload_of;
-use ec_random::Random;
+use ec_test_data::Random;
 use std::alloc::Global;
 use std::io;
 use std::io::Write;

@@ -6,11 +6,10 @@ mod cycles;
 
 use crate::args::number;
 use crate::tables::cycles::write_cycles;
-use ec_fixtures::{random_script, random_table};
 use ec_link::Machine;
-use ec_random::Random;
 use ec_script::{Line, read_script, run_line};
 use ec_table::Table;
+use ec_test_data::{Random, random_script, random_table};
 use ec_text::plan_text;
 use ec_world::World;
 use std::alloc::{AllocError, Global};

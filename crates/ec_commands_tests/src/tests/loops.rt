@@ -2,9 +2,9 @@
 
 use ec_bringup::slaves_of_machine;
 use ec_commands::{OutputStream, Refusal, run_loop};
-use ec_examples::THREE_SLAVES;
 use ec_link::Machine;
 use ec_start::StartError;
+use ec_test_data::THREE_SLAVES;
 use ec_wire::{MemoryWire, RunError};
 use std::alloc::{AllocError, Global};
 use std::process::Abort;

@@ -2,7 +2,7 @@
 
 use crate::tests::{Run, expect_run};
 use ec_commands::UdpWire;
-use ec_examples::THREE_SLAVES;
+use ec_test_data::THREE_SLAVES;
 use std::fs::Files;
 use std::net::{Ipv4Addr, Net, SocketAddr, UdpSocket};
 use std::process::Abort;

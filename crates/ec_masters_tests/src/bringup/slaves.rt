@@ -7,7 +7,7 @@ use ec_start::Startup;
 use std::process::Abort;
 
 /// The table of `examples/three_slaves.toml`, without its comments.
-pub const THREE_SLAVES: &str = ec_examples::BARE_THREE_SLAVES;
+pub const THREE_SLAVES: &str = ec_test_data::BARE_THREE_SLAVES;
 
 /// The machine of a table.
 pub fn machine_of(rt: &(impl AllocGlobal + Abort), text: &str) -> Machine {
@@ -21,7 +21,7 @@ pub fn ring_of(rt: &(impl AllocGlobal + Abort), machine: &Machine) -> Ring {
 
 /// The table of the three slaves, without variables and links.
 fn slaves_alone() -> &'static str {
-    let whole = ec_examples::SHORT_THREE_SLAVES;
+    let whole = ec_test_data::SHORT_THREE_SLAVES;
     let (slaves, _) = whole.split_once("variable = ").unwrap_or((whole, ""));
     slaves
 }

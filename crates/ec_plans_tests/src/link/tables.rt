@@ -3,10 +3,10 @@ use ec_link::{LinkError, LinkFault, MachineError};
 use ec_table::{Fault, TableError};
 
 /// The table of `examples/three_slaves.toml`, without its comments.
-pub const THREE_SLAVES: &str = ec_examples::BARE_THREE_SLAVES;
+pub const THREE_SLAVES: &str = ec_test_data::BARE_THREE_SLAVES;
 
 /// The same, a line for each list, with the second slave in a sync unit of its own.
-const TWO_UNITS: &str = ec_examples::SHORT_TWO_UNITS;
+const TWO_UNITS: &str = ec_test_data::SHORT_TWO_UNITS;
 
 /// The plan of the table of three slaves: a line for each slave, its managers and FMMUs that are set, as bytes in hex, the
 /// parts, the variables and the links.

@@ -1,13 +1,13 @@
 //! Tables as texts, and all that each of them holds.
 
 /// `examples/three_slaves.toml`.
-pub const THREE_SLAVES: &str = ec_examples::THREE_SLAVES;
+pub const THREE_SLAVES: &str = ec_test_data::THREE_SLAVES;
 
 /// The lines of the table of three slaves that are no comments.
-pub const PLAIN: &str = ec_examples::BARE_THREE_SLAVES;
+pub const PLAIN: &str = ec_test_data::BARE_THREE_SLAVES;
 
 /// `examples/small_machine.toml`.
-pub const SMALL_MACHINE: &str = ec_examples::SMALL_MACHINE;
+pub const SMALL_MACHINE: &str = ec_test_data::SMALL_MACHINE;
 
 /// Three slaves of a type with four digital outputs, each of which writes its own variable.
 pub const THREE_OF_A_TYPE: &str = r#"[[type]]

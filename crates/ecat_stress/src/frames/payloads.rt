@@ -1,7 +1,7 @@
 //! Payloads at random.
 ghost use Rattle.std.specs.Prelude.{◌≤◌};
 
-use ec_random::Random;
+use ec_test_data::Random;
 use std::alloc::{AllocError, Global};
 
 /// Adds so many bytes.

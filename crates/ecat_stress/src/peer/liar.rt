@@ -3,9 +3,9 @@
 use crate::peer::judge::is_answer;
 use crate::peer::payloads::{frame_of, random_payload, tamper};
 use ec_frame::Frame;
-use ec_random::Random;
 use ec_ring::Ring;
 use ec_slave::Slave;
+use ec_test_data::Random;
 use ec_wire::Wire;
 use std::alloc::{AllocError, Global};
 

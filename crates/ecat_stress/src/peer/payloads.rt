@@ -1,6 +1,6 @@
 //! Payloads at random: frames, frames that were tampered with, and bytes.
 use ec_frame::{Builder, Command, Frame};
-use ec_random::Random;
+use ec_test_data::Random;
 
 /// Physical addresses where something is: identity, station address, AL, SII, FMMUs, managers, mailboxes and process data.
 const ADDRESSES: [u16; 20] = [

@@ -2,7 +2,7 @@
 use std::alloc::{AllocError, Global};
 
 /// Three slaves: 4 outputs; 4 inputs; 12 outputs and 16 inputs behind mailboxes.
-pub const THREE_SLAVES: &str = ec_examples::SHORT_THREE_SLAVES;
+pub const THREE_SLAVES: &str = ec_test_data::SHORT_THREE_SLAVES;
 
 /// The same, where the first slave takes no part in LRW.
 pub fn without_lrw(alloc: Global) -> Result<String, AllocError> {

@@ -1,7 +1,7 @@
 //! What masters ask of slaves that look around, and what hostile ones do: frames at random to the registers that full slaves have, to
 //! the SII at any word, and to a mailbox with messages of all kinds.
 use ec_frame::{Builder, Command, Frame};
-use ec_random::Random;
+use ec_test_data::Random;
 
 /// Registers of the data link layer, and what stands around them.
 const REGISTERS: [u16; 12] = [

@@ -1,7 +1,7 @@
 //! Events at random.
 use crate::runs::model::Model;
 use ec_link::Plan;
-use ec_random::Random;
+use ec_test_data::Random;
 use ec_world::{Event, World};
 
 /// What events a world gets.

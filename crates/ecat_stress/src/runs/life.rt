@@ -8,8 +8,8 @@ use crate::runs::model::Model;
 use ec_cycle::Report;
 use ec_device::Identity;
 use ec_link::Plan;
-use ec_random::Random;
 use ec_table::Table;
+use ec_test_data::Random;
 use ec_world::{Event, World};
 use std::alloc::{AllocError, Global};
 

@@ -18,7 +18,7 @@ use denote.Steps.{nothing}
 use denote.Triple.Walked.{Stays, stay_dropped, walk_of}
 use Rattle.core.proofs.alloc.Calls.{Goes-blank}
 use Rattle.std.proofs.raw_atomic.Walks.{proved_at, leaves}
-use Rattle.ec_kept.proofs.Values.{Row, alone, kept_out}
+use Rattle.ec_library.proofs.Values.{Row, alone, kept_out}
 use Rattle.ec_owned.specs.contracts.machine.MachineMaster.{the_row as machine_row}
 use Rattle.ec_library.proofs.Handles.{master_in}
 use Rattle.ec_library.specs.contracts.handle.conceal_master.{ended, clauses}

@@ -18,7 +18,7 @@ use denote.Steps.{nothing}
 use denote.Triple.Walked.{Stays, stay_dropped, walk_of}
 use Rattle.core.proofs.alloc.Calls.{Goes-blank}
 use Rattle.std.proofs.raw_atomic.Walks.{proved_at, leaves}
-use Rattle.ec_kept.proofs.Values.{Row, alone, kept_out}
+use Rattle.ec_library.proofs.Values.{Row, alone, kept_out}
 use Rattle.ec_ring.specs.contracts.ring.Ring.{the_row as ring_row}
 use Rattle.ec_library.proofs.Handles.{segment_in}
 use Rattle.ec_library.specs.contracts.handle.conceal_segment.{ended, clauses}

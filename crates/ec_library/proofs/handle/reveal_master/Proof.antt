@@ -18,7 +18,7 @@ use denote.Steps.{nothing, heard}
 use denote.Triple.Walked.{Stays, stay_dropped, walk_of}
 use Rattle.core.proofs.alloc.Calls.{Goes-blank}
 use Rattle.std.proofs.raw_atomic.Walks.{proved_at, leaves}
-use Rattle.ec_kept.proofs.Values.{alone, kept_in}
+use Rattle.ec_library.proofs.Values.{alone, kept_in}
 use Rattle.ec_owned.specs.contracts.machine.MachineMaster.{the_row as machine_row}
 use Rattle.ec_library.proofs.Handles.{Master, master_out, within_some}
 use Rattle.ec_library.specs.contracts.handle.reveal_master.{ended, clauses}

@@ -1,5 +1,5 @@
 use Rattle.std.proofs.Common.{ap}
-use Rattle.ec_tap.specs.Taps.{Tap}
+use Rattle.ec_wire.specs.Taps.{Tap}
 use Rattle.ec_master.proofs.Mastering.{tapped_runs}
 use Rattle.ec_master.proofs.command.run_tapped.Goals as goal
 

@@ -1,0 +1,22 @@
+//! Words for people on a text: where its bytes stand; remarks, with their lines and a mark under each; and a
+//! reason on one line.
+//!
+//! Of a TOML text: where its tables, keys and values stand, and remarks on them for people.
+#![tactic(auto)]
+
+mod outline;
+mod reason;
+mod remark;
+mod spot;
+mod telling;
+mod text;
+mod token;
+mod words;
+
+pub use crate::outline::{Found, Outline, PathStep};
+pub use crate::reason::reason_line;
+pub use crate::remark::{Remark, Remarks};
+pub use crate::spot::{Span, Spot, spot_of};
+pub use crate::telling::{MarkedPart, Telling};
+pub use crate::text::{printed, without_mark};
+pub use crate::words::{Counted, Meant, Printable, Words, comma, is_among, nearest};

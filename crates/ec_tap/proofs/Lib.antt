@@ -1,2 +1,0 @@
--- a payload more, noted
-pub mod Tapping

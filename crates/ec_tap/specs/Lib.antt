@@ -1,2 +1,0 @@
--- To be believed: what is noted of a wire.
-pub mod Taps
