@@ -5,6 +5,11 @@ use ec_regs::registers::{RAM_END, RAM_START};
 use ec_table::Direction;
 use std::fmt;
 
+/// The output register of a device without firmware, four bytes.
+const OUTPUT_REGISTER: usize = 0x0F00;
+/// The first address after it.
+const OUTPUT_REGISTER_END: usize = 0x0F04;
+
 /// What an area holds. It is printed in words.
 #[derive(Clone, Copy, PartialEq, Eq)]
 pub enum Content {
@@ -92,6 +97,12 @@ impl Area {
     /// Whether it leaves the RAM.
     fn leaves(&self) -> bool {
         self.start < RAM_START || RAM_END < self.end()
+    }
+
+    /// Whether it holds outputs, and begins in the output register.
+    pub fn is_output_register(&self) -> bool {
+        let register = OUTPUT_REGISTER..OUTPUT_REGISTER_END;
+        self.content == Content::Outputs && register.contains(&self.start)
     }
 }
 
