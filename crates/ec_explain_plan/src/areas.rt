@@ -42,6 +42,12 @@ pub struct Area {
 }
 
 impl Area {
+    /// Whether it holds outputs, and begins in the output register.
+    pub fn is_output_register(&self) -> bool {
+        self.content == Content::Outputs
+            && (OUTPUT_REGISTER..OUTPUT_REGISTER_END).contains(&self.start)
+    }
+
     /// The area of a slave that holds something, if it has one.
     fn of(at: &SlaveAt<'_>, content: Content) -> Option<Area> {
         let process = &at.kind.process;
@@ -97,12 +103,6 @@ impl Area {
     /// Whether it leaves the RAM.
     fn leaves(&self) -> bool {
         self.start < RAM_START || RAM_END < self.end()
-    }
-
-    /// Whether it holds outputs, and begins in the output register.
-    pub fn is_output_register(&self) -> bool {
-        let register = OUTPUT_REGISTER..OUTPUT_REGISTER_END;
-        self.content == Content::Outputs && register.contains(&self.start)
     }
 }
 
