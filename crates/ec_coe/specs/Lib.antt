@@ -1,6 +1,6 @@
 -- To be believed: Messages (their spelling), Objects (the object dictionary and its assignments), Transfers
 -- (uploads and downloads with their aborts), Answers (what a slave replies), ReplyBytes (how that lies in a mailbox), Replies
--- (what a master finds in a reply).
+-- (what a master finds in a reply), Refusals (what a full slave replies to any other message).
 -- Laws and AbortLaw (each abort by its cause, and which one is the reply) say the same in other words, proved.
 pub mod Messages
 pub mod Objects

@@ -29,7 +29,6 @@ use Rattle.ec_annotate.specs.Annotating.{names_of}
 use Rattle.ec_translate.specs.Remarking.{RunsDecodeWith}
 use Rattle.ec_translate.specs.Translating.{RunsEncode}
 use Rattle.ec_sim.specs.Simulating.{RunsSim}
-use Rattle.ec_why.specs.declared.wanted.Reasons.{Reasons}
 use Rattle.ec_why.specs.Reasons.{reasons_of}
 use Rattle.ec_wire.specs.Wires.{Traffic, nothing_sent}
 

@@ -1,4 +1,4 @@
--- To be believed, in this order: `FrameText` says how a frame is written, and `Faults` what is said of a payload that is none.
+-- To be believed: FrameText (a frame as text), Faults (a payload that is none), Words to Reading (what texts stand for), Answers (what is printed).
 pub mod FrameText
 pub mod Faults
 pub mod Words

@@ -72,7 +72,7 @@ pub record IsMailbox (m : Mailbox) : Type 0 where
   pub send_some : 16 ≤ m.send_size
   pub send_few : m.send_size ≤ 1024
 
--- a name has 1 to 32 bytes
+-- a name has 1 to 32 bytes; which bytes, a table says alone: it takes letters, digits and `_`
 pub record IsFace (f : Face) : Type 0 where
   pub named : 1 ≤ length f.name
   pub short : length f.name ≤ 32

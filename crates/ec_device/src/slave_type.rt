@@ -90,7 +90,7 @@ pub struct Pdo {
 /// data link registers (ETG.1000.4, "DL status") whether a slave follows it.
 #[derive(Debug, Drop)]
 pub struct Face {
-    /// The name of its type: 1 to 32 letters, digits and `_` of ASCII, a byte each.
+    /// The name of its type, 1 to 32 bytes: of a type that a table has letters, digits and `_` of ASCII.
     pub name: Listed<u8>,
     /// Whether it is the last slave of its ring.
     pub is_last: bool,

@@ -5,6 +5,11 @@ use ec_regs::registers::{RAM_END, RAM_START};
 use ec_table::Direction;
 use std::fmt;
 
+/// The output register of a device without firmware, four bytes.
+const OUTPUT_REGISTER: usize = 0x0F00;
+/// The first address after it.
+const OUTPUT_REGISTER_END: usize = 0x0F04;
+
 /// What an area holds. It is printed in words.
 #[derive(Clone, Copy, PartialEq, Eq)]
 pub enum Content {
@@ -37,6 +42,12 @@ pub struct Area {
 }
 
 impl Area {
+    /// Whether it holds outputs, and begins in the output register.
+    pub fn is_output_register(&self) -> bool {
+        self.content == Content::Outputs
+            && (OUTPUT_REGISTER..OUTPUT_REGISTER_END).contains(&self.start)
+    }
+
     /// The area of a slave that holds this content, if it has one.
     fn of(at: &SlaveAt<'_>, content: Content) -> Option<Area> {
         let process = &at.kind.process;

@@ -7,6 +7,10 @@ use ec_link::LinkFault;
 use ec_regs::registers::{RAM_END, RAM_START};
 use ec_table::{Direction, Table};
 
+/// What to do about a device whose outputs lie in its output register.
+const LEAVE_OUT: &str = "leave the device out: a link table can't describe one whose outputs lie at 0x0F00, its output \
+    register; with another address the master becomes ready, and nothing is switched";
+
 /// Adds remarks on a fault of the slave at a place.
 pub fn tell_of_slave(telling: &mut Telling<'_>, table: &Table, fault: LinkFault, slave: usize) {
     let Some(at) = SlaveAt::new(table, slave) else {
@@ -48,8 +52,11 @@ fn tell_overlap(telling: &mut Telling<'_>, at: &SlaveAt<'_>) {
     advise_start(telling, at, other);
 }
 
-/// Says where an area could begin.
+/// Says where an area could begin, if another address helps.
 fn advise_start(telling: &mut Telling<'_>, at: &SlaveAt<'_>, moved: Area) {
+    if moved.is_output_register() {
+        return telling.advise(LEAVE_OUT);
+    }
     let (alloc, content) = (telling.alloc, moved.content);
     telling.advise_in(match first_free(at, &moved) {
         Some(start) => format!(in alloc;

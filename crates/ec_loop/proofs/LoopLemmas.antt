@@ -1,5 +1,5 @@
 -- Cycles one after another, what they print, and how a loop ends.
-use Rattle.std.proofs.Common.{◌≡◌, ◌∙◌, inl, inr, ◌⊎◌, ℕ, zero, suc, ◌+◌, ◌%◌, ◌^◌, ◌<◌, ◌≤◌, ◌==◌, ◌&&◌, not, if◌then◌else◌, get_or, slice_get, List, [], ◌∷◌, ◌++◌, length, take, Bool, true, false, Option, None, Some, is_some, nat_lt, refl, sym, ap, subst, append_assoc, append-nil, arith, Result, Ok, Err, IfErr, IfOk, OnOk, OnErr}
+use Rattle.std.proofs.Common.{◌≡◌, ◌∙◌, inl, inr, ℕ, zero, suc, ◌+◌, ◌%◌, ◌^◌, ◌<◌, ◌≤◌, ◌==◌, ◌&&◌, not, if◌then◌else◌, get_or, slice_get, List, [], ◌∷◌, ◌++◌, length, take, Bool, true, false, Option, None, Some, is_some, nat_lt, refl, sym, ap, subst, append_assoc, append-nil, arith, Result, Ok, Err, IfErr, IfOk, OnOk, OnErr}
 use Rattle.std.proofs.Math.Nat.{mod-lt}
 use Rattle.std.proofs.lemmas.Bool.{eq-eqb, eqb-true, lt-ltb, ltb-false}
 use Rattle.std.proofs.lemmas.List.{take_more}

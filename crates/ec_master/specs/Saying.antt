@@ -80,7 +80,7 @@ pub record PrintsPart (reasons : Reasons) (t : Contents) (w : Moment) (tasks : L
   pub says : Says reasons t w (take count tasks) last printed unmet
   pub appends : IsPartPrinted old new printed
 
--- Lines are taken from an input up to its end, and done as they come; each is printed before the next is taken.
+-- Lines are taken from an input up to its end, and done one after another; what all of them say is printed.
 pub record ObeysAll (reasons : Reasons) (t : Contents) (w : Moment) (last : Moment) (unmet : ℕ) (input : Option (List ℕ)) (old new : OutputState) : Type 0 where
   pub lines : List (List ℕ)
   pub taken : TakesToEnd input lines

@@ -57,8 +57,8 @@ abbrev pub address_written : ℕ → ℕ → List ℕ → ℕ
 address_written old from bytes =
     from_le_bytes w32 (address_byte old from bytes 0 ∷ address_byte old from bytes 1 ∷ address_byte old from bytes 2 ∷ address_byte old from bytes 3 ∷ [])
 
--- What the byte for the high byte of the control word commands by its bits 0..2, which are the word's command bits: 0 clears the error, 1 begins a read, and any other is an
--- error (this project's profile). Its other bits are ignored.
+-- What the high byte of the control word commands by its bits 0 to 2, the word's command bits: 0 clears the error, 1 begins
+-- a read, and any other is an error (this project's profile). Its other bits are ignored.
 abbrev pub commanded : Sii → Option ℕ → Sii
 commanded p None = p
 commanded p (Some control) =
