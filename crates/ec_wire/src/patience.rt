@@ -11,7 +11,7 @@ use std::time::Duration;
 const LEAST_PARTS: u32 = 2;
 
 /// One part of a long patience, in milliseconds.
-const LONG_PART: u128 = 250;
+const LONG_PART: u128 = 50;
 
 /// How long a receive waits.
 #[derive(Clone, Copy, Debug, PartialEq, Eq, Drop)]
