@@ -1,16 +1,10 @@
 #!/bin/sh
-# A control program that drives `ecat master` through a pipe: the valves follow the switches.
+# A control program that drives `ecat master` through two named pipes: the valves follow the switches.
 #
 #   examples/follow.sh CYCLES COMMAND..
 #
-# COMMAND is an `ecat master`, as in
-#
-#   ecat segment --frames 10000 < examples/small_machine.toml &
-#   examples/follow.sh 10 ecat master --to 127.0.0.1:34980
-#
-# It lights the lamp, runs so many cycles, and after each one sets the two valves as the first two switches are. The slaves of
-# `ecat segment` show their outputs as their inputs, so there the lamp is the first switch and the valves are the next two: in the
-# end all three are on. It prints how they are, and ends with status 1 where a cycle wasn't taken.
+# COMMAND is an `ecat master` with its options. The program lights the lamp, runs so many cycles, and after each one sets the two
+# valves as the first two switches are. It prints both at the end. It ends with status 1 if a cycle isn't taken.
 set -eu
 here=$(cd "$(dirname "$0")" && pwd)
 cycles=$1
@@ -29,7 +23,7 @@ give_up() {
 
 { cat "$here/small_machine.toml"; echo '%%'; } >&3
 
-# until the slaves answer, a start-up fails
+# a start-up fails until the slaves answer
 tries=50
 echo ready >&3
 read -r answer <&4
