@@ -8,7 +8,8 @@ use ec_regs::registers::{RAM_END, RAM_START};
 use ec_table::{Direction, Table};
 
 /// What to do about a device whose outputs lie in its output register.
-const LEAVE_OUT: &str = "leave the device out: a link table can't describe one whose outputs lie at 0x0F00, its output \
+const LEAVE_OUT: &str =
+    "leave the device out: a link table can't describe one whose outputs lie at 0x0F00, its output \
     register; with another address the master becomes ready, and nothing is switched";
 
 /// Adds remarks on a fault of the slave at a place.
