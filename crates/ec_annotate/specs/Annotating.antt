@@ -10,11 +10,11 @@ use Rattle.ec_annotate.specs.declared.names.Names.TheVariants.{Told, Untold}
 abbrev pub IsWoven : Text → Text → Type 0
 IsWoven plain text = (remarks : List Text) × (text ≡ woven remarks plain)
 
--- what lines of hex are printed as with remarks: the same without them, and all that is added is indented
+-- what lines of hex are printed as, with remarks: what is printed without them, with nothing but indented lines added
 abbrev pub Annotates : List Text → Text → Bool → Type 0
 Annotates lines text whole = (plain : Text) × DecodesLines lines plain whole × IsWoven plain text × (without_indented text ≡ plain)
 
--- names are told where an explanation is wanted
+-- names are explained if an explanation is wanted
 abbrev pub names_of : Bool → Names
 names_of true = Told
 names_of false = Untold

@@ -14,7 +14,7 @@ use ec_link::Plan;
 use ec_table::Table;
 use std::alloc::{AllocError, Global};
 
-/// A link table and its plan, by which process data are told.
+/// A link table and its plan, which name process data.
 #[derive(Clone, Copy)]
 pub struct Links<'a> {
     /// The table, which has the names of the variables.
@@ -23,10 +23,10 @@ pub struct Links<'a> {
     pub plan: &'a Plan,
 }
 
-/// What `ec_decode::decode_text` prints of a text, with remarks for people behind its lines: where names are
-/// told, what each datagram says by the standard's names, and what is wrong with a payload that is no
-/// frame; and which variables a datagram carries by the links, if there are any. Each line of a remark is indented, so that `ec_decode::encode_text` reads the
-/// whole back as the same frames. The error is want of memory.
+/// What `ec_decode::decode_text` returns for a text, with remarks for people behind its lines. With names, they say what each
+/// datagram says by the standard's names, and what is wrong with a payload that is no frame. With links, they
+/// say which variables a datagram carries. Each line of a remark is indented, so that `ec_decode::encode_text` reads the
+/// whole back as the same frames. `AllocError` if memory ran out.
 pub fn annotate_text(
     alloc: Global,
     text: &str,
@@ -36,7 +36,7 @@ pub fn annotate_text(
     requires { ForSome links (λ links. IsUsable links.plan.now) }
     ensures { IfOk result (λ answer. Annotates (lines text.now) (string_bytes answer.text) answer.is_whole) }
 {
-    // It does nothing: what is printed without remarks has no indented line.
+    // This call does nothing; its contract says that text without remarks has no indented line.
     texts_have_no_indented_lines();
     let decoded = decode_text(alloc, text)?;
     let text = woven(alloc, &decoded, text, names, links)?;
@@ -46,7 +46,7 @@ pub fn annotate_text(
     })
 }
 
-/// A text with the remarks on the payloads that lines of hex spell.
+/// A text of payloads, with the remarks on the payloads that lines of hex spell.
 fn woven(
     alloc: Global,
     decoded: &Decoded,

@@ -12,7 +12,7 @@ pub enum Names {
 }
 
 impl Names {
-    /// They are told where an explanation is wanted.
+    /// They do if an explanation is wanted.
     pub fn of(explained: bool) -> Names
         ensures { result ≡ names_of explained }
     {

@@ -13,8 +13,8 @@ use ec_seen::{Seen, first_seen};
 use hex::FromHexError;
 use std::alloc::{AllocError, Global};
 
-/// The remarks on the lines that a text of hex is printed as, in their order, up to the first line of the
-/// text that isn't hex.
+/// The remarks on the printed lines of a text of hex, in their order, up to the first line of the
+/// text that isn't hex. `AllocError` if memory ran out.
 pub(crate) fn remarks_of(
     alloc: Global,
     text: &str,
@@ -52,7 +52,7 @@ fn add_line(
     }
 }
 
-/// Adds the remarks on the lines of a payload: of a frame's own line there are none.
+/// Adds the remarks on the lines of a payload. The remark on a frame's own line is empty.
 fn add_payload(
     alloc: Global,
     remarks: &mut Vec<String>,
@@ -83,7 +83,7 @@ fn add_payload(
     }
 }
 
-/// Adds the remarks on so many datagrams that stand at the front of some bytes.
+/// Adds the remarks on the first `count` datagrams in some bytes.
 fn add_datagrams(
     alloc: Global,
     remarks: &mut Vec<String>,

@@ -20,14 +20,14 @@ number_rule name least most = record (new_rule name) {
   parser = Some (Signed (pos least) (pos most));
 }
 
--- one that must be given, and one that is this text where it isn't
+-- an argument that must be given, and one with this text if it isn't given
 abbrev pub needed : Rule → Rule
 needed rule = record rule { required = true }
 
 abbrev pub or_else : Text → Rule → Rule
 or_else text rule = record rule { defaults = text ∷ [] }
 
--- of a ring, how many slaves it has
+-- how many slaves a ring has
 abbrev pub slaves_rule : Rule
 slaves_rule = needed (number_rule (codes "slaves") 0 64)
 
@@ -35,11 +35,11 @@ slaves_rule = needed (number_rule (codes "slaves") 0 64)
 abbrev pub frame_rule : Rule
 frame_rule = record (new_rule (codes "frame")) { required = true; action = Some Set; value_names = 1 }
 
--- whether more is told, for people
+-- whether more is explained, for people
 abbrev pub explain_rule : Rule
 explain_rule = flag_rule (codes "explain")
 
--- whether a plan is shown as a header of C
+-- whether a C header is printed instead of a plan
 abbrev pub header_rule : Rule
 header_rule = flag_rule (codes "header")
 
@@ -79,7 +79,7 @@ descriptor_rule = number_rule (codes "descriptor") 0 1023
 abbrev pub full_rule : Rule
 full_rule = flag_rule (codes "full")
 
--- how many seconds are waited for a payload, a day at most; without it, a minute
+-- how many seconds a segment waits for a payload, a day at most; without it, a minute
 abbrev pub idle_rule : Rule
 idle_rule = or_else (codes "60") (number_rule (codes "idle") 0 86400)
 
@@ -87,7 +87,7 @@ idle_rule = or_else (codes "60") (number_rule (codes "idle") 0 86400)
 abbrev pub to_rule : Rule
 to_rule = or_else (codes "127.0.0.1:34980") (text_rule (codes "to"))
 
--- how many milliseconds are waited for an answer, a minute at most; without it, half a second
+-- how many milliseconds a master waits for an answer, a minute at most; without it, half a second
 abbrev pub patience_rule : Rule
 patience_rule = or_else (codes "500") (number_rule (codes "patience") 1 60000)
 
@@ -105,14 +105,14 @@ decode_shape = (with_rule (with_rule (new_app (codes "decode")) table_rule) expl
 abbrev pub encode_shape : Shape
 encode_shape = (new_app (codes "encode")).top
 
--- how a script is run
+-- how a script runs
 abbrev pub running : App
 running = with_rule (with_rule (new_app (codes "sim")) live_rule) capture_rule
 
 abbrev pub sim_shape : Shape
 sim_shape = (with_rule running explain_rule).top
 
--- how many cycles are run, and what is noted of them
+-- how many cycles run, and the capture of them
 abbrev pub turning : App
 turning = with_rule (with_rule (new_app (codes "loop")) cycles_rule) capture_rule
 
@@ -132,7 +132,7 @@ waiting = with_rule (with_rule showing idle_rule) capture_rule
 abbrev pub segment_shape : Shape
 segment_shape = (with_rule waiting explain_rule).top
 
--- which segment a master speaks with, how long it waits for its answers, and what is noted of them
+-- which segment a master speaks with, how long it waits for answers, and its capture
 abbrev pub reaching : App
 reaching = with_rule (with_rule (new_app (codes "master")) to_rule) descriptor_rule
 
@@ -142,14 +142,14 @@ asking = with_rule (with_rule reaching patience_rule) capture_rule
 abbrev pub master_shape : Shape
 master_shape = (with_rule asking explain_rule).top
 
--- `ecat` and its commands, of which one is wanted; it also has a version. First those that simulate nothing but a pass,
+-- `ecat` and its commands, one of which must be given; it also has a version. First those that simulate nothing but a pass,
 abbrev pub planning : App
 planning =
     with_subcommand
     (with_subcommand (on_top (λ s. record s { has_version = true; subcommand_required = true }) (new_app (codes "ecat"))) pass_shape)
     plan_shape
 
--- then those that tell frames as text, and back,
+-- then those that print frames as text, and back,
 abbrev pub telling : App
 telling = with_subcommand (with_subcommand planning decode_shape) encode_shape
 

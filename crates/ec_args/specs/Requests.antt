@@ -16,29 +16,29 @@ use Rattle.ec_args.specs.declared.request.Notice.TheVariants.{Memory, Help, Usag
 use Rattle.ec_args.specs.declared.request.Request.{Request}
 use Rattle.ec_args.specs.declared.request.Request.TheVariants.{Pass, Plan, Decode, Encode, Sim, Loop, Segment, Master}
 
--- a command, and what it is given
+-- a command, and its arguments
 pub data Command : Type 0 where
   -- `ecat pass`: the number of slaves, and the text of a frame
   PassOf : ℕ → Text → Command
-  -- `ecat plan`: whether it is to be shown as a header of C, and whether it is to be explained, and so a refusal
+  -- `ecat plan`: whether it prints a C header, and whether it explains the plan and a refusal
   PlanOf : Bool → Bool → Command
   -- `ecat decode`: the file of a link table, if one is named, and whether the frames are to be explained
   DecodeOf : Option Text → Bool → Command
   -- `ecat encode`
   EncodeOf : Command
-  -- `ecat sim`: whether lines are run as they come, the file of a capture, if one is named, and whether a refusal is to be
-  -- explained, as the last two of each from here on
+  -- `ecat sim`: whether lines are run as they come, the file of a capture if one is named, and whether a refusal is explained.
+  -- The commands below have these two at their end, too.
   SimOf : Bool → Option Text → Bool → Command
   -- `ecat loop`: the number of cycles
   LoopOf : ℕ → Option Text → Bool → Command
-  -- `ecat segment`: the number of payloads, the port, the descriptor that is given in its place, if one is, whether its slaves are
+  -- `ecat segment`: the number of payloads, the port, and the descriptor that replaces it if one is given. Then whether its slaves are
   -- as usual masters expect them, and how many seconds it waits for a payload
   SegmentOf : ℕ → ℕ → Option ℕ → Bool → ℕ → Option Text → Bool → Command
-  -- `ecat master`: the text of a segment's address and port, the descriptor that is given in its place, if one is, and how many
+  -- `ecat master`: the text of a segment's address and port, and the descriptor that replaces it if one is given. Then how many
   -- milliseconds it waits for an answer
   MasterOf : Text → Option ℕ → ℕ → Option Text → Bool → Command
 
--- the word that asks for it
+-- the word that asks for a command
 abbrev pub word_of : Command → Text
 word_of (PassOf slaves frame) = codes "pass"
 word_of (PlanOf header explained) = codes "plan"
@@ -70,7 +70,7 @@ pub record FindsNumber (rows : List Row) (id : Text) (n limit : ℕ) : Type 0 wh
   pub value : digits_value 10 (without_leading_plus digits) ≡ n
   pub small : n < limit
 
--- or it is left out, and no such number is found
+-- or the argument is left out, and `clap` finds no such number
 abbrev pub FindsAny : List Row → Text → Option ℕ → ℕ → Type 0
 FindsAny rows id None limit = (n : ℕ) → FindsNumber rows id n limit → ⊥
 FindsAny rows id (Some n) limit = FindsNumber rows id n limit
@@ -133,7 +133,7 @@ Finds rows (LoopOf cycles capture explained) = FindsLoop rows cycles capture exp
 Finds rows (SegmentOf frames port descriptor full idle capture explained) = FindsSegment rows frames port descriptor full idle capture explained
 Finds rows (MasterOf to descriptor patience capture explained) = FindsMaster rows to descriptor patience capture explained
 
--- `clap` met this command, and found what it is given
+-- `clap` met this command, and found its arguments
 pub record MeetsAs (met : Option (Text × List Row)) (command : Command) : Type 0 where
   pub rows : List Row
   pub named : met ≡ Some (word_of command, rows)
@@ -165,13 +165,13 @@ is_answer DisplayHelp = true
 is_answer DisplayVersion = true
 is_answer _ = false
 
--- the error that the arguments meet first, by `clap`'s specification; without one, no command was found; memory may
+-- the first fault of the arguments, by `clap`'s specification; without one, no command was found; memory may
 -- run out at any time
 abbrev pub IsFault : List Text → ErrorKind → Type 0
 IsFault args kind = (kind ≡ OutOfMemory) ⊎ (IsAmong kind (fault_of ecat args)
     ⊎ ((kind ≡ MissingSubcommand) × (MeetsCommand (subcommand_of ecat args) → ⊥)))
 
--- what is told of an error of this kind, whose text was made or couldn't be: want of memory is told for nothing else
+-- the notice of an error of this kind, whose text was made or couldn't be; `Memory` means nothing but that memory ran out
 abbrev pub IsNoticeFor : ErrorKind → Result (String Global) AllocError → Notice → Type 0
 IsNoticeFor kind made Memory = (kind ≡ OutOfMemory) ⊎ (made ≡ Err alloc_error)
 IsNoticeFor kind made (Help text) = (is_answer kind ≡ true) × (made ≡ Ok text)
@@ -181,7 +181,7 @@ pub record IsNotice (kind : ErrorKind) (notice : Notice) : Type 0 where
   pub made : Result (String Global) AllocError
   pub says : IsNoticeFor kind made notice
 
--- what is read of the arguments: where nothing is wrong with them, the command that `clap` finds; or a notice of the error
+-- what is read of the arguments: if they have no fault, the command that `clap` finds; else the notice of the error
 -- that they meet
 abbrev pub Reads : List Text → Result Request Notice → Type 0
 Reads args (Ok request) = (fault_of ecat args ≡ []) × Asks (subcommand_of ecat args) request
@@ -196,7 +196,7 @@ pub record ArePassArguments (args : List Text) (slaves : ℕ) (frame : Text) : T
   pub few : slaves ≤ 64
   pub no_flag : slice_index frame 0 ≢ 45
 
--- they are read as that pass; in its place there is only want of memory
+-- they are read as that pass, unless memory ran out
 abbrev pub PassIsRead : Type 0
 PassIsRead = (args : List Text) (slaves : ℕ) (frame : Text) (read : Result Request Notice)
     → ArePassArguments args slaves frame → Reads args read

@@ -13,7 +13,7 @@ use Rattle.ec_args.specs.declared.request.Request.{Request}
 abbrev pub IsAskedAs : Text → List Row → Request → Type 0
 IsAskedAs word rows request = (word_of (command_of request) ≡ word) × Finds rows (command_of request)
 
--- none of this word finds all that it needs
+-- no command of this word finds all that it needs
 abbrev pub IsNeverAsked : Text → List Row → Type 0
 IsNeverAsked word rows = (command : Command) → word_of command ≡ word → Finds rows command → ⊥
 

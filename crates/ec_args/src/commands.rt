@@ -1,6 +1,6 @@
-//! The commands that `ecat` has, and behind them what they are built of. A builder of `clap` owns much, and
-//! each way out of a function on which one goes away costs the checker dearly. So a command is handed on as `Made`,
-//! which may be want of memory, and only two functions have a way out.
+//! The commands of `ecat`, and behind them the functions that build them. A builder of `clap` owns much, so each
+//! exit of a function that drops one costs the checker much time. Functions therefore hand on a command as `Made`,
+//! which may be an error, and only three functions have an early exit.
 ghost use Rattle.std.specs.Prelude.{◌≡◌, Some, codes, IfOk, true};
 ghost use Rattle.clap.specs.Simple.{App, app_of, new_app, new_rule, on_top, with_rule, with_subcommand};
 ghost use Rattle.clap.specs.Walk.{Rule};
@@ -171,7 +171,7 @@ fn master_command<'a>(alloc: Global) -> Made<'a>
     with_argument(command, explain_argument(alloc))
 }
 
-/// A command of a name without arguments: how it is used, what it does, and what stands below its short and its whole help.
+/// A command without arguments: its name, its usage, what it does, and the texts below its short and its long help.
 fn used_as<'a>(
     alloc: Global,
     name: &'a str,
@@ -185,7 +185,7 @@ fn used_as<'a>(
     Ok(told_of(alloc, name, about, example, lines)?.override_usage(usage))
 }
 
-/// As [`used_as`], but the help finds by itself how the command is used.
+/// As [`used_as`], but `clap` makes the usage from the arguments.
 fn told_of<'a>(
     alloc: Global,
     name: &'a str,
@@ -199,21 +199,21 @@ fn told_of<'a>(
     Ok(command.after_help(example).after_long_help(lines))
 }
 
-/// Commands with one more.
+/// The commands with one more.
 fn with_command<'a>(commands: Made<'a>, command: Made<'a>) -> Made<'a>
     ensures { (app sub : App) → IsMadeAs commands.entry app → IsMadeAs command.entry sub → IsMadeAs result (with_subcommand app sub.top) }
 {
     commands?.subcommand(command?)
 }
 
-/// A command with one argument more.
+/// The command with one more argument.
 fn with_argument<'a>(command: Made<'a>, argument: Arg<'a>) -> Made<'a>
     ensures { (app : App) (rule : Rule) → IsArgument argument.entry rule → IsMadeAs command.entry app → IsMadeAs result (with_rule app rule) }
 {
     command?.arg(argument)
 }
 
-/// `--explain` of the commands that show neither a plan nor frames.
+/// `--explain` of the commands that print neither a plan nor payloads.
 fn explain_argument<'a>(alloc: Global) -> Arg<'a>
     ensures { IsArgument result explain_rule }
 {
@@ -221,7 +221,7 @@ fn explain_argument<'a>(alloc: Global) -> Arg<'a>
     flag(alloc, "explain", help)
 }
 
-/// `--capture FILE`, where the frames that pass are noted.
+/// `--capture FILE`, the file that gets the frames that pass.
 fn capture_argument<'a>(alloc: Global) -> Arg<'a>
     ensures { IsArgument result capture_rule }
 {
@@ -229,7 +229,7 @@ fn capture_argument<'a>(alloc: Global) -> Arg<'a>
     option(alloc, "capture", "FILE", help)
 }
 
-/// `--descriptor N`, the socket of a card.
+/// `--descriptor N`, the descriptor of a card's raw socket.
 fn descriptor_argument<'a>(alloc: Global) -> Arg<'a>
     ensures { IsArgument result descriptor_rule }
 {
@@ -281,14 +281,14 @@ fn number<'a>(
     ))
 }
 
-/// One that must be given.
+/// The argument, which must be given.
 fn required<'a>(argument: Arg<'a>) -> Arg<'a>
     ensures { (rule : Rule) → IsArgument argument.entry rule → IsArgument result (needed rule) }
 {
     argument.required(true)
 }
 
-/// One that is this text where it isn't given.
+/// The argument, with this text if it isn't given.
 fn by_default<'a>(argument: Arg<'a>, text: &'a str) -> Arg<'a>
     ensures { (rule : Rule) → IsArgument argument.entry rule → IsArgument result (or_else text.now rule) }
 {

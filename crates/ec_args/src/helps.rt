@@ -1,6 +1,6 @@
-//! What the helps of `ecat` and its commands say below their arguments: `-h` an example, `--help` all.
+//! The texts below the arguments in the helps of `ecat` and its commands: `-h` prints an example, `--help` all.
 
-/// What stands below the list of commands.
+/// The text below the list of commands.
 pub(crate) const EXIT_STATUSES: &str = "\
 Exit status:
   0  done: the result, or the help that you asked for, is on standard output
@@ -11,14 +11,14 @@ Exit status:
 
 `ecat COMMAND -h` shows an example, `ecat COMMAND --help` lists what is refused, and what to do.";
 
-/// What stands below the arguments of `ecat pass` in its short help.
+/// The text below the arguments of `ecat pass` in its short help.
 pub(crate) const PASS_EXAMPLE: &str = "\
 Example: a broadcast read of the AL status past three slaves
   ecat pass --slaves 3 0e100701000030010200000000000000
 
 `ecat pass --help` lists the exit statuses and what is refused.";
 
-/// What stands below them in its whole help.
+/// The text below them in its long help.
 pub(crate) const PASS_REFUSALS: &str = "\
 HEX is the payload of a UDP datagram to port 34980 (0x88A4): two bytes of header and the
 datagrams. An Ethernet frame of type 0x88A4 has the same bytes behind its header.
@@ -43,14 +43,14 @@ Exit status:
      41 Output      the result couldn't be written, or only a part of it: see where standard
                     output goes";
 
-/// What stands below the arguments of `ecat plan` in its short help.
+/// The text below the arguments of `ecat plan` in its short help.
 pub(crate) const PLAN_EXAMPLE: &str = "\
 Example: a wiring list of a table, and where the table is wrong
   ecat plan --explain < examples/small_machine.toml
 
 `ecat plan --help` says what the lines mean, and what is refused.";
 
-/// What stands below them in its whole help.
+/// The text below them in its long help.
 pub(crate) const PLAN_LINES: &str = "\
 TABLE is a link table; docs/TABLES.md describes it.
 
@@ -113,14 +113,14 @@ Refusals with status 4:
   42 Input                   standard input couldn't be read, isn't UTF-8, or has over 1048576
                              bytes: see where it comes from";
 
-/// What stands below the arguments of `ecat decode` in its short help.
+/// The text below the arguments of `ecat decode` in its short help.
 pub(crate) const DECODE_EXAMPLE: &str = "\
 Example: a broadcast read of the AL status, in the standard's names
   echo 0e100701030030010200000001000300 | ecat decode --explain
 
 `ecat decode --help` says what the lines mean, and what is refused.";
 
-/// What stands below them in its whole help.
+/// The text below them in its long help.
 pub(crate) const DECODE_LINES: &str = "\
 PAYLOADS are payloads of UDP datagrams to port 34980 (0x88A4) in hex, one a line; empty lines are
 skipped. An Ethernet frame of type 0x88A4 has the same bytes behind its header.
@@ -157,14 +157,14 @@ Exit status:
      42 Input       standard input, or FILE, couldn't be read, isn't UTF-8, or has over 1048576
                     bytes: see where it comes from";
 
-/// What stands below the arguments of `ecat encode` in its short help.
+/// The text below the arguments of `ecat encode` in its short help.
 pub(crate) const ENCODE_EXAMPLE: &str = "\
 Example: what `ecat decode` prints, as hex again
   echo 0e100701030030010200000001000300 | ecat decode | ecat encode
 
 `ecat encode --help` lists the exit statuses and what is refused.";
 
-/// What stands below them in its whole help.
+/// The text below them in its long help.
 pub(crate) const ENCODE_LINES: &str = "\
 TEXT is what `ecat decode` prints of frames; `ecat decode --help` describes the lines. Empty lines
 and indented ones are skipped. Each frame is printed as one line of hex digits.
@@ -182,14 +182,14 @@ Exit status:
      42 Input            standard input couldn't be read, isn't UTF-8, or has over 1048576 bytes:
                          see where it comes from";
 
-/// What stands below the arguments of `ecat sim` in its short help.
+/// The text below the arguments of `ecat sim` in its short help.
 pub(crate) const SIM_EXAMPLE: &str = "\
 Example: a table, and a script that begins with a line `%%`
   cat examples/drive.toml examples/drive.script | ecat sim
 
 `ecat sim --help` lists the lines of a script, what they print, and what is refused.";
 
-/// What stands below them in its whole help.
+/// The text below them in its long help.
 pub(crate) const SIM_LINES: &str = "\
 TABLE_AND_SCRIPT is a link table, a line `%%`, and a script with one event a line. Numbers are
 decimal, words have one blank between them, empty lines are skipped, and `#` begins a comment.
@@ -274,14 +274,14 @@ Exit status:
   5  the script was run to its end, and standard error says `ecat: NUMBER NAME VALUE`:
      45 Unmet COUNT      so many times `unmet` was printed: see its lines";
 
-/// What stands below the arguments of `ecat loop` in its short help.
+/// The text below the arguments of `ecat loop` in its short help.
 pub(crate) const LOOP_EXAMPLE: &str = "\
 Example: ten cycles
   ecat loop --cycles 10 < examples/three_slaves.toml
 
 `ecat loop --help` says what is printed, and what is refused.";
 
-/// What stands below them in its whole help.
+/// The text below them in its long help.
 pub(crate) const LOOP_LINES: &str = "\
 TABLE is a link table; docs/TABLES.md describes it.
 
@@ -333,14 +333,14 @@ Refusals with status 4:
                            bytes: see where it comes from
   43 Socket                there is no free socket on 127.0.0.1: see what else has sockets";
 
-/// What stands below the arguments of `ecat segment` in its short help.
+/// The text below the arguments of `ecat segment` in its short help.
 pub(crate) const SEGMENT_EXAMPLE: &str = "\
 Example: slaves for `ecat master`, or for another master
   ecat segment --frames 1000000 < examples/three_slaves.toml
 
 `ecat segment --help` says what is printed, and what is refused.";
 
-/// What stands below them in its whole help.
+/// The text below them in its long help.
 pub(crate) const SEGMENT_LINES: &str = "\
 TABLE is a link table; docs/TABLES.md describes it.
 
@@ -368,14 +368,14 @@ Exit status:
                         came for SECONDS: take another port, open the card, start the master in
                         time, or give a longer `--idle`";
 
-/// What stands below the arguments of `ecat master` in its short help.
+/// The text below the arguments of `ecat master` in its short help.
 pub(crate) const MASTER_EXAMPLE: &str = "\
 Example: a start-up and a cycle against `ecat segment`
   (cat examples/three_slaves.toml; echo %%; echo ready; echo cycle) | ecat master
 
 `ecat master --help` lists the lines, what they print, and what is refused.";
 
-/// What stands below them in its whole help.
+/// The text below them in its long help.
 pub(crate) const MASTER_LINES: &str = "\
 TABLE_AND_LINES is a link table up to a line `%%`, and behind it lines that are run one by one as
 they come. What a line prints is written out before the next one is read, so a control program can

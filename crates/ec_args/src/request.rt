@@ -23,23 +23,23 @@ pub enum Request<'a> {
         slaves: u8,
         frame: &'a str,
     },
-    /// Show the plan of the link table on the input, or a header of C of its variables, explained for
-    /// people if it says so, and so is a refusal then.
+    /// Print the plan of the link table on the input; with `header`, print a C header of its variables.
+    /// With `explained`, explain the plan and a refusal for people.
     Plan {
         header: bool,
         explained: bool,
     },
-    /// Show as text the payloads that the lines of the input spell in hex, explained by the names of the
-    /// standard if it says so, and by the link table in a file, if one is named.
+    /// Print as text the payloads that the lines of the input spell in hex. With `explained`, explain them
+    /// by the names of the standard; if a file is named, also by the link table in it.
     Decode {
         table: Option<&'a str>,
         explained: bool,
     },
-    /// Show in hex the frames that the text on the input states.
+    /// Print in hex the frames that the text on the input states.
     Encode,
-    /// Run the script behind the link table on the input, or its lines as they come. The frames that
-    /// pass go into a capture, if a file is named, and a refusal is explained if it says so, as with
-    /// the others.
+    /// Run the script behind the link table on the input; with `live`, run its lines as they come. If a
+    /// file is named, the frames that pass go into a capture. With `explained`, a refusal is explained, as
+    /// with the commands below.
     Sim {
         live: bool,
         capture: Option<&'a str>,
@@ -51,9 +51,9 @@ pub enum Request<'a> {
         capture: Option<&'a str>,
         explained: bool,
     },
-    /// Answer this many payloads on this port, or on the card whose socket has this descriptor, as the
-    /// slaves of the link table on the input, while no wait for one is longer than `idle` seconds; 0 is
-    /// without an end. The slaves are as usual masters expect them if it says that they are `full`.
+    /// Answer this many payloads as the slaves of the input's link table, on this port or on the card
+    /// whose socket has this descriptor. Wait for each at most `idle` seconds; 0 waits without an end. With
+    /// `full`, the slaves are as usual masters expect them.
     Segment {
         frames: u32,
         port: u16,
@@ -63,9 +63,9 @@ pub enum Request<'a> {
         capture: Option<&'a str>,
         explained: bool,
     },
-    /// Run the lines behind the link table on the input, as they come, with a master over a socket that is
-    /// connected with the segment at `to`, an IPv4 address with a port, or over the card whose socket has
-    /// this descriptor. It waits `patience` milliseconds for an answer.
+    /// Run the lines behind the link table on the input, as they come, with a master. Its socket is connected
+    /// to the segment at `to`, an IPv4 address with a UDP port, or is the card's raw socket with this
+    /// descriptor. It waits `patience` milliseconds for an answer.
     Master {
         to: &'a str,
         descriptor: Option<u16>,
@@ -91,34 +91,34 @@ impl Request<'_> {
     }
 }
 
-/// What stands in place of a request.
+/// Why arguments are no request.
 #[derive(Debug, Drop)]
 pub enum Notice {
     /// Memory ran out; the arguments may be good or bad.
     Memory,
     /// The help or the version was asked for: its text.
     Help(String),
-    /// The arguments ask for no command: the text says why, and how they are used.
+    /// The arguments ask for no command: the text says why, and has the usage.
     Usage(String),
 }
 
-/// What the arguments ask for, the first of which is the program's name. It is what `clap`'s own
-/// specification finds in them where nothing is wrong with any of them; else the notice says what
-/// to tell the user.
+/// What the arguments ask for; the first of them is the program's name. If `clap`'s specification finds
+/// no fault in them, it is what that specification finds; else the notice says what to print for the
+/// user.
 pub fn read_args<'a, S: AsStr>(alloc: Global, args: &'a [S]) -> Result<Request<'a>, Notice>
     ensures { Reads (map S.text args.entry.now) result }
 {
     read_request(alloc, args).map_err(|error| notice_of(alloc, &error))
 }
 
-/// What an error of `clap` has to say, as a text of its own.
+/// The notice of an error of `clap`, with a text of its own.
 fn notice_of(alloc: Global, error: &Error) -> Notice
     ensures { IsNotice (kind_of error.now) result }
 {
     notice_for(error.kind(), error.to_string(alloc))
 }
 
-/// What there is to say of an error of this kind, whose text is made, or can't be for want of memory.
+/// The notice of an error of this kind, whose text was made, or couldn't be because memory ran out.
 fn notice_for(kind: ErrorKind, text: Result<String, AllocError>) -> Notice
     ensures { IsNoticeFor kind text result }
 {
@@ -146,7 +146,7 @@ fn read_request<'a, S: AsStr>(alloc: Global, args: &'a [S]) -> Result<Request<'a
     }
 }
 
-/// The error of arguments in which `clap` found nothing wrong, and no command either.
+/// The error for arguments in which `clap` found no fault and no command.
 fn no_command(command: &mut Command<'_>) -> Error
     ensures { (kind_of result ≡ ErrorKind.OutOfMemory)
         ⊎ (kind_of result ≡ ErrorKind.MissingSubcommand) }
@@ -157,7 +157,7 @@ fn no_command(command: &mut Command<'_>) -> Error
     }
 }
 
-/// What the command asks for that `clap` met.
+/// What the command that `clap` met asks for; `None` if it met none with all that it needs.
 fn read_matches<'a>(matches: &ArgMatches<'a>) -> Option<Request<'a>>
     ensures some { IfSome result (Asks (subcommand_rows_of matches.now)) }
     ensures none { IfNone result (MeetsCommand (subcommand_rows_of matches.now) → ⊥) }
@@ -166,7 +166,7 @@ fn read_matches<'a>(matches: &ArgMatches<'a>) -> Option<Request<'a>>
     read_command(name, given)
 }
 
-/// What the arguments of the command `name` ask for.
+/// What the arguments of the command `name` ask for; `None` if it is unknown or one that it needs is missing.
 #[tactic(auto, using(crate::proofs::RequestLemmas::asked, crate::proofs::RequestLemmas::asked_one, crate::proofs::RequestLemmas::not_asked))]
 fn read_command<'a>(name: &str, given: &ArgMatches<'a>) -> Option<Request<'a>>
     ensures some { IfSome result (Asks (Some (name.now, rows_of (found_of given.now)))) }
@@ -185,7 +185,7 @@ fn read_command<'a>(name: &str, given: &ArgMatches<'a>) -> Option<Request<'a>>
     }
 }
 
-/// What those of `master` ask for.
+/// What the arguments of `master` ask for; `None` if one that it needs is missing.
 fn read_master<'a>(given: &ArgMatches<'a>) -> Option<Request<'a>>
     ensures some { IfSome result (IsAskedAs (codes "master") (rows_of (found_of given.now))) }
     ensures none { IfNone result (IsNeverAsked (codes "master") (rows_of (found_of given.now))) }
@@ -199,7 +199,7 @@ fn read_master<'a>(given: &ArgMatches<'a>) -> Option<Request<'a>>
     })
 }
 
-/// What those of `segment` ask for.
+/// What the arguments of `segment` ask for; `None` if one that it needs is missing.
 fn read_segment<'a>(given: &ArgMatches<'a>) -> Option<Request<'a>>
     ensures some { IfSome result (IsAskedAs (codes "segment") (rows_of (found_of given.now))) }
     ensures none { IfNone result (IsNeverAsked (codes "segment") (rows_of (found_of given.now))) }
@@ -215,7 +215,7 @@ fn read_segment<'a>(given: &ArgMatches<'a>) -> Option<Request<'a>>
     })
 }
 
-/// What those of `loop` ask for.
+/// What the arguments of `loop` ask for; `None` if one that it needs is missing.
 fn read_loop<'a>(given: &ArgMatches<'a>) -> Option<Request<'a>>
     ensures some { IfSome result (IsAskedAs (codes "loop") (rows_of (found_of given.now))) }
     ensures none { IfNone result (IsNeverAsked (codes "loop") (rows_of (found_of given.now))) }
@@ -227,7 +227,7 @@ fn read_loop<'a>(given: &ArgMatches<'a>) -> Option<Request<'a>>
     })
 }
 
-/// What those of `sim` ask for.
+/// What the arguments of `sim` ask for.
 fn read_sim<'a>(given: &ArgMatches<'a>) -> Request<'a>
     ensures { IsAskedAs (codes "sim") (rows_of (found_of given.now)) result }
 {
@@ -238,7 +238,7 @@ fn read_sim<'a>(given: &ArgMatches<'a>) -> Request<'a>
     }
 }
 
-/// What those of `decode` ask for.
+/// What the arguments of `decode` ask for.
 fn read_decode<'a>(given: &ArgMatches<'a>) -> Request<'a>
     ensures { IsAskedAs (codes "decode") (rows_of (found_of given.now)) result }
 {
@@ -248,7 +248,7 @@ fn read_decode<'a>(given: &ArgMatches<'a>) -> Request<'a>
     }
 }
 
-/// What those of `plan` ask for.
+/// What the arguments of `plan` ask for.
 fn read_plan<'a>(given: &ArgMatches<'a>) -> Request<'a>
     ensures { IsAskedAs (codes "plan") (rows_of (found_of given.now)) result }
 {
@@ -258,7 +258,7 @@ fn read_plan<'a>(given: &ArgMatches<'a>) -> Request<'a>
     }
 }
 
-/// What the arguments of `pass` ask for; none where one of them is missing, as of the other commands.
+/// What the arguments of `pass` ask for; `None` if one that it needs is missing.
 fn read_pass<'a>(given: &ArgMatches<'a>) -> Option<Request<'a>>
     ensures some { IfSome result (IsAskedAs (codes "pass") (rows_of (found_of given.now))) }
     ensures none { IfNone result (IsNeverAsked (codes "pass") (rows_of (found_of given.now))) }

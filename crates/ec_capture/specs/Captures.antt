@@ -1,5 +1,5 @@
--- A capture of EtherCAT frames: its interfaces by name, and the packets that were seen there, as Ethernet frames of type 0x88A4
--- (ETG.1000.4, "EtherCAT frame"); how it stands in a file, and what is read of a file.
+-- A capture of EtherCAT frames, how it stands in a file, and what is read of a file. It has interfaces by name, and packets that were
+-- seen there, as Ethernet frames of type 0x88A4 (ETG.1000.4, "EtherCAT frame").
 use Rattle.std.specs.Prelude.{ℕ, ◌+◌, ◌*◌, ◌/◌, ◌%◌, ◌^◌, ◌<◌, ◌≤◌, ◌==◌, List, [], ◌∷◌, ◌++◌, length, map, take, drop, slice_index, All, Bool, true, false, Option, None, Some, unwrap_or, option_map, if◌then◌else◌}
 use Rattle.std.specs.List.{filter_map}
 use Rattle.ec_capture.specs.Blocks.{Block, blocks_bytes, blocks_in, half, number, number_at, option_in, options_bytes, padded, padding}
@@ -7,7 +7,7 @@ use Rattle.ec_capture.specs.declared.packet.Packet.{Packet}
 
 -- ---- what it is
 
--- A payload that was seen: at which interface, when, in microseconds, whether it had passed a slave, and a comment on it.
+-- A payload that was seen: its interface, its time in microseconds, whether it had passed a slave, and a comment if there is one.
 pub record Seen : Type 0 where
   pub interface : ℕ
   pub time : ℕ
@@ -22,7 +22,7 @@ pub record Capture : Type 0 where
 
 -- ---- how it stands in a file
 
--- all Ethernet stations; and the sender, whose bit 1 of the first byte is set by a slave that the frame passes
+-- the broadcast address; and the sender's, whose first byte has bit 1 set if the frame has passed a slave
 abbrev pub everyone : List ℕ
 everyone = 255 ∷ 255 ∷ 255 ∷ 255 ∷ 255 ∷ 255 ∷ []
 
@@ -37,11 +37,11 @@ ethernet_head passed = everyone ++ (sender passed ++ (0x88 ∷ 0xA4 ∷ []))
 abbrev pub ethernet : Bool → List ℕ → List ℕ
 ethernet passed payload = ethernet_head passed ++ payload
 
--- how many bytes it has
+-- how many bytes that frame has
 abbrev pub ethernet_size : List ℕ → ℕ
 ethernet_size payload = 14 + length payload
 
--- the head of a file: the byte order, version 1.0, and a length that isn't told
+-- the section header: the byte order, version 1.0, and an unknown length
 abbrev pub section_block : Block
 section_block = record { kind = 0x0A0D0D0A; body = number 0x1A2B3C4D ++ (half 1 ++ (half 0 ++ (number 0xFFFFFFFF ++ number 0xFFFFFFFF))) }
 
@@ -73,11 +73,11 @@ file_of c = blocks_bytes (blocks_of c)
 
 -- ---- what can stand there
 
--- a text is as long as an option can be
+-- a text fits into an option
 abbrev pub IsText : List ℕ → Type 0
 IsText text = length text < 2 ^ 16
 
--- a comment, if there is one
+-- a comment, if there is one, fits into an option
 abbrev pub IsComment : Option (List ℕ) → Type 0
 IsComment None = Unit {0}
 IsComment (Some text) = IsText text

@@ -1,4 +1,4 @@
-//! The blocks of a capture.
+//! The blocks of a capture file, in the form pcapng.
 ghost use Rattle.std.specs.Prelude.{◌≡◌, ◌≤◌, ◌<◌, ◌+◌, ◌^◌, ◌++◌, length, option_map};
 ghost use Rattle.std.specs.List.{flat_map};
 ghost use Rattle.ec_capture.specs.Blocks.{block_bytes, number, options_bytes, padding, zeros};
@@ -9,35 +9,35 @@ use crate::packet::Packet;
 use crate::writing::{WriteFault, write_bytes};
 use std::io::Write;
 
-/// Blocks by their numbers.
+/// Types of blocks: the description of an interface, and a packet.
 const INTERFACE: u32 = 1;
 
 const PACKET: u32 = 6;
 
-/// Options by theirs.
+/// Codes of options: a comment, and the name of an interface.
 const COMMENT: u8 = 1;
 
 const NAME: u8 = 2;
 
-/// The link type of Ethernet, and behind it two bytes of zero.
+/// The link type of Ethernet in two bytes, and two reserved bytes of zero.
 const ETHERNET: u32 = 1;
 
-/// As many bytes of a frame may be kept.
+/// The most bytes of a frame that a packet keeps.
 const MAX_KEPT: u32 = 65535;
 
-/// The head of a file.
+/// The section header of a file: little-endian, version 1.0, of unknown length.
 const SECTION: [u8; 28] = [
     0x0A, 0x0D, 0x0D, 0x0A, 28, 0, 0, 0, 0x4D, 0x3C, 0x2B, 0x1A, 1, 0, 0, 0, 255, 255, 255, 255,
     255, 255, 255, 255, 28, 0, 0, 0,
 ];
 
-/// The high half of a time counts so many microseconds.
+/// One unit of the high half of a time, in microseconds.
 const HIGH: u64 = 1 << 32;
 
-/// As many bytes has an Ethernet header.
+/// The bytes of an Ethernet header.
 const ETHERNET_HEADER: usize = 14;
 
-/// The header of a frame as the master sends it, and of one that has passed a slave.
+/// The header of a frame as the master sends it, and of a frame that has passed a slave.
 const SENT: [u8; ETHERNET_HEADER] = [
     255, 255, 255, 255, 255, 255, 0x00, 0x00, 0x00, 0x45, 0x43, 0x01, 0x88, 0xA4,
 ];
@@ -46,22 +46,22 @@ const PASSED: [u8; ETHERNET_HEADER] = [
     255, 255, 255, 255, 255, 255, 0x02, 0x00, 0x00, 0x45, 0x43, 0x01, 0x88, 0xA4,
 ];
 
-/// Writes the head of a file.
+/// Writes the section header, with which a file begins.
 ///
 /// # Errors
 ///
-/// `WriteFault` where a write was refused; some first part of the head is written then.
+/// `WriteFault` if a write was refused. A first part of the header is written then.
 pub fn write_section<W: Write>(file: &mut W) -> Result<(), WriteFault>
     ensures { Writes (block_bytes section_block) (W.contents file.old) (W.contents file.new) result }
 {
     write_bytes(&SECTION, file)
 }
 
-/// Writes an interface with a name. The first that is written has number 0.
+/// Writes the description of an interface with a name of at most 65535 bytes. The first interface in a file has number 0.
 ///
 /// # Errors
 ///
-/// `WriteFault` where a write was refused; some first part of the block is written then.
+/// `WriteFault` if a write was refused. A first part of the block is written then.
 pub fn write_interface<W: Write>(name: &str, file: &mut W) -> Result<(), WriteFault>
     requires { IsText name.now }
     ensures { Writes (block_bytes (interface_block name.now)) (W.contents file.old) (W.contents file.new) result }
@@ -72,11 +72,11 @@ pub fn write_interface<W: Write>(name: &str, file: &mut W) -> Result<(), WriteFa
     write_numbers(&[size], file)
 }
 
-/// Writes a packet.
+/// Writes a packet: its payload as an Ethernet frame, with its interface, its time and its comment.
 ///
 /// # Errors
 ///
-/// `WriteFault` where a write was refused; some first part of the block is written then.
+/// `WriteFault` if a write was refused. A first part of the block is written then.
 pub fn write_packet<W: Write>(packet: &Packet<'_>, file: &mut W) -> Result<(), WriteFault>
     requires { IsSeen (seen_as packet.now) }
     ensures { Writes (block_bytes (packet_block (seen_as packet.now))) (W.contents file.old) (W.contents file.new) result }
@@ -92,7 +92,7 @@ pub fn write_packet<W: Write>(packet: &Packet<'_>, file: &mut W) -> Result<(), W
     write_numbers(&[size], file)
 }
 
-/// How many bytes an option with so many has, and the end of options behind it.
+/// The bytes of an option with `count` bytes of text, and of the end of options behind it.
 fn options_size(count: usize) -> u32
     requires { count < 2 ^ 16 }
     ensures value { result ≡ 8 + count + padding count }
@@ -101,7 +101,7 @@ fn options_size(count: usize) -> u32
     (8 + count + padding(count)) as u32
 }
 
-/// Writes an option, and that there are no more.
+/// Writes an option with a text, and the end of options.
 fn write_options<W: Write>(code: u8, text: &str, file: &mut W) -> Result<(), WriteFault>
     requires { length text.now < 2 ^ 16 }
     ensures { Writes (options_bytes code text.now) (W.contents file.old) (W.contents file.new) result }
@@ -113,7 +113,7 @@ fn write_options<W: Write>(code: u8, text: &str, file: &mut W) -> Result<(), Wri
     write_zeros(4, file)
 }
 
-/// Writes numbers of four bytes each.
+/// Writes numbers of four bytes each, little-endian.
 fn write_numbers<W: Write>(numbers: &[u32], file: &mut W) -> Result<(), WriteFault>
     ensures { Writes (flat_map number numbers.now) (W.contents file.old) (W.contents file.new) result }
 {
@@ -123,7 +123,7 @@ fn write_numbers<W: Write>(numbers: &[u32], file: &mut W) -> Result<(), WriteFau
     Ok(())
 }
 
-/// Writes so many zeros.
+/// Writes `count` zeros, at most four.
 #[tactic(auto, using(crate::proofs::Growing::few_zeros))]
 fn write_zeros<W: Write>(count: usize, file: &mut W) -> Result<(), WriteFault>
     requires { count ≤ 4 }
@@ -132,7 +132,7 @@ fn write_zeros<W: Write>(count: usize, file: &mut W) -> Result<(), WriteFault>
     write_bytes(&[0; 4][..count], file)
 }
 
-/// How many bytes go behind so many, to a multiple of four.
+/// How many bytes fill `count` bytes up to a multiple of four.
 #[tactic(auto, unfolding(crate::specs::Blocks::padding))]
 fn padding(count: usize) -> usize
     ensures value { result ≡ padding count }
@@ -141,7 +141,7 @@ fn padding(count: usize) -> usize
     (4 - count % 4) % 4
 }
 
-/// Writes the Ethernet frame of a payload, filled up to a multiple of four.
+/// Writes the Ethernet frame of a payload, filled up with zeros to a multiple of four bytes.
 fn write_frame<W: Write>(passed: bool, payload: &[u8], file: &mut W) -> Result<(), WriteFault>
     requires { length payload.now ≤ 1500 }
     ensures { Writes (ethernet_head passed ++ (payload.now ++ zeros (padding (ethernet_size payload.now)))) (W.contents file.old) (W.contents file.new) result }
@@ -159,7 +159,7 @@ fn ethernet_head(passed: bool) -> &'static [u8; ETHERNET_HEADER]
     if passed { &PASSED } else { &SENT }
 }
 
-/// Writes a comment, where there is one.
+/// Writes a comment, if there is one.
 fn write_comment<W: Write>(comment: Option<&str>, file: &mut W) -> Result<(), WriteFault>
     requires { IsComment (option_map (λ t. t.now) comment) }
     ensures { Writes (comment_bytes (option_map (λ t. t.now) comment.entry)) (W.contents file.old) (W.contents file.new) result }
@@ -170,7 +170,7 @@ fn write_comment<W: Write>(comment: Option<&str>, file: &mut W) -> Result<(), Wr
     }
 }
 
-/// How many bytes a comment has, where there is one.
+/// The bytes of a comment's option and of the end of options; 0 if there is no comment.
 fn comment_size(comment: Option<&str>) -> u32
     requires { IsComment (option_map (λ t. t.now) comment) }
     ensures size { result ≡ length (comment_bytes (option_map (λ t. t.now) comment.entry)) }

@@ -1,11 +1,11 @@
-//! A file that is written, and keeps whether all that was written is handed on.
+//! A file for writing, which keeps whether all written bytes were handed on.
 ghost use Rattle.std.specs.Prelude.{◌≡◌, OnOk, true};
 ghost use Rattle.std.specs.Io.KnownBytes.{Keeps};
 
 use std::io::{Result, Write};
 use std::marker::Model;
 
-/// A file that is written. It keeps whether all that was written is handed on, which a flush does; nobody else can say so.
+/// A file for writing. It keeps whether all written bytes were handed on, which a flush does; no other value has that.
 #[derive(Drop)]
 pub(crate) struct CaptureFile<W: Write + Drop> {
     file: W,
@@ -21,7 +21,7 @@ impl<W: Write + Drop> Model for CaptureFile<W> {
 }
 
 impl<W: Write + Drop> CaptureFile<W> {
-    /// A file, of which what it holds may not be handed on.
+    /// A file whose bytes may not have been handed on yet.
     pub(crate) fn new(file: W) -> CaptureFile<W>
         ensures { result.holds ≡ W.contents file }
     {

@@ -1,5 +1,5 @@
-//! Captures of EtherCAT frames, as files of the form pcapng that Wireshark opens: interfaces by name, and packets that were
-//! seen there, each an Ethernet frame of type 0x88A4 with a time and, if there is one, a comment.
+//! Captures of EtherCAT frames, as pcapng files that Wireshark opens. A capture has named interfaces, and packets that were seen
+//! there. Each packet is an Ethernet frame of type 0x88A4 with a time, and with a comment if there is one.
 #![tactic(auto)]
 
 mod blocks;

@@ -14,8 +14,8 @@ use std::convert::AsStr;
 use std::io::Write;
 use std::marker::Model;
 
-/// A capture that is being written: packets are noted one after the other, and each is handed on before the next. Once a write is
-/// refused, or what was written isn't handed on, it is cut short, and notes no more; nothing else comes of that.
+/// A capture that is being written. Each noted packet is written and handed on before the next one. If a write or a flush is refused,
+/// the capture is cut short and notes no more packets. Nothing else follows from that.
 #[derive(Drop)]
 pub struct Recorder<W: Write + Drop> {
     file: CaptureFile<W>,
@@ -35,11 +35,11 @@ impl<W: Write + Drop> Model for Recorder<W> {
 }
 
 impl<W: Write + Drop> Recorder<W> {
-    /// Begins a capture in a file, with interfaces of these names, the first of which has number 0.
+    /// Begins a capture in a file, with an interface for each name, in order. The first has number 0.
     ///
     /// # Errors
     ///
-    /// `WriteFault` where a write was refused, or what was written isn't handed on.
+    /// `WriteFault` if a write or the flush was refused.
     #[tactic(auto, using(crate::proofs::Growing::appends_kept))]
     pub fn open<S: AsStr>(file: W, names: &[S]) -> Result<Recorder<W>, WriteFault>
         requires { All IsText (map S.text names.now) }
@@ -59,22 +59,22 @@ impl<W: Write + Drop> Recorder<W> {
         })
     }
 
-    /// Whether it is whole: all of it is written and handed on.
+    /// Whether the capture is whole: all of it is written and handed on.
     pub fn is_whole(&self) -> bool
         ensures { result ≡ self.now.is_whole }
     {
         self.is_whole
     }
 
-    /// Its file.
+    /// The file of the capture.
     pub fn file(&self) -> &W
         ensures { W.contents result.now ≡ self.now.file }
     {
         self.file.file()
     }
 
-    /// Notes a packet, which stands in the file then and is handed on, unless that was refused now or before. One at an interface
-    /// that isn't there, or with more payload than an Ethernet frame has room for, cuts the capture short as a refused write does.
+    /// Writes a packet to the file and hands it on, unless the capture is cut short. A refused write or flush cuts it short. So does a
+    /// packet at an interface that doesn't exist, and one with a payload of more than 1500 bytes.
     pub fn note(&mut self, packet: &Packet<'_>)
         requires { IsComment (option_map (λ t. t.now) packet.now.comment) }
         ensures { Notes (seen_as packet.now ∷ []) self.old self.new }
@@ -85,7 +85,7 @@ impl<W: Write + Drop> Recorder<W> {
     }
 }
 
-/// Writes a packet as [`write_fitting`] does, and hands it on. Whether both are done.
+/// Writes a packet as [`write_fitting`] does, and hands it on. Returns whether both were done.
 #[tactic(auto, using(crate::proofs::Growing::appends_kept))]
 fn write_through<W: Write + Drop>(
     packet: &Packet<'_>,
@@ -102,7 +102,7 @@ fn write_through<W: Write + Drop>(
     write_fitting(packet, interfaces, file) && file.flush().is_ok()
 }
 
-/// Writes a packet, if it is at one of so many interfaces and has no more payload than an Ethernet frame. Whether it is
+/// Writes a packet, if its interface is one of `interfaces` and its payload has at most 1500 bytes. Returns whether it was
 /// written.
 #[tactic(auto, using(crate::proofs::Growing::no_part))]
 fn write_fitting<W: Write>(packet: &Packet<'_>, interfaces: usize, file: &mut W) -> bool
@@ -112,7 +112,7 @@ fn write_fitting<W: Write>(packet: &Packet<'_>, interfaces: usize, file: &mut W)
     ensures part { result ≡ false
         → AppendsPart (W.contents file.old) (W.contents file.new) (block_bytes (packet_block (seen_as packet.now))) }
 {
-    // its time has 64 bits, which the proof learns where the code reads it
+    // the proof learns that the time has 64 bits where the code reads it
     let _time = packet.time;
     if packet.interface >= interfaces.min(MAX_INTERFACES) || packet.payload.len() > MAX_PAYLOAD {
         return false;
@@ -120,7 +120,7 @@ fn write_fitting<W: Write>(packet: &Packet<'_>, interfaces: usize, file: &mut W)
     write_packet(packet, file).is_ok()
 }
 
-/// Writes interfaces of these names, one after the other.
+/// Writes the description of an interface for each name, in order.
 fn write_interfaces<W: Write, S: AsStr>(names: &[S], file: &mut W) -> Result<(), WriteFault>
     requires { All IsText (map S.text names.now) }
     ensures { Writes (blocks_bytes (map interface_block (map S.text names.now))) (W.contents file.old) (W.contents file.new) result }

@@ -1,4 +1,4 @@
-//! Bytes of a file.
+//! Writing bytes to a file.
 ghost use Rattle.ec_capture.specs.Writing.{Writes};
 
 use std::io::{ErrorKind, Write};
@@ -9,7 +9,7 @@ use thiserror::Error;
 #[error("the capture can't be written further")]
 pub struct WriteFault;
 
-/// Writes all of these bytes; a refused write leaves some first part of them. An interrupted write is made again.
+/// Writes all of these bytes. If a write is refused, a first part of them is written. An interrupted write is made again.
 pub(crate) fn write_bytes<W: Write>(bytes: &[u8], file: &mut W) -> Result<(), WriteFault>
     ensures { Writes bytes.now (W.contents file.old) (W.contents file.new) result }
 {

@@ -4,11 +4,11 @@ use Rattle.std.specs.Prelude.{◌≡◌, ◌≢◌, ℕ, ◌-◌, List, [], ◌�
 use Rattle.ec_card.specs.declared.ethernet.Sender.{Sender}
 use Rattle.ec_card.specs.declared.ethernet.Sender.TheVariants.{Master, Segment}
 
--- every station takes a frame with this destination
+-- the destination that every station takes: the broadcast address
 abbrev pub to_all : List ℕ
 to_all = 0xFF ∷ 0xFF ∷ 0xFF ∷ 0xFF ∷ 0xFF ∷ 0xFF ∷ []
 
--- Whose frame it is. A slave sets bit 1 of the first byte of the source, so a segment's frames have it set.
+-- The source address of a sender. A slave sets bit 1 of its first byte, so all frames of a segment have it set.
 abbrev pub source_of : Sender → List ℕ
 source_of Master = 0 ∷ 0 ∷ 0 ∷ 0x45 ∷ 0x43 ∷ 1 ∷ []
 source_of Segment = 2 ∷ 0 ∷ 0 ∷ 0x45 ∷ 0x43 ∷ 1 ∷ []
@@ -17,16 +17,16 @@ source_of Segment = 2 ∷ 0 ∷ 0 ∷ 0x45 ∷ 0x43 ∷ 1 ∷ []
 abbrev pub ether_type : List ℕ
 ether_type = 0x88 ∷ 0xA4 ∷ []
 
--- the zeros behind a payload: an Ethernet frame has 60 bytes at least, 14 of them before the payload
+-- the zeros behind a payload: an Ethernet frame has at least 60 bytes, 14 of them before the payload
 abbrev pub padding : List ℕ → List ℕ
 padding payload = replicate (46 - length payload) 0
 
--- the frame in which one sends a payload
+-- the frame in which a side sends a payload
 abbrev pub framed : Sender → List ℕ → List ℕ
 framed sender payload = to_all ++ source_of sender ++ ether_type ++ payload ++ padding payload
 
--- A frame that came is handed on: it has two addresses and the type of EtherCAT, and isn't one's own. The payload is all that
--- stands behind the type.
+-- A received frame is handed on: it has two addresses and the type of EtherCAT, and isn't one's own. The payload is all bytes behind
+-- the type.
 pub record HandsOn (own : Sender) (frame payload : List ℕ) : Type 0 where
   pub destination : List ℕ
   pub source : List ℕ

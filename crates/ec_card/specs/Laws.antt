@@ -4,16 +4,16 @@ use Rattle.ec_frame.specs.Frame.{IsFrame, Payload}
 use Rattle.ec_card.specs.declared.ethernet.Sender.{Sender}
 use Rattle.ec_card.specs.Ethernet.{HandsOn, framed, padding}
 
--- A payload that one side sends is what the other is handed, with its padding behind it, and nothing else.
+-- The other side is handed exactly the payload that one side sends, with its padding behind it.
 pub record PayloadsComeThrough : Type 0 where
   pub come : (sender own : Sender) (payload : List ℕ) → sender ≢ own → HandsOn own (framed sender payload) (payload ++ padding payload)
   pub alone : (sender own : Sender) (payload handed : List ℕ) → HandsOn own (framed sender payload) handed → handed ≡ payload ++ padding payload
 
--- what one has sent is not handed on to oneself
+-- a frame is never handed on to the side that sent it
 abbrev pub OwnFramesAreDropped : Type 0
 OwnFramesAreDropped = (own : Sender) (payload handed : List ℕ) → HandsOn own (framed own payload) handed → ⊥
 
--- A frame of datagrams with zeros behind it is a frame of the same datagrams: the zeros are bytes that no one touches.
+-- A frame of datagrams with zeros behind it is a frame of these datagrams: the zeros are bytes that no one touches.
 abbrev pub PaddingIsRest : Type 0
 PaddingIsRest = (payload : List ℕ) (p : Payload) (n : ℕ) → IsFrame payload p
     → IsFrame (payload ++ replicate n 0) (record p { rest = p.rest ++ replicate n 0 })
@@ -22,6 +22,6 @@ PaddingIsRest = (payload : List ℕ) (p : Payload) (n : ℕ) → IsFrame payload
 abbrev pub FramesAreLongEnough : Type 0
 FramesAreLongEnough = (sender : Sender) (payload : List ℕ) → 60 ≤ length (framed sender payload)
 
--- one frame has one payload
+-- a frame has at most one payload
 abbrev pub PayloadsAreReadOneWay : Type 0
 PayloadsAreReadOneWay = (one other : Sender) (frame payload handed : List ℕ) → HandsOn one frame payload → HandsOn other frame handed → handed ≡ payload

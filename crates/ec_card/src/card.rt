@@ -10,23 +10,23 @@ use std::marker::Model;
 use std::net::UdpSocket;
 use std::os::fd::IntoRawFd;
 
-/// As many bytes of a frame that comes as are read.
+/// The most bytes that are read of a received frame.
 const ROOM: usize = 1514;
 
-/// A master that got so many frames in a row which it isn't handed waits no longer.
+/// After this many frames in a row that aren't handed on, a master's receive is a fault.
 const MAX_FOREIGN: u64 = 1000;
 
-/// A wire over a network card: each payload goes in an Ethernet frame of type 0x88A4, and frames of
-/// other types, ones that are too short and one's own are dropped. It doesn't tell what it carried.
+/// A wire over a network card. It sends each payload in an Ethernet frame of type 0x88A4. It drops
+/// frames of other types, frames that are too short, and its own. Contracts don't know what it carried.
 ///
-/// A system like Linux hands a socket that is bound to that type no frame which the same system
-/// sends, but a card, a switch or a cable can bring one back that has passed no slave; so what comes
-/// from one's own source is dropped too.
+/// Linux hands a socket that is bound to this type no frame which the same system sends. But a card,
+/// a switch or a cable can bring back a frame that has passed no slave. So a frame with the wire's
+/// own source address is dropped too.
 #[derive(Drop)]
 pub struct CardWire {
     socket: PatientSocket,
     own: Sender,
-    // so many frames are read in one receive
+    // the most frames that one receive reads
     reads: u64,
     failures: u64,
 }
@@ -40,12 +40,12 @@ impl Model for CardWire {
 }
 
 impl CardWire {
-    /// A wire over a raw socket of a network card that was opened elsewhere and is bound to the card and to the type 0x88A4.
-    /// Frames go from `own`, each is waited for with `patience`, and it closes the socket in the end.
+    /// A wire over a raw socket of a network card, which the caller has opened and bound to the card and to the type 0x88A4. Its frames
+    /// have the source of `own`, and a receive waits for each frame with `patience`. The wire closes the socket when it is dropped.
     ///
     /// # Errors
     ///
-    /// `SocketFault` where the descriptor isn't that of a socket, or has no such patience. It is then left open.
+    /// `SocketFault` if the descriptor isn't that of a socket, or the system refuses the patience. The descriptor is then left open.
     pub fn of_descriptor(
         descriptor: i32,
         own: Sender,
@@ -54,11 +54,11 @@ impl CardWire {
         requires { pos 0 ≤ℤ descriptor }
         ensures { IfOk result (λ w. w ≡ silent 0) }
     {
-        // std has no type for a raw packet socket. It is held as a `UdpSocket`, whose timeouts, `send` and `recv` are calls that
-        // each socket has; no other is made.
+        // std has no type for a raw packet socket. So a `UdpSocket` holds it, whose timeouts, blocking mode, `send` and `recv` are calls
+        // that each socket has; no other is made.
         //
         // SAFETY: a descriptor of 0 or more is a number of this process's table. The caller opened it for this wire, which closes
-        // it once, unless it is given back here; a number that is no socket is refused by the system, as any call on it is.
+        // it once, unless it is given back here. If the number is no socket, the system refuses it, as it refuses any call on it.
         let socket = unsafe { UdpSocket::from_raw_fd(descriptor) };
         match PatientSocket::new(socket, patience) {
             Ok(socket) => Ok(CardWire {
@@ -74,7 +74,7 @@ impl CardWire {
         }
     }
 
-    /// Sends a payload in a frame, and answers whether all of it was sent.
+    /// Sends a payload in a frame. Returns whether all of it was sent.
     fn has_sent(&self, payload: &[u8]) -> bool {
         if payload.len() > MAX_FRAME_LEN {
             return false;
@@ -83,8 +83,8 @@ impl CardWire {
         self.socket.has_sent(&frame, None)
     }
 
-    /// Reads frames until one is handed on, and answers how many bytes of its payload are in the
-    /// buffer, or nothing at a fault.
+    /// Reads frames until one is handed on. Returns how many bytes of its payload are in the buffer, or
+    /// `None` if a call failed, or too many frames weren't handed on.
     fn await_payload(&self, buffer: &mut [u8]) -> Option<usize>
         ensures { IfSome result (λ count. count ≤ length buffer.new) }
     {
@@ -128,7 +128,7 @@ impl Wire for CardWire {
     }
 }
 
-/// How many frames are read in one receive.
+/// The most frames that one receive reads.
 fn reads_of(own: Sender, patience: Patience) -> u64 {
     match (own, patience) {
         (Sender::Master, Patience::For(_)) => MAX_FOREIGN,

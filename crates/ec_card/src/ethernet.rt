@@ -5,20 +5,20 @@ ghost use Rattle.ec_card.specs.Headings.{IsHandedOn};
 
 use arrayvec::ArrayVec;
 
-/// How many bytes stand before the payload: two addresses and the type.
+/// The bytes before the payload: two addresses of six bytes, and the type.
 pub(crate) const HEADING_LEN: usize = 14;
 
-/// How many bytes stand behind it at least: an Ethernet frame has 60, without its check sequence.
+/// The least number of bytes behind these: an Ethernet frame has 60, without its check sequence.
 const LEAST_PAYLOAD: usize = 46;
 
-/// The destination of a frame that every station takes.
+/// The destination that every station takes: the broadcast address.
 const TO_ALL: [u8; 6] = [0xFF; 6];
 
-/// The type of EtherCAT, its high byte first.
+/// The type of EtherCAT, 0x88A4, its high byte first.
 const ETHER_TYPE: [u8; 2] = [0x88, 0xA4];
 
-/// Whom a frame comes from: the master, or the segment of its slaves, which set bit 1 of the first
-/// byte of the source.
+/// The sender of a frame: the master, or the segment of its slaves, which set bit 1 of the first
+/// byte of the source address.
 #[derive(Clone, Copy, Debug, PartialEq, Eq, Drop)]
 pub enum Sender {
     Master,
@@ -29,7 +29,7 @@ pub enum Sender {
 pub type EthernetFrame = ArrayVec<u8, 1486>;
 
 impl Sender {
-    /// The source of its frames.
+    /// The source address of its frames.
     fn source(self) -> [u8; 6]
         ensures { result ≡ source_of self }
     {
@@ -40,8 +40,8 @@ impl Sender {
     }
 }
 
-/// The frame in which one sends a payload: to all, from the sender, of type 0x88A4, with zeros
-/// behind it up to 60 bytes.
+/// The frame in which `sender` sends a payload of at most 1472 bytes. It goes to the broadcast
+/// address, has type 0x88A4, and is filled up with zeros to at least 60 bytes.
 pub fn framed(sender: Sender, payload: &[u8]) -> EthernetFrame
     requires { length payload.now ≤ 1472 }
     ensures { result.items ≡ framed sender payload.now }
@@ -55,8 +55,8 @@ pub fn framed(sender: Sender, payload: &[u8]) -> EthernetFrame
     frame
 }
 
-/// What is handed on of a frame that came: all that stands behind its type. Of another type, of
-/// fewer than 14 bytes, and of one's own, it is nothing.
+/// The payload of a received frame: all bytes behind its type. It is `None` if the frame has another
+/// type, fewer than 14 bytes, or the source address of `own`.
 #[tactic(auto, using(crate::proofs::Through::handed_on, crate::proofs::Through::not_handed_on))]
 pub fn payload_of<'a>(own: Sender, frame: &'a [u8]) -> Option<&'a [u8]>
     ensures some { IfSome result (λ payload. HandsOn own frame.entry.now payload.now) }
@@ -85,8 +85,8 @@ fn append(frame: &mut EthernetFrame, bytes: &[u8])
     let _ = frame.try_extend_from_slice(bytes);
 }
 
-/// Whether a frame with this heading is handed on: its type is that of EtherCAT, and its source not
-/// one's own.
+/// Whether a frame whose first 14 bytes these are is handed on: its type is that of EtherCAT, and
+/// its source isn't one's own.
 fn is_handed_on(own: Sender, heading: &[u8]) -> bool
     requires { length heading.now ≡ 14 }
     ensures { IsTrue result ↔ IsHandedOn own heading.now }
@@ -94,7 +94,7 @@ fn is_handed_on(own: Sender, heading: &[u8]) -> bool
     are(&heading[12..], &ETHER_TYPE) && !are(&heading[6..12], &own.source())
 }
 
-/// Whether bytes are these.
+/// Whether two runs of bytes are equal.
 fn are(bytes: &[u8], wanted: &[u8]) -> bool
     ensures { IsTrue result ↔ (bytes.now ≡ wanted.now) }
 {

@@ -1,18 +1,18 @@
 //! Laws of the definitions of Ethernet frames. Each function does nothing: its contract is the law.
 ghost use Rattle.ec_card.specs.Laws.{FramesAreLongEnough, OwnFramesAreDropped, PaddingIsRest, PayloadsAreReadOneWay, PayloadsComeThrough};
 
-/// What one side sends in a frame the other is handed, padded, and nothing else.
+/// The other side is handed exactly the payload that one side sends, with its padding.
 #[tactic(auto, using(crate::proofs::Through::come_through))]
 pub fn payloads_come_through()
     ensures { PayloadsComeThrough }
 {}
 
-/// What one has sent is not handed on to oneself.
+/// A frame is never handed on to the side that sent it.
 pub fn own_frames_are_dropped()
     ensures { OwnFramesAreDropped }
 {}
 
-/// A frame of datagrams is a frame of the same datagrams with zeros behind it.
+/// A frame of datagrams with zeros behind it is a frame of these datagrams.
 #[tactic(auto, using(crate::proofs::Through::padded))]
 pub fn padding_is_rest()
     ensures { PaddingIsRest }
@@ -24,7 +24,7 @@ pub fn frames_are_long_enough()
     ensures { FramesAreLongEnough }
 {}
 
-/// A frame has one payload at most.
+/// A frame has at most one payload.
 pub fn payloads_are_read_one_way()
     ensures { PayloadsAreReadOneWay }
 {}

@@ -1,7 +1,7 @@
 //! Wires over network cards: Ethernet frames that carry EtherCAT, and a wire over the raw socket of a card.
 //!
-//! [`framed`] and [`payload_of`] say which bytes a frame has and what is handed on of one that came; [`CardWire`] sends and
-//! receives them.
+//! [`framed`] returns the frame of a payload, and [`payload_of`] the payload of a received frame. [`CardWire`] sends and receives
+//! such frames.
 #![tactic(auto)]
 
 mod card;

@@ -1,5 +1,5 @@
--- Which variables the bits of a process datagram are: by the plan's links bit `object_bit + i` of a slave's process data is bit
--- `image + i` of the image, and it stands in the logical space as many bits behind the slave's first one.
+-- Which variables the bits of a process datagram are. By the plan's links bit `object_bit + i` of a slave's process data is bit
+-- `image + i` of the image. It stands in the logical space as many bits behind the slave's first one.
 use Rattle.std.specs.Prelude.{ℕ, ◌+◌, ◌-◌, ◌*◌, ◌==◌, ◌&&◌, nat_le, Bool, true, false, List, Option, map, filter, position}
 use Rattle.ec_bits.specs.Bits.{bits_number, within}
 use Rattle.ec_table.specs.declared.rows.Direction.{Direction}
@@ -22,11 +22,11 @@ place_of p k l = (slave_at p l.slave).from + l.object_bit - 8 * (part_at p.parts
 abbrev pub is_carried : PlanState → ℕ → Link → Bool
 is_carried p k l = (part_of p l.slave == k) && nat_le l.count 64
 
--- a link with the number that its bits are in the data
+-- a link, with the number of its bits in the data
 abbrev pub carried_by : PlanState → ℕ → List ℕ → Link → Carried
 carried_by p k bytes l = record { link = l; number = bits_number bytes (place_of p k l) l.count }
 
--- what the data of part k carry of the variables of a direction, in the order of the plan's links
+-- the bits of variables of a direction that the data of part k carry, in the order of the plan's links
 abbrev pub carried : PlanState → ℕ → Direction → List ℕ → List Carried
 carried p k d bytes = map (carried_by p k bytes) (filter (is_carried p k) (links_of d p))
 

@@ -1,5 +1,5 @@
--- Which datagrams carry the process data of a part, and with which working counter they are predicted to come back (ETG.1000.4,
--- "Logical addressing"; that a part goes by one LRW, or by an LWR and an LRD over the same bytes, is a choice of this project).
+-- Which datagrams carry the process data of a part, and which working counter is predicted for them (ETG.1000.4, "Logical
+-- addressing"). That a part goes by one LRW, or by an LWR and an LRD over the same bytes, is a choice of this project.
 use Rattle.std.specs.Prelude.{ℕ, ◌==◌, ◌&&◌, ◌||◌, not, Bool, true, false, Option, Some, None, position, option_map}
 use Rattle.ec_frame.specs.declared.command.Command.{Command}
 use Rattle.ec_frame.specs.declared.command.Command.TheVariants.{Lrd, Lwr, Lrw}
@@ -17,7 +17,7 @@ way_of Lwr = Some Write
 way_of Lrd = Some Read
 way_of _ = None
 
--- the parts that go by an LWR and an LRD
+-- the commands of split parts, an LWR and an LRD
 abbrev pub is_split : ProcessCommand → Bool
 is_split Both = false
 is_split Write = true
@@ -30,12 +30,12 @@ is_of split address size part = ((part.address == address) && (part.bytes == siz
 abbrev pub process_by : PlanState → (address size : ℕ) → ProcessCommand → Option Process
 process_by p address size way = option_map (λ k. record { part = k; way = way }) (position (is_of (is_split way) address size) p.parts)
 
--- the part that a datagram of a command, an address and so many bytes of data is of, if it is of one
+-- the part whose data a datagram carries, by its command, its address and its bytes of data, if it carries one's
 abbrev pub process_of : PlanState → Option ProcessCommand → (address size : ℕ) → Option Process
 process_of p None address size = None
 process_of p (Some way) address size = process_by p address size way
 
--- of the predicted counters that of a datagram; a part that isn't split has an LRW alone
+-- the predicted counter of one datagram; a part that isn't split has an LRW alone
 abbrev pub counter_of : ProcessCommand → ExpectedCounters → Option ℕ
 counter_of Both (counters.Lrw n) = Some n
 counter_of Both (counters.Split w r) = None

@@ -1,4 +1,4 @@
-//! The variables that the bits of process data are.
+//! The variables in the bits of process data.
 ghost use Rattle.std.specs.Prelude.{◌≡◌, ◌<◌, ◌≤◌, IfOk, IfSome, length};
 ghost use Rattle.ec_link.specs.Plan.{part_at, part_of};
 ghost use Rattle.ec_link.specs.Usable.{IsUsable};
@@ -11,7 +11,7 @@ use ec_listed::Listed;
 use ec_table::Direction;
 use std::alloc::{AllocError, Global};
 
-/// Bits of variables that go over one link, and the number that they are in some process data.
+/// Bits of a variable that one link joins, and their number in some process data.
 #[derive(Clone, Copy, Debug, PartialEq, Eq)]
 pub struct Carried {
     /// Which bits they are.
@@ -20,10 +20,10 @@ pub struct Carried {
     pub number: u64,
 }
 
-/// What the data of a part carry of the variables of a direction, in the order of the plan's links. The
-/// error is want of memory.
+/// The bits of variables of a direction that the data of a part carry, in the order of the plan's links.
+/// `AllocError` if memory ran out.
 ///
-/// The caller knows that the plan is one that `ec_link::compile` made, and that these are all bytes of the
+/// The plan must be one that `ec_link::compile` made, and `content` must have all bytes of the
 /// part.
 pub fn carried_bits(
     alloc: Global,
@@ -46,7 +46,7 @@ pub fn carried_bits(
     Ok(found)
 }
 
-/// The place of the variable that has a bit of the image of a direction.
+/// The place of the variable that has a bit of the image of a direction; `None` if there is none.
 pub fn variable_at(plan: &Plan, direction: Direction, bit: usize) -> Option<usize>
     ensures value { result ≡ variable_of plan.now direction bit }
     ensures there { IfSome result (λ place. place < length plan.now.variables) }
@@ -100,7 +100,7 @@ fn has_bit(variable: &Variable, direction: Direction, bit: usize) -> bool
         && within(variable.from, usize::from(variable.bits), bit)
 }
 
-/// Whether two directions are one.
+/// Whether two directions are the same.
 fn same_direction(one: Direction, other: Direction) -> bool
     ensures { result ≡ same_direction one other }
 {

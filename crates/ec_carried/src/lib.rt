@@ -1,5 +1,5 @@
-//! What the process data of a plan's frames carry: of which part a datagram is, which variables its bits are
-//! and with which values, and the working counter that is predicted.
+//! What the process data of a plan's frames carry: a datagram's part, the variables of its bits with their
+//! values, and the predicted working counter.
 #![tactic(auto)]
 
 mod bits;

@@ -21,14 +21,14 @@ pub enum ProcessCommand {
 /// A process datagram of a plan.
 #[derive(Clone, Copy, Debug, PartialEq, Eq)]
 pub struct Process {
-    /// The part that it is of.
+    /// The part whose data it carries.
     pub part: usize,
     /// How it moves the part's data.
     pub way: ProcessCommand,
 }
 
 impl ProcessCommand {
-    /// That of a logical command.
+    /// How a logical command moves process data; `None` for any other command.
     pub fn of(command: Command) -> Option<ProcessCommand>
         ensures { result ≡ way_of command }
     {
@@ -40,7 +40,7 @@ impl ProcessCommand {
         }
     }
 
-    /// Whether parts that are split go by it.
+    /// Whether it moves the data of split parts.
     pub fn is_split(self) -> bool
         ensures { result ≡ is_split self }
     {
@@ -51,8 +51,8 @@ impl ProcessCommand {
     }
 }
 
-/// The part of a plan that a datagram with a command, a logical address and so many bytes of data is of,
-/// and how it moves the part's data; none where it is no process datagram of the plan.
+/// The part of a plan whose data a datagram carries, by its command, logical address and bytes of data, and how it
+/// moves them. `None` if it is no process datagram of the plan.
 pub fn find_process(plan: &Plan, command: Command, address: u32, size: usize) -> Option<Process>
     ensures value { result ≡ process_of plan.now (way_of command) address size }
     ensures there { IfSome result (λ process. process.part < length plan.now.parts) }
@@ -61,8 +61,8 @@ pub fn find_process(plan: &Plan, command: Command, address: u32, size: usize) ->
     find_by(plan, address, size, ProcessCommand::of(command)?)
 }
 
-/// The working counter with which a process datagram comes back where each slave of its part works; none
-/// where the part doesn't go by such a datagram.
+/// The working counter of a process datagram that comes back, if each slave of its part works. `None` if
+/// the part has no such datagram.
 pub fn predicted_counter(plan: &Plan, process: Process) -> Option<usize>
     requires { process.part < length plan.now.parts }
     ensures { result ≡ counter_of process.way (predicted plan.now process.part) }
@@ -75,7 +75,7 @@ pub fn predicted_counter(plan: &Plan, process: Process) -> Option<usize>
     }
 }
 
-/// The part of a plan that a datagram of a way is of.
+/// The part of a plan whose data a datagram carries that moves them this way; `None` if there is none.
 fn find_by(plan: &Plan, address: u32, size: usize, way: ProcessCommand) -> Option<Process>
     ensures value { result ≡ process_by plan.now address size way }
     ensures there { IfSome result (λ process. process.part < length plan.now.parts) }
@@ -85,7 +85,7 @@ fn find_by(plan: &Plan, address: u32, size: usize, way: ProcessCommand) -> Optio
     Some(Process { part, way })
 }
 
-/// The place of the part that a datagram over these bytes carries the data of.
+/// The place of the part whose data a datagram over these bytes carries; `None` if there is none.
 fn find_part(plan: &Plan, split: bool, address: u32, size: usize) -> Option<usize>
     ensures value { result ≡ position (is_of split address size) plan.now.parts }
     ensures there { IfSome result (λ part. part < length plan.now.parts) }

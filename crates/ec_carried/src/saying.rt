@@ -24,10 +24,10 @@ pub struct Told<'a> {
     pub counter: u16,
 }
 
-/// Adds what a datagram carries, for people, in lines, where it is a process datagram of the plan: its
-/// part with the predicted counter beside the one that came, and each variable with its value. If no
-/// slave has answered the datagram, these are outputs alone; an output is left out if its slave has
-/// put inputs over it. The error is want of memory.
+/// Adds what a datagram carries, for people, in lines, if it is a process datagram of the plan. These are its
+/// part, with the predicted counter beside the one that came, and each variable with its value. If no
+/// slave has answered the datagram, the variables are outputs alone; an output is left out if its slave has
+/// put inputs over it. `AllocError` if memory ran out.
 pub fn write_process(
     alloc: Global,
     text: &mut String,
@@ -108,7 +108,7 @@ fn write_carried(
     writeln!(text, " = {number} ({number:#x}), slave {slave}")
 }
 
-/// Adds the bits of a variable, where a link doesn't join all of them.
+/// Adds which bits of a variable they are, if a link doesn't join all of them.
 fn write_bits(text: &mut String, first: usize, count: usize, all: u8) -> Result<(), AllocError> {
     if count == usize::from(all) {
         return Ok(());
@@ -117,7 +117,7 @@ fn write_bits(text: &mut String, first: usize, count: usize, all: u8) -> Result<
     write!(text, " bits {first} to {last}")
 }
 
-/// Adds which part a datagram is of, and the predicted counter beside the one that came.
+/// Adds the part of a datagram, and the predicted counter beside the one that came.
 fn write_part(
     text: &mut String,
     plan: &Plan,

@@ -1,4 +1,4 @@
--- To be believed by reading, in this order: what `ecat pass` and `ecat plan` answer; what `ecat decode` and `ecat encode` print, and
+-- To be believed by reading, in this order: what `ecat pass` and `ecat plan` print; what `ecat decode` and `ecat encode` print, and
 -- `ecat decode` with remarks; and how a run ends.
 pub mod Passing
 pub mod Planning

@@ -1,4 +1,4 @@
--- What `ecat pass` answers (this project's profile).
+-- What `ecat pass` prints (this project's profile).
 use Rattle.std.specs.Prelude.{◌≡◌, ℕ, ◌<◌, ◌≤◌, ◌⊎◌, List, [], ◌∷◌, ◌++◌, length, replicate, Result, Ok, Err}
 use Rattle.hex.specs.Hex.{decode_of, encode_lower}
 use Rattle.hex.specs.declared.error.FromHexError.{FromHexError}
@@ -17,7 +17,7 @@ use Rattle.ec_console.specs.declared.refusal.Refusal.TheVariants.{Memory, Frame,
 abbrev pub plain_slave : SlaveState
 plain_slave = power_on plain_kind (record { vendor = 0; product = 0; revision = 0; serial = 0 })
 
--- a payload before and after its frame passes a ring of that many of them
+-- a payload before and after its frame passes a ring of that many plain slaves
 pub record ComesBack (slaves : ℕ) (sent back : List ℕ) : Type 0 where
   pub payload : Payload
   pub is_sent : IsFrame sent payload

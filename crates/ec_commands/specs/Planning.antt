@@ -1,4 +1,4 @@
--- What `ecat plan` answers (this project's profile).
+-- What `ecat plan` prints (this project's profile).
 use Rattle.std.specs.Prelude.{◌≡◌, ℕ, List, Bool, true, false, Result}
 use Rattle.ec_table.specs.Contents.{Contents}
 use Rattle.ec_link.specs.Machine.{StatesMachine}
@@ -17,7 +17,7 @@ form_of true explained = Header
 form_of false true = Explained
 form_of false false = Fixed
 
--- the plan in a form; of a plan that is explained, the text is free
+-- the plan in a form; the text of an explained plan is free
 abbrev pub IsShown : PlanForm → Contents → List ℕ → Type 0
 IsShown Fixed table answer = answer ≡ plan_text table.version (plan_of table)
 IsShown Explained table answer = Unit {0}

@@ -45,11 +45,11 @@ pub record Stream : Type 0 where
   pub old : OutputState
   pub new : OutputState
 
--- nothing is told of a command while it runs
+-- a command says nothing while it runs
 abbrev pub IsQuiet : Stream → Type 0
 IsQuiet told = told.new ≡ told.old
 
--- nothing is printed or told
+-- a command writes nothing
 abbrev pub IsSilent : (output told : Stream) → Type 0
 IsSilent output told = (output.new ≡ output.old) × IsQuiet told
 
@@ -75,7 +75,7 @@ RunsSegment descriptor frames port output told input t lines ended = ServesMachi
 abbrev pub RunsMaster : Reasons → (output told : Stream) → Given → Contents → List Line → Result Unit Refusal → Type 0
 RunsMaster reasons output told input t lines ended = RunsMachine reasons t input output.old output.new ended × IsQuiet told
 
--- what is read of the input for some work, in which form its slaves are shown, and what is done
+-- what some work reads of the input, in which form its slaves are shown, and what it does
 abbrev pub source_of : Work → Source
 source_of (work.Script reasons) = takes.Script
 source_of (work.Live reasons) = takes.Lines
@@ -101,14 +101,15 @@ does_of (work.Master reasons way) = RunsMaster reasons
 abbrev pub RunsWork : Source → SlaveForm → (does : Stream → Stream → Given → Contents → List Line → Result Unit Refusal → Type 0) → (file : Option (List ℕ)) → (given : Given) → (output told : Stream) → Result Unit Refusal → Type 0
 RunsWork source form does file given output told ended = RunsSource source form file (does output told) (IsSilent output told) given ended
 
--- `ecat sim`, whose lines are run as a script, or as they come, and which tells why they say `no`, where it explains
+-- `ecat sim`, whose lines are run as a script, or as they come, with a capture if its file is named. If it explains, it prints why
+-- they say `no`.
 abbrev pub RunsSim : (live : Bool) → (file : Option (List ℕ)) → (explained : Bool) → (given : Given) → (output told : Stream) → Result Unit Refusal → Type 0
 RunsSim false file explained = RunsWork takes.Script Plain (RunsScript (reasons_of explained)) file
 RunsSim true file explained = RunsWork takes.Lines Plain (RunsAsTheyCome (reasons_of explained)) file
 
 -- ---- all commands
 
--- what a command does with the output, and what is told of it while it runs, by what the input gives, where that is known
+-- what a command does with the output, and what it says while it runs, by what the input gives, if that is known
 abbrev pub Runs : Command → (given : Given) → (output told : Stream) → Result Unit Refusal → Type 0
 Runs (PassOf slaves text) given output told ended = RunsPass slaves text output.old output.new ended × IsQuiet told
 Runs (PlanOf header explained) given output told ended = RunsPlan (shown_as header explained) given output.old output.new ended × IsQuiet told
@@ -133,7 +134,7 @@ LeavesAlone (LoopOf cycles capture explained) input_old input_new app_old app_ne
 LeavesAlone (SegmentOf frames port descriptor full idle capture explained) input_old input_new app_old app_new = Unit {0}
 LeavesAlone (MasterOf to descriptor patience capture explained) input_old input_new app_old app_new = app_new ≡ app_old
 
--- what some work leaves alone: its application, if it simulates no slaves that show one
+-- what some work leaves alone: the application, unless it simulates slaves
 abbrev pub LeavesApp : {A : Type 0} → Work → (old new : A) → Type 0
 LeavesApp (work.Script reasons) old new = new ≡ old
 LeavesApp (work.Live reasons) old new = new ≡ old
@@ -141,22 +142,22 @@ LeavesApp (work.Cycles cycles) old new = Unit {0}
 LeavesApp (work.Segment form endpoint) old new = Unit {0}
 LeavesApp (work.Master reasons way) old new = new ≡ old
 
--- what may be told behind the line of a refusal: nothing, where it isn't to be explained; else the text is free
+-- what may stand behind the line of a refusal: nothing, unless the refusal is to be explained; then the text is free
 abbrev pub MayTell : Bool → List ℕ → Type 0
 MayTell false more = more ≡ []
 MayTell true more = Unit {0}
 
--- the exit status of a run, and what is told of it: a refusal's line
+-- the exit status of a run, and what it writes to the fault stream: the line of a refusal
 abbrev pub Tells : Stream → ℕ → Result Unit Refusal → Type 0
 Tells faults status (Ok done) = (status ≡ 0) × (faults.new ≡ faults.old)
 Tells faults status (Err refusal) = (status ≡ status_of refusal) × IsTold (line_of refusal) faults.old faults.new
 
--- the same of a run that may explain a refusal: what is told begins with its line, and behind that there is more
+-- as `Tells`, for a run that may explain a refusal: it writes the line of the refusal, and `more` behind that
 abbrev pub TellsWith : List ℕ → Stream → ℕ → Result Unit Refusal → Type 0
 TellsWith more faults status (Ok done) = (status ≡ 0) × (faults.new ≡ faults.old)
 TellsWith more faults status (Err refusal) = (status ≡ status_of refusal) × IsTold (line_of refusal ++ more) faults.old faults.new
 
--- how a run ends that was asked for a command, or that has to tell something in place of one
+-- how a run ends that was asked for a command, or that prints a notice in place of one
 abbrev pub Ends : Result Request Notice → (given : Given) → (output faults : Stream) → ℕ → Type 0
 Ends (Ok request) given output faults status =
     (ended : Result Unit Refusal) × (noted : OutputState) × (more : List ℕ) × Runs (command_of request) given output (record { old = faults.old; new = noted }) ended
@@ -170,7 +171,7 @@ abbrev pub EndsAlone : {R A : Type 0} → Result Request Notice → (input_old i
 EndsAlone (Ok request) input_old input_new app_old app_new = LeavesAlone (command_of request) input_old input_new app_old app_new
 EndsAlone (Err told) input_old input_new app_old app_new = (input_new ≡ input_old) × (app_new ≡ app_old)
 
--- what a command leaves of the input: all of it, where it reads none
+-- what a command leaves of the input: all of it, if it reads none
 abbrev pub LeavesInput : {R : Type 0} → Command → (old new : R) → Type 0
 LeavesInput (PassOf slaves text) old new = new ≡ old
 LeavesInput (PlanOf header explained) old new = Unit {0}
@@ -181,12 +182,12 @@ LeavesInput (LoopOf cycles capture explained) old new = Unit {0}
 LeavesInput (SegmentOf frames port descriptor full idle capture explained) old new = Unit {0}
 LeavesInput (MasterOf to descriptor patience capture explained) old new = Unit {0}
 
--- what a run leaves of it: all, too, where there is something to tell in place of a command
+-- what a run leaves of the input: all of it, too, if it prints a notice in place of a command
 abbrev pub EndsUnread : {R : Type 0} → Result Request Notice → (old new : R) → Type 0
 EndsUnread (Ok request) old new = LeavesInput (command_of request) old new
 EndsUnread (Err told) old new = new ≡ old
 
--- what is told where an argument isn't text
+-- what the fault stream gets if an argument isn't text
 abbrev pub not_text : List ℕ
 not_text = codes "error: an argument of the command line isn't text" ++ 10 ∷ []
 
@@ -194,14 +195,14 @@ not_text = codes "error: an argument of the command line isn't text" ++ 10 ∷ [
 abbrev pub given_words : IntoIter (String Global) Global → List (List ℕ)
 given_words given = map string_bytes (into_iter_items given)
 
--- what is told of arguments that can't be read, by the error that the system gave: that memory ran out, or that one isn't text
+-- what the fault stream gets if arguments can't be read, by the system's error: that memory ran out, or that one isn't text
 abbrev pub TellsUnread : Error → (faults : Stream) → ℕ → Type 0
 TellsUnread error faults status =
     ((error_kind error ≡ OutOfMemory) × Tells faults status (Err Memory))
     ⊎ ((error_kind error ≢ OutOfMemory) × (status ≡ 2) × IsTold not_text faults.old faults.new)
 
--- how a run ends to which the system gave these arguments: as with them; or, where memory runs out before they are read or
--- they can't be read, with nothing read or printed, and what is told in its place
+-- how a run ends to which the system gave these arguments: as with them. If memory runs out before they are read, or they can't be
+-- read, it reads and prints nothing, and the fault stream says so.
 abbrev pub EndsGiven : {R : Type 0} → Result (IntoIter (String Global) Global) Error → (known : Given) → (input_old input_new : R) → (output faults : Stream) → ℕ → Type 0
 EndsGiven (Ok given) known input_old input_new output faults status =
     ((read : Result Request Notice) × Reads (given_words given) read × Ends read known output faults status × EndsUnread read input_old input_new)

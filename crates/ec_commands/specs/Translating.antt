@@ -10,25 +10,25 @@ use Rattle.ec_console.specs.declared.refusal.Refusal.TheVariants.{Memory, Script
 use Rattle.ec_console.specs.Given.{Given, GivesText, IsInputRefusal}
 use Rattle.ec_console.specs.Printing.{IsCutOff, IsPrinted, OutputState, Prints}
 
--- what is printed of the lines that the input gives, up to the first that isn't hex; and whether there is none
+-- what is printed of the input's lines, up to the first that isn't hex; and whether there is none
 pub record Decodes (given : Given) (printed : List ℕ) (whole : Bool) : Type 0 where
   pub text : List ℕ
   pub gives : GivesText given text
   pub decodes : DecodesLines (lines text) printed whole
 
--- `ecat decode`: all lines are printed; or those before the first that isn't hex; or a write was refused, and a first part of
--- them is; or the input is refused, and nothing is printed
+-- `ecat decode`: all lines are printed, or those before the first that isn't hex. Or a write was refused, and a first part of
+-- them is printed. Or the input is refused, and nothing is printed.
 abbrev pub RunsDecode : (given : Given) → (old new : OutputState) → Result Unit Refusal → Type 0
 RunsDecode given old new (Ok done) = (printed : List ℕ) × Decodes given printed true × IsPrinted old new printed
 RunsDecode given old new (Err BadHex) = (printed : List ℕ) × Decodes given printed false × IsPrinted old new printed
 RunsDecode given old new (Err Output) = (printed : List ℕ) × (whole : Bool) × Decodes given printed whole × IsCutOff old new printed
 RunsDecode given old new (Err refusal) = IsInputRefusal given refusal × (new ≡ old)
 
--- the frames of a text in hex, a line for each
+-- the frames of a text in hex, one a line
 abbrev pub IsEncoded : List ℕ → List ℕ → Type 0
 IsEncoded text printed = (ps : List Payload) × (frames_of text ≡ Ok ps) × AreSpelled ps printed
 
--- the first line that is out of form
+-- the refusals of a text that is out of form, by its first bad line; memory may run out at any time
 abbrev pub IsOutOfForm : List ℕ → Refusal → Type 0
 IsOutOfForm text Memory = Unit {0}
 IsOutOfForm text (Script (script.BadScript n)) = frames_of text ≡ Err n

@@ -13,7 +13,7 @@ use hex::FromHexError;
 use std::alloc::{AllocError, Global};
 use std::io::Write;
 
-/// The identity of slaves that stand for none in particular.
+/// The identity of slaves that are no device in particular.
 const NO_IDENTITY: Identity = Identity {
     vendor: 0,
     product: 0,
@@ -21,10 +21,10 @@ const NO_IDENTITY: Identity = Identity {
     serial: 0,
 };
 
-/// The frame that the text spells in hex digits of either case, as it comes back from a ring of
-/// that many slaves at power-on without PDOs, in lower-case hex. The text is the payload of a UDP
-/// datagram to port 34980 (0x88A4). Refused are, in this order, a text that isn't hex, more than
-/// 1472 bytes, and what `ec_frame::check` refuses. Where memory ran out the refusal is `Refusal::Memory`.
+/// The frame that `text` spells, as it comes back from a ring of `slaves` slaves at power-on without
+/// PDOs, in lower-case hex. The text is the payload of a UDP datagram to port 34980 (0x88A4), in hex
+/// digits of either case. It refuses, in this order, a text that isn't hex, more than 1472 bytes, and
+/// what `ec_frame::check` refuses. It returns `Refusal::Memory` if memory ran out.
 pub fn pass_hex(alloc: Global, slaves: usize, text: &str) -> Result<String, Refusal>
     ensures answer { IfOk result (λ answer. IsAnswer slaves text.now (string_bytes answer)) }
     ensures refused { IfErr result (IsPassRefusal text.now) }
@@ -36,11 +36,11 @@ pub fn pass_hex(alloc: Global, slaves: usize, text: &str) -> Result<String, Refu
     Ok(hex::encode(alloc, payload.as_slice())?)
 }
 
-/// Prints what `pass_hex` answers, and a newline.
+/// Prints what `pass_hex` returns, and a newline.
 ///
 /// # Errors
 ///
-/// What [`pass_hex`] refuses, `Refusal::Memory` where memory ran out, and `Refusal::Output` where a write was refused.
+/// What [`pass_hex`] refuses, `Refusal::Memory` if memory ran out, and `Refusal::Output` if a write was refused.
 pub fn print_pass<W: Write + Drop>(
     alloc: Global,
     slaves: usize,

@@ -14,7 +14,7 @@ use ec_text::{header_text, plan_text};
 use std::alloc::Global;
 use std::io::{Read, Write};
 
-/// How the plan of a table is shown.
+/// How the plan of a table is printed.
 #[derive(Clone, Copy, Debug, PartialEq, Eq, Drop)]
 pub enum PlanForm {
     /// In its fixed form, for programs.
@@ -26,7 +26,7 @@ pub enum PlanForm {
 }
 
 impl PlanForm {
-    /// The form that is asked for.
+    /// The form that the flags ask for: with `header` a header, also if `explained`.
     pub fn of(header: bool, explained: bool) -> PlanForm
         ensures { result ≡ form_of header explained }
     {
@@ -42,7 +42,7 @@ impl PlanForm {
 ///
 /// # Errors
 ///
-/// What [`read_machine`] refuses, and `Refusal::Memory` where memory ran out.
+/// What [`read_machine`] refuses, and `Refusal::Memory` if memory ran out.
 pub fn show_plan(alloc: Global, form: PlanForm, text: &str) -> Result<String, Refusal>
     ensures answer { IfOk result (λ answer. IsPlanAnswer form text.now (string_bytes answer)) }
     ensures refused { IfErr result (IsTableRefusal text.now) }
@@ -51,13 +51,13 @@ pub fn show_plan(alloc: Global, form: PlanForm, text: &str) -> Result<String, Re
     text_of(alloc, form, &machine)
 }
 
-/// Prints what `show_plan` answers to all that the input gives; a refusal of it is explained, where
-/// that is wanted.
+/// Prints what [`show_plan`] returns for the whole text of the input, and explains its refusal in
+/// `behind`, if that is wanted.
 ///
 /// # Errors
 ///
-/// `Refusal::Input` where the input couldn't be read, isn't text or is too long; those of [`show_plan`]; and `Refusal::Output`
-/// where a write was refused.
+/// `Refusal::Input` if the input couldn't be read, isn't text or is too long; those of [`show_plan`]; and `Refusal::Output`
+/// if a write was refused.
 pub fn print_plan<R: Read + Drop, W: Write + Drop>(
     alloc: Global,
     form: PlanForm,

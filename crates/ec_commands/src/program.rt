@@ -15,12 +15,12 @@ use std::io::{ErrorKind, Read, Write};
 use std::net::Net;
 use std::time::Clock;
 
-/// What is told where an argument can't be read.
+/// What standard error says if an argument isn't text.
 const NOT_TEXT: &str = "error: an argument of the command line isn't text\n";
 
 /// Runs the program `ecat` on the arguments that `std::env::args` gives, as `run_command` does, and
-/// answers its exit status. Slaves that it simulates show their outputs as their inputs. Where an
-/// argument isn't text the status is 2, as for others that ask for no command.
+/// returns its exit status. Slaves that it simulates show their outputs as their inputs. If an
+/// argument isn't text, the status is 2, as for other arguments that ask for no command.
 pub fn run_program<
     H: AllocGlobal + Net + Files + Clock,
     R: Read + Drop,
@@ -47,7 +47,7 @@ pub fn run_program<
     }
 }
 
-/// Tells that the arguments can't be read, by the system's error, and answers the exit status.
+/// Writes to `faults` why the arguments can't be read, by the system's error, and returns the exit status.
 fn tell_unread<F: Write + Drop>(error: &io::Error, faults: &mut OutputStream<F>) -> u8
     ensures tells { TellsUnread error.now
         (record { old = faults.old; new = faults.new }) result }

@@ -1,4 +1,4 @@
-//! `ecat decode` with remarks for people: those that the standard's names make, and those of a link table.
+//! `ecat decode` with remarks for people, by the standard's names and by a link table.
 ghost use Rattle.std.specs.Prelude.{IfErr, option_map};
 ghost use Rattle.std.specs.Option.{ForSome};
 ghost use Rattle.ec_link.specs.Usable.{IsUsable};
@@ -13,14 +13,14 @@ use std::alloc::Global;
 use std::fs::{File, Files};
 use std::io::{Read, Write};
 
-/// Prints what `print_decode` prints, with remarks for people behind the lines, all of which are indented:
-/// by the names of the standard where they are told, and which variables process data carry, with the
-/// predicted working counter, where the link table in a file is named. The file is read before the input.
+/// Prints what `print_decode` prints, with indented lines of remarks for people between. The remarks use the
+/// standard's names if `names` says so. If the file of a link table is named, they also have the variables that
+/// process data carry, and the predicted working counter. The file is read before the input.
 ///
 /// # Errors
 ///
-/// `Refusal::Input` where the file can't be read, or the refusal of the table in it, and nothing is
-/// printed; else those of `print_decode`.
+/// `Refusal::Input` if the file can't be read, or the refusal of the table in it: nothing is printed then. Else
+/// those of `print_decode`.
 pub fn print_remarked<H: AllocGlobal + Files, R: Read + Drop, W: Write + Drop>(
     rt: &H,
     table: Option<&str>,
@@ -37,12 +37,12 @@ pub fn print_remarked<H: AllocGlobal + Files, R: Read + Drop, W: Write + Drop>(
     }
 }
 
-/// `ecat decode`: prints the payloads that the lines of the input spell, with remarks where a table is named
-/// or names are told, as `print_remarked` does; else as `print_decode` does.
+/// `ecat decode`: prints the payloads that the lines of the input spell. If a table is named or the standard's names are
+/// wanted, it prints as `print_remarked` does, else as `print_decode` does.
 ///
 /// # Errors
 ///
-/// Those of the one that is called.
+/// Those of the function that it calls.
 pub fn print_payloads<H: AllocGlobal + Files, R: Read + Drop, W: Write + Drop>(
     rt: &H,
     table: Option<&str>,
@@ -73,7 +73,7 @@ fn print_by_file<H: AllocGlobal + Files, R: Read + Drop, W: Write + Drop>(
     print_by_text(rt.alloc(), names, text.as_str(), input, output)
 }
 
-/// The text in a file.
+/// The text in a file. `Refusal::Input` if the file can't be opened, can't be read, or isn't text of at most 2^20 bytes.
 fn read_file<H: AllocGlobal + Files>(rt: &H, path: &str) -> Result<String, Refusal>
     ensures { IfErr result IsUnread }
 {
@@ -98,7 +98,7 @@ fn print_by_text<R: Read + Drop, W: Write + Drop>(
     print_linked(alloc, names, &machine, input, output)
 }
 
-/// The same by a machine.
+/// Prints the input's payloads with remarks by a machine's table and plan.
 fn print_linked<R: Read + Drop, W: Write + Drop>(
     alloc: Global,
     names: Names,
@@ -115,7 +115,7 @@ fn print_linked<R: Read + Drop, W: Write + Drop>(
     print_text_remarked(alloc, names, Some(links), input, output)
 }
 
-/// Prints the input's payloads with remarks.
+/// Prints the input's payloads with remarks, by a link table if there is one.
 fn print_text_remarked<R: Read + Drop, W: Write + Drop>(
     alloc: Global,
     names: Names,

@@ -25,11 +25,11 @@ use std::io::{Read, Write};
 use std::net::Net;
 use std::time::Clock;
 
-/// Runs the command that the arguments ask for, the first of which is the program's name, and
-/// answers the exit status: 0 done, also where help was asked for and is on the output; 2 the
-/// arguments ask for no command; 3 refused; 4 a fault of input or output; 5 what a script expects
-/// wasn't so. What failed is told on the console's `faults`, with an explanation behind it where the
-/// arguments ask for one, and a fault in writing it changes nothing.
+/// Runs the command that the arguments ask for, and returns the exit status. The first argument is the
+/// program's name. The status is 0 if all was done, or help is on the output. It is 2 if the arguments
+/// ask for no command, and 3 after a refusal. It is 4 after a fault of input or output, and 5 if what a
+/// script expects doesn't hold. The console's `faults` gets what failed, with an explanation behind it if
+/// the arguments ask for one. A fault in writing it changes nothing.
 ///
 /// Simulated slaves take their inputs from `app`, and a command that reads a text reads the console's
 /// `input`.
@@ -58,8 +58,8 @@ pub fn run_command<
     end_run(rt, read_args(rt.alloc(), args), console, app)
 }
 
-/// Ends a run whose arguments were read: runs the command, or tells what there is to tell in its
-/// place, and answers the exit status.
+/// Ends a run whose arguments were read: runs the command, or prints the notice that stands in its
+/// place, and returns the exit status.
 fn end_run<H: AllocGlobal + Net + Files + Clock, R: Read + Drop, W: Write + Drop, F: Write + Drop>(
     rt: &H,
     read: Result<Request<'_>, Notice>,
@@ -92,7 +92,7 @@ fn end_run<H: AllocGlobal + Net + Files + Clock, R: Read + Drop, W: Write + Drop
     }
 }
 
-/// The exit status of a run, a refusal of which is told with more behind its line.
+/// The exit status of a run; writes its refusal, if it has one, to `faults`, with `more` behind the line.
 fn explained_status<F: Write + Drop>(
     ended: Result<(), Refusal>,
     more: &[u8],
@@ -107,7 +107,7 @@ fn explained_status<F: Write + Drop>(
     }
 }
 
-/// The exit status of a run. A refusal is told; a fault in telling it changes nothing.
+/// The exit status of a run; writes its refusal, if it has one, to `faults`. A fault in writing changes nothing.
 fn exit_status<F: Write + Drop>(ended: Result<(), Refusal>, faults: &mut OutputStream<F>) -> u8
     ensures { Tells (record { old = faults.old; new = faults.new })
         result ended }
@@ -118,8 +118,8 @@ fn exit_status<F: Write + Drop>(ended: Result<(), Refusal>, faults: &mut OutputS
     }
 }
 
-/// Runs one command. The application and sockets are for the commands that simulate slaves or serve
-/// them; the fault stream is for what is told of a command while it runs.
+/// Runs one command. `app` and sockets are for commands that simulate slaves or serve them; `faults`
+/// is for what a command says while it runs.
 fn run_request<
     H: AllocGlobal + Net + Files + Clock,
     R: Read + Drop,

@@ -1,4 +1,4 @@
-//! The two commands: the whole input is read, and then its answer is printed.
+//! `ecat decode` and `ecat encode`: each reads the whole input, and then prints the result.
 ghost use Rattle.std.specs.Prelude.{IfErr, IfOk, string_bytes};
 ghost use Rattle.ec_commands.specs.Translating.{IsEncoded, IsOutOfForm, RunsDecode, RunsEncode};
 ghost use Rattle.ec_console.specs.Given.{given_by};
@@ -9,13 +9,13 @@ use ec_script::ScriptError;
 use std::alloc::Global;
 use std::io::{Read, Write};
 
-/// Prints the text of each payload that a line of the input spells in hex digits of either case: of a frame a line for it and
-/// one for each of its datagrams, of what is none the datagrams before its fault, and the fault. Empty lines are skipped.
+/// Prints as text each payload that a line of the input spells in hex digits of either case. A frame is one line, and one for each of
+/// its datagrams. A payload that is no frame is the datagrams before its fault, and the fault. Empty lines are skipped.
 ///
 /// # Errors
 ///
-/// `Refusal::BadHex` at the first line that isn't hex, behind the texts of those before it; the refusal of the input;
-/// `Refusal::Output` where a write was refused.
+/// The refusal of the input. `Refusal::BadHex` at the first line that isn't hex, behind the texts of those before it.
+/// `Refusal::Output` if a write was refused, `Refusal::Memory` if memory ran out.
 pub fn print_decode<R: Read + Drop, W: Write + Drop>(
     alloc: Global,
     input: &mut InputStream<R>,
@@ -33,13 +33,13 @@ pub fn print_decode<R: Read + Drop, W: Write + Drop>(
     }
 }
 
-/// Prints each frame that the text on the input states, as `print_decode` prints them, in lower-case hex. Empty lines and
-/// indented ones are skipped.
+/// Prints the frames of a text on the input in lower-case hex, one a line. The text has the form that `print_decode` prints. Empty
+/// lines and indented ones are skipped.
 ///
 /// # Errors
 ///
-/// `Refusal::Script` with the number of the first line that is out of form, or of the one behind the last where datagrams are
-/// missing; the refusal of the input; `Refusal::Output` where a write was refused. Nothing is printed of a text that is refused.
+/// `Refusal::Script` with the number of the first line that is out of form, or of the line behind the last if datagrams are missing.
+/// The refusal of the input. `Refusal::Output` if a write was refused. If the text or the input is refused, nothing is printed.
 pub fn print_encode<R: Read + Drop, W: Write + Drop>(
     alloc: Global,
     input: &mut InputStream<R>,
@@ -52,7 +52,7 @@ pub fn print_encode<R: Read + Drop, W: Write + Drop>(
     print_text(answer.as_bytes(), output)
 }
 
-/// The frames of a text in hex, a line for each.
+/// The frames of a text in hex, one a line. The errors are `Refusal::Script` and `Refusal::Memory`.
 fn encoded(alloc: Global, text: &str) -> Result<String, Refusal>
     ensures answer { IfOk result (λ answer. IsEncoded text.now (string_bytes answer)) }
     ensures refused { IfErr result (IsOutOfForm text.now) }

@@ -1,4 +1,4 @@
-//! Commands that run a machine: its text, the machine, a capture, the run, the explanation, the capture's end.
+//! Commands that run a machine, in one order: its text, the machine, a capture, the run, the end of the capture, the explanation.
 ghost use Rattle.std.specs.Prelude.{◌≡◌, is_some, option_map};
 ghost use Rattle.ec_console.specs.Explaining.{IsLeft};
 ghost use Rattle.ec_console.specs.Given.{given_by};
@@ -71,13 +71,13 @@ impl Work<'_> {
     }
 }
 
-/// Does some work with the machine that the input states. What it sends and receives goes into a capture, if a file is named. A
-/// refusal is explained, if that is wanted.
+/// Does some work with the machine that the input states. The frames go into a capture, if a file is named. A refusal is explained, if
+/// that is wanted.
 ///
 /// # Errors
 ///
-/// The refusal of the input, then of what it states; then `Refusal::Output` or `Memory` if the file couldn't be opened; what the work
-/// ends by; and `Refusal::Output` if that was through and the capture isn't whole.
+/// The refusal of the input or of what it states. `Refusal::Output` or `Memory` if the file couldn't be opened. The errors of the work.
+/// `Refusal::Output` if that was through and the capture isn't whole.
 pub(crate) fn run_work<
     H: AllocGlobal + Net + Files + Clock,
     R: Read + Drop,
@@ -128,7 +128,7 @@ fn run_text<H: AllocGlobal + Net + Files + Clock, R: Read + Drop, W: Write + Dro
     close_capture(ended, &capture)
 }
 
-/// Does some work with a machine. What it sends and receives goes into a capture that is open, if there is one.
+/// Does some work with a machine. The frames go into an open capture, if there is one.
 fn run_on<H: AllocGlobal + Net + Files + Clock, R: Read + Drop, W: Write + Drop, F: Write + Drop>(
     rt: &H,
     work: Work<'_>,

@@ -1,4 +1,4 @@
--- What the input gives, and by what it, or the link table that it states, is refused (this project's profile).
+-- What the input gives, and the refusals of the input and of the link table on it (this project's profile).
 use Rattle.std.specs.Prelude.{◌≡◌, ◌⊎◌, ℕ, ◌<◌, ◌^◌, List, length, Option, Ok, IfSome, Bool, true}
 use Rattle.std.specs.Str.{IsUtf8}
 use Rattle.ec_lines.specs.Inputs.{InputState}
@@ -13,59 +13,59 @@ use Rattle.ec_link.specs.Faults.{Fails as LinkFails, compile_fault}
 use Rattle.ec_console.specs.declared.refusal.Refusal.{Refusal}
 use Rattle.ec_console.specs.declared.refusal.Refusal.TheVariants.{Memory, Input, Table, Link}
 
--- What a run has of an input: the bytes that it gives from its beginning on, where they are known, and whether a read of it was
--- refused by its end.
+-- The input of a run: the bytes that it gave, if they are known. `is_refused` says whether a read of it was refused by the end of
+-- the run.
 pub record Given : Type 0 where
   pub bytes : Option (List ℕ)
   pub is_refused : Bool
 
--- by what a reader gives, and what the input is before and after
+-- what a run has of an input, by what its reader gives, and what the input is before and after
 abbrev pub given_by : {R : Type 0} → (remaining : R → Option (List ℕ)) → (old new : InputState R) → Given
 given_by remaining old new = record { bytes = remaining old.stream; is_refused = new.is_refused }
 
--- the text is all that an input gives, where that is known
+-- the text is all that an input gives, if that is known
 abbrev pub GivesText : Given → List ℕ → Type 0
 GivesText given text = IfSome given.bytes (λ bytes. text ≡ bytes)
 
--- what a read that is refused is told as; memory may run out at any time
+-- the refusals of a read: one was refused, or memory ran out, which may be at any time
 abbrev pub IsReadRefusal : (is_refused : Bool) → Refusal → Type 0
 IsReadRefusal is_refused Memory = Unit {0}
 IsReadRefusal is_refused Input = is_refused ≡ true
 IsReadRefusal is_refused _ = ⊥
 
--- bytes that are no input: over 2^20, or no text in UTF-8
+-- bytes that are no input: more than 2^20, or no text in UTF-8
 abbrev pub IsNoInput : List ℕ → Type 0
 IsNoInput bytes = (2 ^ 20 < length bytes) ⊎ (IsUtf8 bytes → ⊥)
 
--- a read of the input was refused; or what it gives, where that is known, is no input; memory may run out at any time
+-- the refusals of an input: a read was refused, or its known bytes are no input; memory may run out at any time
 abbrev pub IsInputRefusal : Given → Refusal → Type 0
 IsInputRefusal given Memory = Unit {0}
 IsInputRefusal given Input = (given.is_refused ≡ true) ⊎ IfSome given.bytes IsNoInput
 IsInputRefusal given _ = ⊥
 
--- the first fault of a table that was read
+-- the first fault that keeps a table from having a plan; memory may run out at any time
 abbrev pub IsLinkRefusal : Contents → Refusal → Type 0
 IsLinkRefusal table Memory = Unit {0}
 IsLinkRefusal table (Link error) = LinkFails error (compile_fault table)
 IsLinkRefusal table _ = ⊥
 
--- the first fault of the text as a table, or of the table that it states
+-- the first fault of the text as a table, or of the table that it states; memory may run out at any time
 abbrev pub IsTableRefusal : List ℕ → Refusal → Type 0
 IsTableRefusal text Memory = Unit {0}
 IsTableRefusal text (Table error) = TableFails error (table_of text)
 IsTableRefusal text (Link error) = (table : Contents) × (table_of text ≡ Ok table) × LinkFails error (compile_fault table)
 IsTableRefusal text _ = ⊥
 
--- what a text that states no machine is told as
+-- the refusal of a text that states no machine
 abbrev pub machine_refusal : MachineError → Refusal
 machine_refusal (machine.Table error) = Table error
 machine_refusal (machine.Link error) = Link error
 
--- by what a command is refused that reads a link table: a fault of the input, or of the table that it states
+-- the refusals of a command that reads a link table: a fault of the input, or of the table that it states
 abbrev pub RefusesTable : Given → Refusal → Type 0
 RefusesTable given refusal = IsInputRefusal given refusal ⊎ ((text : List ℕ) × GivesText given text × IsTableRefusal text refusal)
 
--- what a line, or the text before a line `%%`, is refused by
+-- the refusal of a line, or of the text before a line `%%`
 abbrev pub lines_refusal : LinesError → Refusal
 lines_refusal lines.Memory = Memory
 lines_refusal lines.Unread = Input

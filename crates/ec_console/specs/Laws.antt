@@ -2,8 +2,8 @@
 use Rattle.std.specs.Prelude.{ℕ, List, [], ◌++◌}
 use Rattle.ec_console.specs.Printing.{IsCutOff, IsPartPrinted, IsPrinted, OutputState}
 
--- Texts that are printed one behind the other are printed as one, and nothing is printed where nothing was done. Where the second is
--- cut off, or a part of it is printed, so it is of the one. What is printed is a part of itself.
+-- Texts printed one behind the other are printed as one text, and if nothing was done, nothing is printed. If the second is cut off
+-- or printed in part, so is the one text. A printed text is a printed part of itself.
 pub record TextsLaw : Type 0 where
   pub none : (old : OutputState) → IsPrinted old old []
   pub both : (old mid new : OutputState) (first second : List ℕ) → IsPrinted old mid first → IsPrinted mid new second → IsPrinted old new (first ++ second)

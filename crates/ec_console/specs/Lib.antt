@@ -1,6 +1,6 @@
--- To be believed by reading, in this order: the refusals by number, name and values; what an input gives, and by what it or
--- its table is refused; what is left on the output; how a run ends that expects something; what stands behind a refusal's line; what a capture adds to a command; and what commands
--- have in common that run a machine.
+-- To be believed by reading, in this order: the refusals, what an input gives and its refusals, and what is left on the output.
+-- Then how a run with expectations ends, what stands behind a refusal's line, and what a capture adds to a command. Last what all
+-- commands have in common that run a machine.
 pub mod Refusals
 pub mod Given
 pub mod Printing

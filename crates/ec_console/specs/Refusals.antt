@@ -1,4 +1,4 @@
--- The refusals of the program: what is told of each, and how it ends the program (this project's profile).
+-- The refusals of the program: the number, name and values of each, and how it ends the program (this project's profile).
 use Rattle.std.specs.Prelude.{ℕ, ◌==◌, ◌||◌, List, [], ◌∷◌, if◌then◌else◌, codes}
 use Rattle.ec_text.specs.RefusalText.{Told, frame_told, link_told, plain_told, start_told, table_told, told_line, told_text}
 use Rattle.ec_wire.specs.Errors.{run_number, run_name}
@@ -27,11 +27,11 @@ number_of refusal = (told_of refusal).number
 abbrev pub text_of : Refusal → List ℕ
 text_of refusal = told_text (told_of refusal)
 
--- what is told of a refusal
+-- the line of a refusal
 abbrev pub line_of : Refusal → List ℕ
 line_of refusal = told_line (told_of refusal)
 
--- the exit status: 4 for a fault of a wire, the output, the input or a socket, 5 where what a script expects wasn't so, else 3
+-- the exit status: 4 for a fault of a wire, the output, the input or a socket, 5 for unmet expectations, else 3
 abbrev pub status_of_number : ℕ → ℕ
 status_of_number n = if n == 37 || (n == 41 || (n == 42 || n == 43)) then 4 else (if n == 45 then 5 else 3)
 

@@ -1,4 +1,4 @@
-//! A capture in a file of the system, and how a command ends that has one.
+//! A capture in a file of the system, and how a command with a capture ends.
 ghost use Rattle.std.specs.Prelude.{◌≡◌, All, IfErr, IfOk, is_some, map, option_map, true};
 ghost use Rattle.ec_capture.specs.Captures.{IsText};
 ghost use Rattle.ec_console.specs.Capturing.{IsUnopened, finished, is_complete, is_through};
@@ -10,7 +10,7 @@ use std::alloc::{AllocError, Global};
 use std::fs::{File, Files};
 use std::io::{BufWriter, Write};
 
-/// What is written into a file of the system as a capture.
+/// A capture that is written to a file of the system.
 pub type Recording<F> = Recorder<BufWriter<F>>;
 
 /// The capture of a command, if there is to be one.
@@ -25,11 +25,11 @@ pub enum Interfaces {
     Segment,
 }
 
-/// Opens the file of a capture with such interfaces, if a file is named. There is a capture then.
+/// Opens the file of a capture with such interfaces, if a file is named. Returns `None` if none is named.
 ///
 /// # Errors
 ///
-/// `Refusal::Output` where it can't be opened or begun, `Refusal::Memory` where there is no memory for it.
+/// `Refusal::Output` if the file can't be opened or begun, `Refusal::Memory` if there is no memory for it.
 pub fn open_capture<H: AllocGlobal + Files>(
     rt: &H,
     file: Option<&str>,
@@ -45,8 +45,8 @@ pub fn open_capture<H: AllocGlobal + Files>(
     }
 }
 
-/// How a command ends that may have a capture: as it ended, but for what was through and whose capture isn't whole, which ends with
-/// `Refusal::Output`.
+/// Returns how a command ends that may have a capture: with `Refusal::Output` if it was through and the capture isn't whole, else as
+/// `ended`.
 pub fn close_capture<F: Write + Drop>(
     ended: Result<(), Refusal>,
     capture: &Capture<F>,
@@ -70,7 +70,7 @@ fn is_complete<F: Write + Drop>(capture: &Capture<F>) -> bool
     }
 }
 
-/// Whether a command was through, whether or not all was met that it expected.
+/// Whether a command was through, whether or not all that it expected was so.
 fn is_through(ended: &Result<(), Refusal>) -> bool
     ensures { result ≡ is_through ended.now }
 {
@@ -98,7 +98,7 @@ fn open_recording<H: AllocGlobal + Files>(
     }
 }
 
-/// Opens a file and begins a capture in it, with interfaces of these names.
+/// Opens a file and begins a capture in it, with interfaces of these names. The errors are those of [`open_capture`].
 fn open_recorder<H: AllocGlobal + Files>(
     rt: &H,
     path: &str,
@@ -116,7 +116,7 @@ fn open_recorder<H: AllocGlobal + Files>(
     Recorder::open(file, names).map_err(|_| Refusal::Output)
 }
 
-/// A name, or none where it is longer than that of an interface may be.
+/// The name, or an empty one if it is too long for an interface.
 fn short(name: &str) -> &str
     ensures { IsText result.now }
 {
@@ -130,7 +130,7 @@ fn is_text(name: &str) -> bool
     name.len() <= MAX_TEXT
 }
 
-/// The interfaces of a segment: the master's, and one behind each slave, by its name.
+/// The names of a segment's interfaces: `master`, and the name of each slave.
 #[tactic(auto, using(crate::proofs::CaptureLemmas::texts_more))]
 fn interfaces_of<'t>(alloc: Global, table: &'t Table) -> Result<Vec<&'t str>, AllocError>
     ensures { IfOk result (λ names. All IsText (map (λ t. t.now) names.items)) }

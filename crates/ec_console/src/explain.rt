@@ -1,4 +1,4 @@
-//! What is told of a refusal behind its line, for people.
+//! Explanations of refusals for people, behind the line of a refusal.
 ghost use Rattle.std.specs.Prelude.{◌≡◌, []};
 ghost use Rattle.ec_console.specs.Explaining.{IsLeft};
 
@@ -9,7 +9,7 @@ use ec_table::{Fault, TableError};
 use std::alloc::{AllocError, Global};
 use std::marker::Model;
 
-/// What is told behind the line of a refusal, if it is wanted.
+/// The text behind the line of a refusal, if it is wanted.
 #[derive(Drop)]
 pub struct Explanation {
     is_wanted: bool,
@@ -26,7 +26,7 @@ impl Model for Explanation {
 }
 
 impl Explanation {
-    /// None yet.
+    /// An explanation without text.
     pub fn new(alloc: Global, is_wanted: bool) -> Explanation
         ensures { result ≡ record { is_wanted = is_wanted; text = [] } }
     {
@@ -36,14 +36,14 @@ impl Explanation {
         }
     }
 
-    /// The text.
+    /// The text, which is empty if nothing is explained.
     pub fn as_bytes(&self) -> &[u8]
         ensures { result.now ≡ self.now.text }
     {
         self.text.as_bytes()
     }
 
-    /// Explains the refusal of a command that read such a source, if that is wanted and memory is there for it.
+    /// Explains the refusal of a command that read a text of this source, if that is wanted and there is memory for it.
     pub fn explain(
         &mut self,
         alloc: Global,
@@ -67,7 +67,7 @@ impl Explanation {
         }
     }
 
-    /// A text becomes this one's, if memory was there for it.
+    /// Keeps a text, if there was memory for it.
     fn keep(&mut self, made: Result<String, AllocError>) {
         if let Ok(text) = made {
             self.text = text;
@@ -75,7 +75,7 @@ impl Explanation {
     }
 }
 
-/// What a fault of the input, the output or a socket means, and what to do; nothing of other refusals, which have a text at
+/// What a fault of the input, the output or a socket means, and what to do. `None` for other refusals, which have a text at
 /// fault.
 fn stream_text(ended: &Result<(), Refusal>) -> Option<&'static str> {
     match ended {
@@ -96,7 +96,7 @@ fn stream_text(ended: &Result<(), Refusal>) -> Option<&'static str> {
     }
 }
 
-/// What explains how a command ended, on the text that it read; nothing, if it wasn't refused.
+/// The explanation of how a command ended, on the text that it read; empty if it wasn't refused.
 fn text_on(
     alloc: Global,
     source: Source,
@@ -110,7 +110,7 @@ fn text_on(
     }
 }
 
-/// A refusal of a link table and a script explained.
+/// The explanation of a refusal of a link table and a script.
 fn script_text(alloc: Global, text: &str, refusal: &Refusal) -> Result<String, AllocError> {
     let (table, script) = split_script(text);
     match refusal {

@@ -1,10 +1,10 @@
-//! How slaves are shown.
+//! The form in which masters see slaves.
 ghost use Rattle.std.specs.Prelude.{◌≡◌};
 ghost use Rattle.ec_console.specs.Stating.{shown_in, slave_form};
 
 use ec_table::Table;
 
-/// How the slaves of a segment are shown to masters.
+/// The form in which masters see the slaves of a segment.
 #[derive(Clone, Copy, Debug, PartialEq, Eq, Drop)]
 pub enum SlaveForm {
     /// As the link table states them.
@@ -14,7 +14,7 @@ pub enum SlaveForm {
 }
 
 impl SlaveForm {
-    /// The form of slaves that are full or aren't.
+    /// `Full` if the slaves are full, else `Plain`.
     pub fn of(full: bool) -> SlaveForm
         ensures { result ≡ slave_form full }
     {

@@ -11,8 +11,8 @@ use std::io::{ErrorKind, Read};
 /// The most bytes of an input.
 const MAX_INPUT: usize = 1 << 20;
 
-/// All that `input` gives, as text. `Refusal::Input` is told where a read is refused, where it gives
-/// more than 2^20 bytes, and where they are no text in UTF-8. An interrupted read is made again.
+/// All that `input` gives, as text. `Refusal::Input` if a read is refused, or if the input has more
+/// than 2^20 bytes or isn't UTF-8. `Refusal::Memory` if memory runs out. An interrupted read is made again.
 pub fn read_text<R: Read + Drop>(
     alloc: Global,
     input: &mut InputStream<R>,
@@ -26,7 +26,7 @@ pub fn read_text<R: Read + Drop>(
     text_of(bytes)
 }
 
-/// The text that these bytes are.
+/// The text that these bytes are. `Refusal::Input` if they are more than 2^20, or no UTF-8.
 fn text_of(bytes: Vec<u8>) -> Result<String, Refusal>
     ensures same { IfOk result (λ text. string_bytes text ≡ bytes.items) }
     ensures short { IfOk result (λ text. length (string_bytes text) ≤ 2 ^ 20) }
@@ -38,7 +38,7 @@ fn text_of(bytes: Vec<u8>) -> Result<String, Refusal>
     String::from_utf8(bytes).map_err(|_| Refusal::Input)
 }
 
-/// What `input` gives, up to one byte more than an input may have. An interrupted read is made again.
+/// The bytes of `input`, up to one more than an input may have. An interrupted read is made again.
 fn read_bytes<R: Read + Drop>(alloc: Global, input: &mut InputStream<R>) -> Result<Vec<u8>, Refusal>
     ensures known { IfOk result (λ bytes.
         IfSome (R.remaining input.old.stream) (λ all. bytes.items ≡ take (2 ^ 20 + 1) all)) }

@@ -1,6 +1,6 @@
-//! What the commands of `ecat` share: the refusals by number, the streams of a run, the text that an input gives, what that states,
-//! what is printed on the output, what is told on the fault stream, with an explanation behind it for people, and a capture, which is
-//! a file of the system that is opened once a table is accepted, and is whole where a run ends well.
+//! What the commands of `ecat` share: the refusals by number, the streams of a run, the text of the input, the machine that it states,
+//! and texts on the output and the fault stream. Explanations for people stand behind refusals. The file of a capture is opened once a
+//! table is accepted, and is whole if a run ends well.
 #![tactic(auto)]
 
 mod captures;

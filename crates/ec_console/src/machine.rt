@@ -21,11 +21,11 @@ impl From<MachineError> for Refusal {
     }
 }
 
-/// The machine that a text states: the one way of all commands from a text to a table and its plan.
+/// The machine that a text states: a link table and its plan.
 ///
 /// # Errors
 ///
-/// The first fault of the text as a link table, else the first that keeps the table from having a plan.
+/// The first fault of the text as a link table, else the first that keeps the table from having a plan. Or memory runs out.
 pub fn read_machine(alloc: Global, text: &str) -> Result<Machine, Refusal>
     ensures machine { IfOk result (StatesMachine text.now) }
     ensures refused { IfErr result (IsTableRefusal text.now) }

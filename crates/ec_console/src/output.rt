@@ -1,4 +1,4 @@
-//! A stream that is written, and keeps what became of that.
+//! A stream for writing, which keeps whether a write of it was refused.
 ghost use Rattle.std.specs.Prelude.{◌≡◌, ◌<◌, ◌||◌, OnOk, false, length, true};
 ghost use Rattle.std.specs.Io.KnownBytes.{Keeps, WriteAppends};
 ghost use Rattle.std.specs.Io.{WritesAtMost};
@@ -7,10 +7,10 @@ ghost use Rattle.ec_console.specs.Printing.{IsSpent, is_flush_refused, is_write_
 use std::io::{ErrorKind, Result, Write};
 use std::marker::Model;
 
-/// A stream that is written: the output, or the fault stream, on which is told what is no output. It keeps whether a write or a
-/// flush of it was ever refused, and whether all that was written was handed on. Nobody else writes to it or says so, and thus a
-/// contract can promise that a text is printed or told, all of it, and handed on, unless a write or a flush was refused, or
-/// 2^64 - 1 writes didn't take it.
+/// A stream for writing: the output, or the fault stream (standard error). It keeps whether a write or a flush was ever refused, and
+/// whether all written bytes were handed on. Nothing else writes to the stream. So a contract can promise that all of a text is
+/// printed and handed on, unless a write or a flush was refused. After 2^64 - 1 writes that didn't take a text, the stream counts
+/// as refused.
 #[derive(Drop)]
 pub struct OutputStream<W: Write + Drop> {
     stream: W,
@@ -28,7 +28,7 @@ impl<W: Write + Drop> Model for OutputStream<W> {
 }
 
 impl<W: Write + Drop> OutputStream<W> {
-    /// An output to which no write was refused yet. What the stream holds counts as handed on.
+    /// An output of which no write was refused yet. What the stream holds counts as handed on.
     pub fn new(stream: W) -> OutputStream<W>
         ensures { result ≡ record { holds = W.contents stream; is_refused = false; is_flushed = true; writes = 0 } }
     {
@@ -47,14 +47,14 @@ impl<W: Write + Drop> OutputStream<W> {
         self.stream
     }
 
-    /// Whether a write or a flush was ever refused, so that not all that was to be written is.
+    /// Whether a write or a flush was ever refused, or the output was given up, so that some text may be missing.
     pub fn is_refused(&self) -> bool
         ensures { result ≡ self.now.is_refused }
     {
         self.is_refused
     }
 
-    /// Writes some bytes, as the stream does, whose answer is handed on. A write of nothing would look like a refused one.
+    /// Writes bytes to the stream, and returns what its `write` returns. A write of no bytes would look like a refused one.
     pub(crate) fn write(&mut self, bytes: &[u8]) -> Result<usize>
         requires { 0 < length bytes.now }
         ensures bound { WritesAtMost result bytes.now }
@@ -70,7 +70,7 @@ impl<W: Write + Drop> OutputStream<W> {
         written
     }
 
-    /// Hands on what was written, as the stream does, whose answer is handed on too.
+    /// Flushes the stream, which hands on what was written, and returns what its `flush` returns.
     pub(crate) fn flush(&mut self) -> Result<()>
         ensures bytes { Keeps self.old.holds self.new.holds }
         ensures refused { self.new.is_refused ≡ self.old.is_refused || is_flush_refused result }
@@ -83,7 +83,7 @@ impl<W: Write + Drop> OutputStream<W> {
         flushed
     }
 
-    /// An output that doesn't take a text, though it was written 2^64 - 1 times, counts as one that refuses to be.
+    /// Counts the output as refused, since 2^64 - 1 writes didn't take a text.
     pub(crate) fn give_up(&mut self)
         requires { IsSpent self.old.writes }
         ensures holds { self.new.holds ≡ self.old.holds }
@@ -95,7 +95,7 @@ impl<W: Write + Drop> OutputStream<W> {
     }
 }
 
-/// Whether what a write gave is a refusal.
+/// Whether the result of a write is a refusal: no byte was taken, or an error came that is no interruption.
 fn is_write_refused(written: &Result<usize>) -> bool
     ensures { result ≡ is_write_refused written.now }
 {

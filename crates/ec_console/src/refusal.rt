@@ -14,33 +14,33 @@ use std::alloc::{AllocError, AllocFailed};
 use std::error::Error;
 use std::fmt;
 
-/// Why a command was refused. It prints as its number and its name, and behind them its values in
-/// decimal, with blanks between.
+/// Why a command was refused. Its text is its number, its name and its values in decimal, with blanks
+/// between.
 #[derive(Clone, Copy, Debug, PartialEq, Eq, Drop)]
 pub enum Refusal {
     /// Memory was refused; what was asked for may be good or bad.
     Memory,
-    /// A payload that is no frame. Over 1472 bytes are `TooLong` too.
+    /// A payload that is no frame. One of more than 1472 bytes is `TooLong` too.
     Frame(FrameError),
     /// A text that is no link table, with the section and the place of its first fault.
     Table(TableError),
-    /// A link table that has no plan, with the place of its first fault or how many there are.
+    /// A link table without a plan, with the place of its first fault, or how many there are.
     Link(LinkError),
     /// A start-up that failed, with what was seen.
     Start(StartError),
     /// A cycle that took nothing.
     Run(RunError),
-    /// A socket couldn't be had, or was faulty.
+    /// A socket couldn't be opened, or a call on it was a fault.
     Socket,
-    /// A script with a line that stands for nothing, with the number of the first.
+    /// A script with a bad line, with the number of the first one.
     Script(ScriptError),
     /// A text that isn't pairs of hex digits.
     BadHex,
-    /// The output took no more.
+    /// The output, or the file of a capture, couldn't be written.
     Output,
     /// The input couldn't be read, isn't text, or is too long.
     Input,
-    /// So many times what a script expects wasn't so.
+    /// How often what a script expects wasn't so.
     Unmet(u64),
 }
 
@@ -106,8 +106,8 @@ impl Refusal {
     ghost use Rattle.std.specs.Prelude.{◌≡◌};
     ghost use Rattle.ec_console.specs.Refusals.{status_of};
 
-    /// The exit status that the program ends with: 4 for a fault of a wire, the output, the input or
-    /// a socket, 5 where what a script expects wasn't so, else 3.
+    /// The exit status of the program. It is 4 for a fault of a wire, the output, the input or a socket, 5 for
+    /// unmet expectations, else 3.
     pub fn status(&self) -> u8
         ensures { result ≡ status_of self.now }
     {
@@ -119,7 +119,7 @@ impl Refusal {
     }
 }
 
-/// How a run ends in which so many times what was expected wasn't so: by `Refusal::Unmet` with that number, unless it is 0.
+/// Returns how a run ends in which `unmet` expectations weren't met: by `Refusal::Unmet` with that number, unless it is 0.
 pub fn end_of(unmet: u64) -> Result<(), Refusal>
     ensures { result ≡ ended_by unmet }
 {

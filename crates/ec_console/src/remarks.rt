@@ -16,9 +16,9 @@ use ec_told::{Remarks, without_mark};
 use ec_wire::RunError;
 use std::alloc::{AllocError, Global};
 
-/// What there is to say of a text for which a command was refused: which lines are at fault, what is wrong there, and what to do.
-/// It is the text of a link table, and for a bad line all of the text, whose script begins at a byte of it. Of a refusal that isn't
-/// the text's, and of a text that isn't the one that was refused, it says less or nothing. The error is want of memory.
+/// The remarks on a text for which a command was refused: which lines are at fault, what is wrong there, and what to do. It is the text
+/// of a link table. For a bad line of a script it is all of the text, whose script begins at byte `script`. There are fewer remarks, or
+/// none, if the refusal isn't the text's. The error is want of memory.
 pub fn remarks_on<'a>(
     alloc: Global,
     text: &'a str,
@@ -35,7 +35,7 @@ pub fn remarks_on<'a>(
     telling.into_remarks(rest)
 }
 
-/// The remarks on a text with a refusal, as one text: it stands behind the refusal's line.
+/// The remarks on a text and its refusal, as one text: it stands behind the refusal's line.
 pub fn explanation(
     alloc: Global,
     text: &str,
@@ -46,7 +46,7 @@ pub fn explanation(
     remarks.told(alloc)
 }
 
-/// Tells of a refusal, in a text whose script begins at a byte of it.
+/// Adds the remarks on a refusal, in a text whose script begins at byte `script`.
 fn tell(telling: &mut Telling<'_>, text: &str, script: usize, refusal: &Refusal) {
     match *refusal {
         Refusal::Table(TableError::Refused(fault)) => tell_fault(telling, text, fault),
@@ -59,7 +59,7 @@ fn tell(telling: &mut Telling<'_>, text: &str, script: usize, refusal: &Refusal)
     }
 }
 
-/// Tells of the table that a text states.
+/// Adds the remarks on a refusal of the table that a text states.
 fn tell_of_table(telling: &mut Telling<'_>, text: &str, refusal: &Refusal) {
     match (read_table(telling.alloc, text), *refusal) {
         (Ok(table), Refusal::Link(LinkError::Refused(fault))) => {

@@ -1,4 +1,4 @@
-//! What the text of a command states: a machine, and maybe a script for it.
+//! What the text of a command states: a machine, and the lines of its script.
 ghost use Rattle.std.specs.Prelude.{◌≡◌, [], IfErr, IfOk, None, Ok, OnOk, string_bytes};
 ghost use Rattle.ec_lines.specs.Taking.{TakesText};
 ghost use Rattle.ec_link.specs.Faults.{compile_fault};

@@ -1,4 +1,4 @@
-//! What is told that is no output.
+//! Texts on the fault stream (standard error).
 ghost use Rattle.std.specs.Prelude.{◌≡◌, ◌++◌, false, true};
 ghost use Rattle.ec_console.specs.Printing.{IsCutOff, IsPrinted, IsTold};
 ghost use Rattle.ec_console.specs.Refusals.{line_of, status_of};
@@ -8,18 +8,18 @@ use crate::{OutputStream, Refusal};
 use ec_text::refusal_line;
 use std::io::Write;
 
-/// What a stream is written for that is the fault stream: a refusal, the usage, where a segment listens. Nothing comes of a write
-/// that is refused but that the stream keeps it.
+/// Calls for the fault stream, which gets refusals, the usage, and where a segment listens. A refused write has no effect but that
+/// the stream keeps it.
 impl<F: Write + Drop> OutputStream<F> {
-    /// Tells a text. A fault in telling it changes nothing but [`OutputStream::is_refused`].
+    /// Prints a text. A refused write changes nothing but [`OutputStream::is_refused`].
     pub fn tell_text(&mut self, text: &[u8])
         ensures { IsTold text.now self.old self.new }
     {
         self.is_told(text);
     }
 
-    /// Tells a refusal, whose line `ecat: NUMBER NAME VALUES` is written once, and answers its exit status. A fault in telling it
-    /// changes nothing but [`OutputStream::is_refused`]. It takes no memory.
+    /// Prints a refusal as one line `ecat: NUMBER NAME VALUES`, and returns its exit status. A refused write changes nothing but
+    /// [`OutputStream::is_refused`]. The call takes no memory.
     pub fn tell_and_end(&mut self, refusal: &Refusal) -> u8
         ensures status { result ≡ status_of refusal.now }
         ensures told { IsTold (line_of refusal.now) self.old self.new }
@@ -29,7 +29,7 @@ impl<F: Write + Drop> OutputStream<F> {
         refusal.status()
     }
 
-    /// Tells a refusal and more behind its line, and answers its exit status. A fault in telling it changes nothing but
+    /// Prints a refusal's line and `more` behind it, and returns the refusal's exit status. A refused write changes nothing but
     /// [`OutputStream::is_refused`].
     pub fn tell_explained(&mut self, refusal: &Refusal, more: &[u8]) -> u8
         ensures status { result ≡ status_of refusal.now }
@@ -40,7 +40,7 @@ impl<F: Write + Drop> OutputStream<F> {
         refusal.status()
     }
 
-    /// Tells a text and another behind it, which is left out where a write of the first was refused.
+    /// Prints a text and another behind it, which is left out if a write of the first was refused.
     fn tell_both(&mut self, text: &[u8], more: &[u8])
         ensures { IsTold (text.now ++ more.now) self.old self.new }
     {
@@ -49,7 +49,7 @@ impl<F: Write + Drop> OutputStream<F> {
         }
     }
 
-    /// Tells a text, and says whether all of it was written.
+    /// Prints a text. Returns whether all of it was written and handed on.
     fn is_told(&mut self, text: &[u8]) -> bool
         ensures whole { result ≡ true → IsPrinted self.old self.new text.now }
         ensures part { result ≡ false → IsCutOff self.old self.new text.now }

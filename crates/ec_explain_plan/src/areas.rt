@@ -22,22 +22,22 @@ static CONTENTS: [Content; 4] = [
     Content::Inputs,
 ];
 
-/// An area of a slave's memory that a sync manager governs. It is printed with where it begins and ends, and
-/// why it is so long.
+/// An area of a slave's memory that a sync manager governs. It is printed with its first and last address,
+/// and with the length of its value.
 #[derive(Clone, Copy)]
 pub struct Area {
     /// What lies there.
     pub content: Content,
     /// Its first address.
     start: usize,
-    /// Its bytes.
+    /// Its length in bytes.
     span: usize,
-    /// The bytes of its value: a third of its bytes where it has three buffers.
+    /// The length of its value in bytes: a third of `span` if it has three buffers.
     length: usize,
 }
 
 impl Area {
-    /// The area of a slave that holds something, if it has one.
+    /// The area of a slave that holds this content, if it has one.
     fn of(at: &SlaveAt<'_>, content: Content) -> Option<Area> {
         let process = &at.kind.process;
         match content {
@@ -96,7 +96,7 @@ impl Area {
 }
 
 impl Content {
-    /// The key of a type under which the start of such an area stands, and in a list there the place of it.
+    /// The key of a type that states where such an area begins, and the place in the list there, if it is a list.
     pub fn key(self) -> (&'static str, Option<usize>) {
         match self {
             Content::ReceiveMailbox => ("mailbox", Some(0)),
@@ -155,7 +155,7 @@ pub fn first_met(at: &SlaveAt<'_>) -> Option<(Area, Area)> {
     None
 }
 
-/// The first area behind a place that shares an address with one.
+/// The first area, of the contents behind a place, that shares an address with another.
 fn met_behind(at: &SlaveAt<'_>, one: &Area, place: usize) -> Option<Area> {
     for content in CONTENTS.iter().skip(place.saturating_add(1)) {
         if let Some(other) = Area::of(at, *content)
@@ -180,7 +180,7 @@ pub fn first_free(at: &SlaveAt<'_>, moved: &Area) -> Option<usize> {
     least
 }
 
-/// An address, if an area of a slave could begin there without meeting those that are elsewhere.
+/// The address `start`, if an area could begin there, in the RAM, and meet no other area of the slave.
 fn free_from(at: &SlaveAt<'_>, moved: &Area, start: usize) -> Option<usize> {
     let there = Area { start, ..*moved };
     if there.leaves() || meets_other(at, &there) {
@@ -189,7 +189,7 @@ fn free_from(at: &SlaveAt<'_>, moved: &Area, start: usize) -> Option<usize> {
     Some(start)
 }
 
-/// Whether an area meets one of a slave's that holds something else.
+/// Whether an area meets one of a slave that holds something else.
 fn meets_other(at: &SlaveAt<'_>, moved: &Area) -> bool {
     for content in &CONTENTS {
         if *content != moved.content

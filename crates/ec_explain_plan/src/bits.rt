@@ -1,7 +1,7 @@
 //! Runs of bits.
 use std::fmt;
 
-/// Some bits one after the other. It is printed as `bit 4` or `bits 4 to 7`.
+/// Consecutive bits. They are printed as `bit 4` or `bits 4 to 7`.
 #[derive(Clone, Copy)]
 pub struct Run {
     first: u8,
@@ -9,22 +9,22 @@ pub struct Run {
 }
 
 impl Run {
-    /// So many bits from the first of them on.
+    /// The `count` bits that begin with the bit `first`.
     pub fn new(first: u8, count: u8) -> Run {
         Run { first, count }
     }
 
-    /// The first bit behind it.
+    /// The first bit behind them.
     pub fn end(self) -> usize {
         usize::from(self.first).saturating_add(usize::from(self.count))
     }
 
-    /// Whether it shares a bit with another.
+    /// Whether they share a bit with others.
     pub fn meets(self, other: Run) -> bool {
         usize::from(self.first) < other.end() && usize::from(other.first) < self.end()
     }
 
-    /// The word that says something of them.
+    /// The verb that goes with them.
     pub fn verb(self) -> &'static str {
         if self.count == 1 { "is" } else { "are" }
     }

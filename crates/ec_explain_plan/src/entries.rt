@@ -12,7 +12,7 @@ const LISTED: usize = 8;
 #[derive(Clone, Copy, PartialEq, Eq)]
 pub struct EntryName(pub u16, pub u8);
 
-/// The entries of a direction that a slave assigns, but for gaps: those with an index, or all. Their names are printed as a list of
+/// The entries of a direction that a slave assigns, without gaps: those with an index, or all. Their names are printed as a list of
 /// the first of them and how many more there are.
 #[derive(Clone, Copy)]
 pub struct EntryNames<'t> {
@@ -29,7 +29,7 @@ impl EntryName {
 }
 
 impl<'t> SlaveAt<'t> {
-    /// A PDO of its type, and the place of it.
+    /// The PDO of its type with this index, and its place.
     pub fn pdo(&self, direction: Direction, index: u16) -> Option<(usize, &'t Pdo)> {
         for (place, pdo) in self.kind.pdos(direction).iter().enumerate() {
             if pdo.index == index {
@@ -39,7 +39,7 @@ impl<'t> SlaveAt<'t> {
         None
     }
 
-    /// The entries of such a PDO.
+    /// The entries of such a PDO; none if there is no such PDO.
     fn entries(&self, direction: Direction, index: u16) -> &'t [Entry] {
         match self.pdo(direction, index) {
             Some((_, pdo)) => pdo.entries.as_slice(),
@@ -47,7 +47,7 @@ impl<'t> SlaveAt<'t> {
         }
     }
 
-    /// How many bits it has of a direction, gaps with them.
+    /// How many bits of a direction it has, with gaps.
     pub fn bits(&self, direction: Direction) -> usize {
         let mut bits: usize = 0;
         for index in self.row.assigned(direction) {
@@ -56,7 +56,7 @@ impl<'t> SlaveAt<'t> {
         bits
     }
 
-    /// How many bits an entry has that it assigns; none where it doesn't assign it.
+    /// How many bits an entry has that it assigns; 0 if it doesn't assign it.
     pub fn entry_bits(&self, direction: Direction, name: EntryName) -> u8 {
         for index in self.row.assigned(direction) {
             if let Some(entry) = find_entry(self.entries(direction, *index), name) {
@@ -68,7 +68,7 @@ impl<'t> SlaveAt<'t> {
 }
 
 impl<'t> EntryNames<'t> {
-    /// Those of a slave.
+    /// The entries of a slave.
     pub fn new(slave: SlaveAt<'t>, direction: Direction, index: Option<u16>) -> EntryNames<'t> {
         EntryNames {
             slave,
@@ -105,7 +105,7 @@ impl<'t> EntryNames<'t> {
         }
     }
 
-    /// Prints the names of those among some entries, of which the first has a place in the list of so many.
+    /// Prints those names that are among some entries; the first of them has this place in a list of `count` names.
     fn write_in<W: fmt::Write>(
         &self,
         f: &mut fmt::Formatter<W>,
@@ -156,12 +156,12 @@ fn bits_of(entries: &[Entry]) -> usize {
     bits
 }
 
-/// Whether there is an entry of a name.
+/// Whether there is an entry with this name.
 pub fn has_entry(entries: &[Entry], name: EntryName) -> bool {
     find_entry(entries, name).is_some()
 }
 
-/// The entry of a name.
+/// The entry with this name.
 fn find_entry(entries: &[Entry], name: EntryName) -> Option<Entry> {
     for entry in entries {
         if EntryName::of(entry) == name {

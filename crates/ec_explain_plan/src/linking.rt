@@ -5,7 +5,7 @@ use ec_link::LinkFault;
 use ec_outline::Telling;
 use ec_table::{SlaveRow, Table};
 
-/// Tells why a table has no plan, whose first fault is this.
+/// Adds remarks on why a table, with this first fault, has no plan.
 pub fn tell_link_fault(telling: &mut Telling<'_>, table: &Table, fault: LinkFault) {
     match fault {
         LinkFault::WrongDirection(link)
@@ -22,7 +22,7 @@ pub fn tell_link_fault(telling: &mut Telling<'_>, table: &Table, fault: LinkFaul
     }
 }
 
-/// Tells of an input variable with links from two sync units.
+/// Adds remarks on an input variable with links from two sync units.
 fn tell_split(telling: &mut Telling<'_>, table: &Table, variable: usize) {
     let Some(row) = table.variables().get(variable) else {
         return;
@@ -34,7 +34,7 @@ fn tell_split(telling: &mut Telling<'_>, table: &Table, variable: usize) {
     telling.advise("make two variables of it, or give the slaves one `unit`");
 }
 
-/// Tells of the first link of a variable, and of the first one from another sync unit.
+/// Adds remarks on the first link of a variable, and on the first one from another sync unit.
 fn tell_units(telling: &mut Telling<'_>, table: &Table, variable: usize) {
     let mut first = None;
     for (place, link) in table.links().iter().enumerate() {
@@ -51,14 +51,14 @@ fn tell_units(telling: &mut Telling<'_>, table: &Table, variable: usize) {
     }
 }
 
-/// Tells which slave a link joins a variable to.
+/// Adds a remark on the slave that a link joins a variable to.
 fn tell_joined(telling: &mut Telling<'_>, link: usize, slave: &SlaveRow) {
     let (alloc, name, unit) = (telling.alloc, slave.name.as_str(), slave.unit);
     let words = format!(in alloc; "link {link} joins it to slave {name} of unit {unit}");
     telling.at_key("link", link, "slave", words);
 }
 
-/// Tells of too many parts.
+/// Adds remarks on too many parts.
 fn tell_too_many_parts(telling: &mut Telling<'_>, slaves: &[SlaveRow], count: usize) {
     let alloc = telling.alloc;
     let (units, past) = units_among(slaves, 32);
@@ -78,7 +78,7 @@ fn tell_too_many_parts(telling: &mut Telling<'_>, slaves: &[SlaveRow], count: us
     telling.advise("put slaves into fewer sync units, by their key `unit`");
 }
 
-/// How many sync units there are among slaves, and the first slave with which there are more than so many.
+/// How many sync units slaves have, and the place of the first slave whose unit is one more than `most`.
 fn units_among(slaves: &[SlaveRow], most: usize) -> (usize, Option<usize>) {
     let (mut units, mut past) = (0_usize, None);
     for (place, slave) in slaves.iter().enumerate() {
@@ -102,7 +102,7 @@ fn has_unit_before(slaves: &[SlaveRow], place: usize, unit: u8) -> bool {
     false
 }
 
-/// Tells of too many slaves.
+/// Adds remarks on too many slaves.
 fn tell_too_many_slaves(telling: &mut Telling<'_>, count: usize) {
     let alloc = telling.alloc;
     let words = format!(in alloc;

@@ -5,7 +5,7 @@ use ec_link::LinkFault;
 use ec_outline::{Counted, PathStep, Telling, Words};
 use ec_table::{Direction, Table};
 
-/// Tells of a fault of the link at a place.
+/// Adds remarks on a fault of the link at a place.
 pub fn tell_of_link(telling: &mut Telling<'_>, table: &Table, fault: LinkFault, link: usize) {
     let Some(at) = LinkAt::new(table, link) else {
         return;
@@ -18,7 +18,7 @@ pub fn tell_of_link(telling: &mut Telling<'_>, table: &Table, fault: LinkFault, 
     }
 }
 
-/// Tells of a link that gives a bit which an earlier one gives.
+/// Adds remarks on a link that gives a bit which an earlier link gives.
 fn tell_linked_twice(telling: &mut Telling<'_>, table: &Table, at: &LinkAt<'_>) {
     if let Some(earlier) = earlier_giving(table, at) {
         tell_given(telling, &earlier, "");
@@ -27,7 +27,7 @@ fn tell_linked_twice(telling: &mut Telling<'_>, table: &Table, at: &LinkAt<'_>) 
     telling.advise("leave one of the links out, or give them different bits");
 }
 
-/// The first link that gives a bit which a later one gives.
+/// The first link before another that gives a bit of it.
 fn earlier_giving<'t>(table: &'t Table, at: &LinkAt<'_>) -> Option<LinkAt<'t>> {
     for place in 0..at.place {
         if let Some(earlier) = LinkAt::new(table, place)
@@ -39,7 +39,7 @@ fn earlier_giving<'t>(table: &'t Table, at: &LinkAt<'_>) -> Option<LinkAt<'t>> {
     None
 }
 
-/// Tells what a link gives.
+/// Adds a remark on what a link gives.
 fn tell_given(telling: &mut Telling<'_>, at: &LinkAt<'_>, too: &str) {
     let (alloc, place) = (telling.alloc, at.place);
     at_bits(
@@ -49,7 +49,7 @@ fn tell_given(telling: &mut Telling<'_>, at: &LinkAt<'_>, too: &str) {
     );
 }
 
-/// Tells of a link with bits past its entry or its variable.
+/// Adds remarks on a link with bits past its entry or its variable.
 fn tell_outside(telling: &mut Telling<'_>, at: &LinkAt<'_>) {
     let entry_bits = at.slave.entry_bits(at.variable.direction, at.entry());
     if at.entry_bits().end() > usize::from(entry_bits) {
@@ -60,7 +60,7 @@ fn tell_outside(telling: &mut Telling<'_>, at: &LinkAt<'_>) {
     advise_fewer_bits(telling, at, entry_bits);
 }
 
-/// Tells of a link with bits past its entry, which has so many.
+/// Adds a remark on a link with bits past its entry, which has `bits` bits.
 fn tell_past_entry(telling: &mut Telling<'_>, at: &LinkAt<'_>, bits: u8) {
     let alloc = telling.alloc;
     let (linked, entry, slave) = (at.entry_bits(), at.entry(), at.slave);
@@ -69,7 +69,7 @@ fn tell_past_entry(telling: &mut Telling<'_>, at: &LinkAt<'_>, bits: u8) {
     at_bits(telling, at.place, words);
 }
 
-/// Tells of a link with bits past its variable.
+/// Adds a remark on a link with bits past its variable.
 fn tell_past_variable(telling: &mut Telling<'_>, at: &LinkAt<'_>) {
     let alloc = telling.alloc;
     let (linked, variable) = (at.variable_bits(), at.variable.name.as_str());
@@ -78,7 +78,7 @@ fn tell_past_variable(telling: &mut Telling<'_>, at: &LinkAt<'_>) {
     at_bits(telling, at.place, words);
 }
 
-/// Says how many bits a link may have, whose entry has so many.
+/// Adds a remark on how many bits a link may have, whose entry has `entry_bits` bits.
 fn advise_fewer_bits(telling: &mut Telling<'_>, at: &LinkAt<'_>, entry_bits: u8) {
     let alloc = telling.alloc;
     let (variable, variable_bits) = (at.variable.name.as_str(), at.variable.bits);
@@ -87,7 +87,7 @@ fn advise_fewer_bits(telling: &mut Telling<'_>, at: &LinkAt<'_>, entry_bits: u8)
     ));
 }
 
-/// Marks where the bits of a link are seen: `bits`, or `var` where they aren't written.
+/// Adds a remark on the bits of a link, and marks `bits`, or `var` if the link has no `bits`.
 fn at_bits(telling: &mut Telling<'_>, link: usize, words: Words) {
     let way = [
         PathStep::Key("link"),
@@ -98,7 +98,7 @@ fn at_bits(telling: &mut Telling<'_>, link: usize, words: Words) {
     telling.at_key("link", link, key, words);
 }
 
-/// Tells of a link whose entry there is not.
+/// Adds remarks on a link to an entry that its slave doesn't assign.
 fn tell_no_entry(telling: &mut Telling<'_>, at: &LinkAt<'_>) {
     for pdo in at.slave.kind.pdos(at.variable.direction) {
         if has_entry(pdo.entries.as_slice(), at.entry()) {
@@ -109,7 +109,7 @@ fn tell_no_entry(telling: &mut Telling<'_>, at: &LinkAt<'_>) {
     telling.advise("correct `index` and `sub`, or add the entry to a PDO of the type");
 }
 
-/// Tells of a link whose entry its slave's type has not, and which there are: those of the entry's index, or all where there are none.
+/// Adds a remark on a link to an entry that the type lacks. It lists the entries with its index, or all if there are none.
 fn tell_missing(telling: &mut Telling<'_>, at: &LinkAt<'_>) {
     let alloc = telling.alloc;
     let (entry, slave, direction) = (at.entry(), at.slave, at.variable.direction);
@@ -127,7 +127,7 @@ fn tell_missing(telling: &mut Telling<'_>, at: &LinkAt<'_>) {
     }
 }
 
-/// Tells of a PDO of the type that has a link's entry and isn't assigned.
+/// Adds remarks on a PDO of the type that has a link's entry and isn't assigned.
 fn tell_unassigned(telling: &mut Telling<'_>, at: &LinkAt<'_>, number: u16) {
     let alloc = telling.alloc;
     let (entry, slave, kind) = (at.entry(), at.slave, at.slave.kind.name.as_str());
@@ -139,7 +139,7 @@ fn tell_unassigned(telling: &mut Telling<'_>, at: &LinkAt<'_>, number: u16) {
     telling.advise_in(format!(in alloc; "add 0x{number:04X} to `{key}` of {slave}"));
 }
 
-/// Tells of a link whose entry goes the other way.
+/// Adds remarks on a link to an entry of the other direction.
 fn tell_wrong_direction(telling: &mut Telling<'_>, at: &LinkAt<'_>) {
     let alloc = telling.alloc;
     let (variable, entry, slave) = (at.variable.name.as_str(), at.entry(), at.slave);

@@ -12,7 +12,7 @@ pub struct SlaveAt<'t> {
     pub kind: &'t TypeRow,
 }
 
-/// A link of a table with what it refers to. It is printed as what it gives.
+/// A link of a table with what it refers to. It is printed with the bits that it gives.
 #[derive(Clone, Copy)]
 pub struct LinkAt<'t> {
     pub place: usize,
@@ -22,7 +22,7 @@ pub struct LinkAt<'t> {
 }
 
 impl<'t> SlaveAt<'t> {
-    /// The slave at a place, if there is one.
+    /// The slave at this place, if there is one.
     pub fn new(table: &'t Table, place: usize) -> Option<SlaveAt<'t>> {
         let row = table.slaves().get(place)?;
         let kind = table.types().get(row.type_place)?;
@@ -31,7 +31,7 @@ impl<'t> SlaveAt<'t> {
 }
 
 impl<'t> LinkAt<'t> {
-    /// The link at a place, if there is one.
+    /// The link at this place, if there is one.
     pub fn new(table: &'t Table, place: usize) -> Option<LinkAt<'t>> {
         let row = table.links().get(place)?;
         Some(LinkAt {
@@ -42,7 +42,7 @@ impl<'t> LinkAt<'t> {
         })
     }
 
-    /// The entry that it names.
+    /// The name of its entry.
     pub fn entry(&self) -> EntryName {
         EntryName(self.row.index, self.row.subindex)
     }
@@ -57,7 +57,7 @@ impl<'t> LinkAt<'t> {
         Run::new(self.row.bits.variable_bit, self.row.bits.count)
     }
 
-    /// Whether both give one bit, of an output entry or of an input variable.
+    /// Whether both links give the same bit, of an output entry or of an input variable.
     pub fn gives_bit_of(&self, other: &LinkAt<'_>) -> bool {
         match (self.variable.direction, other.variable.direction) {
             (Direction::Out, Direction::Out) => {
@@ -118,7 +118,7 @@ pub fn pdos_key(direction: Direction) -> &'static str {
     }
 }
 
-/// What goes in a direction.
+/// The word for an entry or a bit of a direction.
 pub fn word_of(direction: Direction) -> &'static str {
     match direction {
         Direction::Out => "output",

@@ -7,7 +7,7 @@ use ec_outline::{MarkedPart, PathStep, Telling};
 use ec_regs::registers::{RAM_END, RAM_START};
 use ec_table::{Direction, Table};
 
-/// Tells of a fault of the slave at a place.
+/// Adds remarks on a fault of the slave at a place.
 pub fn tell_of_slave(telling: &mut Telling<'_>, table: &Table, fault: LinkFault, slave: usize) {
     let Some(at) = SlaveAt::new(table, slave) else {
         return;
@@ -20,7 +20,7 @@ pub fn tell_of_slave(telling: &mut Telling<'_>, table: &Table, fault: LinkFault,
     }
 }
 
-/// Tells of an area outside the RAM.
+/// Adds remarks on an area outside the RAM.
 fn tell_outside_ram(telling: &mut Telling<'_>, at: &SlaveAt<'_>) {
     let Some(area) = first_outside(at) else {
         return;
@@ -35,7 +35,7 @@ fn tell_outside_ram(telling: &mut Telling<'_>, at: &SlaveAt<'_>) {
     advise_start(telling, at, area);
 }
 
-/// Tells of areas that overlap.
+/// Adds remarks on two areas that overlap.
 fn tell_overlap(telling: &mut Telling<'_>, at: &SlaveAt<'_>) {
     let Some((one, other)) = first_met(at) else {
         return;
@@ -61,7 +61,7 @@ fn advise_start(telling: &mut Telling<'_>, at: &SlaveAt<'_>, moved: Area) {
     });
 }
 
-/// Marks where an area begins, and says what it is.
+/// Adds a remark on an area, and marks where it begins.
 fn tell_area(telling: &mut Telling<'_>, kind: usize, area: Area) {
     let alloc = telling.alloc;
     let words = format!(in alloc; "{area}");
@@ -80,7 +80,7 @@ fn tell_area(telling: &mut Telling<'_>, kind: usize, area: Area) {
     }
 }
 
-/// Tells of a slave with too many bits in a direction.
+/// Adds remarks on a slave with too many bits in a direction.
 fn tell_too_many_bits(telling: &mut Telling<'_>, at: &SlaveAt<'_>) {
     for direction in &[Direction::Out, Direction::In] {
         let bits = at.bits(*direction);
@@ -90,7 +90,7 @@ fn tell_too_many_bits(telling: &mut Telling<'_>, at: &SlaveAt<'_>) {
     }
 }
 
-/// Tells of the many bits that a slave has in a direction.
+/// Adds remarks on a slave that has this many bits in a direction.
 fn tell_bits(telling: &mut Telling<'_>, at: &SlaveAt<'_>, direction: Direction, bits: usize) {
     let (alloc, word) = (telling.alloc, word_of(direction));
     let words = format!(in alloc;

@@ -5,7 +5,7 @@ use ec_device::Pdo;
 use ec_outline::{MarkedPart, PathStep, Telling, Words};
 use ec_table::Direction;
 
-/// Where an entry stands in a type: the direction, place and index of its PDO, its place there, and its name.
+/// Where an entry stands in a type: the direction, place and index of its PDO, its place in that, and its name.
 #[derive(Clone, Copy)]
 struct Seat {
     direction: Direction,
@@ -16,13 +16,13 @@ struct Seat {
 }
 
 impl Seat {
-    /// Whether another is the same place of a direction.
+    /// Whether both are the same place of one direction.
     fn is(&self, other: &Seat) -> bool {
         self.pdo == other.pdo && self.entry == other.entry
     }
 }
 
-/// Tells of a slave that assigns an entry twice.
+/// Adds remarks on a slave that assigns an entry twice.
 pub fn tell_entry_twice(telling: &mut Telling<'_>, at: &SlaveAt<'_>) {
     for direction in &[Direction::Out, Direction::In] {
         if let Some((first, second)) = seats_twice(at, *direction) {
@@ -31,7 +31,7 @@ pub fn tell_entry_twice(telling: &mut Telling<'_>, at: &SlaveAt<'_>) {
     }
 }
 
-/// Tells of two places where an entry stands that a slave assigns.
+/// Adds remarks on two places of an entry that a slave assigns.
 fn tell_seats(telling: &mut Telling<'_>, at: &SlaveAt<'_>, first: &Seat, second: &Seat) {
     tell_assigned(telling, at, first, second);
     at_entry(telling, at.row.type_place, first);
@@ -39,7 +39,7 @@ fn tell_seats(telling: &mut Telling<'_>, at: &SlaveAt<'_>, first: &Seat, second:
     advise_on(telling, at, first, second);
 }
 
-/// Says what to do about it: with two PDOs a slave may assign one of them alone, if its type has a mailbox.
+/// Adds a remark on what to do: a slave may assign one of two PDOs alone, if its type has a mailbox.
 fn advise_on(telling: &mut Telling<'_>, at: &SlaveAt<'_>, first: &Seat, second: &Seat) {
     let (one, two) = (first.index, second.index);
     if one == two {
@@ -49,7 +49,7 @@ fn advise_on(telling: &mut Telling<'_>, at: &SlaveAt<'_>, first: &Seat, second: 
     }
 }
 
-/// Says what to do about a PDO that has an entry twice.
+/// Adds a remark on what to do about a PDO that has an entry twice.
 fn advise_one(telling: &mut Telling<'_>, one: u16) {
     let alloc = telling.alloc;
     telling.advise_in(format!(in alloc;
@@ -57,7 +57,7 @@ fn advise_one(telling: &mut Telling<'_>, one: u16) {
     ));
 }
 
-/// Says what to do about two PDOs that have an entry both.
+/// Adds a remark on what to do about two PDOs that both have an entry.
 fn advise_two(telling: &mut Telling<'_>, at: &SlaveAt<'_>, key: &str, one: u16, two: u16) {
     let alloc = telling.alloc;
     telling.advise_in(match at.kind.mailbox {
@@ -70,7 +70,7 @@ fn advise_two(telling: &mut Telling<'_>, at: &SlaveAt<'_>, key: &str, one: u16, 
     });
 }
 
-/// Tells what a slave assigns that has an entry twice: one PDO, or two that have it both.
+/// Adds a remark on what a slave assigns: one PDO that has an entry twice, or two PDOs that both have it.
 fn tell_assigned(telling: &mut Telling<'_>, at: &SlaveAt<'_>, first: &Seat, second: &Seat) {
     let (alloc, kind, name) = (telling.alloc, at.kind.name.as_str(), first.name);
     let (one, two) = (first.index, second.index);
@@ -84,7 +84,7 @@ fn tell_assigned(telling: &mut Telling<'_>, at: &SlaveAt<'_>, first: &Seat, seco
     at_assigned(telling, at.place, first.direction, words);
 }
 
-/// Marks an entry of a type.
+/// Adds a remark on an entry of a type, and marks it.
 fn at_entry(telling: &mut Telling<'_>, kind: usize, seat: &Seat) {
     let (alloc, name, index) = (telling.alloc, seat.name, seat.index);
     let way = [
@@ -102,7 +102,7 @@ fn at_entry(telling: &mut Telling<'_>, kind: usize, seat: &Seat) {
     );
 }
 
-/// Marks what a slave assigns in a direction, or the slave where that isn't written.
+/// Adds a remark on what a slave assigns in a direction, and marks that, or the slave if that isn't written.
 fn at_assigned(telling: &mut Telling<'_>, slave: usize, direction: Direction, words: Words) {
     let key = assignment_key(direction);
     let way = [
@@ -117,7 +117,7 @@ fn at_assigned(telling: &mut Telling<'_>, slave: usize, direction: Direction, wo
     }
 }
 
-/// The first entry that a slave assigns behind another of its name, behind that one. Gaps have no names.
+/// The first entry that a slave assigns behind another with its name, and that other before it. Gaps have no names.
 fn seats_twice(at: &SlaveAt<'_>, direction: Direction) -> Option<(Seat, Seat)> {
     for index in at.row.assigned(direction) {
         if let Some((place, pdo)) = at.pdo(direction, *index)
@@ -129,7 +129,7 @@ fn seats_twice(at: &SlaveAt<'_>, direction: Direction) -> Option<(Seat, Seat)> {
     None
 }
 
-/// The first entry of a PDO that stands behind another of its name, behind that one.
+/// The first entry of a PDO that is assigned behind another with its name, and that other before it.
 fn twice_in(
     at: &SlaveAt<'_>,
     direction: Direction,
@@ -154,7 +154,7 @@ fn twice_in(
     None
 }
 
-/// Where an entry stands first that a slave assigns.
+/// The first place of an entry that a slave assigns.
 fn first_seat(at: &SlaveAt<'_>, direction: Direction, name: EntryName) -> Option<Seat> {
     for index in at.row.assigned(direction) {
         if let Some((pdo, row)) = at.pdo(direction, *index)

@@ -12,9 +12,9 @@ pub enum WordKind {
     Slave,
     /// A number in decimal.
     Number,
-    /// One up to 255.
+    /// A number up to 255.
     Byte,
-    /// One from 1 to 1,000,000.
+    /// A number from 1 to 1,000,000.
     Times,
     /// An AL state, by its name.
     State,
@@ -22,8 +22,8 @@ pub enum WordKind {
     Code,
 }
 
-/// How lines are written, for people: a word in small letters stands there itself, and one in capitals for something else. A
-/// form that begins with two words stands before one that begins with the first of them alone.
+/// How lines are written, for people: a word in small letters stands for itself, and one in capitals for something else. A
+/// form that begins with two words of its own stands before one that begins with only the first of them.
 static FORMS: [&str; 23] = [
     "start",
     "set NAME VALUE",
@@ -51,7 +51,7 @@ static FORMS: [&str; 23] = [
 ];
 
 impl WordKind {
-    /// What a word of a form stands for, if it stands for something else.
+    /// What a word of a form stands for; `None` if for itself.
     pub fn of(part: &str) -> Option<WordKind> {
         match part {
             "NAME" => Some(WordKind::Variable),
@@ -67,8 +67,8 @@ impl WordKind {
     }
 }
 
-/// The form that a line begins as; `is_variable` says whether a variable has the word between `expect` and the only word behind
-/// it as its name.
+/// The form that a line begins as. `is_variable` says whether the second word of an `expect` with three words is the name of a
+/// variable.
 pub fn form_of(line: Line<'_>, is_variable: bool) -> Option<&'static str> {
     for form in &FORMS {
         if begins(line, form) && !(is_variable && is_name_before_value(form)) {
@@ -78,7 +78,7 @@ pub fn form_of(line: Line<'_>, is_variable: bool) -> Option<&'static str> {
     None
 }
 
-/// The first words that lines have.
+/// The first words of the forms.
 pub fn verbs() -> [&'static str; FORMS.len()] {
     let mut verbs = [""; FORMS.len()];
     for (place, form) in FORMS.iter().enumerate() {
@@ -100,7 +100,7 @@ fn begins(line: Line<'_>, form: &str) -> bool {
     true
 }
 
-/// The word that a form begins with.
+/// The first word of a form.
 fn first_word(form: &'static str) -> &'static str {
     match form.split_once(' ') {
         Some((first, _)) => first,
@@ -108,8 +108,8 @@ fn first_word(form: &'static str) -> &'static str {
     }
 }
 
-/// Whether one word alone never stands behind the first two of a form: in a line with one, the second word is the name of a
-/// variable, and the word behind it a value.
+/// Whether a form never has one word alone behind its first two. In a line that has, the second word is the name of a
+/// variable, and the third a value.
 fn is_name_before_value(form: &str) -> bool {
     form == "expect ready" || form == "expect state S STATE CODE"
 }

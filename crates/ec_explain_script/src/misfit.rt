@@ -5,7 +5,7 @@ use ec_outline::{Printable, Telling, is_among};
 use ec_table::Table;
 use std::alloc::{AllocError, Global};
 
-/// In what digits a number is written.
+/// The digits in which a number is written.
 #[derive(Clone, Copy)]
 enum Base {
     Decimal,
@@ -15,10 +15,10 @@ enum Base {
 /// The names of the AL states.
 static STATES: [&str; 4] = ["INIT", "PREOP", "SAFEOP", "OP"];
 
-/// What to do about a word that nothing better is known of.
+/// What to do about a word if nothing better is known.
 pub const SEE_HELP: &str = "correct it; `ecat sim --help` lists the lines that a script has";
 
-/// Whether a variable of a table has a name.
+/// Whether a variable of a table has this name.
 pub fn names_variable(table: &Table, name: &str) -> bool {
     for row in table.variables() {
         if row.name.as_str() == name {
@@ -28,7 +28,7 @@ pub fn names_variable(table: &Table, name: &str) -> bool {
     false
 }
 
-/// Tells what is wrong with a word that is to be of a kind, if something is; its names are the table's, where there is one.
+/// Adds remarks on a word that isn't of a kind, by the names of the table if there is one; returns whether it isn't.
 pub fn tell_misfit(
     telling: &mut Telling<'_>,
     table: Option<&Table>,
@@ -44,14 +44,14 @@ pub fn tell_misfit(
     }
 }
 
-/// Tells of a word that isn't of its kind.
+/// Adds remarks on a word that isn't of its kind.
 fn tell_fault(telling: &mut Telling<'_>, word: Word<'_>, fault: &str, advice: &str) {
     let (alloc, shown) = (telling.alloc, Printable(word.text));
     telling.at_span(word.span(), format!(in alloc; "`{shown}` {fault}"));
     telling.advise(advice);
 }
 
-/// Tells of a word that is to be a name of a table and isn't, if it is so.
+/// Adds remarks on a word that must be a name of the table and isn't; returns whether there are any.
 fn tell_unknown(
     telling: &mut Telling<'_>,
     table: Option<&Table>,
@@ -82,7 +82,7 @@ fn tell_unknown(
     }
 }
 
-/// Tells of a word that is none of the names of things, if it is none. The names were made for it.
+/// Adds remarks on a word that isn't among the names that were made. Returns whether it isn't, or memory ran out for the names.
 fn tell_unnamed(
     telling: &mut Telling<'_>,
     thing: &str,
@@ -96,7 +96,7 @@ fn tell_unnamed(
     }
 }
 
-/// Tells of a word that isn't among the names of things, if it isn't.
+/// Adds remarks on a word that isn't among the names of things; returns whether it isn't.
 fn tell_not_among(
     telling: &mut Telling<'_>,
     thing: &str,
@@ -115,7 +115,7 @@ fn tell_not_among(
     is_none
 }
 
-/// The names of a table's variables.
+/// The names of a table's variables. `AllocError` if memory ran out.
 fn variables_of<'t>(alloc: Global, table: &'t Table) -> Result<Vec<&'t str>, AllocError> {
     let mut names = Vec::new(alloc);
     for row in table.variables() {
@@ -124,7 +124,7 @@ fn variables_of<'t>(alloc: Global, table: &'t Table) -> Result<Vec<&'t str>, All
     Ok(names)
 }
 
-/// The names of its slaves.
+/// The names of a table's slaves. `AllocError` if memory ran out.
 fn slaves_of<'t>(alloc: Global, table: &'t Table) -> Result<Vec<&'t str>, AllocError> {
     let mut names = Vec::new(alloc);
     for row in table.slaves() {
@@ -133,8 +133,8 @@ fn slaves_of<'t>(alloc: Global, table: &'t Table) -> Result<Vec<&'t str>, AllocE
     Ok(names)
 }
 
-/// What 64 bits hold, where they don't hold the number that a word writes, and what to do; a byte and a number of times have
-/// bounds of their own.
+/// What 64 bits hold, and what to do, if 64 bits don't hold the number that a word writes. `None` for a byte and a number of times,
+/// which have bounds of their own.
 fn past_64_bits(kind: WordKind, word: &str) -> Option<(&'static str, &'static str)> {
     let advice = match kind {
         WordKind::Slave => "write the number of a slave, the first of which is 0, or its name",
@@ -150,12 +150,12 @@ fn past_64_bits(kind: WordKind, word: &str) -> Option<(&'static str, &'static st
     }
 }
 
-/// What is wrong with a word that isn't of a kind, whatever names there are, and what to do.
+/// What is wrong with a word that isn't of a kind, by its digits alone, and what to do.
 fn fault_of(kind: WordKind, word: &str) -> Option<(&'static str, &'static str)> {
     past_64_bits(kind, word).or(misfit_of(kind, word))
 }
 
-/// What is wrong with a word that isn't of a kind, if 64 bits hold it, and what to do.
+/// What is wrong with a word that isn't of a kind, if 64 bits hold its number, and what to do.
 fn misfit_of(kind: WordKind, word: &str) -> Option<(&'static str, &'static str)> {
     let (digits, base, _) = digits_of(kind, word);
     let number = number_of(digits, base);
@@ -193,7 +193,7 @@ fn misfit_of(kind: WordKind, word: &str) -> Option<(&'static str, &'static str)>
     if fits { None } else { Some((fault, advice)) }
 }
 
-/// What of a word are the digits of a number, in what base, and what 64 bits hold of such numbers.
+/// The digits of the number that a word writes, their base, and what 64 bits hold of such numbers.
 fn digits_of(kind: WordKind, word: &str) -> (&str, Base, &'static str) {
     let is_value = kind == WordKind::Value;
     match (word.strip_prefix('-'), word.strip_prefix("0x")) {
@@ -224,7 +224,7 @@ fn number_of(digits: &str, base: Base) -> Option<u64> {
     }
 }
 
-/// Whether a word is digits.
+/// Whether a word has digits of this base alone, and one at least.
 fn has_digits(word: &str, base: Base) -> bool {
     for byte in word.bytes() {
         let is_digit = match base {

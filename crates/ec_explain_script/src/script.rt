@@ -1,4 +1,4 @@
-//! Which line of a script stands for nothing: refusal 39; and that what lines expect isn't so: 45.
+//! Which line of a script stands for nothing: refusal 39; and that what lines expect doesn't hold: 45.
 use crate::form::{WordKind, form_of, verbs};
 use crate::misfit::{SEE_HELP, names_variable, tell_misfit};
 use crate::word::{Line, Word, without_comment};
@@ -6,8 +6,8 @@ use ec_outline::{Printable, Telling};
 use ec_table::{Table, read_table};
 use ec_told::Span;
 
-/// Tells of the line with a number, counted from 1, of the script that begins at a byte of a text: which word of it is at
-/// fault, and how it is written.
+/// Adds remarks on line `line`, counted from 1, of the script that begins at the byte `from` of a text. They say which word of
+/// it is at fault, and how it is written.
 pub fn tell_bad_line(telling: &mut Telling<'_>, text: &str, from: usize, line: usize) {
     let alloc = telling.alloc;
     match line_start(text.as_bytes(), from, line) {
@@ -18,7 +18,7 @@ pub fn tell_bad_line(telling: &mut Telling<'_>, text: &str, from: usize, line: u
     }
 }
 
-/// Tells that what lines expect isn't so, so many times.
+/// Adds remarks that what lines expect doesn't hold, this many times.
 pub fn tell_unmet(telling: &mut Telling<'_>, count: u64) {
     let alloc = telling.alloc;
     let what = "what a line expects wasn't so; each `unmet` names its line";
@@ -29,13 +29,13 @@ pub fn tell_unmet(telling: &mut Telling<'_>, count: u64) {
     telling.advise("see what these lines expect, or what the lines before them do");
 }
 
-/// Tells what is wrong with a line; its names are those of the table that a text before it states, if it states one.
+/// Adds remarks on what is wrong with a line, by the names of the table in the text before it, if that states one.
 fn tell_in_text(telling: &mut Telling<'_>, before: &str, line: Line<'_>) {
     let table = read_table(telling.alloc, before).ok();
     tell_line(telling, table.as_ref(), line);
 }
 
-/// Tells what is wrong with a line; its names are the table's, where there is one.
+/// Adds remarks on what is wrong with a line, by the names of the table, if there is one.
 fn tell_line(telling: &mut Telling<'_>, table: Option<&Table>, line: Line<'_>) {
     match line.gap() {
         Some(gap) => tell_gap(telling, gap),
@@ -44,7 +44,7 @@ fn tell_line(telling: &mut Telling<'_>, table: Option<&Table>, line: Line<'_>) {
     }
 }
 
-/// Tells of a word that is missing.
+/// Adds remarks on a word that is missing.
 fn tell_gap(telling: &mut Telling<'_>, gap: Span) {
     tell_plain(
         telling,
@@ -54,7 +54,7 @@ fn tell_gap(telling: &mut Telling<'_>, gap: Span) {
     );
 }
 
-/// Tells what is wrong with a line that repeats another.
+/// Adds remarks on what is wrong with a line that repeats another.
 fn tell_repeat(telling: &mut Telling<'_>, table: Option<&Table>, line: Line<'_>) {
     let (Some(times), Some(next)) = (line.word(1), line.word(2)) else {
         return tell_form(telling, line, "repeat N LINE");
@@ -69,7 +69,7 @@ fn tell_repeat(telling: &mut Telling<'_>, table: Option<&Table>, line: Line<'_>)
     }
 }
 
-/// Tells of a word that would repeat a line that repeats another.
+/// Adds remarks on a word that would repeat a line that repeats another.
 fn tell_repeat_again(telling: &mut Telling<'_>, word: Word<'_>) {
     tell_plain(
         telling,
@@ -79,15 +79,15 @@ fn tell_repeat_again(telling: &mut Telling<'_>, word: Word<'_>) {
     );
 }
 
-/// Tells what is wrong at some bytes, and what to do.
+/// Adds remarks on what is wrong at some bytes, and on what to do.
 fn tell_plain(telling: &mut Telling<'_>, span: Span, wrong: &str, advice: &str) {
     let alloc = telling.alloc;
     telling.at_span(span, String::from_str(alloc, wrong));
     telling.advise(advice);
 }
 
-/// Tells what is wrong with the words of a line that isn't repeated: of the first that isn't what the line's form needs there,
-/// or of their number.
+/// Adds remarks on the words of a line that isn't repeated: on the first that isn't what its form needs there, or on their
+/// number.
 fn tell_words(telling: &mut Telling<'_>, table: Option<&Table>, line: Line<'_>) {
     match form_of(line, expects_variable(table, line)) {
         Some(form) => tell_by_form(telling, table, line, form),
@@ -95,7 +95,7 @@ fn tell_words(telling: &mut Telling<'_>, table: Option<&Table>, line: Line<'_>) 
     }
 }
 
-/// Whether a variable of the table has the word between `expect` and the only word behind it as its name.
+/// Whether a line is an `expect` with three words whose second is the name of a variable.
 fn expects_variable(table: Option<&Table>, line: Line<'_>) -> bool {
     match (table, line.word(1)) {
         (Some(table), Some(name)) => {
@@ -106,7 +106,7 @@ fn expects_variable(table: Option<&Table>, line: Line<'_>) -> bool {
     }
 }
 
-/// Tells of the first word of a line that isn't what a form needs there, or of the number of its words.
+/// Adds remarks on the first word of a line that isn't what a form needs there, or on the number of its words.
 fn tell_by_form(telling: &mut Telling<'_>, table: Option<&Table>, line: Line<'_>, form: &str) {
     for (place, part) in form.split(' ').enumerate() {
         if let Some(word) = line.word(place)
@@ -119,7 +119,7 @@ fn tell_by_form(telling: &mut Telling<'_>, table: Option<&Table>, line: Line<'_>
     tell_form(telling, line, form);
 }
 
-/// Tells of a line that has too few words, or one too many, and of its form.
+/// Adds remarks on a line that has too few words, or one too many, and on its form.
 fn tell_form(telling: &mut Telling<'_>, line: Line<'_>, form: &str) {
     let alloc = telling.alloc;
     telling.at_span(
@@ -131,7 +131,7 @@ fn tell_form(telling: &mut Telling<'_>, line: Line<'_>, form: &str) {
     ));
 }
 
-/// Tells of a line whose first word is none that a line begins with.
+/// Adds remarks on a line whose first word begins no form.
 fn tell_unknown_verb(telling: &mut Telling<'_>, line: Line<'_>) {
     let Some(word) = line.word(0) else {
         return;
@@ -143,7 +143,7 @@ fn tell_unknown_verb(telling: &mut Telling<'_>, line: Line<'_>) {
     telling.advise(SEE_HELP);
 }
 
-/// The table that stands before a script, whose line `%%` ends where the script begins.
+/// The text of the table before a script; the line `%%` ends where the script begins.
 fn table_before(text: &str, from: usize) -> &str {
     let before = text.get(..from).unwrap_or("");
     before.trim_end().strip_suffix("%%").unwrap_or(before)
@@ -162,7 +162,7 @@ fn line_at(text: &str, start: usize) -> Line<'_> {
     }
 }
 
-/// Where the line with a number, counted from 1, begins in a text of which the first so many bytes
+/// The byte at which line `line`, counted from 1, begins in a text whose first `from` bytes
 /// don't count.
 fn line_start(bytes: &[u8], from: usize, line: usize) -> Option<usize> {
     let Some(ends_between) = line.checked_sub(2) else {

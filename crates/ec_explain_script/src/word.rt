@@ -8,7 +8,7 @@ pub struct Word<'t> {
     pub text: &'t str,
 }
 
-/// A line, or its end from a word on, and where it begins in the text. Its words stand one blank apart.
+/// A line, or its end from one of its words, and where it begins in the text, in bytes. Its words stand one blank apart.
 #[derive(Clone, Copy)]
 pub struct Line<'t> {
     pub start: usize,
@@ -48,7 +48,7 @@ impl<'t> Line<'t> {
         }
     }
 
-    /// Where a word is missing: where the first one stands that is empty.
+    /// Where a word is missing: the place of the first word that is empty.
     pub fn gap(self) -> Option<Span> {
         let mut start = self.start;
         for text in self.text.split(' ') {
@@ -60,7 +60,7 @@ impl<'t> Line<'t> {
         None
     }
 
-    /// What there is of it from one of its words on.
+    /// Its end, which begins with one of its words.
     pub fn from(self, word: Word<'t>) -> Line<'t> {
         let before = word.start.saturating_sub(self.start);
         Line {
@@ -70,7 +70,7 @@ impl<'t> Line<'t> {
     }
 }
 
-/// Where a text stands that begins at a byte.
+/// The bytes of a text that begins at the byte `start`.
 fn span_of(start: usize, text: &str) -> Span {
     Span {
         start,
@@ -78,7 +78,7 @@ fn span_of(start: usize, text: &str) -> Span {
     }
 }
 
-/// A line without its comment, which begins at a `#`, and the blanks before that.
+/// A line without its comment, which begins at the first `#`, and without the blanks before that.
 pub fn without_comment(line: &str) -> &str {
     match line.split_once('#') {
         Some((before, _)) => before.trim_end_matches(' '),

@@ -1,4 +1,4 @@
-//! What a start-up failed by, in one sentence.
+//! What a start-up failed by, as a sentence.
 use crate::steps::{PlacedStep, step_of};
 use ec_device::Device;
 use ec_link::Plan;
@@ -7,23 +7,23 @@ use ec_start::StartError;
 use ec_table::{Table, TypeRow};
 use std::fmt;
 
-/// What is said of the frame of a step that came back otherwise than it must.
+/// The words for a step whose frame came back otherwise than it must.
 const COUNTER: &str = "its frame came back with another working counter than it must have";
 
-/// What is said of a step that didn't end.
+/// The words for a step that didn't end.
 const TOO_SLOW: &str = "it wasn't over after 1000 polls";
 
-/// What a start-up of a table failed by. It is printed as a sentence: slaves with their names, a step in words, and devices,
+/// What a start-up of a table failed by. It is printed as a sentence, with the names of slaves, a step in words, and devices,
 /// objects and codes in hex.
 #[derive(Clone, Copy)]
 pub struct StartFault<'t> {
     table: &'t Table,
     error: StartError,
-    /// The step that the error names, where it is looked up.
+    /// The step that the error names, if it was looked up.
     step: Option<PlacedStep>,
 }
 
-/// The place of a slave of a table, at which there may be none. It is printed as `slave`, its place and its name.
+/// The place of a slave in a table, which may not have it. It is printed as `slave`, its place and its name.
 #[derive(Clone, Copy)]
 pub struct SlaveAt<'t> {
     pub table: &'t Table,
@@ -44,7 +44,7 @@ impl<'t> StartFault<'t> {
         StartFault { table, error, step }
     }
 
-    /// The same of an error that names no step.
+    /// As [`StartFault::of_plan`], for an error that names no step.
     pub fn new(table: &'t Table, error: StartError) -> StartFault<'t> {
         StartFault {
             table,
@@ -53,12 +53,12 @@ impl<'t> StartFault<'t> {
         }
     }
 
-    /// The step that the error names, where it is looked up and there is such a one.
+    /// The step that the error names, if it was looked up and found.
     pub fn step(&self) -> Option<PlacedStep> {
         self.step
     }
 
-    /// Writes of the step with a number what went wrong there.
+    /// Writes which step it is, and what went wrong there.
     fn write_step<W: fmt::Write>(
         &self,
         f: &mut fmt::Formatter<W>,
@@ -83,7 +83,7 @@ impl<'t> SlaveAt<'t> {
         SlaveAt { table, place }
     }
 
-    /// Its type, and the place of that.
+    /// Its type, and the place of its type.
     pub fn kind(&self) -> Option<(usize, &'t TypeRow)> {
         let place = self.table.slaves().get(self.place)?.type_place;
         Some((place, self.table.types().get(place)?))
@@ -162,7 +162,7 @@ impl fmt::Display for Shown {
     }
 }
 
-/// What an abort code of an SDO transfer says (ETG.1000.6, "Abort SDO transfer").
+/// The meaning of an abort code of an SDO transfer (ETG.1000.6, "Abort SDO transfer").
 fn abort_text(code: u32) -> &'static str {
     match code {
         0x0503_0000 => "the toggle bit didn't change",
@@ -192,7 +192,7 @@ fn abort_text(code: u32) -> &'static str {
     }
 }
 
-/// What an AL status code says (ETG.1000.6, "AL status code").
+/// The meaning of an AL status code (ETG.1000.6, "AL status code").
 fn status_text(code: u16) -> &'static str {
     match code {
         0x0001 => "an unspecified error",

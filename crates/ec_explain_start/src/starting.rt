@@ -8,47 +8,47 @@ use ec_start::StartError;
 use ec_table::{Direction, Table, TypeRow};
 use std::fmt;
 
-/// That no number is left, and what to do.
+/// The words if no number is left, and what to do.
 const SPENT: (&str, &str) = (
     "Each frame has a number of its own, and all 2^64 are used up",
     "start the program anew",
 );
 
-/// What to do where a slave's answer is no reply.
+/// What to do if a slave's answer is no reply.
 const NO_REPLY: &str = "see whether the `mailbox` of its type lies where the device has it";
 
-/// What to do where a slave refused a state.
+/// What to do if a slave refused a state.
 const REFUSED: &str = "correct what the code names in the slave's type or in what it assigns";
 
-/// What to do where a slave aborted a transfer.
+/// What to do if a slave aborted a transfer.
 const ABORTED: &str = "correct the PDOs of its type, or `out` and `in` of the slave";
 
-/// What to do where the frame of a step came back otherwise than it must.
+/// What to do if the frame of a step came back otherwise than it must.
 const COUNTER: &str = "see whether a slave was switched off or unplugged, and start again";
 
-/// What to do where a step didn't end.
+/// What to do if a step didn't end.
 const TOO_SLOW: &str = "see whether the slave works, and start again";
 
-/// That the start-up was given up, and what to do.
+/// The words if the start-up was given up, and what to do.
 const LOST: (&str, &str) = (
     "A frame of the start-up was lost, or its socket was faulty, so it was given up",
     "see that the segment answers, and start again",
 );
 
-/// What is said of a fault of a wire in a cycle, and what to do.
+/// The words for a fault of a wire in a cycle, and what to do.
 const FAULTY_WIRE: (&str, &str) = (
     "A socket took or gave no frame in a cycle, so nothing of that cycle was taken",
     "see that the segment answers and that nothing else uses its port, and try again",
 );
 
-/// What an object of a mapping has to hold by the table: at subindex 0 how many entries, else an entry. It is printed in words.
+/// What an object of a mapping must hold by the table: at subindex 0 the number of entries, else an entry. It is printed in words.
 #[derive(Clone, Copy)]
 struct Mapped<'t> {
     entries: &'t [Entry],
     subindex: u8,
 }
 
-/// Tells why a start-up of a table failed.
+/// Adds remarks on why a start-up of a table failed.
 pub fn tell_start_error(telling: &mut Telling<'_>, table: &Table, error: StartError) {
     let fault = StartFault::new(table, error);
     match error {
@@ -75,7 +75,7 @@ pub fn tell_start_error(telling: &mut Telling<'_>, table: &Table, error: StartEr
     }
 }
 
-/// Tells why a cycle couldn't be run.
+/// Adds remarks on why a cycle couldn't be run.
 pub fn tell_cycle_error(telling: &mut Telling<'_>, error: CycleError) {
     tell_plain(
         telling,
@@ -94,7 +94,7 @@ pub fn tell_cycle_error(telling: &mut Telling<'_>, error: CycleError) {
     );
 }
 
-/// Tells of a fault of a wire in a cycle.
+/// Adds remarks on a fault of a wire in a cycle.
 pub fn tell_wire_fault(telling: &mut Telling<'_>) {
     tell_plain(telling, FAULTY_WIRE);
 }
@@ -119,25 +119,25 @@ impl fmt::Display for Mapped<'_> {
     }
 }
 
-/// Tells something that has no place, and what to do.
+/// Adds a remark that has no place, and what to do.
 fn tell_plain(telling: &mut Telling<'_>, (words, advice): (&str, &str)) {
     telling.note_plain(words);
     telling.advise(advice);
 }
 
-/// Tells what a start-up failed by at a slave, and what to do.
+/// Adds remarks on what a start-up failed by at a slave, and on what to do.
 fn tell_of_slave(telling: &mut Telling<'_>, slave: usize, fault: StartFault<'_>, advice: &str) {
     at_slave(telling, slave, fault);
     telling.advise(advice);
 }
 
-/// Tells what a start-up failed by at a slave.
+/// Adds a remark on what a start-up failed by at a slave.
 fn at_slave(telling: &mut Telling<'_>, slave: usize, fault: StartFault<'_>) {
     let alloc = telling.alloc;
     telling.at_row("slave", slave, format!(in alloc; "{fault}"));
 }
 
-/// Tells that a slave has another value in an object of its mapping, given by its index and its subindex, than its type.
+/// Adds remarks on an object of a slave's mapping, with its index and subindex, that has another value than in its type.
 fn tell_mapping(
     telling: &mut Telling<'_>,
     at: SlaveAt<'_>,
@@ -158,7 +158,7 @@ fn tell_mapping(
     ));
 }
 
-/// Marks the PDO of a slave's type, and says what it has at a subindex.
+/// Adds a remark on what the PDO of a slave's type has at a subindex, and marks the PDO.
 fn at_pdo(telling: &mut Telling<'_>, at: SlaveAt<'_>, index: u16, subindex: u8) {
     let alloc = telling.alloc;
     let Some((place, kind)) = at.kind() else {
@@ -191,7 +191,7 @@ fn at_pdo(telling: &mut Telling<'_>, at: SlaveAt<'_>, index: u16, subindex: u8) 
     }
 }
 
-/// Tells of a step that failed, if the table has a plan with it, and what to do.
+/// Adds remarks on a step that failed, if the table has a plan with it, and on what to do.
 fn tell_step(telling: &mut Telling<'_>, table: &Table, error: StartError, advice: &str) {
     if let Some(fault) = fault_of_step(telling, table, error) {
         at_step(telling, fault);
@@ -216,7 +216,7 @@ fn fault_of_step<'t>(
     }
 }
 
-/// Tells of a step, and marks the slave that it is for; of one that the plan doesn't have there is nothing to say.
+/// Adds a remark on a step, and marks the slave that it is for; adds none on a step that the plan doesn't have.
 fn at_step(telling: &mut Telling<'_>, fault: StartFault<'_>) {
     let alloc = telling.alloc;
     let Some(found) = fault.step() else {
@@ -228,7 +228,7 @@ fn at_step(telling: &mut Telling<'_>, fault: StartFault<'_>) {
     }
 }
 
-/// Tells that a slave is another device.
+/// Adds remarks on a slave that is another device.
 fn tell_identity(telling: &mut Telling<'_>, at: SlaveAt<'_>, seen: Device, fault: StartFault<'_>) {
     let alloc = telling.alloc;
     at_slave(telling, at.place, fault);
@@ -254,7 +254,7 @@ fn tell_identity(telling: &mut Telling<'_>, at: SlaveAt<'_>, seen: Device, fault
     }
 }
 
-/// The first type of a table that is of a device.
+/// The first type of a table with this device.
 fn type_of(table: &Table, device: Device) -> Option<&TypeRow> {
     for kind in table.types() {
         if kind.device == device {
@@ -264,7 +264,7 @@ fn type_of(table: &Table, device: Device) -> Option<&TypeRow> {
     None
 }
 
-/// Tells that there are too few or too many slaves.
+/// Adds remarks on too few or too many slaves.
 fn tell_count(telling: &mut Telling<'_>, table: &Table, seen: usize, fault: StartFault<'_>) {
     let alloc = telling.alloc;
     if seen < table.slaves().len() {

@@ -14,22 +14,22 @@ static OPENING: [&str; 6] = [
     "the station addresses of all slaves are cleared",
 ];
 
-/// The steps that set the mailboxes of a slave that has some.
+/// The steps that set the mailboxes of a slave, if it has mailboxes.
 static MAILBOXES: [&str; 2] = [
     "sync manager 0, of its receive mailbox, is set",
     "sync manager 1, of its send mailbox, is set",
 ];
 
-/// A stretch of the script: for each slave, in order, its own steps.
+/// A part of the script that has steps for each slave, in order.
 #[derive(Clone, Copy)]
 enum Stretch {
-    /// These, the same for each slave.
+    /// These steps, the same for each slave.
     Plain(&'static [&'static str]),
-    /// Those that set its mailboxes, if it has some.
+    /// The steps that set its mailboxes, if it has mailboxes.
     Mailboxes,
     /// Its requests and their replies.
     Talking,
-    /// Those that set the managers and FMMUs of its process data.
+    /// The steps that set the managers and FMMUs of its process data.
     Mapping,
 }
 
@@ -55,20 +55,20 @@ static STRETCHES: [Stretch; 8] = [
 /// A request to a slave.
 #[derive(Clone, Copy)]
 pub enum Request {
-    /// What the PDO of an index has at a subindex is read.
+    /// Read what the PDO with this index has at a subindex.
     Upload(u16, usize),
-    /// The assignment in an object is emptied.
+    /// Empty the assignment in this object.
     Clear(u16),
-    /// In the object's place a PDO is written, by its index.
+    /// Write a PDO, by its index, into a place of this object.
     Assign(u16, usize, u16),
-    /// The number of its PDOs is written into the object.
+    /// Write the number of PDOs into this object.
     Count(u16, usize),
 }
 
 /// A step of a start-up. It is printed in words.
 #[derive(Clone, Copy)]
 pub enum Step {
-    /// The one that these words tell.
+    /// The step with these words.
     Plain(&'static str),
     /// A request is sent.
     Sent(Request),
@@ -131,7 +131,7 @@ impl fmt::Display for Step {
     }
 }
 
-/// The step with a number in the script of a plan's start-up; none past its end.
+/// The step with this number in the script of a plan's start-up; `None` past its end.
 pub fn step_of(plan: &Plan, number: usize) -> Option<PlacedStep> {
     if let Some(words) = OPENING.get(number) {
         return Some(PlacedStep {
@@ -150,7 +150,7 @@ pub fn step_of(plan: &Plan, number: usize) -> Option<PlacedStep> {
     walk.found
 }
 
-/// A walk over the steps of slaves, in the order of the script, to one of them.
+/// A walk over the steps of slaves, in the order of the script, up to one of them.
 #[derive(Drop)]
 struct Walk {
     /// How many steps stand before that one.
@@ -194,7 +194,7 @@ impl Walk {
         }
     }
 
-    /// Passes steps with these words.
+    /// Passes the steps with these words.
     fn pass_plain(&mut self, texts: &[&'static str]) {
         for text in texts {
             self.pass(Step::Plain(*text));
@@ -235,7 +235,7 @@ impl Walk {
         }
     }
 
-    /// Passes a request: it is sent, and its reply awaited.
+    /// Passes the two steps of a request: it is sent, and its reply is awaited.
     fn pass_request(&mut self, request: Request) {
         self.pass(Step::Sent(request));
         self.pass(Step::Awaited(request));
@@ -269,7 +269,7 @@ impl Walk {
     }
 }
 
-/// The first PDO with an index.
+/// The first PDO with this index.
 fn pdo_of(pdos: &[Pdo], index: u16) -> Option<&Pdo> {
     for pdo in pdos {
         if pdo.index == index {

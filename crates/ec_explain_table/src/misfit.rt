@@ -1,4 +1,4 @@
-//! In words how a value doesn't fit what its key takes.
+//! Why a value doesn't fit what its key takes, in words.
 use crate::rule::{DIRECTIONS, Lacking, Rule, TRUTHS, last_index, word_of};
 use ec_device::{MAX_ENTRIES, MAX_PDOS};
 use ec_outline::{MarkedPart, Meant, PathStep, Printable, Words, is_among, nearest};
@@ -7,10 +7,10 @@ use ec_told::printed;
 use std::alloc::Global;
 use toml::{Table, Value};
 
-/// How many steps there are to a value in a link table: a bit of an entry of a PDO of a type has the longest way.
+/// Room for the steps to a value. The longest way in a link table, to a number of an entry of a PDO of a type, has 7.
 const STEPS: usize = 8;
 
-/// That a value doesn't fit a rule, in words.
+/// Why a value doesn't fit a rule, in words.
 #[derive(Drop)]
 pub struct Misfit(pub Words);
 
@@ -55,7 +55,7 @@ impl<'s> Mark<'s> {
         &self.steps[..count]
     }
 
-    /// Holds the value there against a rule. Where it doesn't fit, the mark is led to what is wrong.
+    /// Checks the value there against a rule. If it doesn't fit, the mark is left at what is wrong.
     pub fn hold(&mut self, value: &'s Value, rule: Rule) -> Result<(), Misfit> {
         match rule {
             Rule::Name => self.hold_name(value),
@@ -104,7 +104,7 @@ impl<'s> Mark<'s> {
         }
     }
 
-    /// Holds the index of a PDO.
+    /// Checks the index of a PDO.
     fn hold_index(&self, value: &Value, first: u16) -> Result<(), Misfit> {
         let (alloc, last) = (self.alloc, last_index(first));
         let number = self.wanted(value, value.as_integer(), "the index of a PDO")?;
@@ -124,7 +124,7 @@ impl<'s> Mark<'s> {
         }
     }
 
-    /// Holds a list of as many numbers as there are ranges.
+    /// Checks a list of as many numbers as there are ranges.
     fn hold_numbers(&mut self, value: &Value, ranges: &[(u32, u32)]) -> Result<(), Misfit> {
         let (alloc, items) = (self.alloc, self.items(value, "a list of numbers")?);
         let (count, wanted) = (items.len(), ranges.len());
@@ -177,7 +177,7 @@ impl<'s> Mark<'s> {
         Ok(())
     }
 
-    /// Holds the keys of a PDO.
+    /// Checks the keys of a PDO.
     fn hold_pdo_keys(&mut self, members: &'s Table) -> Result<(), Misfit> {
         let Some(key) = members.keys().find(|it| !is_among(it.as_str(), &PDO_KEYS)) else {
             return Ok(());
@@ -215,7 +215,7 @@ impl<'s> Mark<'s> {
         Ok(())
     }
 
-    /// Goes a step on the way; where it has as many as it can have, it ends there.
+    /// Adds a step to the way; a way that is full stays as it is.
     fn enter(&mut self, step: PathStep<'s>) {
         let count = self.count;
         if let Some(last) = self.steps.get_mut(count) {
@@ -224,12 +224,12 @@ impl<'s> Mark<'s> {
         }
     }
 
-    /// Goes the last step back.
+    /// Takes the last step from the way.
     fn leave(&mut self) {
         self.count = self.count.saturating_sub(1);
     }
 
-    /// Holds how many things there are.
+    /// Checks that there are no more than `most` things.
     fn hold_count(&self, count: usize, most: usize, things: &str) -> Result<(), Misfit> {
         let alloc = self.alloc;
         if count > most {
@@ -238,12 +238,12 @@ impl<'s> Mark<'s> {
         Ok(())
     }
 
-    /// The items of a list.
+    /// The items of a list; the error is that it is no list.
     fn items<'v>(&self, value: &'v Value, wanted: &str) -> Result<&'v [Value], Misfit> {
         Ok(self.wanted(value, value.as_array(), wanted)?.as_slice())
     }
 
-    /// What a value is found to be, or else that something else stands where this is wanted.
+    /// What a value was found to be; without that, the error says what stands in place of what is wanted.
     fn wanted<T: Drop>(&self, value: &Value, found: Option<T>, wanted: &str) -> Result<T, Misfit> {
         if let Some(found) = found {
             return Ok(found);
@@ -263,7 +263,7 @@ impl<'s> Mark<'s> {
     }
 }
 
-/// That a value doesn't fit.
+/// The error that a value doesn't fit.
 fn refuse(words: Words) -> Result<(), Misfit> {
     Err(Misfit(words))
 }

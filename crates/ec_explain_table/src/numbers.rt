@@ -4,27 +4,27 @@ use ec_outline::comma;
 use std::fmt;
 use toml::Value;
 
-/// The numbers of a list, or the indices of its tables; 0 in the place of what is neither. They are printed as a list of numbers in hex.
+/// The numbers of a list, or the indices of its tables; 0 for an item that is neither. They are printed as a list of numbers in hex.
 #[derive(Clone, Copy, Drop)]
 pub struct Numbers<'v> {
     items: &'v [Value],
 }
 
 impl<'v> Numbers<'v> {
-    /// Those of a list; none where there is no list.
+    /// The numbers of a list; none if there is no list.
     pub fn under(list: Option<&'v Value>) -> Numbers<'v> {
         Numbers {
             items: items_of(list),
         }
     }
 
-    /// Whether others are the same numbers in the same order.
+    /// Whether both are the same numbers in the same order.
     pub fn is_same(self, others: Numbers<'_>) -> bool {
         self.items.len() == others.items.len()
             && (0..self.items.len()).all(|place| self.at(place) == others.at(place))
     }
 
-    /// The first that is not among others, and its place.
+    /// The first number that isn't among others, with its place.
     pub fn first_not_in(self, others: Numbers<'_>) -> Option<(usize, i64)> {
         for (place, item) in self.items.iter().enumerate() {
             let number = number_of(item);
@@ -46,7 +46,7 @@ impl<'v> Numbers<'v> {
         None
     }
 
-    /// The first place of a number before an end.
+    /// The first place of a number before the place `end`.
     fn place_of(self, number: i64, end: usize) -> Option<usize> {
         let mut items = self.items.iter().take(end);
         items.position(|item| number_of(item) == number)
@@ -71,7 +71,7 @@ impl fmt::Display for Numbers<'_> {
     }
 }
 
-/// An item as a number, or its index.
+/// An item as a number, or its index; 0 without either, or below 0.
 fn number_of(item: &Value) -> i64 {
     let number = item.get("index").unwrap_or(item).as_integer();
     number.unwrap_or(0).max(0)

@@ -46,7 +46,7 @@ impl<'d> Element<'d> {
         self.members.get(key)?.as_str()
     }
 
-    /// How many steps of the way from its section's key on don't lead to it: both where it is the document.
+    /// How many of the first two steps of a way, section and element, to leave out: both for the document, else none.
     fn skipped(self) -> usize
         ensures { result ≤ 2 }
     {
@@ -57,7 +57,7 @@ impl<'d> Element<'d> {
         }
     }
 
-    /// Says something of it, and marks where it begins.
+    /// Adds a remark on it, and marks where it begins.
     fn say(self, telling: &mut Telling<'_>, words: Words) {
         let way = [
             PathStep::Key(word_of(self.place.section)),
@@ -66,7 +66,7 @@ impl<'d> Element<'d> {
         telling.at(&way[self.skipped()..], MarkedPart::Key, words);
     }
 
-    /// Says something of what stands under a key of it, and marks a part of that.
+    /// Adds a remark on what stands under a key of it, and marks a part of that.
     fn say_under(self, telling: &mut Telling<'_>, key: &str, part: MarkedPart, words: Words) {
         let way = [
             PathStep::Key(word_of(self.place.section)),
@@ -76,7 +76,7 @@ impl<'d> Element<'d> {
         telling.at(&way[self.skipped()..], part, words);
     }
 
-    /// Says something of an item of a list under a key of it, and marks a part of that.
+    /// Adds a remark on an item of a list under a key of it, and marks a part of that.
     fn say_item(
         self,
         telling: &mut Telling<'_>,
@@ -94,7 +94,7 @@ impl<'d> Element<'d> {
     }
 }
 
-/// Tells why a text is no link table, whose first fault is this.
+/// Adds remarks on why a text, with this first fault, is no link table.
 pub fn tell_fault(telling: &mut Telling<'_>, text: &str, fault: Fault) {
     match toml::table_from_str(telling.alloc, text) {
         Ok(document) => tell_of_document(telling, &document, fault),
@@ -103,7 +103,7 @@ pub fn tell_fault(telling: &mut Telling<'_>, text: &str, fault: Fault) {
     }
 }
 
-/// Tells what the reader of TOML says.
+/// Adds remarks on what the reader of TOML reports.
 fn tell_syntax(telling: &mut Telling<'_>, error: &toml::de::Error) {
     let alloc = telling.alloc;
     let message = error.message();
@@ -118,7 +118,7 @@ fn tell_syntax(telling: &mut Telling<'_>, error: &toml::de::Error) {
     telling.advise("put the syntax right there, or in the line before");
 }
 
-/// Tells of a fault of a document.
+/// Adds remarks on a fault of a document.
 fn tell_of_document(telling: &mut Telling<'_>, document: &Table, fault: Fault) {
     let place = fault.place();
     let Some(element) = place.and_then(|place| Element::at(document, place)) else {
@@ -133,7 +133,7 @@ fn tell_of_document(telling: &mut Telling<'_>, document: &Table, fault: Fault) {
     }
 }
 
-/// Tells of a key that is unknown or missing.
+/// Adds remarks on a key that is unknown or missing.
 fn tell_bad_key(telling: &mut Telling<'_>, element: Element<'_>) {
     let section = element.place.section;
     for key in element.members.keys() {
@@ -148,7 +148,7 @@ fn tell_bad_key(telling: &mut Telling<'_>, element: Element<'_>) {
     tell_missing(telling, element);
 }
 
-/// Tells of a key that there is not.
+/// Adds remarks on a key that no element of its section has.
 fn tell_unknown_key(telling: &mut Telling<'_>, element: Element<'_>, key: &str) {
     let (alloc, section) = (telling.alloc, element.place.section);
     let (word, shown) = (word_of(section), Printable(key));
@@ -162,7 +162,7 @@ fn tell_unknown_key(telling: &mut Telling<'_>, element: Element<'_>, key: &str) 
     telling.advise_in(format!(in alloc; "leave it out or correct it; a {word} has the keys {all}"));
 }
 
-/// The key of an element of a section that may have been meant.
+/// The key of a section's elements that may have been meant.
 fn meant_key(telling: &mut Telling<'_>, key: &str, section: Section) -> Meant<'static> {
     let names = names_of(telling.alloc, keys_of(section));
     match telling.made(names) {
@@ -171,7 +171,7 @@ fn meant_key(telling: &mut Telling<'_>, key: &str, section: Section) -> Meant<'s
     }
 }
 
-/// Tells of a sync unit in a table that knows none.
+/// Adds remarks on a sync unit in a table that isn't of version 2.
 fn tell_early_unit(telling: &mut Telling<'_>, element: Element<'_>) {
     let words = "`unit` is a key only where the text begins with `version = 2`";
     let words = String::from_str(telling.alloc, words);
@@ -179,13 +179,13 @@ fn tell_early_unit(telling: &mut Telling<'_>, element: Element<'_>) {
     telling.advise("write `version = 2` above all tables, or leave `unit` out");
 }
 
-/// Whether the document says version 2.
+/// Whether the document is of version 2.
 fn is_version_2(document: &Table) -> bool {
     let version = document.get("version");
     version.and_then(|version| version.as_integer()) == Some(2)
 }
 
-/// Tells which keys an element lacks.
+/// Adds remarks on the keys that an element lacks.
 fn tell_missing(telling: &mut Telling<'_>, element: Element<'_>) {
     let needs = needs_of(telling.alloc, keys_of(element.place.section));
     if let Some(needs) = telling.made(needs) {
@@ -193,7 +193,7 @@ fn tell_missing(telling: &mut Telling<'_>, element: Element<'_>) {
     }
 }
 
-/// Tells which keys of those that it must have an element lacks.
+/// Adds remarks on those keys that an element must have and lacks.
 fn tell_lacking(telling: &mut Telling<'_>, element: Element<'_>, needs: &[&str]) {
     let (alloc, place) = (telling.alloc, element.place);
     let lacks = Lacking {
@@ -209,7 +209,7 @@ fn tell_lacking(telling: &mut Telling<'_>, element: Element<'_>, needs: &[&str])
     telling.advise_in(format!(in alloc; "add {lacks}"));
 }
 
-/// Tells of a value that isn't what its key takes.
+/// Adds remarks on a value that isn't what its key takes.
 fn tell_bad_value(telling: &mut Telling<'_>, element: Element<'_>) {
     match element.place.section {
         Section::Top => tell_bad_top(telling, element),
@@ -218,7 +218,7 @@ fn tell_bad_value(telling: &mut Telling<'_>, element: Element<'_>) {
     }
 }
 
-/// Tells of a value of the document that isn't what its key takes.
+/// Adds remarks on a value of the document that isn't what its key takes.
 fn tell_bad_top(telling: &mut Telling<'_>, element: Element<'_>) {
     if tell_misfit_under(telling, element, "version", Rule::Number(1, 2)) {
         return telling.advise("give version 1 or 2; 2 has sync units, the key `unit` of a slave");
@@ -230,7 +230,7 @@ fn tell_bad_top(telling: &mut Telling<'_>, element: Element<'_>) {
     }
 }
 
-/// Tells of a section that is no list of tables; whether it is none.
+/// Adds remarks on a section that is no list of tables; returns whether it is none.
 fn tell_bad_section(telling: &mut Telling<'_>, document: &Table, section: &'static str) -> bool {
     match document.get(section) {
         Some(value) if !value.is_array() => {
@@ -241,7 +241,7 @@ fn tell_bad_section(telling: &mut Telling<'_>, document: &Table, section: &'stat
     }
 }
 
-/// Tells of a section that is no list, but may be a table.
+/// Adds remarks on a section that is no list, but may be a table.
 fn tell_no_list(telling: &mut Telling<'_>, section: &'static str, is_table: bool) {
     let alloc = telling.alloc;
     let alone = if is_table {
@@ -254,7 +254,7 @@ fn tell_no_list(telling: &mut Telling<'_>, section: &'static str, is_table: bool
     telling.advise_in(format!(in alloc; "write `[[{section}]]` above each table of the section"));
 }
 
-/// Tells of the first element of a section that is no table; whether there is one.
+/// Adds remarks on the first element of a section that is no table; returns whether there is one.
 fn tell_no_table(telling: &mut Telling<'_>, section: &'static str, elements: &[Value]) -> bool {
     let alloc = telling.alloc;
     let Some(place) = elements.iter().position(|element| !element.is_table()) else {
@@ -267,7 +267,7 @@ fn tell_no_table(telling: &mut Telling<'_>, section: &'static str, elements: &[V
     true
 }
 
-/// Tells of a value of an element that isn't what its key takes; whether there is one.
+/// Adds remarks on a value of an element that isn't what its key takes; returns whether there is one.
 fn tell_misfit(telling: &mut Telling<'_>, element: Element<'_>) -> bool {
     let alloc = telling.alloc;
     for (key, rule, _) in keys_of(element.place.section) {
@@ -280,7 +280,7 @@ fn tell_misfit(telling: &mut Telling<'_>, element: Element<'_>) -> bool {
     false
 }
 
-/// Tells of a value under a key that doesn't fit a rule; whether it doesn't.
+/// Adds remarks on a value under a key that doesn't fit a rule; returns whether it doesn't.
 fn tell_misfit_under<'d>(
     telling: &mut Telling<'_>,
     element: Element<'d>,
@@ -300,7 +300,7 @@ fn tell_misfit_under<'d>(
     }
 }
 
-/// Tells of a slave that assigns PDOs of its own choice, though its type has no mailbox.
+/// Adds remarks on a slave that assigns PDOs of its own choice, though its type has no mailbox.
 fn tell_fixed(telling: &mut Telling<'_>, element: Element<'_>) {
     let Some(kind) = element.text("type") else {
         return;
@@ -318,7 +318,7 @@ fn tell_fixed(telling: &mut Telling<'_>, element: Element<'_>) {
     telling.advise("leave `out` and `in` out, or give the type a `mailbox`");
 }
 
-/// Tells of a name or an index that stands twice.
+/// Adds remarks on a name or an index that stands twice.
 fn tell_twice(telling: &mut Telling<'_>, element: Element<'_>) {
     if tell_taken_name(telling, element) {
         return;
@@ -330,7 +330,7 @@ fn tell_twice(telling: &mut Telling<'_>, element: Element<'_>) {
     }
 }
 
-/// Tells of a name that an earlier element has; whether one has it.
+/// Adds remarks on a name that an earlier element has; returns whether one has it.
 fn tell_taken_name(telling: &mut Telling<'_>, element: Element<'_>) -> bool {
     let (alloc, word) = (telling.alloc, word_of(element.place.section));
     let Some(name) = element.text("name") else {
@@ -349,13 +349,13 @@ fn tell_taken_name(telling: &mut Telling<'_>, element: Element<'_>) -> bool {
     true
 }
 
-/// The first element of a name before a place.
+/// The place of the first element with this name before a place.
 fn place_before(elements: &[Value], place: usize, name: &str) -> Option<usize> {
     let mut earlier = elements.iter().take(place);
     earlier.position(|it| text_under(it, "name") == Some(name))
 }
 
-/// Tells of an index that stands twice under a key; whether one does.
+/// Adds remarks on an index that stands twice under a key; returns whether one does.
 fn tell_twice_under(telling: &mut Telling<'_>, element: Element<'_>, key: &'static str) -> bool {
     let alloc = telling.alloc;
     let numbers = Numbers::under(element.members.get(key));
@@ -370,7 +370,7 @@ fn tell_twice_under(telling: &mut Telling<'_>, element: Element<'_>, key: &'stat
     true
 }
 
-/// Tells of a name or an index that is unknown.
+/// Adds remarks on a name or an index that is unknown.
 fn tell_unknown(telling: &mut Telling<'_>, element: Element<'_>) {
     for (key, section) in REFERENCES {
         if tell_unknown_name(telling, element, key, section) {
@@ -384,7 +384,7 @@ fn tell_unknown(telling: &mut Telling<'_>, element: Element<'_>) {
     }
 }
 
-/// Tells of a reference to an element of a section that there is not; whether there is one.
+/// Adds remarks on a reference to an element that its section doesn't have; returns whether there is one.
 fn tell_unknown_name(
     telling: &mut Telling<'_>,
     element: Element<'_>,
@@ -406,7 +406,7 @@ fn tell_unknown_name(
     true
 }
 
-/// The name of one of the elements that may have been meant.
+/// The name of an element that may have been meant.
 fn meant_name<'v>(telling: &mut Telling<'_>, name: &str, elements: &'v [Value]) -> Meant<'v> {
     let names = names_in(telling.alloc, elements);
     match telling.made(names) {
@@ -415,7 +415,7 @@ fn meant_name<'v>(telling: &mut Telling<'_>, name: &str, elements: &'v [Value]) 
     }
 }
 
-/// Tells of a PDO that a slave assigns and its type hasn't; whether there is one.
+/// Adds remarks on a PDO that a slave assigns and its type doesn't have; returns whether there is one.
 fn tell_unknown_pdo(
     telling: &mut Telling<'_>,
     element: Element<'_>,
@@ -439,14 +439,14 @@ fn tell_unknown_pdo(
     true
 }
 
-/// The indices of the PDOs that the type of a name has in a list; none where there is no such type.
+/// The indices of the PDOs in a list of the type with this name; none if there is no such type.
 fn indices_under<'d>(document: &'d Table, kind: &str, list: &str) -> Numbers<'d> {
     let mut types = elements_of(document, "type").iter();
     let found = types.find(|it| text_under(it, "name") == Some(kind));
     Numbers::under(found.and_then(|it| it.get(list)))
 }
 
-/// The names of the elements of a section, as far as they have some.
+/// The names of those elements of a section that have one. `AllocError` if memory ran out.
 fn names_in<'v>(alloc: Global, elements: &'v [Value]) -> Result<Vec<&'v str>, AllocError> {
     let mut names = Vec::new(alloc);
     for name in elements.iter().filter_map(|it| text_under(it, "name")) {
@@ -465,7 +465,7 @@ fn elements_of<'v>(document: &'v Table, section: &str) -> &'v [Value] {
     items_of(document.get(section))
 }
 
-/// The items of a list; none where there is no list.
+/// The items of a list; none if there is no list.
 pub fn items_of(list: Option<&Value>) -> &[Value] {
     match list.and_then(|list| list.as_array()) {
         Some(items) => items.as_slice(),

@@ -13,11 +13,11 @@ pub enum Rule {
     Name,
     /// A number from the first to the second.
     Number(u32, u32),
-    /// Where mailboxes lie.
+    /// The starts and sizes of the mailboxes.
     Mailbox,
-    /// Indices of PDOs, from the first on.
+    /// Indices of PDOs; this is the first that they may have.
     Indices(u16),
-    /// PDOs with indices from the first on.
+    /// PDOs; this is the first index that they may have.
     Pdos(u16),
     /// A direction.
     Direction,
@@ -80,7 +80,7 @@ pub const DIRECTIONS: &str = "\"out\" or \"in\"";
 /// What a truth value is, in words.
 pub const TRUTHS: &str = "true or false";
 
-/// How an element of a section is called, which is its key too.
+/// The word for an element of a section; but for the document it is the section's key, too.
 pub fn word_of(section: Section) -> &'static str {
     match section {
         Section::Top => "document",
@@ -102,12 +102,12 @@ pub fn keys_of(section: Section) -> &'static [Key] {
     }
 }
 
-/// Whether a word is the name of one of some keys.
+/// Whether a word is the name of one of these keys.
 pub fn is_key(word: &str, keys: &[Key]) -> bool {
     keys.iter().any(|(name, _, _)| *name == word)
 }
 
-/// The names of keys.
+/// The names of keys. `AllocError` if memory ran out.
 pub fn names_of(alloc: Global, keys: &[Key]) -> Result<Vec<&'static str>, AllocError> {
     let mut names = Vec::new(alloc);
     for (name, _, _) in keys {
@@ -116,7 +116,7 @@ pub fn names_of(alloc: Global, keys: &[Key]) -> Result<Vec<&'static str>, AllocE
     Ok(names)
 }
 
-/// The names of those keys that an element must have.
+/// The names of those keys that an element must have. `AllocError` if memory ran out.
 pub fn needs_of(alloc: Global, keys: &[Key]) -> Result<Vec<&'static str>, AllocError> {
     let mut names = Vec::new(alloc);
     for (name, _, is_needed) in keys {
@@ -127,7 +127,7 @@ pub fn needs_of(alloc: Global, keys: &[Key]) -> Result<Vec<&'static str>, AllocE
     Ok(names)
 }
 
-/// Keys as their names are printed, one after another.
+/// Keys, printed as a list of their names.
 #[derive(Clone, Copy, Drop)]
 pub struct Named<'k>(pub &'k [Key]);
 
@@ -141,7 +141,7 @@ impl fmt::Display for Named<'_> {
     }
 }
 
-/// Those of some names that a table lacks, printed one after another.
+/// Those of some names that a table lacks, printed as a list.
 #[derive(Clone, Copy, Drop)]
 pub struct Lacking<'t> {
     /// The table.
@@ -206,7 +206,7 @@ impl fmt::Display for Taken {
     }
 }
 
-/// The last index of PDOs whose first is this.
+/// The last index of the PDOs whose first is this.
 pub fn last_index(first: u16) -> u16 {
     first.saturating_add(PDO_INDICES - 1)
 }

@@ -7,7 +7,7 @@ use Rattle.std.specs.declared.io.ErrorKind.TheVariants.{Interrupted, OutOfMemory
 use Rattle.ec_lines.specs.declared.error.LinesError.{LinesError}
 use Rattle.ec_lines.specs.declared.error.LinesError.TheVariants.{Memory, Unread}
 
--- the stream that is read; whether a read of it was ever refused, or it was given up; and how often it was read
+-- the stream; whether a read of it was ever refused, or it was given up; and how often it was read
 pub record InputState (R : Type 0) : Type 0 where
   pub stream : R
   pub is_refused : Bool
@@ -17,11 +17,11 @@ pub record InputState (R : Type 0) : Type 0 where
 abbrev pub one_more : ℕ → ℕ
 one_more reads = min (reads + 1) (2 ^ 64 - 1)
 
--- it was read so often that it may be given up
+-- the input was read so often that it may be given up
 abbrev pub IsSpent : ℕ → Type 0
 IsSpent reads = 2 ^ 64 - 1 ≤ reads
 
--- an error of a read that refuses it: not that it was interrupted, after which it is made again, nor that memory ran out
+-- an error by which a read is refused: not an interruption, after which it is made again, nor want of memory
 abbrev pub is_refusal : ErrorKind → Bool
 is_refusal Interrupted = false
 is_refusal OutOfMemory = false
@@ -31,7 +31,7 @@ abbrev pub is_read_refused : Result ℕ Error → Bool
 is_read_refused (Ok count) = false
 is_read_refused (Err error) = is_refusal (error_kind error)
 
--- as what a read is told that gave an error, and wasn't interrupted
+-- the error for a read that gave an error and wasn't interrupted
 abbrev pub read_fault : ErrorKind → LinesError
 read_fault OutOfMemory = Memory
 read_fault _ = Unread

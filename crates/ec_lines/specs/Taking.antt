@@ -10,54 +10,54 @@ use Rattle.ec_lines.specs.declared.lines.NextLine.TheVariants as taken
 
 -- ---- lines
 
--- A line is taken from an input, with its end, which is a newline; or what is left behind the last newline, which may be nothing.
+-- A line is taken from an input, with its newline; or, behind the last newline, all that is left, which may be nothing.
 pub record TakesLine (old new : Option (List ℕ)) (line : List ℕ) : Type 0 where
   pub front : List ℕ
   pub unended : All (λ b. b ≢ 10) front
   pub taken : Consumes old new line
   pub ends : (line ≡ front ++ (10 ∷ [])) ⊎ ((line ≡ front) × IsAtEnd new)
 
--- without its end, which is a newline, and the carriage return before it
+-- a line without its end, which is a newline, and without a carriage return before it
 abbrev pub without_end : List ℕ → List ℕ
 without_end line = if slice_index line (length line - 1) == 10 then strip_carriage_return (take (length line - 1) line) else line
 
--- 2^20 bytes at most, which are text
+-- at most 2^20 bytes of UTF-8
 abbrev pub is_text : List ℕ → Bool
 is_text bytes = nat_le (length bytes) (2 ^ 20) && is_utf8 bytes
 
 abbrev pub is_text_line : List ℕ → Bool
 is_text_line line = is_text (without_end line)
 
--- as what a line is taken; where it is nothing, the input has ended
+-- what a line is taken as; an empty one is the end of the input
 abbrev pub IsTaken : List ℕ → NextLine → Type 0
 IsTaken line taken.End = line ≡ []
 IsTaken line (taken.Text text) = (0 < length line) × (is_text_line line ≡ true) × (string_bytes text ≡ without_end line)
 IsTaken line taken.NoText = (0 < length line) × (is_text_line line ≡ false)
 
--- lines one after another, each of a byte at least
+-- lines one after another, each of at least one byte
 abbrev pub TakesLines : Option (List ℕ) → Option (List ℕ) → List (List ℕ) → Type 0
 TakesLines old new [] = new ≡ old
 TakesLines old new (line ∷ lines) = (mid : Option (List ℕ)) × TakesLine old mid line × (0 < length line) × TakesLines mid new lines
 
 -- ---- a text and a line behind it
 
--- the line behind a text
+-- a line `%%`, which stands behind a text
 abbrev pub is_divider : List ℕ → Bool
 is_divider line = bytes_eq line (37 ∷ 37 ∷ 10 ∷ []) || (bytes_eq line (37 ∷ 37 ∷ 13 ∷ 10 ∷ []) || bytes_eq line (37 ∷ 37 ∷ []))
 
--- lines in one text
+-- the bytes of lines
 abbrev pub joined : List (List ℕ) → List ℕ
 joined [] = []
 joined (line ∷ lines) = line ++ joined lines
 
--- lines are taken, none of which ends a text, and these are their bytes
+-- lines are taken, none of which ends a text, and `text` has their bytes
 pub record TakesUndivided (old new : Option (List ℕ)) (text : List ℕ) : Type 0 where
   pub lines : List (List ℕ)
   pub taken : TakesLines old new lines
   pub none : All (λ line. is_divider line ≡ false) lines
   pub whole : text ≡ joined lines
 
--- the lines before the first such line, or all that are left; and that line
+-- the lines before the first line `%%` are taken, and that line; or all that are left
 pub record TakesText (old new : Option (List ℕ)) (text : List ℕ) : Type 0 where
   pub mid : Option (List ℕ)
   pub taken : TakesUndivided old mid text
@@ -71,13 +71,13 @@ pub record TakesText (old new : Option (List ℕ)) (text : List ℕ) : Type 0 wh
 abbrev pub TakesPart : Option (List ℕ) → Option (List ℕ) → Type 0
 TakesPart old new = (part : List ℕ) × Consumes old new part
 
--- what a line is refused by: memory may run out at any time, and a read was refused
+-- the errors of taking a line: memory may run out at any time, or a read was refused
 abbrev pub IsReadFault : (is_refused : Bool) → LinesError → Type 0
 IsReadFault is_refused Memory = Unit {0}
 IsReadFault is_refused Unread = is_refused ≡ true
 IsReadFault is_refused _ = ⊥
 
--- what a text is refused by: a read was refused, its first lines have too many bytes, or all of it is no text
+-- the errors of taking a text: memory ran out, a read was refused, its first lines have too many bytes, or it isn't UTF-8
 abbrev pub RefusesText : (is_refused : Bool) → (old new : Option (List ℕ)) → LinesError → Type 0
 RefusesText is_refused old new Memory = TakesPart old new
 RefusesText is_refused old new Unread = TakesPart old new × (is_refused ≡ true)

@@ -10,13 +10,13 @@ pub enum LinesError {
     /// Memory ran out; what the input gives may be good or bad.
     #[error("out of memory")]
     Memory,
-    /// A read was refused, and not for an interruption.
+    /// A read was refused, or 2^64 - 1 reads gave no end.
     #[error("the input can't be read")]
     Unread,
     /// The text has more than `MAX_BYTES` bytes.
     #[error("the text is too long")]
     TooLong,
-    /// The bytes are no text in UTF-8.
+    /// The bytes aren't text in UTF-8.
     #[error("the bytes are no text")]
     NoText,
 }
@@ -26,7 +26,7 @@ impl LinesError {
     ghost use Rattle.std.specs.IoError.{error_kind};
     ghost use Rattle.ec_lines.specs.Inputs.{read_fault};
 
-    /// Why an input gives nothing, of which a read gave this error and wasn't interrupted.
+    /// The error for a read that gave `error` and wasn't interrupted.
     pub(crate) fn of_read(error: &io::Error) -> LinesError
         ensures { result ≡ read_fault (error_kind error.now) }
     {

@@ -8,9 +8,9 @@ ghost use Rattle.ec_lines.specs.Inputs.{IsSpent, is_read_refused, one_more};
 use std::io::{ErrorKind, Read, Result};
 use std::marker::Model;
 
-/// An input that is read. It keeps whether a read was ever refused: such as gave an error, and not because it was interrupted, after
-/// which it is made again, or because memory ran out. Nobody else can say so, and thus a contract can promise that an input isn't
-/// refused unless a read of it was, or 2^64 - 1 reads gave no end.
+/// An input for reading, which keeps whether a read of it was ever refused. A read is refused if it gives an error, unless it was
+/// interrupted or memory ran out. No other value has that. So a contract can promise that an input isn't refused unless a read of it
+/// was, or 2^64 - 1 reads gave no end.
 #[derive(Drop)]
 pub struct InputStream<R: Read + Drop> {
     stream: R,
@@ -38,21 +38,21 @@ impl<R: Read + Drop> InputStream<R> {
         }
     }
 
-    /// The stream itself, which gives what was not read.
+    /// The stream itself, which still has the bytes that weren't read.
     pub fn into_stream(self) -> R
         ensures { result ≡ self.stream }
     {
         self.stream
     }
 
-    /// Whether a read was ever refused.
+    /// Whether a read was ever refused, or the input was given up.
     pub fn is_refused(&self) -> bool
         ensures { result ≡ self.now.is_refused }
     {
         self.is_refused
     }
 
-    /// Reads some bytes, as the stream does, whose answer is handed on.
+    /// Reads bytes from the stream, and returns what its `read` returns: how many bytes, or its error.
     pub fn read(&mut self, buffer: &mut [u8]) -> Result<usize>
         ensures bound { ReadsAtMost result buffer.new }
         ensures bytes { ReadConsumes (R.remaining self.old.stream) (R.remaining self.new.stream) result buffer.new }
@@ -65,8 +65,8 @@ impl<R: Read + Drop> InputStream<R> {
         read
     }
 
-    /// Reads so many bytes, or all that are left where these are fewer, as the stream does, whose answer is handed on: how many
-    /// bytes were read. An interrupted read is made again.
+    /// Appends `most` bytes of the stream to `bytes`, or all that are left if they are fewer. Returns how many bytes it appended, or the
+    /// stream's error. An interrupted read is made again.
     pub fn read_first(&mut self, most: u64, bytes: &mut Vec<u8>) -> Result<usize>
         ensures bytes { OnOk result (IfSome (R.remaining self.old.stream) (λ all. bytes.new.items ≡ bytes.old.items ++ take most all)) }
         ensures count { IfOk result (λ count. length bytes.new.items ≡ length bytes.old.items + count) }
@@ -80,7 +80,7 @@ impl<R: Read + Drop> InputStream<R> {
         read
     }
 
-    /// An input that gives no end, though it was read 2^64 - 1 times, counts as one that refuses to be read.
+    /// Counts the input as refused, since 2^64 - 1 reads gave no end.
     pub(crate) fn give_up(&mut self)
         requires { IsSpent self.old.reads }
         ensures stream { self.new.stream ≡ self.old.stream }
@@ -91,7 +91,7 @@ impl<R: Read + Drop> InputStream<R> {
     }
 }
 
-/// Reads so many bytes of a stream, or all that are left where these are fewer.
+/// Appends `most` bytes of a stream to `bytes`, or all that are left if they are fewer. Returns how many bytes it appended.
 fn read_first<R: Read>(stream: &mut R, most: u64, bytes: &mut Vec<u8>) -> Result<usize>
     ensures bytes { OnOk result (IfSome (R.remaining stream.old) (λ all. bytes.new.items ≡ bytes.old.items ++ take most all)) }
     ensures count { IfOk result (λ count. length bytes.new.items ≡ length bytes.old.items + count) }
@@ -100,7 +100,7 @@ fn read_first<R: Read>(stream: &mut R, most: u64, bytes: &mut Vec<u8>) -> Result
     stream.take(most).read_to_end(bytes)
 }
 
-/// Whether what a read gave is a refusal.
+/// Whether the result of a read is a refusal: an error, but no interruption and no want of memory.
 fn is_read_refused(read: &Result<usize>) -> bool
     ensures { result ≡ is_read_refused read.now }
 {

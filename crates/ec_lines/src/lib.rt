@@ -1,4 +1,4 @@
-//! Lines that an input gives, each taken as it comes, and the text in front of a line `%%`.
+//! Lines of an input, each taken as it comes, and the text before a line `%%`.
 #![tactic(auto)]
 
 mod error;

@@ -13,26 +13,26 @@ use std::io::{ErrorKind, Read};
 /// The most bytes of a text, and of a line without its end.
 pub const MAX_BYTES: usize = 1 << 20;
 
-/// As many bytes of a line with its end as tell whether it is too long.
+/// The most bytes that are kept of a line with its end: one more than the longest line with its longest end, `\r\n`.
 const MAX_KEPT: usize = MAX_BYTES + 3;
 
-/// What is taken of an input as its next line.
+/// The next line of an input.
 #[derive(Debug, PartialEq, Eq, Drop)]
 pub enum NextLine {
     /// The input has ended.
     End,
     /// A line of text, without its end.
     Text(String),
-    /// A line that has more than `MAX_BYTES` bytes, or is no text in UTF-8.
+    /// A line that has more than `MAX_BYTES` bytes, or isn't text in UTF-8.
     NoText,
 }
 
-/// Takes the next line of an input: all bytes up to a newline, or to the end of the input. Nothing behind them is taken. An
-/// interrupted read is made again. A line that is too long or no text is taken as a whole too.
+/// Takes the next line of an input: all bytes up to a newline or the end of the input, and nothing behind them. An interrupted read
+/// is made again. A line that is too long or isn't text is taken as a whole too.
 ///
 /// # Errors
 ///
-/// `LinesError::Unread` where a read is refused, and `Memory`; some bytes of the line may be taken by then.
+/// `LinesError::Unread` if a read is refused, `Memory` if memory runs out. Some bytes of the line may be taken by then.
 pub fn take_line<R: Read + Drop>(
     alloc: Global,
     input: &mut InputStream<R>,
@@ -47,13 +47,13 @@ pub fn take_line<R: Read + Drop>(
     Ok(taken_of(alloc, &line)?)
 }
 
-/// Takes the text before a line `%%`, and that line, which may end in `\r\n` or be the last one without an end; or all that is
-/// left, where there is no such line. Nothing behind it is taken. An interrupted read is made again.
+/// Takes the text before a line `%%`, and that line; or all that is left if there is no such line. The line may end in `\r\n`, or be
+/// the last one without an end. Nothing behind it is taken. An interrupted read is made again.
 ///
 /// # Errors
 ///
-/// `LinesError::TooLong` where the text has more than 2^20 bytes, as soon as they are taken; `NoText` where it isn't UTF-8;
-/// `Unread` where a read is refused, and `Memory`.
+/// `LinesError::TooLong` once more than 2^20 bytes of text are taken. `NoText` if the text isn't UTF-8. `Unread` if a read is
+/// refused, `Memory` if memory runs out.
 pub fn take_text<R: Read + Drop>(
     alloc: Global,
     input: &mut InputStream<R>,
@@ -68,7 +68,7 @@ pub fn take_text<R: Read + Drop>(
     text_of(bytes)
 }
 
-/// What bytes are as a line, with its end.
+/// The line that these bytes are, which have its end; no bytes are the end of the input.
 fn taken_of(alloc: Global, line: &[u8]) -> Result<NextLine, AllocError>
     ensures { IfOk result (IsTaken line.now) }
 {
@@ -95,8 +95,8 @@ fn without_end(line: &[u8]) -> &[u8]
     }
 }
 
-/// Takes bytes of an input up to the end of a line, or all that are left, and answers the first of them, at most so many. An
-/// interrupted read is made again.
+/// Takes bytes of an input up to the end of a line, or all that are left. Returns the first `most` of them. An interrupted read is
+/// made again.
 fn take_bytes<R: Read + Drop>(
     alloc: Global,
     input: &mut InputStream<R>,
@@ -128,7 +128,7 @@ fn take_bytes<R: Read + Drop>(
     Err(LinesError::Unread)
 }
 
-/// Keeps a byte of a line, of which so many are kept at most.
+/// Appends a byte to a line, unless `most` bytes are kept already.
 fn keep(line: &mut Vec<u8>, most: usize, byte: u8) -> Result<(), AllocError>
     ensures { OnOk result (line.new.items ≡ kept_more most line.old.items byte) }
 {
@@ -138,7 +138,7 @@ fn keep(line: &mut Vec<u8>, most: usize, byte: u8) -> Result<(), AllocError>
     Ok(())
 }
 
-/// The text that bytes are.
+/// The text that these bytes are, or `NoText` if they aren't UTF-8.
 fn text_of(bytes: Vec<u8>) -> Result<String, LinesError>
     ensures same { IfOk result (λ text. string_bytes text ≡ bytes.items) }
     ensures refused { IfErr result (λ error. (error ≡ LinesError.NoText)
@@ -147,7 +147,7 @@ fn text_of(bytes: Vec<u8>) -> Result<String, LinesError>
     String::from_utf8(bytes).map_err(|_| LinesError::NoText)
 }
 
-/// Takes the lines before a line `%%`, and that line; or all that are left.
+/// Takes the lines before a line `%%`, and that line; or all that are left. Returns the bytes of the lines before it.
 fn take_lines<R: Read + Drop>(
     alloc: Global,
     input: &mut InputStream<R>,
@@ -170,7 +170,7 @@ fn take_lines<R: Read + Drop>(
     Err(LinesError::Unread)
 }
 
-/// Adds a line to a text, if that has room for it.
+/// Adds a line to a text. `TooLong` if the text then has more than 2^20 bytes.
 fn add_line(text: &mut Vec<u8>, line: &[u8]) -> Result<(), LinesError>
     ensures added { OnOk result (text.new.items ≡ text.old.items ++ line.now) }
     ensures short { OnOk result (length text.new.items ≤ 2 ^ 20) }
@@ -183,14 +183,14 @@ fn add_line(text: &mut Vec<u8>, line: &[u8]) -> Result<(), LinesError>
     Ok(())
 }
 
-/// Whether a line, with its end, is the last one that is taken of a text.
+/// Whether a line, with its end, is the last one that is taken of a text: an empty one or a line `%%`.
 fn is_last(line: &[u8]) -> bool
     ensures { result ≡ is_last line.now }
 {
     line.is_empty() || is_divider(line)
 }
 
-/// Whether a line, with its end, is the one behind a text.
+/// Whether a line, with its end, is a line `%%`.
 fn is_divider(line: &[u8]) -> bool
     ensures { result ≡ is_divider line.now }
 {

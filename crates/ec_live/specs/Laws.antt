@@ -23,13 +23,13 @@ abbrev pub live_lines : Contents → ℕ → List (List ℕ) → List Line
 live_lines t n [] = []
 live_lines t n (line ∷ lines) = with_line (live_reading t n line) (live_lines t (n + 1) lines)
 
--- The world behind lines is the one that a script of them leaves, without those that stand for nothing, whether reasons are told
--- or not.
+-- The world behind lines is the one that a script of them leaves. Lines that stand for nothing are left out, and reasons make no
+-- difference.
 abbrev pub LivesAreScripts : Type 0
 LivesAreScripts = (reasons : Reasons) (t : Contents) (w : WorldState) (n : ℕ) (lines : List (List ℕ)) (new : WorldState) (printed : List ℕ) (unmet : ℕ) → LiveSays reasons t w n lines new printed unmet
     → DoesAll (repeated (live_lines t n lines)) w new
 
--- And a run of events leads to it.
+-- A run of events leads to that world.
 abbrev pub LivesRun : Type 0
 LivesRun = (reasons : Reasons) (t : Contents) (w : WorldState) (n : ℕ) (lines : List (List ℕ)) (new : WorldState) (printed : List ℕ) (unmet : ℕ) → LiveSays reasons t w n lines new printed unmet
     → (events : List Event) × IsRun w events new (length events)

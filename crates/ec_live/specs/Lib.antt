@@ -1,4 +1,4 @@
--- To be believed by reading: what `ecat sim --live` answers.
+-- To be believed by reading: what `ecat sim --live` prints and returns.
 pub mod Living
 -- Laws: what the definitions say together.
 pub mod Laws

@@ -1,4 +1,4 @@
--- What `ecat sim --live` answers (this project's profile).
+-- What `ecat sim --live` prints and returns (this project's profile).
 use Rattle.std.specs.Prelude.{◌≡◌, ◌⊎◌, ℕ, ◌+◌, List, [], ◌∷◌, ◌++◌, length, replicate, if◌then◌else◌, Bool, true, Option, Result, Ok, Err, codes}
 use Rattle.std.specs.Fmt.{decimal}
 use Rattle.ec_lines.specs.Taking.{TakesLine, TakesLines, is_text_line, without_end}
@@ -19,17 +19,17 @@ use Rattle.ec_console.specs.Unmet.{EndsUnmet}
 
 -- ---- what a line is
 
--- too many bytes, and such as are no text, stand for nothing
+-- what line n is: a line with too many bytes, or that isn't text, stands for nothing
 abbrev pub live_reading : Contents → ℕ → List ℕ → Reading
 live_reading t n line = if is_text_line line then reading_of t n (without_end line) else reading.Bad
 
--- what is said of line n
+-- what line n prints
 abbrev pub SaysReading : Reasons → Contents → WorldState → ℕ → Reading → WorldState → List ℕ → ℕ → Type 0
 SaysReading reasons t w n reading.Empty new printed unmet = (new ≡ w) × (printed ≡ []) × (unmet ≡ 0)
 SaysReading reasons t w n reading.Bad new printed unmet = (new ≡ w) × (printed ≡ codes "bad " ++ decimal n ++ newline) × (unmet ≡ 0)
 SaysReading reasons t w n (reading.Line line) new printed unmet = Says reasons t w (replicate line.times line) new printed unmet
 
--- lines, each in the world that the one before left; the first has number n
+-- what lines print, each in the world that the one before left; the first has number n
 abbrev pub LiveSays : Reasons → Contents → WorldState → ℕ → List (List ℕ) → WorldState → List ℕ → ℕ → Type 0
 LiveSays reasons t w n [] new printed unmet = (new ≡ w) × (printed ≡ []) × (unmet ≡ 0)
 LiveSays reasons t w n (line ∷ lines) new printed unmet = (mid : WorldState) × (text : List ℕ) × (more : List ℕ) × (one : ℕ) × (rest : ℕ)
@@ -37,7 +37,7 @@ LiveSays reasons t w n (line ∷ lines) new printed unmet = (mid : WorldState) �
 
 -- ---- a run
 
--- so far: lines were taken from the input, and what they say is printed
+-- a run so far: lines were taken from the input, and their texts are printed
 pub record LivesOn (reasons : Reasons) (t : Contents) (w : WorldState) (given left : Option (List ℕ)) (count : ℕ) (now : WorldState) (unmet : ℕ) (old new : OutputState) : Type 0 where
   pub lines : List (List ℕ)
   pub long : length lines ≡ count
@@ -46,7 +46,7 @@ pub record LivesOn (reasons : Reasons) (t : Contents) (w : WorldState) (given le
   pub says : LiveSays reasons t w 1 lines now printed unmet
   pub appends : IsPrinted old new printed
 
--- all lines that there are
+-- a run to its end: all lines of the input were taken
 pub record LivesOut (reasons : Reasons) (t : Contents) (w : WorldState) (given : Option (List ℕ)) (unmet : ℕ) (old new : OutputState) : Type 0 where
   pub left : Option (List ℕ)
   pub gone : Option (List ℕ)
@@ -55,13 +55,13 @@ pub record LivesOut (reasons : Reasons) (t : Contents) (w : WorldState) (given :
   pub so_far : LivesOn reasons t w given left count last unmet old new
   pub end : TakesLine left gone []
 
--- a first part is printed of what a line says
+-- a first part of a line's text is printed
 abbrev pub SaysPart : Reasons → Contents → WorldState → ℕ → Reading → (old new : OutputState) → Type 0
 SaysPart reasons t w n reading.Empty old new = new ≡ old
 SaysPart reasons t w n reading.Bad old new = IsPartPrinted old new (codes "bad " ++ decimal n ++ newline)
 SaysPart reasons t w n (reading.Line line) old new = PrintsPart reasons t w (replicate line.times line) old new
 
--- what some first lines say is printed, and maybe a first part of what the next one says
+-- the texts of some first lines are printed, and maybe a first part of the text of one more
 pub record LivesPart (reasons : Reasons) (t : Contents) (w : WorldState) (given : Option (List ℕ)) (old new : OutputState) : Type 0 where
   pub left : Option (List ℕ)
   pub count : ℕ
@@ -72,14 +72,14 @@ pub record LivesPart (reasons : Reasons) (t : Contents) (w : WorldState) (given 
   pub reading : Reading
   pub next : SaysPart reasons t now (count + 1) reading half new
 
--- what can end a run of lines that come, by whether a read was refused, and what the output is then; memory may run out at any time
+-- refusals of a run, by whether a read was refused, and the output; memory may run out at any time
 abbrev pub IsLiveLate : (is_unread : Bool) → OutputState → Refusal → Type 0
 IsLiveLate is_unread output Memory = Unit {0}
 IsLiveLate is_unread output Output = output.is_refused ≡ true
 IsLiveLate is_unread output Input = is_unread ≡ true
 IsLiveLate is_unread output _ = ⊥
 
--- the lines run over slaves of the table that are switched on
+-- the lines run over slaves of the table that are switched on, and are printed to the end or in part
 abbrev pub RunsLive : Reasons → Contents → (given : Given) → (old new : OutputState) → Result Unit Refusal → Type 0
 RunsLive reasons t given old new (Ok done) = (w : WorldState) × IsOfMachine t w × LivesOut reasons t w given.bytes 0 old new
 RunsLive reasons t given old new (Err refusal) =

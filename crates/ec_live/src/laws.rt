@@ -1,14 +1,14 @@
 //! Laws of lines that are run as they come. Each function does nothing: its contract is the law.
 ghost use Rattle.ec_live.specs.Laws.{LivesAreScripts, LivesRun};
 
-/// The world after each line is the one that a script of all lines so far leaves, without those that stand for nothing, whether
-/// reasons are told or not.
+/// After each line, the world is the one that a script of all lines so far leaves. Lines that stand for nothing are left out, and
+/// reasons make no difference.
 #[tactic(auto, using(crate::proofs::Runs::lives_are_scripts))]
 pub fn lives_are_scripts()
     ensures { LivesAreScripts }
 {}
 
-/// And a run of events leads to it.
+/// A run of events leads to that world.
 #[tactic(auto, using(crate::proofs::Runs::lives_run))]
 pub fn lives_are_runs()
     ensures { LivesRun }

@@ -1,4 +1,4 @@
-//! `ecat sim --live`: what lines of a script that an input gives do to a simulated segment of a machine, each run as it comes.
+//! `ecat sim --live`: runs the lines that an input gives over a simulated segment of a machine, each as it comes.
 
 ghost use Rattle.std.specs.Prelude.{◌≡◌, ◌++◌, ℕ, List, IfOk, IfErr, OnOk, OnErr, codes, is_some};
 ghost use Rattle.std.specs.Fmt.{decimal};
@@ -22,22 +22,21 @@ use ec_world::{Unwatched, Watcher, World};
 use std::alloc::{AllocError, Global};
 use std::io::{Read, Write};
 
-/// What stands as the line of a number.
+/// What a line of an input is read as, and its number.
 #[derive(Clone, Copy, Drop)]
 struct Numbered {
     number: usize,
     reading: Reading,
 }
 
-/// Runs the lines that an input gives over a new segment of a machine, each as it comes: what a line says is printed before the next
-/// one is read, and why it says `no`, where reasons are told. A line that can't be read prints `bad` and its number, and nothing else
-/// happens. The slaves begin at power-on, with the identities that the table says. The frames that pass go into a capture that is
-/// open, if there is one.
+/// Runs the lines that an input gives over a new segment of a machine, each as it comes. The text of a line is printed before the next
+/// one is read, and with `reasons` also why it says `no`. A line that can't be read prints `bad` and its number, and does nothing.
+/// The slaves begin at power-on, with the identities of the table. The frames go into an open capture, if there is one.
 ///
 /// # Errors
 ///
-/// `Refusal::Unmet` where what a line expected wasn't so; `Refusal::Input`, `Output` and `Memory` where a read, a write or memory was
-/// refused, after what was printed until then.
+/// `Refusal::Unmet` if what a line expected wasn't so. `Refusal::Input`, `Output` or `Memory` if a read, a write or memory was
+/// refused; what was printed until then stays.
 pub fn run_live<F: Write + Drop, R: Read + Drop, W: Write + Drop>(
     alloc: Global,
     machine: &Machine,
@@ -55,8 +54,7 @@ pub fn run_live<F: Write + Drop, R: Read + Drop, W: Write + Drop>(
     end_of(unmet)
 }
 
-/// Runs the lines that an input gives as `print_live_lines` does; the frames of the world go into a capture that is open, if there
-/// is one.
+/// Runs the lines that an input gives as [`print_live_lines`] does. The frames of the world go into an open capture, if there is one.
 fn print_watched<F: Write + Drop, R: Read + Drop, W: Write + Drop>(
     alloc: Global,
     table: &Table,
@@ -86,8 +84,8 @@ fn print_watched<F: Write + Drop, R: Read + Drop, W: Write + Drop>(
     }
 }
 
-/// Runs the lines that an input gives over a world of a table, and prints of each what there is to say before the next one is
-/// read, and answers how often what they expect isn't so.
+/// Runs the lines that an input gives over a world of a table. It prints the text of each before the next one is read, and returns
+/// how often what they expect isn't so.
 #[tactic(auto, using(crate::proofs::LiveLemmas::said_late, crate::proofs::LiveLemmas::unread_late))]
 fn print_live_lines<S: Watcher, R: Read + Drop, W: Write + Drop>(
     alloc: Global,
@@ -121,7 +119,7 @@ fn print_live_lines<S: Watcher, R: Read + Drop, W: Write + Drop>(
     Err(Refusal::Memory)
 }
 
-/// Runs a line over a world of a table and prints what there is to say, and answers how often what it expects isn't so.
+/// Runs a line over a world of a table and prints its text. Returns how often what it expects isn't so.
 fn print_reading<S: Watcher, W: Write + Drop>(
     alloc: Global,
     table: &Table,
@@ -148,7 +146,7 @@ fn print_reading<S: Watcher, W: Write + Drop>(
     }
 }
 
-/// Prints that the line of a number is bad.
+/// Prints `bad` and the number of a line.
 #[tactic(auto, using(crate::proofs::LiveLemmas::write_late, crate::proofs::LiveLemmas::cut_part))]
 fn print_bad<W: Write + Drop>(
     alloc: Global,
@@ -165,7 +163,7 @@ fn print_bad<W: Write + Drop>(
     print_text(text.as_bytes(), output)
 }
 
-/// What is taken as the line of a number: such as is no text stands for nothing.
+/// Reads what was taken as line `number`. A line that isn't text is bad, and the end of the input counts as an empty line.
 fn reading_of(
     alloc: Global,
     table: &Table,

@@ -36,11 +36,11 @@ cycles_text t reports = ready_line ++ flat_map (report_text t.version (plan_of t
 
 -- ---- cycles
 
--- an output variable becomes a number, as far as it has bits
+-- an output variable becomes a number, cut to its bits
 abbrev pub output_put : ℕ → List ℕ → Variable → List ℕ
 output_put number image v = if is_out v.direction then value_put image (number % 2 ^ v.bits) (Some v) else image
 
--- and so does each of these
+-- each output variable among these becomes a number, cut to its bits
 abbrev pub outputs_put : ℕ → List ℕ → List Variable → List ℕ
 outputs_put number image [] = image
 outputs_put number image (v ∷ vs) = outputs_put number (output_put number image v) vs
@@ -48,14 +48,14 @@ outputs_put number image (v ∷ vs) = outputs_put number (output_put number imag
 abbrev pub with_outputs : MasterState → ℕ → MasterState
 with_outputs m number = record m { outputs = outputs_put number m.outputs m.plan.variables }
 
--- Cycle after cycle over a wire, the first of this number: each output variable is sent as the cycle's number, and each cycle
+-- Cycles are run one after another over a wire, the first with this number. Each sends each output variable as the cycle's number, and
 -- gives its report.
 abbrev pub AreRun : MasterState → WireState → ℕ → List ReportState → MasterState → WireState → Type 0
 AreRun m w number [] last v = (last ≡ m) × (v ≡ w)
 AreRun m w number (r ∷ rs) last v =
     (mid : MasterState) × (x : WireState) × IsRun (with_outputs m number) w x (Ok r) mid × AreRun mid x (number + 1) rs last v
 
--- Slaves of a plan are brought up over a wire, by frames from number 0 on: the master that begins cycles then. All its
+-- Slaves of a plan are brought up over a wire, by frames from number 0. `m` is the master that begins cycles then. All its
 -- variables are 0.
 pub record IsUp (p : PlanState) (before after : WireState) (m : MasterState) : Type 0 where
   pub start : StartState
@@ -63,18 +63,18 @@ pub record IsUp (p : PlanState) (before after : WireState) (m : MasterState) : T
   pub ready : start.phase ≡ Ready
   pub master : m ≡ readied (new_master p) start.next
 
--- the start-up of these slaves over that wire ended by an error
+-- the start-up of a plan's slaves over a wire ended by an error
 pub record HasNotStarted (p : PlanState) (before after : WireState) (error : StartError) : Type 0 where
   pub start : StartState
   pub brought : IsBroughtUp (begun p.slaves 0) before start after
   pub failed : start.phase ≡ Failed error
 
--- the lines of so many cycles at most, 1, 2, .. of a master over a wire
+-- the lines of the first cycles of a master over a wire, at most `cycles`
 abbrev pub IsSoFar : ℕ → Contents → MasterState → (before after : WireState) → List ℕ → Type 0
 IsSoFar cycles t first before after text =
     (reports : List ReportState) × (last : MasterState) × AreRun first before 1 reports last after × (length reports ≤ cycles) × (text ≡ cycles_text t reports)
 
--- the lines of all cycles, and behind them each input variable with the value that the last one left
+-- the lines of all cycles, and behind them each input variable with the value that the last cycle left
 abbrev pub IsWhole : ℕ → Contents → MasterState → (before after : WireState) → List ℕ → Type 0
 IsWhole cycles t first before after text =
     (reports : List ReportState) × (last : MasterState) × AreRun first before 1 reports last after × (length reports ≡ cycles) × (text ≡ cycles_text t reports ++ inputs_text (shown last) t)
@@ -87,24 +87,24 @@ pub record CanCycle (p : PlanState) (m : MasterState) : Type 0 where
   pub none_open : m.cycle ≡ None
   pub variables : m.plan.variables ≡ p.variables
 
--- A master's run of a cycle over a wire gave no report: a fault of the wire ended it, or there is no number for it.
+-- A master's run of a cycle over a wire gave no report: a fault of the wire ended it, or no number is left.
 abbrev pub IsRunEnd : MasterState → (before after : WireState) → RunError → Type 0
 IsRunEnd m before after Wire = (last : MasterState) × IsRun m before after (Err Wire) last
 IsRunEnd m before after (Refused error) = (error ≡ NumbersSpent) × (cycle_limit ≤ m.next) × (after ≡ before)
 
--- what ends it before the slaves are up: no memory, and nothing was sent; or what their start-up over that wire ended by
+-- the refusals before the slaves are up: memory ran out, and nothing was sent; or the start-up's error
 abbrev pub IsStartRefusal : PlanState → (before after : WireState) → Refusal → Type 0
 IsStartRefusal p before after Memory = after ≡ before
 IsStartRefusal p before after (Start error) = HasNotStarted p before after error
 IsStartRefusal p before after _ = ⊥
 
--- and what keeps the line of a cycle back: no memory for its report, or there is none
+-- the refusals of the line of a cycle: memory ran out for its report, or the run of the cycle gave none
 abbrev pub IsCycleRefusal : MasterState → (before after : WireState) → Refusal → Type 0
 IsCycleRefusal m before after Memory = (report : ReportState) × (last : MasterState) × IsRun m before after (Ok report) last
 IsCycleRefusal m before after (Run error) = IsRunEnd m before after error
 IsCycleRefusal m before after _ = ⊥
 
--- the lines of fewer cycles than all are printed, and the next one is kept back
+-- the lines of fewer cycles than all are printed, and the line of the next one is refused
 pub record EndsEarly (cycles : ℕ) (t : Contents) (first : MasterState) (before after : WireState) (old new : OutputState) (refusal : Refusal) : Type 0 where
   pub reports : List ReportState
   pub last : MasterState
@@ -123,14 +123,14 @@ pub record EndsUnshown (cycles : ℕ) (t : Contents) (first : MasterState) (befo
   pub memory : refusal ≡ Memory
   pub printed : IsPrinted old new (cycles_text t reports)
 
--- a write is refused, and what is printed is a first part of these lines
+-- a write was refused, and a first part of these lines is printed
 pub record EndsUnwritten (Lines : List ℕ → Type 0) (old new : OutputState) (refusal : Refusal) : Type 0 where
   pub output : refusal ≡ Output
   pub text : List ℕ
   pub lines : Lines text
   pub cut : IsCutOff old new text
 
--- The cycles of a master whose slaves are up, by what the wire is and the writer holds before and after: all is printed; or
+-- The cycles of a master whose slaves are up, by what the wire and the output are before and after. All is printed; or
 -- the lines until then.
 abbrev pub RunsCycles : ℕ → Contents → MasterState → (before after : WireState) → (old new : OutputState) → Result Unit Refusal → Type 0
 RunsCycles cycles t first before after old new (Ok done) = (text : List ℕ) × IsWhole cycles t first before after text × IsPrinted old new text
@@ -140,7 +140,7 @@ RunsCycles cycles t first before after old new (Err refusal) =
     ⊎ (EndsUnwritten (IsSoFar cycles t first before after) old new refusal
     ⊎ EndsUnwritten (IsWhole cycles t first before after) old new refusal))
 
--- The cycles of a table over a wire: its slaves are brought up and the cycles run; or they don't come up, and nothing is
+-- The cycles of a table over a wire: its slaves are brought up and the cycles are run. Or they don't come up, and nothing is
 -- printed.
 abbrev pub Loops : ℕ → Contents → (before after : WireState) → (old new : OutputState) → Result Unit Refusal → Type 0
 Loops cycles t before after old new ended =
@@ -149,24 +149,24 @@ Loops cycles t before after old new ended =
 
 -- ---- over sockets
 
--- Two sockets of this process, with the table's slaves at one of them, just switched on: the cycles run over them. Sockets tell no
--- payload, so what they carried is any; but as many are sent and received, as many calls are faults, and the wire is to as many
--- slaves, as the loopback that it was given counts.
+-- The cycles run over two sockets of this process, with the table's slaves at one of them, just switched on. A socket's state has no
+-- payload, so it may have carried any. But the loopback counts the slaves of the wire, payloads sent and received, and calls that were
+-- faults, as the wire does.
 pub record LoopsBetween (cycles : ℕ) (t : Contents) (old new : OutputState) (before after : Traffic) (ended : Result Unit Refusal) : Type 0 where
   pub slaves : List SlaveState
   pub are : AreSlavesOf t slaves
   pub opened : after.slaves ≡ length slaves
   pub runs : Loops cycles t (counted before) (counted after) old new ended
 
--- it is refused, and nothing is printed or sent
+-- the run is refused, and nothing is printed or sent
 abbrev pub IsNeverRun : (Refusal → Type 0) → (old new : OutputState) → (before after : Traffic) → Result Unit Refusal → Type 0
 IsNeverRun Refuses old new before after ended =
     (refusal : Refusal) × (ended ≡ Err refusal) × Refuses refusal × (new ≡ old) × (after ≡ before)
 
--- no memory for the slaves, or no sockets
+-- there is no memory for the slaves, or there are no sockets
 abbrev pub IsUnbound : Refusal → Type 0
 IsUnbound refusal = (refusal ≡ Memory) ⊎ (refusal ≡ Socket)
 
--- the cycles of a table; or there is no memory for its slaves, or no sockets
+-- the cycles of a table; or there is no memory for its slaves, or there are no sockets
 abbrev pub LoopsOnSockets : ℕ → Contents → (old new : OutputState) → (before after : Traffic) → Result Unit Refusal → Type 0
 LoopsOnSockets cycles t old new before after ended = LoopsBetween cycles t old new before after ended ⊎ IsNeverRun IsUnbound old new before after ended

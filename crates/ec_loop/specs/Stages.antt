@@ -1,4 +1,4 @@
--- What private code answers once a table was read; none of it is needed to read what is printed.
+-- What private code returns once a table was read. You don't need it to read what is printed.
 use Rattle.std.specs.Prelude.{◌⊎◌, ℕ}
 use Rattle.ec_table.specs.Contents.{Contents}
 use Rattle.ec_cycle.specs.Master.{MasterState}

@@ -32,14 +32,14 @@ use std::time::Clock;
 /// What is printed when the slaves are up.
 const READY: &str = "ready\n";
 
-/// Brings the slaves on a wire up and runs so many cycles of a machine over it. In the n-th cycle each output
-/// variable is sent as n, as far as it has bits. It prints a line when the slaves are up, the report on each cycle before
-/// the next begins, and at the end the input variables.
+/// Brings up the slaves on a wire and runs `cycles` cycles of a machine over it. Cycle n sends each output variable as n, cut to its
+/// bits. It prints a line when the slaves are up, and the report on each cycle before the next begins. At the end it prints the input
+/// variables.
 ///
 /// # Errors
 ///
-/// `Refusal::Memory` where memory ran out, the start-up's refusal where it failed, the run's where a cycle could not be
-/// run, and `Refusal::Output` where the output could not be written.
+/// `Refusal::Memory` if memory ran out. The start-up's refusal if it failed, and the run's if a cycle couldn't be run.
+/// `Refusal::Output` if the output couldn't be written.
 pub fn run_loop<W: Wire, O: Write + Drop>(
     alloc: Global,
     machine: &Machine,
@@ -54,13 +54,13 @@ pub fn run_loop<W: Wire, O: Write + Drop>(
     run_started(alloc, machine, &mut master, wire, cycles, output)
 }
 
-/// Runs so many cycles of a machine, master and slaves on two sockets of this process, where the slaves have the application of
+/// Runs `cycles` cycles of a machine, with master and slaves on two sockets of this process. The slaves have the application of
 /// `loopback`, which counts what goes over the sockets. It prints what [`run_loop`] prints. What the master sends and receives goes
-/// into a capture that is open, if there is one.
+/// into an open capture, if there is one.
 ///
 /// # Errors
 ///
-/// `Refusal::Memory` where memory ran out, `Refusal::Socket` where there are no such sockets, and what [`run_loop`] ends by.
+/// `Refusal::Memory` if memory ran out, `Refusal::Socket` if there are no such sockets, and the errors of [`run_loop`].
 #[tactic(auto, using(crate::proofs::LoopLemmas::no_wire, crate::proofs::LoopLemmas::looped_between))]
 pub fn run_loopback<H: AllocGlobal + Net + Files + Clock, W: Write + Drop, A: App + Drop>(
     rt: &H,
@@ -81,7 +81,7 @@ pub fn run_loopback<H: AllocGlobal + Net + Files + Clock, W: Write + Drop, A: Ap
     ended
 }
 
-/// Runs so many cycles with a master whose slaves are up, and prints what `run_loop` does.
+/// Runs `cycles` cycles with a master whose slaves are up, and prints what [`run_loop`] prints.
 fn run_started<W: Wire, O: Write + Drop>(
     alloc: Global,
     machine: &Machine,
@@ -99,7 +99,7 @@ fn run_started<W: Wire, O: Write + Drop>(
     print_text(lines.as_bytes(), output)
 }
 
-/// Prints that the slaves are up, and runs so many cycles, each of whose reports is printed before the next begins.
+/// Prints that the slaves are up, and runs `cycles` cycles. It prints the report on each before the next begins.
 fn print_cycles<W: Wire, O: Write + Drop>(
     alloc: Global,
     machine: &Machine,
@@ -123,7 +123,7 @@ fn print_cycles<W: Wire, O: Write + Drop>(
     Ok(())
 }
 
-/// The line of the report on one cycle that sends a number.
+/// Runs one cycle that sends a number, and returns the line of its report.
 fn cycle_line<W: Wire>(
     alloc: Global,
     machine: &Machine,
@@ -145,7 +145,7 @@ fn cycle_line<W: Wire>(
     Ok(text)
 }
 
-/// One cycle that sends a number.
+/// Runs one cycle that sends each output variable as a number, cut to its bits.
 fn run_number<W: Wire>(
     plan: &Plan,
     master: &mut Master<'_>,
@@ -161,7 +161,7 @@ fn run_number<W: Wire>(
     run_cycle(master, wire)
 }
 
-/// A master of a machine, whose slaves were brought up over a wire.
+/// Brings up the slaves of a machine over a wire, and returns a master of it that can begin cycles.
 fn started<'p, W: Wire>(
     alloc: Global,
     machine: &'p Machine,
@@ -177,7 +177,7 @@ fn started<'p, W: Wire>(
     Ok(master)
 }
 
-/// Brings the slaves of a plan up over a wire for a new master of it, which can begin cycles then.
+/// Brings up the slaves of a plan over a wire for a new master of it, which can then begin cycles.
 #[tactic(auto, unfolding(ec_start::specs::Running::begun))]
 fn bring_up_for<W: Wire>(plan: &Plan, master: &mut Master<'_>, wire: &mut W) -> Result<(), Refusal>
     requires few { All HasFewAssigned plan.now.slaves }
@@ -192,7 +192,7 @@ fn bring_up_for<W: Wire>(plan: &Plan, master: &mut Master<'_>, wire: &mut W) -> 
     Ok(())
 }
 
-/// Sets each output variable to a number, as far as it has bits.
+/// Sets each output variable to a number, cut to its bits.
 fn set_outputs(master: &mut Master<'_>, plan: &Plan, number: u64)
     requires { master.old.plan.variables ≡ plan.now.variables }
     ensures { master.new ≡ with_outputs master.old number }
@@ -203,7 +203,7 @@ fn set_outputs(master: &mut Master<'_>, plan: &Plan, number: u64)
     }
 }
 
-/// Sets a variable to a number, as far as it has bits, if it is an output.
+/// Sets a variable to a number, cut to its bits, if it is an output.
 fn set_output(master: &mut Master<'_>, variable: usize, place: Variable, number: u64)
     requires there { slice_get master.old.plan.variables variable ≡ Some place }
     requires few { place.bits ≤ 64 }
@@ -215,7 +215,7 @@ fn set_output(master: &mut Master<'_>, variable: usize, place: Variable, number:
     }
 }
 
-/// A number as far as so many bits hold it.
+/// The lowest `bits` bits of a number.
 fn cut_to(number: u64, bits: u8) -> u64
     requires { bits ≤ 64 }
     ensures { result ≡ number % 2 ^ bits }
@@ -260,8 +260,8 @@ fn run_tapped<H: AllocGlobal + Files + Clock, W: Wire + Drop, O: Write + Drop>(
     }
 }
 
-/// A wire between two sockets of this process, to the slaves of a machine, just switched on, and with the application that it
-/// takes away.
+/// Opens a wire between two sockets of this process, to the slaves of a machine, just switched on. The wire takes the application
+/// of `loopback`.
 fn open_loop<H: AllocGlobal + Net, A: App + Drop>(
     rt: &H,
     machine: &Machine,

@@ -1,5 +1,5 @@
--- A master over a wire, and what each order does to it (this project's profile). What a start-up over a wire and a cycle over
--- one are is said by `ec_wire`, and what becomes of a variable that is set by `ec_cycle`.
+-- A master over a wire, and what each order does to it (this project's profile). `ec_wire` defines a start-up and a cycle over a
+-- wire, and `ec_cycle` how a variable is set.
 use Rattle.std.specs.Prelude.{ℕ, ◌≡◌, ◌+◌, ◌&&◌, nat_lt, max, slice_get, Bool, true, false, if◌then◌else◌, Option, Some, None, Result, Ok, Err}
 use Rattle.ec_link.specs.Plan.{PlanState}
 use Rattle.ec_start.specs.Running.{StartState, begun, outcome_of}
@@ -24,7 +24,7 @@ new_control plan = record { start = begun plan.slaves 0; master = new_master pla
 
 -- ---- start-ups
 
--- A start-up is made from the beginning, by frames whose numbers neither the one before nor a cycle has used.
+-- A start-up is made from its beginning, by frames whose numbers neither the last start-up nor a cycle has used.
 abbrev pub start_again : ControlState → StartState
 start_again s = begun s.master.plan.slaves (max s.start.next s.master.next)
 
@@ -32,7 +32,7 @@ start_again s = begun s.master.plan.slaves (max s.start.next s.master.next)
 abbrev pub is_up : ControlState → Bool
 is_up s = is_ready (outcome_of s.start.phase)
 
--- where it ended Ready, the master can begin cycles
+-- if it ended Ready, the master can begin cycles
 abbrev pub master_behind : StartState → MasterState → MasterState
 master_behind start m = if is_ready (outcome_of start.phase) then readied m start.next else m
 
@@ -69,7 +69,7 @@ pub record Cycles (s : ControlState) (w : WireState) (t : ControlState) (v : Wir
 
 -- ---- orders
 
--- nothing is done, and this is told
+-- nothing changes, and this is the answer
 pub record Tells (s : ControlState) (w : WireState) (t : ControlState) (v : WireState) (what told : Answer) : Type 0 where
   pub same : t ≡ s
   pub wire : v ≡ w
@@ -89,12 +89,12 @@ abbrev pub answer_if : Bool → Answer
 answer_if true = answer.Nothing
 answer_if false = answer.Unmet
 
--- whether there is a report, which is then told
+-- the answer to `report`: the last report, or `No` before the first one
 abbrev pub last_report : Option ReportState → Answer
 last_report None = answer.No
 last_report (Some report) = answer.Report
 
--- What an order does, and what it tells. What can't be done tells `No` and changes nothing.
+-- What an order does, and its answer. An order that can't be done has the answer `No` and changes nothing.
 abbrev pub Does : Order → ControlState → WireState → ControlState → WireState → Answer → Type 0
 Does Bad s w t v told = Tells s w t v answer.Bad told
 Does Ready s w t v told = Starts s w t v × (told ≡ answer.Ended)
@@ -106,6 +106,6 @@ Does (Expect e) s w t v told = Tells s w t v (answer_if (is_met e s)) told
 Does Show s w t v told = Tells s w t v answer.Values told
 Does Report s w t v told = Tells s w t v (last_report s.report) told
 
--- After a fault of the wire: all is as it was, but that the number of a cycle is used up.
+-- After a fault of the wire: only the number of a cycle is used up.
 abbrev pub with_number_used : ControlState → ControlState
 with_number_used s = record s { master = record s.master { next = s.master.next + 1 } }

@@ -1,4 +1,4 @@
--- When what a line expects of a master is so (this project's profile).
+-- When what a line expects of a master holds (this project's profile).
 use Rattle.std.specs.Prelude.{◌==◌, Bool, false, slice_get}
 use Rattle.ec_cycle.specs.Master.{value_at}
 use Rattle.ec_start.specs.Running.{outcome_of}

@@ -1,4 +1,4 @@
--- What holds of a master over a wire, whatever was done with it.
+-- What always holds of a master over a wire.
 use Rattle.std.specs.Prelude.{◌≡◌, ℕ, ◌<◌, All, List, [], length, Option, true, None, Some, string_bytes}
 use Rattle.std.specs.declared.alloc.Global.{Global}
 use Rattle.std.specs.declared.string.String.{String}
@@ -14,7 +14,7 @@ use Rattle.ec_master.specs.declared.order.Task.{Task}
 use Rattle.ec_master.specs.Orders.{with_show}
 use Rattle.ec_master.specs.Saying.{task_on}
 
--- It is of one plan; no cycle is open, and the master can begin one where the last start-up ended Ready.
+-- It is of one plan; no cycle is open, and the master can begin one if the last start-up ended Ready.
 pub record IsHeld (plan : PlanState) (s : StartState) (m : MasterState) : Type 0 where
   pub few : All HasFewAssigned plan.slaves
   pub master : m.plan ≡ plan

@@ -2,11 +2,11 @@
 
 -- what a line asks for
 pub mod Orders
--- a master over a wire, when what a line expects of it is so, and what each order does
+-- a master over a wire, when what a line expects of it holds, and what each order does
 pub mod State
 pub mod Expecting
 pub mod Controls
--- what is printed of an order
+-- what an order prints
 pub mod Texts
 -- the lines of an input, one after another
 pub mod Saying

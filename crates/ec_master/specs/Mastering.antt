@@ -16,14 +16,14 @@ use Rattle.ec_master.specs.Saying.{IsLate, Moment, ObeysAll, ObeysSome}
 abbrev pub begun_over : Contents → WireState → Moment
 begun_over t w = record { control = new_control (plan_of t); wire = w }
 
--- a run over a wire up to the end of the input, in which so many times what is expected isn't so
+-- a run over a wire up to the end of the input, in which what is expected doesn't hold this many times
 pub record RunsToEnd (reasons : Reasons) (t : Contents) (before after : WireState) (unmet : ℕ) (input : Given) (old new : OutputState) : Type 0 where
   pub last : Moment
   pub wire : last.wire ≡ after
   pub obeys : ObeysAll reasons t (begun_over t before) last unmet input.bytes old new
 
--- The lines of an input over a wire: all are done, and what they expect is so; or it isn't, so many times; or they are cut short,
--- and what was printed until then stays; or memory is refused before the first line.
+-- The lines of an input over a wire. All are done, and what they expect holds, or doesn't this many times. Or they are cut short,
+-- and what was printed until then stays. Or memory is refused before the first line.
 abbrev pub RunsOver : Reasons → Contents → (before after : WireState) → (input : Given) → (old new : OutputState) → Result Unit Refusal → Type 0
 RunsOver reasons t before after input old new (Ok done) = RunsToEnd reasons t before after 0 input old new
 RunsOver reasons t before after input old new (Err refusal) =
@@ -31,7 +31,7 @@ RunsOver reasons t before after input old new (Err refusal) =
     ⊎ ((IsLate input.is_refused new refusal × ObeysSome reasons t (begun_over t before) input.bytes old new)
     ⊎ EndsUnmet refusal (λ unmet. RunsToEnd reasons t before after unmet input old new))
 
--- over a socket or a card that was just opened, which tells no payload
+-- over a socket or a card that was just opened, whose state has no payloads
 abbrev pub RunsOnWire : Reasons → Contents → (input : Given) → (old new : OutputState) → Result Unit Refusal → Type 0
 RunsOnWire reasons t input old new ended = (after : WireState) × RunsOver reasons t (silent 0) after input old new ended
 

@@ -56,7 +56,7 @@ order_of rows act.Show = Show
 
 -- ---- `report`
 
--- a text with the first `report` in it as `show`
+-- a text with its first `report` replaced by `show`
 unfoldable pub with_show : Text → Text
 with_show [] = []
 with_show (c ∷ cs) = if bytes_eq (take 6 (c ∷ cs)) (codes "report") then codes "show" ++ drop 6 (c ∷ cs) else c ∷ with_show cs
@@ -93,6 +93,6 @@ task_in t n text reading.Empty = None
 task_in t n text reading.Bad = Some (task_reported n (times_reported t n text))
 task_in t n text (reading.Line line) = Some (task_for n line.times (order_of t.variables line.act))
 
--- what the text of line n asks for; nothing where it is empty without its comment
+-- what the text of line n asks for; `None` if it is empty without its comment
 abbrev pub task_of : Contents → ℕ → Text → Option Task
 task_of t n text = task_in t n text (reading_of t n text)

@@ -16,7 +16,7 @@ use Rattle.ec_master.specs.Texts.{IsWhy, answer_text, is_unmet}
 
 -- ---- lines
 
--- what the bytes of line n ask for, which stand with their end; bytes that are no text, or too many, are a bad line
+-- what the bytes of line n, with its end, ask for; bytes that are no text, or too many, are a bad line
 abbrev pub task_on : Contents → ℕ → List ℕ → Option Task
 task_on t n line = if is_text_line line then task_of t n (without_end line) else Some (bad_task n)
 
@@ -25,7 +25,7 @@ abbrev pub repeated : Option Task → List Task
 repeated None = []
 repeated (Some task) = replicate task.times task
 
--- what is done of lines of which the first has number n
+-- the tasks of lines, the first of which has number n
 unfoldable pub done_from : Contents → ℕ → List (List ℕ) → List Task
 done_from t n [] = []
 done_from t n (line ∷ lines) = repeated (task_on t n line) ++ done_from t (n + 1) lines
@@ -44,12 +44,12 @@ pub record Moment : Type 0 where
   pub control : ControlState
   pub wire : WireState
 
--- 1 where what is expected isn't so
+-- 1 if what is expected doesn't hold
 abbrev pub unmet_of : Answer → ℕ
 unmet_of told = if is_unmet told then 1 else 0
 
--- a task is done once, in the same way whether reasons are told or not; its text is that of the master then; behind that stands
--- why it can't be done or has failed, where reasons are told
+-- A task is done once, the same with and without reasons. It prints its answer, by the master behind it; with reasons it adds
+-- why it can't be done or has failed.
 pub record SaysTask (reasons : Reasons) (t : Contents) (w : Moment) (task : Task) (new : Moment) (printed : List ℕ) (unmet : ℕ) : Type 0 where
   pub told : Answer
   pub does : Does task.order w.control w.wire new.control new.wire told
@@ -58,7 +58,7 @@ pub record SaysTask (reasons : Reasons) (t : Contents) (w : Moment) (task : Task
   pub text : printed ≡ answer_text t task.number new.control told ++ why
   pub count : unmet ≡ unmet_of told
 
--- What tasks print that are done once each, and how often what they expect isn't so. Each is done where the one before left the
+-- What tasks print, each done once, and how often what they expect doesn't hold. Each begins where the one before left the
 -- master and the wire.
 abbrev pub Says : Reasons → Contents → Moment → List Task → Moment → List ℕ → ℕ → Type 0
 Says reasons t w [] new printed unmet = (new ≡ w) × (printed ≡ []) × (unmet ≡ 0)
@@ -71,7 +71,7 @@ pub record PrintsAll (reasons : Reasons) (t : Contents) (w : Moment) (tasks : Li
   pub says : Says reasons t w tasks last printed unmet
   pub appends : IsPrinted old new printed
 
--- a first part is printed of what some first of these tasks say
+-- a first part is printed of the text of some first of these tasks
 pub record PrintsPart (reasons : Reasons) (t : Contents) (w : Moment) (tasks : List Task) (old new : OutputState) : Type 0 where
   pub count : ℕ
   pub last : Moment
@@ -80,20 +80,20 @@ pub record PrintsPart (reasons : Reasons) (t : Contents) (w : Moment) (tasks : L
   pub says : Says reasons t w (take count tasks) last printed unmet
   pub appends : IsPartPrinted old new printed
 
--- Lines are taken from an input up to its end, and done one after another as they come; each is printed before the next is taken.
+-- Lines are taken from an input up to its end, and done as they come; each is printed before the next is taken.
 pub record ObeysAll (reasons : Reasons) (t : Contents) (w : Moment) (last : Moment) (unmet : ℕ) (input : Option (List ℕ)) (old new : OutputState) : Type 0 where
   pub lines : List (List ℕ)
   pub taken : TakesToEnd input lines
   pub printed : PrintsAll reasons t w (done_from t 1 lines) last unmet old new
 
--- The same until memory ran out, a read was refused or a write was.
+-- As `ObeysAll`, until memory ran out, or a read or a write was refused.
 pub record ObeysSome (reasons : Reasons) (t : Contents) (w : Moment) (input : Option (List ℕ)) (old new : OutputState) : Type 0 where
   pub lines : List (List ℕ)
   pub left : Option (List ℕ)
   pub taken : TakesLines input left lines
   pub printed : PrintsPart reasons t w (done_from t 1 lines) old new
 
--- what can end it so, by whether a read was refused and what the output is then; memory may run out at any time
+-- what can cut lines short, by whether a read was refused and what the output is then; memory may run out at any time
 abbrev pub IsLate : (is_unread : Bool) → OutputState → Refusal → Type 0
 IsLate is_unread output Memory = Unit {0}
 IsLate is_unread output Output = output.is_refused ≡ true

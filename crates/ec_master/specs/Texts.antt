@@ -1,4 +1,4 @@
--- What is printed of an order (this project's profile): reports, start-ups and values as a script prints them.
+-- What an order prints (this project's profile): reports, start-ups and values as a script prints them.
 use Rattle.std.specs.Prelude.{ℕ, List, [], ◌++◌, Bool, true, false, None, codes}
 use Rattle.std.specs.Fmt.{decimal}
 use Rattle.ec_table.specs.Contents.{Contents}
@@ -14,7 +14,7 @@ use Rattle.ec_master.specs.declared.answer.Answer.{Answer}
 use Rattle.ec_master.specs.declared.answer.Answer.TheVariants.{Nothing, No, Unmet, Bad, Ended, Report, Fault, Values}
 use Rattle.ec_master.specs.State.{ControlState}
 
--- what is printed where line n has this to tell
+-- what line n prints for this answer
 abbrev pub answer_text : Contents → ℕ → ControlState → Answer → List ℕ
 answer_text t n s Nothing = []
 answer_text t n s No = codes "no " ++ decimal n ++ newline
@@ -29,12 +29,12 @@ abbrev pub is_unmet : Answer → Bool
 is_unmet Unmet = true
 is_unmet _ = false
 
--- The answers behind which stands why, where reasons are told: that a line can't be done, and that a start-up has failed.
+-- The answers that have a reason behind them, with reasons: that a line can't be done, and that a start-up has failed.
 abbrev pub is_reasoned : Reasons → ControlState → Answer → Bool
 is_reasoned Told s No = true
 is_reasoned Told s Ended = is_failed None (outcome_of s.start.phase)
 is_reasoned _ s _ = false
 
--- why that is so, where reasons are told; behind any other answer there is nothing
+-- the reason behind an answer, with reasons; behind any other answer there is nothing
 abbrev pub IsWhy : Reasons → ControlState → Answer → List ℕ → Type 0
 IsWhy reasons s told why = ReasonIf (is_reasoned reasons s told) why

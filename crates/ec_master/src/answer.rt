@@ -1,4 +1,4 @@
-//! What is printed of an order.
+//! What an order prints.
 ghost use Rattle.std.specs.Prelude.{◌≡◌, ◌++◌, IfOk, OnOk, string_bytes};
 ghost use Rattle.ec_text.specs.ReportText.{report_if};
 ghost use Rattle.ec_master.specs.Texts.{answer_text, is_unmet};
@@ -9,14 +9,14 @@ use ec_text::{input_lines, write_outcome, write_report};
 use std::alloc::{AllocError, Global};
 use std::fmt::Write as _;
 
-/// What there is to tell of an order.
+/// The result of an order, which decides what its line prints.
 #[derive(Clone, Copy, Debug, PartialEq, Eq, Drop)]
 pub enum Answer {
     /// Nothing.
     Nothing,
-    /// It can't be done, and nothing was.
+    /// The order can't be done, and nothing has changed.
     No,
-    /// What was expected isn't so.
+    /// What the order expects doesn't hold.
     Unmet,
     /// The line is no order.
     Bad,
@@ -31,7 +31,7 @@ pub enum Answer {
 }
 
 impl Answer {
-    /// Whether what was expected isn't so.
+    /// Whether what the order expects doesn't hold.
     pub fn is_unmet(self) -> bool
         ensures { result ≡ is_unmet self }
     {
@@ -39,11 +39,11 @@ impl Answer {
     }
 }
 
-/// What is printed where the line of a number has this to tell.
+/// The text that line `number` prints for this answer; lines count from 1.
 ///
 /// # Errors
 ///
-/// `AllocError` where memory ran out.
+/// `AllocError` if memory ran out.
 pub fn answer_text(
     alloc: Global,
     table: &Table,

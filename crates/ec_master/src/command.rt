@@ -21,18 +21,18 @@ use std::time::Clock;
 /// Where a master's frames go, and how long it waits for an answer, in milliseconds.
 #[derive(Clone, Copy, Debug, PartialEq, Eq, Drop)]
 pub struct Connection<'a> {
-    /// The address and the port of a segment, as `127.0.0.1:34980`.
+    /// The IPv4 address and the UDP port of a segment, such as `127.0.0.1:34980`.
     pub to: &'a str,
-    /// The descriptor of a card's raw socket, in the place of the address.
+    /// The descriptor of a card's raw socket; it replaces the address.
     pub descriptor: Option<u16>,
     pub patience: u16,
 }
 
-/// Does the lines of an input with a new master of a machine over a wire, and prints what they tell.
+/// Runs the lines of an input with a new master of a machine over a wire, and prints their answers.
 ///
 /// # Errors
 ///
-/// Those of [`print_lines`], and `Refusal::Unmet` where what lines expect isn't so.
+/// Those of [`print_lines`], and `Refusal::Unmet` if what lines expect doesn't hold.
 pub fn run_master<W: Wire, R: Read + Drop, O: Write + Drop>(
     alloc: Global,
     machine: &Machine,
@@ -50,14 +50,14 @@ pub fn run_master<W: Wire, R: Read + Drop, O: Write + Drop>(
     end_of(unmet)
 }
 
-/// Does the lines of an input with a new master of a machine over a socket or a card; what each tells is printed before the next is
-/// read, with why it can't be done or has failed behind it, where reasons are told. What the master sends and receives goes into a
-/// capture that is open, if there is one.
+/// Runs the lines of an input with a new master of a machine over a socket or a card. The answer of a line is printed before the next
+/// is read, and with `reasons` also why it can't be done or has failed. What the master sends and receives goes into an open capture, if
+/// there is one.
 ///
 /// # Errors
 ///
-/// `Refusal::Socket` where there is no such socket, also where `to` is no address with a port; what cuts the lines short,
-/// `Refusal::Memory`, `Refusal::Input` or `Refusal::Output`; and `Refusal::Unmet` where what lines expect isn't so.
+/// `Refusal::Socket` if there is no such socket, also if `to` is no address with a port. `Refusal::Memory`, `Refusal::Input` or
+/// `Refusal::Output` if memory, a read or a write was refused. `Refusal::Unmet` if what lines expect isn't so.
 pub fn run_connected<H: AllocGlobal + Net + Files + Clock, R: Read + Drop, O: Write + Drop>(
     rt: &H,
     machine: &Machine,
@@ -83,7 +83,7 @@ pub fn run_connected<H: AllocGlobal + Net + Files + Clock, R: Read + Drop, O: Wr
     }
 }
 
-/// A socket that is connected with the segment at an address.
+/// A socket that is connected to the segment at the address of `way`.
 fn connect<R: Net>(rt: &R, way: Connection<'_>) -> Result<UdpWire, SocketFault>
     ensures { IfOk result (λ w. w.failed ≡ 0) }
 {
@@ -93,8 +93,8 @@ fn connect<R: Net>(rt: &R, way: Connection<'_>) -> Result<UdpWire, SocketFault>
     }
 }
 
-/// Does the lines of an input with a new master of a machine over a wire that has carried nothing yet, and notes what it
-/// carries in a capture, if there is one.
+/// Runs the lines of an input with a new master of a machine over a wire that has carried nothing yet. If there is a capture, it
+/// notes what the wire carries.
 fn run_tapped<H: AllocGlobal + Files + Clock, W: Wire + Drop, R: Read + Drop, O: Write + Drop>(
     rt: &H,
     machine: &Machine,

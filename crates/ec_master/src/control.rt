@@ -40,11 +40,11 @@ impl<'p> Model for Control<'p> {
 }
 
 impl<'p> Control<'p> {
-    /// A master of a machine that has brought no slave up yet. All variables are 0.
+    /// A master of a machine, before its first start-up. All variables are 0.
     ///
     /// # Errors
     ///
-    /// `AllocError` where there is no memory.
+    /// `AllocError` if memory ran out.
     pub fn new(alloc: Global, machine: &'p Machine) -> Result<Control<'p>, AllocError>
         ensures { IfOk result (λ c. c ≡ new_control (plan_of machine.now)) }
     {
@@ -93,8 +93,8 @@ impl<'p> Control<'p> {
         is_ready(&self.startup)
     }
 
-    /// Does an order once over a wire, and answers what there is to tell of it. It takes no memory. After a fault of the wire
-    /// nothing has changed but the number of the next cycle.
+    /// Does an order once over a wire, and returns its answer. It allocates nothing. After [`Answer::Fault`] only the number of the
+    /// next cycle has changed.
     pub fn obey<W: Wire>(&mut self, wire: &mut W, order: Order) -> Answer
         ensures does { Does order self.old (W.state wire.old) self.new (W.state wire.new) result }
         ensures untaken { result ≡ answer.Fault → self.new ≡ with_number_used self.old }
@@ -114,7 +114,7 @@ impl<'p> Control<'p> {
         }
     }
 
-    /// What there is to tell of the last report.
+    /// The answer to `report`: the last report, or `No` before the first one.
     fn last_report(&self) -> Answer
         ensures { result ≡ last_report self.now.report }
     {
@@ -124,7 +124,7 @@ impl<'p> Control<'p> {
         }
     }
 
-    /// A variable becomes a value, if it is an output that holds it.
+    /// Sets an output variable to a value. `No`, and nothing changes, if it is no output or can't hold the value.
     fn set(&mut self, variable: usize, value: u64) -> Answer
         ensures { (w : WireState) → Does (Set variable value) self.old w self.new w result }
     {
@@ -135,7 +135,7 @@ impl<'p> Control<'p> {
         Answer::Nothing
     }
 
-    /// A cycle over a wire, if one can be run.
+    /// Runs a cycle over a wire. `No`, and nothing changes, if the last start-up didn't end Ready or no number is left.
     fn cycle<W: Wire>(&mut self, wire: &mut W) -> Answer
         ensures does { Does Cycle self.old (W.state wire.old) self.new (W.state wire.new) result }
         ensures untaken { result ≡ answer.Fault → self.new ≡ with_number_used self.old }
@@ -153,7 +153,7 @@ impl<'p> Control<'p> {
         }
     }
 
-    /// A start-up over a wire, from the beginning.
+    /// Runs a start-up over a wire, from its beginning, with frame numbers that are new.
     fn start_up<W: Wire>(&mut self, wire: &mut W)
         ensures { Starts self.old (W.state wire.old) self.new (W.state wire.new) }
     {
@@ -165,7 +165,7 @@ impl<'p> Control<'p> {
     }
 }
 
-/// A start-up is over: where it ended Ready, the master can begin cycles.
+/// Lets the master begin cycles if the start-up has ended Ready.
 fn make_ready(startup: &Startup<'_>, master: &mut Master<'_>)
     requires { startup.now.plan ≡ master.old.plan.slaves }
     ensures { master.new ≡ master_behind startup.now master.old }
@@ -175,7 +175,7 @@ fn make_ready(startup: &Startup<'_>, master: &mut Master<'_>)
     }
 }
 
-/// What there is to tell where something is expected.
+/// The answer to an `expect`, by whether it holds.
 fn answer_if(is_met: bool) -> Answer
     ensures { result ≡ answer_if is_met }
 {

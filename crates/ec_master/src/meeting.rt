@@ -1,4 +1,4 @@
-//! Whether what a line expects of a master is so.
+//! Whether what a line expects of a master holds.
 ghost use Rattle.std.specs.Prelude.{◌≡◌};
 ghost use Rattle.ec_script.specs.Expecting.{all_units, is_unit, of_report};
 ghost use Rattle.ec_master.specs.Expecting.{is_met};
@@ -7,7 +7,7 @@ use crate::control::Control;
 use ec_script::{Expectation, all_units, is_failed, is_unit};
 use ec_text::value_of;
 
-/// Whether what a line expects of a master is so.
+/// Whether what a line expects of a master holds.
 pub(crate) fn is_met(control: &Control<'_>, expected: Expectation) -> bool
     ensures { result ≡ is_met expected control.now }
 {
@@ -21,7 +21,7 @@ pub(crate) fn is_met(control: &Control<'_>, expected: Expectation) -> bool
     }
 }
 
-/// Whether a sync unit of the last report was taken, or was not.
+/// Whether the last report has this sync unit as `taken` says; false without a report.
 fn has_unit(control: &Control<'_>, number: u64, taken: bool) -> bool
     ensures { result ≡ of_report (is_unit number taken) control.now.report }
 {
@@ -31,7 +31,7 @@ fn has_unit(control: &Control<'_>, number: u64, taken: bool) -> bool
     }
 }
 
-/// Whether every sync unit of the last report was taken, or each was not.
+/// Whether the last report has every sync unit as `taken` says; false without a report.
 fn are_units(control: &Control<'_>, taken: bool) -> bool
     ensures { result ≡ of_report (all_units taken) control.now.report }
 {

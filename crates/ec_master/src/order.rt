@@ -13,39 +13,39 @@ use std::alloc::{AllocError, Global};
 /// What a line asks of a master.
 #[derive(Clone, Copy, Debug, PartialEq, Eq, Drop)]
 pub enum Order {
-    /// Nothing that a master over a wire could do.
+    /// Nothing that a master over a wire can do.
     Bad,
-    /// A start-up, from the beginning.
+    /// Run a start-up, from its beginning.
     Ready,
-    /// A cycle.
+    /// Run a cycle.
     Cycle,
-    /// A variable of the outputs, by its place, becomes a value.
+    /// Set the variable at this place of the table to this value.
     Set(usize, u64),
-    /// The variable at a place becomes a value that its bits don't hold: that is never done.
+    /// Set the variable at this place to a value that its bits can't hold: this is never done.
     Never(usize),
-    /// Nothing is done: something is expected.
+    /// Check an expectation; nothing changes.
     Expect(Expectation),
-    /// The values of the input variables.
+    /// Print the input variables.
     Show,
-    /// The last report.
+    /// Print the last report.
     Report,
 }
 
-/// What a line asks for that isn't empty.
+/// What a line that isn't empty asks for.
 #[derive(Clone, Copy, Debug, PartialEq, Eq, Drop)]
 pub struct Task {
     /// The line's number, counted from 1 behind the line `%%`; empty lines count too.
     pub number: usize,
-    /// How often it is done, one time after another; 1 without `repeat`.
+    /// How often the order is done, one time after another; 1 without `repeat`.
     pub times: u32,
     pub order: Order,
 }
 
-/// What the text of the line with a number asks for; its names are the table's. Nothing where it is empty without its comment.
+/// What the text of line `number` asks for, with the names of the table. `None` if it is empty without its comment.
 ///
 /// # Errors
 ///
-/// `AllocError` where memory ran out.
+/// `AllocError` if memory ran out.
 pub fn read_task(
     alloc: Global,
     table: &Table,
@@ -67,7 +67,7 @@ pub fn read_task(
     }
 }
 
-/// The task of a line that stands for nothing in a script, by how often it asks for the last report.
+/// The task of a line that no script may have: that many reports, or no order.
 fn task_reported(number: usize, times: Option<u32>) -> Task
     ensures { result ≡ task_reported number times }
 {
@@ -77,7 +77,7 @@ fn task_reported(number: usize, times: Option<u32>) -> Task
     }
 }
 
-/// The task of a line of a number; what is no order isn't repeated.
+/// The task of line `number`; a line that is no order isn't repeated.
 fn task_for(number: usize, times: u32, order: Order) -> Task
     ensures { result ≡ task_for number times order }
 {
@@ -92,7 +92,7 @@ fn task_for(number: usize, times: u32, order: Order) -> Task
     }
 }
 
-/// How often a line that stands for nothing in a script asks for the last report.
+/// How often a line that no script may have asks for the last report; `None` if it doesn't ask for one.
 fn times_reported(
     alloc: Global,
     table: &Table,
@@ -108,7 +108,7 @@ fn times_reported(
     }
 }
 
-/// A text with the first `report` in it as `show`, if it has one.
+/// The text with its first `report` replaced by `show`; `None` if it has none.
 fn with_show(alloc: Global, text: &str) -> Result<Option<String>, AllocError>
     ensures { IfOk result (λ shown. IsShown text.now shown) }
 {
@@ -122,7 +122,7 @@ fn with_show(alloc: Global, text: &str) -> Result<Option<String>, AllocError>
     Ok(Some(shown))
 }
 
-/// How often a line that is read shows the inputs.
+/// How often a line shows the inputs; `None` if it is no `show`.
 fn times_shown(reading: Reading) -> Option<u32>
     ensures { result ≡ times_shown reading }
 {
@@ -138,7 +138,7 @@ fn times_shown(reading: Reading) -> Option<u32>
     }
 }
 
-/// What an act of a script is for a master.
+/// The order of a master over a wire for an act of a script.
 fn order_of(table: &Table, act: LineAction) -> Order
     ensures { result ≡ order_of table.now.variables act }
 {
@@ -153,7 +153,7 @@ fn order_of(table: &Table, act: LineAction) -> Order
     }
 }
 
-/// Whether a master over a wire sees what is expected.
+/// Whether a master over a wire can see what is expected.
 fn is_seen(table: &Table, expected: Expectation) -> bool
     ensures { result ≡ is_seen table.now.variables expected }
 {

@@ -16,12 +16,12 @@ use ec_wire::Wire;
 use std::alloc::Global;
 use std::io::{Read, Write};
 
-/// Does a task as often as it is to be done, prints each time what there is to tell before it is done again, with why it can't be
-/// done or has failed behind it, where reasons are told, and answers how often what it expects isn't so.
+/// Does a task as often as it asks for, and prints each answer before it does the task again. With reasons, it adds why the task
+/// can't be done or has failed. Returns how often what the task expects doesn't hold.
 ///
 /// # Errors
 ///
-/// `Refusal::Memory` where memory ran out, and `Refusal::Output` where the output couldn't be written.
+/// `Refusal::Memory` if memory ran out, and `Refusal::Output` if the output couldn't be written.
 pub fn print_task<W: Wire, O: Write + Drop>(
     alloc: Global,
     table: &Table,
@@ -47,13 +47,13 @@ pub fn print_task<W: Wire, O: Write + Drop>(
     Ok(unmet)
 }
 
-/// Takes line after line from an input up to its end, does what each asks for over a wire, and prints what there is to tell
-/// before the next line is taken, and why a line can't be done or a start-up has failed, where reasons are told. It answers how
-/// often what lines expect isn't so.
+/// Takes line after line from an input up to its end, and does what each asks for over a wire. It prints the answer before it takes
+/// the next line; with reasons, it adds why a line can't be done or a start-up has failed. Returns how often what lines expect
+/// doesn't hold.
 ///
 /// # Errors
 ///
-/// `Refusal::Memory` where memory ran out, `Refusal::Input` where a line couldn't be read, and `Refusal::Output` where the
+/// `Refusal::Memory` if memory ran out, `Refusal::Input` if a line couldn't be read, and `Refusal::Output` if the
 /// output couldn't be written.
 #[tactic(auto, using(crate::proofs::Late::task_late, crate::proofs::Late::untaken_late))]
 pub fn print_lines<W: Wire, R: Read + Drop, O: Write + Drop>(
@@ -85,7 +85,7 @@ pub fn print_lines<W: Wire, R: Read + Drop, O: Write + Drop>(
     Err(Refusal::Memory)
 }
 
-/// Does a task once, prints what there is to tell, and answers whether what it expects isn't so.
+/// Does a task once, prints its answer, and returns whether what it expects doesn't hold.
 #[tactic(auto, using(crate::proofs::Late::refused_late))]
 fn print_once<W: Wire, O: Write + Drop>(
     alloc: Global,
@@ -109,7 +109,7 @@ fn print_once<W: Wire, O: Write + Drop>(
     Ok(answer.is_unmet())
 }
 
-/// Does what a line asks for, if it asks for something.
+/// Does and prints what a line asks for, if it asks for anything. Returns how often what it expects doesn't hold.
 fn print_line<W: Wire, O: Write + Drop>(
     alloc: Global,
     table: &Table,
@@ -132,7 +132,7 @@ fn print_line<W: Wire, O: Write + Drop>(
     }
 }
 
-/// What the next line of an input asks for, which has a number; or none where the input has ended. An empty line asks for nothing.
+/// What the next line of an input, line `number`, asks for: `Some(None)` if it is empty, and `None` if the input has ended.
 #[tactic(auto, using(crate::proofs::Late::unread))]
 fn next_task<R: Read + Drop>(
     alloc: Global,

@@ -17,8 +17,8 @@ use ec_why::{Reasons, misfit_words};
 use std::alloc::{AllocError, Global};
 use std::fmt;
 
-/// What is printed of a task that was done once: what there is to tell, and behind that why it can't be done or has failed, where
-/// reasons are told.
+/// The text that a task prints after it was done once, which is its answer. With reasons, behind that stands why the task can't be
+/// done or has failed.
 #[tactic(auto, using(crate::proofs::Reasoned::told_alone, crate::proofs::Reasoned::told_reasoned))]
 pub(crate) fn told_text(
     alloc: Global,
@@ -39,7 +39,7 @@ pub(crate) fn told_text(
     Ok(text)
 }
 
-/// Why an order can't be done, or its start-up has failed; of an order that is done there is nothing to say.
+/// Why an order can't be done, or its start-up has failed; empty for every other order.
 fn order_words(alloc: Global, table: &Table, control: &Control<'_>, order: Order) -> Words {
     match order {
         Order::Ready => start_words(alloc, table, control),
@@ -73,7 +73,7 @@ fn cycle_words(alloc: Global, table: &Table, control: &Control<'_>) -> Words {
     }
 }
 
-/// What the last start-up failed by, if it has.
+/// What the last start-up failed by; empty if it hasn't failed.
 fn start_words(alloc: Global, table: &Table, control: &Control<'_>) -> Words {
     match control.outcome() {
         Some(Err(error)) => {
@@ -84,7 +84,7 @@ fn start_words(alloc: Global, table: &Table, control: &Control<'_>) -> Words {
     }
 }
 
-/// What a start-up of a table failed by. It is printed as its refusal, as other commands tell it, and what that says in a sentence.
+/// What a start-up of a table failed by. It is printed as its refusal, in the form of other commands, and a sentence that explains it.
 #[derive(Clone, Copy)]
 struct Failed<'t> {
     refusal: Refusal,
@@ -107,7 +107,7 @@ impl fmt::Display for Failed<'_> {
     }
 }
 
-/// Whether why stands behind what there is to tell.
+/// Whether a reason stands behind an answer.
 fn is_reasoned(reasons: Reasons, control: &Control<'_>, answer: Answer) -> bool
     ensures { result ≡ is_reasoned reasons control.now answer }
 {

@@ -1,4 +1,4 @@
-//! Where the tables, keys and values of a TOML text stand, and what is said of them for people.
+//! Where the tables, keys and values of a TOML text stand, and remarks on them for people.
 #![tactic(auto)]
 
 mod outline;

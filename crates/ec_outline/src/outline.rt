@@ -41,14 +41,14 @@ struct Statement<'a> {
     first: usize,
     /// Its bytes.
     span: Span,
-    /// With how many brackets it begins: a header with one, that of an item of an array with two.
+    /// How many brackets it begins with: 1 for a header, 2 for that of an item of an array, 0 for a key.
     brackets: usize,
     /// The parts of the header's name, or of the key.
     name: Vec<&'a [u8]>,
 }
 
 impl<'a> Statement<'a> {
-    /// The statement of some tokens, the first of which has a place.
+    /// The statement of some tokens; `first` is the place of the first of them.
     fn new(alloc: Global, first: usize, tokens: &[Token<'a>]) -> Result<Statement<'a>, AllocError> {
         let opening = tokens.iter().take_while(|it| it.kind == TokenKind::Open);
         let (span, brackets) = (span_over(tokens), opening.count());
@@ -72,7 +72,7 @@ impl<'a> Statement<'a> {
         self.brackets > 0
     }
 
-    /// Whether it stands under a key of the table or array with a name, as a header or deeper.
+    /// Whether its name begins with that of a table or array, and a key behind that.
     fn is_under(&self, table: &[&'a [u8]], key: &[u8]) -> bool {
         let name = self.name.as_slice();
         name.starts_with(table) && name.get(table.len()) == Some(&key)
@@ -87,14 +87,14 @@ pub struct Outline<'a> {
 }
 
 impl<'a> Outline<'a> {
-    /// The outline of a text.
+    /// The outline of a text. `AllocError` if memory ran out.
     pub fn new(alloc: Global, text: &'a str) -> Result<Outline<'a>, AllocError> {
         let tokens = tokens_of(alloc, text.as_bytes())?;
         let statements = statements_of(alloc, tokens.as_slice())?;
         Ok(Outline { tokens, statements })
     }
 
-    /// As much of a way through the text as is found.
+    /// Follows a way through the text as far as it is found, and returns what stands there.
     pub fn find(&self, way: &[PathStep<'_>]) -> Found {
         let mut found = Found::default();
         let mut node = Node::Table(0);
@@ -113,7 +113,7 @@ impl<'a> Outline<'a> {
         found
     }
 
-    /// What a step leads to, and the bytes of its key.
+    /// What a step leads to, and the bytes of its key; `None` if it isn't found.
     fn next(&self, node: Node, step: PathStep<'_>) -> Option<(Span, Node)> {
         match (node, step) {
             (Node::Table(header), PathStep::Key(key)) => {
@@ -152,8 +152,8 @@ impl<'a> Outline<'a> {
         Some((found.span, node))
     }
 
-    /// The first header from a statement on that stands under a key of a table, before the table or
-    /// one that it stands in comes again.
+    /// The first header, among the statement `from` and those behind it, that stands under a key of a table. A
+    /// header of the table itself, or of one that it stands in, ends the search.
     fn header_under(&self, from: usize, table: &[&'a [u8]], key: &[u8]) -> Option<usize> {
         for place in from..self.statements.len() {
             let header = &self.statements[place];
@@ -167,7 +167,7 @@ impl<'a> Outline<'a> {
         None
     }
 
-    /// An item of the array whose first header is a statement.
+    /// An item of the array whose first header is the statement `first`.
     fn in_item_headers(&self, first: usize, item: usize) -> Option<(Span, Node)> {
         let array = self.statements.get(first)?.name.as_slice();
         let mut left = item;
@@ -187,7 +187,7 @@ impl<'a> Outline<'a> {
         None
     }
 
-    /// What stands in brackets or braces, the first of which is a token.
+    /// What a step leads to in the brackets or braces that the token `first` opens.
     fn in_value(&self, first: usize, step: PathStep<'_>) -> Option<(Span, Node)> {
         let place = self.place_inside(first, step)?;
         match step {
@@ -196,7 +196,7 @@ impl<'a> Outline<'a> {
         }
     }
 
-    /// The place of the token with which an item, or a key, in such brackets begins.
+    /// The place of the token that begins an item, or a key, in such brackets.
     fn place_inside(&self, first: usize, step: PathStep<'_>) -> Option<usize> {
         let inside = self.tokens.get(first)?.depth.saturating_add(1);
         let (mut number, mut begins) = (0_usize, true);
@@ -216,7 +216,7 @@ impl<'a> Outline<'a> {
         None
     }
 
-    /// The value behind a key, whose token has a place.
+    /// The bytes of the key whose token is at the place `key`, and the value behind it.
     fn value_behind(&self, key: usize) -> Option<(Span, Node)> {
         let behind = self.tokens.get(key..)?;
         let equals = behind.iter().position(|it| it.kind == TokenKind::Equals)?;
@@ -224,8 +224,8 @@ impl<'a> Outline<'a> {
         Some((behind.first()?.span, Node::Value(value)))
     }
 
-    /// The bytes of the value whose first token has a place: up to before the next comma, line end or
-    /// bracket that isn't in it.
+    /// The bytes of the value whose first token is `first`. The next comma, line end or bracket that isn't in
+    /// the value ends it.
     fn value_bytes(&self, first: usize) -> Span {
         let behind = self.tokens.get(first..).unwrap_or(&[]);
         let depth = behind.first().map_or(0, |it| it.depth);
@@ -237,7 +237,7 @@ impl<'a> Outline<'a> {
     }
 }
 
-/// The document's statement, and the runs of tokens between line ends that are in no bracket.
+/// The document's statement, and one for each run of tokens between line ends that are in no bracket.
 fn statements_of<'a>(
     alloc: Global,
     tokens: &[Token<'a>],
@@ -248,7 +248,7 @@ fn statements_of<'a>(
     Ok(statements)
 }
 
-/// Adds the statements of the runs.
+/// Adds a statement for each such run.
 fn push_statements<'a>(
     alloc: Global,
     statements: &mut Vec<Statement<'a>>,

@@ -1,4 +1,4 @@
-//! What is being told of a text: remarks at the ends of ways through it.
+//! Remarks on a text while they are collected, at the ends of ways through it.
 ghost use Rattle.std.specs.Prelude.{◌≡◌, IfOk};
 
 use crate::outline::{Outline, PathStep};
@@ -15,30 +15,30 @@ pub enum MarkedPart {
     Value,
 }
 
-/// Something that was said, of some bytes or of none.
+/// A remark, on some bytes or on none.
 #[derive(Drop)]
 struct Saying {
     span: Option<Span>,
     words: String,
 }
 
-/// A text with its outline, and what was said of it so far. Where memory is wanting for something, that is
-/// noted, and told once, in place of the remarks: so whoever says things goes on, and has no way out at each.
+/// A text with its outline, and the remarks on it so far. If memory runs out for a remark, that is noted. Then
+/// `into_remarks` returns the error: so callers go on, and have no early exit at each remark.
 #[derive(Drop)]
 pub struct Telling<'a> {
-    /// Where memory comes from.
+    /// The allocator of all remarks.
     pub alloc: Global,
     text: &'a str,
     outline: Outline<'a>,
     sayings: Vec<Saying>,
-    /// Where the element begins that was said last.
+    /// The byte at which the element begins that was named last.
     element: Option<usize>,
-    /// Whether there was no memory for something that was to be said.
+    /// Whether memory ran out for a remark.
     is_short: bool,
 }
 
 impl<'a> Telling<'a> {
-    /// Nothing is said yet.
+    /// A text without remarks. `AllocError` if memory ran out.
     pub fn new(alloc: Global, text: &'a str) -> Result<Telling<'a>, AllocError> {
         Ok(Telling {
             alloc,
@@ -50,7 +50,7 @@ impl<'a> Telling<'a> {
         })
     }
 
-    /// What was said, as remarks on the text that it was said of.
+    /// The remarks, on the text that they were made for. `AllocError` if memory ran out, now or for a remark.
     pub fn into_remarks<'t>(self, text: &'t str) -> Result<Remarks<'t>, AllocError>
         ensures { IfOk result (λ remarks. remarks.text ≡ text.now) }
     {
@@ -66,12 +66,12 @@ impl<'a> Telling<'a> {
         remarks_of(alloc, text, sayings)
     }
 
-    /// Notes that there was no memory for something that was to be said.
+    /// Notes that memory ran out for a remark.
     pub fn fall_short(&mut self) {
         self.is_short = true;
     }
 
-    /// What was made for what is to be said, unless there was no memory for it, which is noted.
+    /// What was made for a remark; `None` if there was no memory for it, which is noted.
     pub fn made<T: Drop>(&mut self, made: Result<T, AllocError>) -> Option<T> {
         if made.is_err() {
             self.fall_short();
@@ -79,30 +79,30 @@ impl<'a> Telling<'a> {
         made.ok()
     }
 
-    /// The name that may have been meant by a word.
+    /// The name that a word may have meant.
     pub fn meant<'n>(&mut self, word: &str, names: &[&'n str]) -> Meant<'n> {
         let alloc = self.alloc;
         Meant(self.made(nearest(alloc, word, names)).flatten())
     }
 
-    /// Says something that has no place.
+    /// Adds a remark that has no place.
     pub fn note(&mut self, words: Words) {
         self.say(None, words);
     }
 
-    /// Says something that has no place.
+    /// Adds a remark that has no place, with a copy of these words.
     pub fn note_plain(&mut self, words: &str) {
         let alloc = self.alloc;
         self.note(String::from_str(alloc, words));
     }
 
-    /// Says what to do.
+    /// Adds a remark on what to do.
     pub fn advise(&mut self, what: &str) {
         let alloc = self.alloc;
         self.note(format!(in alloc; "To do: {what}."));
     }
 
-    /// Says what to do, in words that were made for it.
+    /// Adds a remark on what to do, in words that were made for it.
     pub fn advise_in(&mut self, words: Words) {
         match words {
             Ok(words) => self.advise(words.as_str()),
@@ -110,8 +110,8 @@ impl<'a> Telling<'a> {
         }
     }
 
-    /// Says something of what stands at the end of a way, in whose element it is, and marks it. Where
-    /// a part of the way isn't found, the last that is found is marked, and where none is, that is said.
+    /// Adds a remark on the end of a way, marks a part there, and names the element that it is in. If a part of
+    /// the way isn't found, it marks the last that is found; if none is, the remark says so.
     pub fn at(&mut self, way: &[PathStep<'_>], part: MarkedPart, words: Words) {
         let found = self.outline.find(way);
         if found.steps == 0 {
@@ -125,7 +125,7 @@ impl<'a> Telling<'a> {
         self.at_span(span, words);
     }
 
-    /// Says something of what isn't found.
+    /// Adds a remark on what isn't found, and says so.
     fn note_lost(&mut self, words: Words) {
         let alloc = self.alloc;
         match words {
@@ -136,12 +136,12 @@ impl<'a> Telling<'a> {
         }
     }
 
-    /// Says something of some bytes of the text.
+    /// Adds a remark on some bytes of the text, and marks them.
     pub fn at_span(&mut self, span: Span, words: Words) {
         self.say(Some(span), words);
     }
 
-    /// Whether a way is found in the text as a whole.
+    /// Whether the whole way is found in the text.
     pub fn has(&self, way: &[PathStep<'_>]) -> bool {
         self.outline.find(way).steps == way.len()
     }
@@ -158,7 +158,7 @@ impl<'a> Telling<'a> {
         Ok(())
     }
 
-    /// Says which element a way goes through, where that stands in another line than its end.
+    /// Adds a remark on the element that a way goes through, if it begins in another line than the way ends in.
     fn say_element(&mut self, way: &[PathStep<'_>], start: usize) {
         let [PathStep::Key(section), PathStep::Item(element), _, ..] = way else {
             return;
@@ -172,19 +172,19 @@ impl<'a> Telling<'a> {
         }
     }
 
-    /// Says that an element begins at a key.
+    /// Adds a remark that an element begins at a key.
     fn say_begin(&mut self, key: Span, section: &str, element: usize) {
         let alloc = self.alloc;
         self.at_span(key, format!(in alloc; "{section} {element} begins here"));
     }
 
-    /// Says something of a row of a list of the document, and marks it.
+    /// Adds a remark on a row of a list of the document, and marks it.
     pub fn at_row(&mut self, list: &'static str, place: usize, words: Words) {
         let way = [PathStep::Key(list), PathStep::Item(place)];
         self.at(&way, MarkedPart::Key, words);
     }
 
-    /// Says something of what stands under a key of such a row, and marks that.
+    /// Adds a remark on what stands under a key of such a row, and marks that.
     pub fn at_key(&mut self, list: &'static str, place: usize, key: &'static str, words: Words) {
         let way = [
             PathStep::Key(list),
@@ -195,7 +195,7 @@ impl<'a> Telling<'a> {
     }
 }
 
-/// Remarks on a text of what was said.
+/// The remarks on a text. `AllocError` if memory ran out.
 fn remarks_of<'t>(
     alloc: Global,
     text: &'t str,

@@ -27,7 +27,7 @@ pub enum TokenKind {
 pub struct Token<'a> {
     /// What it is.
     pub kind: TokenKind,
-    /// Where it stands, quotes with it.
+    /// Where it stands, with its quotes.
     pub span: Span,
     /// Its bytes without quotes.
     pub text: &'a [u8],
@@ -41,7 +41,7 @@ impl Token<'_> {
         self.kind == TokenKind::Text && self.text == name
     }
 
-    /// Whether what it begins is what a step leads to, where it is the item with a number.
+    /// Whether what it begins is what a step leads to, if that is the item `number`.
     pub fn begins(self, step: PathStep<'_>, number: usize) -> bool {
         match step {
             PathStep::Key(key) => self.is_named(key.as_bytes()),
@@ -50,7 +50,7 @@ impl Token<'_> {
     }
 }
 
-/// The tokens of a text in order; blanks and comments are none.
+/// The tokens of a text, in order; blanks and comments are none. `AllocError` if memory ran out.
 pub fn tokens_of<'a>(alloc: Global, bytes: &'a [u8]) -> Result<Vec<Token<'a>>, AllocError> {
     let mut tokens = Vec::new(alloc);
     let (mut start, mut depth) = (0, 0_usize);
@@ -78,7 +78,7 @@ pub fn tokens_of<'a>(alloc: Global, bytes: &'a [u8]) -> Result<Vec<Token<'a>>, A
     Ok(tokens)
 }
 
-/// The token that bytes begin with, if they begin with one, and how many of them are done with it.
+/// The kind of the token that bytes begin with, `None` for a blank or a comment, and how many bytes it has.
 fn token_at(bytes: &[u8], first: u8) -> (Option<TokenKind>, usize) {
     let kind = match first {
         b'[' | b'{' => TokenKind::Open,
@@ -98,13 +98,13 @@ fn token_at(bytes: &[u8], first: u8) -> (Option<TokenKind>, usize) {
     (Some(kind), 1)
 }
 
-/// How many bytes stand before the first of such ends.
+/// How many bytes stand before the first byte that is one of `ends`.
 fn length_before(bytes: &[u8], ends: &[u8]) -> usize {
     let found = bytes.iter().position(|byte| ends.contains(byte));
     found.unwrap_or(bytes.len())
 }
 
-/// How long the text in quotes is that bytes begin with. Behind three quotes it goes over lines, and
+/// How many bytes the text in quotes has that bytes begin with. Behind three quotes it goes over lines, and
 /// the last three of a run end it; else it ends with its line at the latest.
 fn quoted_length(bytes: &[u8], quote: u8) -> usize {
     let is_long = bytes.starts_with(&[quote, quote, quote]);

@@ -1,11 +1,11 @@
-//! Words for people: names that someone may have meant, lists and numbers of things. Each is printed where
-//! it stands in other words, and takes no memory of its own.
+//! Words for people: names that someone may have meant, lists and numbers of things. Each value prints
+//! itself, and allocates nothing for that.
 use ec_told::printed;
 use std::alloc::{AllocError, Global};
 use std::fmt;
 use strsim::osa_distance;
 
-/// Words that were made, or the want of memory for them: what says them takes that apart.
+/// Words that were made, or the error that there was no memory for them; the call that adds them notes it.
 pub type Words = Result<String, AllocError>;
 
 /// Words with more bytes than this are near no name.
@@ -14,8 +14,8 @@ const MAX_WORD: usize = 64;
 /// How many characters of a text are printed at most.
 const SHOWN: usize = 40;
 
-/// The first of the names that are nearest to a word, if it is near: a third of the word's bytes at
-/// most are to be changed, or one.
+/// The first of the names that are nearest to a word, if it is near. It is near if no more edits are needed than
+/// a third of the word's bytes, or than one. `AllocError` if memory ran out.
 pub fn nearest<'n>(
     alloc: Global,
     word: &str,
@@ -41,7 +41,7 @@ pub fn is_among(word: &str, names: &[&str]) -> bool {
     names.iter().any(|name| *name == word)
 }
 
-/// A name that may have been meant. It is printed as a question for it, with a mark before that; as nothing where no name is near.
+/// A name that may have been meant. It is printed as a question behind a semicolon; without a name, as nothing.
 #[derive(Clone, Copy, Drop)]
 pub struct Meant<'n>(pub Option<&'n str>);
 
@@ -54,7 +54,7 @@ impl fmt::Display for Meant<'_> {
     }
 }
 
-/// What stands before the text at a place of a list of so many.
+/// What stands before the text at a place of a list of `count` texts: nothing, a comma or `and`.
 pub fn comma(place: usize, count: usize) -> &'static str {
     match count.saturating_sub(place) {
         _ if place == 0 => "",
@@ -75,7 +75,7 @@ impl fmt::Display for Counted<'_> {
     }
 }
 
-/// A text of a table, printed with no more than 40 characters, and none that moves the cursor.
+/// A text of a table. At most 40 of its characters are printed, and none that moves the cursor.
 #[derive(Clone, Copy, Drop)]
 pub struct Printable<'t>(pub &'t str);
 

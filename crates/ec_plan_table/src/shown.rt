@@ -1,4 +1,4 @@
-//! A plan for people: which bit of which object stands where, and which variable it is linked with.
+//! A plan for people: where each bit of each object stands, and which variable it is linked with.
 ghost use Rattle.std.specs.Prelude.{◌<◌, length};
 
 use ec_device::Entry;
@@ -17,10 +17,10 @@ Each line is a run of bits that go the same way. Bits count from 0, the lowest f
   variable  the variable that they are linked with, and its bits
 ";
 
-/// Bits of an object one after another that go the same way.
+/// Consecutive bits of an object that go the same way.
 #[derive(Clone, Copy)]
 struct ObjectRun {
-    /// The first among the object bits of the slave.
+    /// The first of them, counted in the slave's own data of the direction.
     from: usize,
     count: usize,
     link: Option<Link>,
@@ -72,7 +72,7 @@ impl<'a> ImageSide<'a> {
     }
 }
 
-/// A plan and its table, with what is looked up in them.
+/// A plan and its table, with what is often looked up in them.
 #[derive(Drop)]
 struct Explained<'a> {
     alloc: Global,
@@ -100,7 +100,7 @@ impl<'a> Explained<'a> {
         }
     }
 
-    /// The variable that a run is linked with, and its bits.
+    /// The variable that a run is linked with, and its bits; `-` if it isn't linked.
     fn variable_text(&self, image: &ImageSide<'_>, run: ObjectRun) -> Result<String, AllocError> {
         let alloc = self.alloc;
         let Some(link) = run.link else {
@@ -231,10 +231,10 @@ impl<'a> Explained<'a> {
     }
 }
 
-/// The plan of a table for people: part by part, for each slave in it and each direction, what it
-/// assigns, which bits of which object stand at which bits of its own data and at which logical bits,
-/// and which variable they are linked with. The plan is
-/// that of the table; no line has over 100 characters. The error is want of memory.
+/// The plan of a table for people, part by part, for each slave in it and each direction. It has what the
+/// slave assigns, and for the bits of each object their place in its own data and in the logical bits. It
+/// names the variable that they are linked with. The plan must be
+/// that of the table; no line has over 100 characters. `AllocError` if memory ran out.
 pub fn explain_text(alloc: Global, table: &Table, plan: &Plan) -> Result<String, AllocError> {
     let explained = Explained::new(alloc, table, plan)?;
     let mut text = String::from_str(alloc, LEGEND)?;
@@ -270,7 +270,7 @@ fn write_part(
     }
 }
 
-/// The runs of an entry whose bits begin at `from`, by the links of its slave in their order.
+/// The runs of an entry whose bits begin at `from`, by the links of its slave in the order of their object bits.
 fn runs_of(
     alloc: Global,
     from: usize,
@@ -327,7 +327,7 @@ fn write_indices(text: &mut String, indices: &[u16]) -> Result<(), AllocError> {
     Ok(())
 }
 
-/// The name of an entry's object.
+/// The index and subindex of an entry, or `gap`.
 fn object_text(alloc: Global, entry: &Entry) -> Result<String, AllocError> {
     let (index, subindex) = (entry.index, entry.subindex);
     if index == 0 {
@@ -337,7 +337,7 @@ fn object_text(alloc: Global, entry: &Entry) -> Result<String, AllocError> {
     }
 }
 
-/// The logical bytes and bits of a run.
+/// The first and the last logical byte and bit of a run.
 fn logical_range(alloc: Global, from: usize, count: usize) -> Result<String, AllocError> {
     let first = logical_text(alloc, from)?;
     if count <= 1 {
@@ -347,7 +347,7 @@ fn logical_range(alloc: Global, from: usize, count: usize) -> Result<String, All
     format!(in alloc; "{first} to {last}")
 }
 
-/// The byte and bit of a bit of a slave's own data.
+/// The byte and bit, in a slave's own data, of one of its bits.
 fn own_text(alloc: Global, bit: usize) -> Result<String, AllocError> {
     let (byte, bit) = (bit / 8, bit % 8);
     format!(in alloc; "{byte}.{bit}")
@@ -359,7 +359,7 @@ fn logical_text(alloc: Global, bit: usize) -> Result<String, AllocError> {
     format!(in alloc; "0x{byte:08x}.{bit}")
 }
 
-/// Bits from one on, as `4` or as `4..7`.
+/// The `count` bits that begin at `from`, as `4` or as `4..7`.
 fn bits_text(alloc: Global, from: usize, count: usize) -> Result<String, AllocError> {
     let last = from.saturating_add(count.saturating_sub(1));
     if from == last {

@@ -1,6 +1,6 @@
 //! Why an SDO transfer was aborted.
 
-/// What the code of an abort says (ETG.1000.6, "Abort SDO transfer").
+/// The meaning of an abort code (ETG.1000.6, "Abort SDO transfer").
 pub fn abort_text(code: u32) -> &'static str {
     match code {
         0x0503_0000 => "Toggle bit not changed",

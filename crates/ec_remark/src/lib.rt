@@ -1,5 +1,5 @@
-//! What the datagrams of EtherCAT say, for people: registers by the standard's names, states, what sync
-//! managers and FMMUs are set to, accesses to the SII, and mailbox messages with their SDOs.
+//! Datagrams in words for people. They name registers, as the standard does, states, settings of sync
+//! managers and FMMUs, accesses to the SII, and mailbox messages with their SDOs.
 #![tactic(auto)]
 
 mod abort;

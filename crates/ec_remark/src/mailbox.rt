@@ -17,7 +17,7 @@ pub(crate) fn write_message(text: &mut String, message: &Message) -> Result<(), 
     write_transfer(text, message)
 }
 
-/// Adds what the SDO of a message does to an object.
+/// Adds what the SDO of a message does to its object.
 fn write_transfer(text: &mut String, message: &Message) -> Result<(), AllocError> {
     let (index, subindex, number) = (message.index, message.subindex, message.value);
     match message.command {

@@ -9,9 +9,9 @@ use ec_seen::{Seen, register_at, register_bytes, registers_within};
 use std::alloc::{AllocError, Global};
 use std::fmt::Write as _;
 
-/// Adds what a datagram says for people, in lines: each register of which it has all bytes, with its
-/// value; where it has none whole, the register in which it begins; and a mailbox message in the memory
-/// behind the registers. It adds nothing for a logical datagram or a NOP. The error is want of memory.
+/// Adds what a datagram says, for people, in lines. Each register that it has whole has a line with its value;
+/// without one, a line names the register in which it begins. A mailbox message in the memory behind the
+/// registers has a line. A logical datagram and a NOP have none. `AllocError` if memory ran out.
 pub fn write_remarks(alloc: Global, text: &mut String, seen: Seen<'_>) -> Result<(), AllocError> {
     if !is_physical(seen.command) {
         return Ok(());
@@ -26,7 +26,7 @@ pub fn write_remarks(alloc: Global, text: &mut String, seen: Seen<'_>) -> Result
     Ok(())
 }
 
-/// Adds what data in the memory behind the registers say, where they are a mailbox message.
+/// Adds what data in the memory behind the registers say, if they are a mailbox message.
 fn write_memory(text: &mut String, content: &[u8]) -> Result<(), AllocError> {
     match read_message(content) {
         Ok(message) => write_message(text, &message),
@@ -34,7 +34,7 @@ fn write_memory(text: &mut String, content: &[u8]) -> Result<(), AllocError> {
     }
 }
 
-/// Adds which register begins before the data or ends behind them, where none is whole.
+/// Adds which register the data begin in, if they have no register whole.
 fn write_part(text: &mut String, from: usize) -> Result<(), AllocError> {
     if let Some(register) = register_at(from) {
         let (name, place) = (register.name(), register.place());

@@ -1,6 +1,6 @@
 //! The words of the slave information interface.
 
-/// What begins at a word of the SII (ETG.1000.6, "Slave information interface").
+/// The name of what begins at a word of the SII (ETG.1000.6, "Slave information interface").
 pub fn sii_text(word: u32) -> &'static str {
     match word {
         0x0000 => "PDI control",

@@ -18,7 +18,7 @@ pub(crate) fn state_name(number: u8) -> &'static str {
     }
 }
 
-/// What an AL status code says (ETG.1000.6, "AL status code").
+/// The meaning of an AL status code (ETG.1000.6, "AL status code").
 pub fn status_text(code: u16) -> &'static str {
     match code {
         0x0000 => "No error",

@@ -7,10 +7,10 @@ use ec_seen::Register;
 use std::alloc::AllocError;
 use std::fmt::Write as _;
 
-/// The command of the SII that reads.
+/// The command that reads the SII.
 const SII_READ: u8 = 1;
 
-/// The number that bytes spell, of eight at most, the lowest first.
+/// The number of at most eight bytes, little-endian.
 pub(crate) fn number_of(bytes: &[u8]) -> u64 {
     let mut number: u64 = 0;
     for byte in bytes.iter().rev() {
@@ -46,7 +46,7 @@ pub(crate) fn write_value(
     }
 }
 
-/// Adds the low 16 bits of a number in words, of the registers whose bits have names.
+/// Adds the low 16 bits of a number in words, if the register's bits have names.
 fn write_word(text: &mut String, register: Register, number: u64) -> Result<(), AllocError> {
     let word = (number % 65536) as u16;
     match register {
@@ -78,7 +78,7 @@ fn write_al(text: &mut String, word: AlWord, flag: &str) -> Result<(), AllocErro
     writeln!(text, ": {name}{flag}")
 }
 
-/// Adds what is set in a sync manager.
+/// Adds the settings of a sync manager.
 fn write_manager(
     text: &mut String,
     settings: SyncManagerSettings,
@@ -111,7 +111,7 @@ fn write_manager(
     writeln!(text, " control {control:02x}, status {status:02x}")
 }
 
-/// Adds what is set in an FMMU.
+/// Adds the settings of an FMMU.
 fn write_fmmu(text: &mut String, settings: FmmuSettings) -> Result<(), AllocError> {
     let is = if settings.active { "on" } else { "off" };
     let way = match (settings.reads, settings.writes) {
@@ -131,7 +131,7 @@ fn write_fmmu(text: &mut String, settings: FmmuSettings) -> Result<(), AllocErro
     writeln!(text, " physical {physical:04x} from bit {bit}")
 }
 
-/// Copies as many bytes as there are to the front of others.
+/// Copies bytes to the front of others, as many as both have.
 fn copy_front(to: &mut [u8], from: &[u8]) {
     for (place, byte) in to.iter_mut().zip(from) {
         *place = *byte;

@@ -24,15 +24,15 @@ o >>= f = option_and_then f o
 
 -- ---- names
 
--- the place of the variable with a name
+-- the place of the variable with this name
 abbrev pub variable_named : List VariableRow → Text → Option ℕ
 variable_named variables name = place_named (λ (v : VariableRow). v.name) name variables
 
--- the place of the slave with a name
+-- the place of the slave with this name
 abbrev pub slave_named : List SlaveRow → Text → Option ℕ
 slave_named slaves name = place_named (λ (s : SlaveRow). s.name) name slaves
 
--- a slave by its number or by its name; digits alone are a number
+-- a slave by its number or by its name; a word of digits alone is a number
 unfoldable pub slave_in : Contents → Text → Option ℕ
 slave_in t word = if list_all is_ascii_digit word then number_of word else slave_named t.slaves word
 

@@ -1,4 +1,4 @@
--- The events of a line, and that its work is a run of them: of a line, of `ready`, of `cycle`, of a whole script (this
+-- The events of a line. The work of a line, of `ready`, of `cycle` and of a whole script is a run of events (this
 -- project's profile).
 use Rattle.std.specs.Prelude.{ℕ, zero, suc, ◌<◌, ◌≤◌, ◌≡◌, ◌⊎◌, List, [], ◌∷◌, ◌++◌, length, replicate, take, get_or, slice_get, Bool, true, false, Option}
 use Rattle.ec_world.specs.declared.event.Event.{Event}
@@ -17,7 +17,7 @@ use Rattle.ec_script.specs.Work.{Does, Onward, has_ended, is_done, last_turn}
 
 -- ---- events as far as they can be made
 
--- So many of the events are made, each of them, in their order; then there is none left, or the next can't be made.
+-- This many of the events are made, in their order; then there is none left, or the next can't be made.
 pub record AreMade (events : List Event) (old new : WorldState) (all : Bool) : Type 0 where
   pub made : ℕ
   pub within : made ≤ length events
@@ -27,7 +27,7 @@ pub record AreMade (events : List Event) (old new : WorldState) (all : Bool) : T
 
 -- ---- a cycle
 
--- the slots once so many frames of a number were sent, which go into the lowest free ones; what is in the frames is left out
+-- the slots after this many frames of a number were sent, into the lowest free ones; what is in the frames is left out
 abbrev pub slots_sent : ℕ → ℕ → List (Option Flight) → List (Option Flight)
 slots_sent count number slots = filled (flights_from number 0 (replicate count [])) slots
 
@@ -42,7 +42,7 @@ cycle_events w =
 
 -- ---- a start-up
 
--- A frame of a start-up is in the lowest slot, since it is sent only where no other is on its way.
+-- A frame of a start-up is in the lowest slot, since it is sent only if no other is on its way.
 abbrev pub lowest_slot : {X : Type 0} → List X → List ℕ
 lowest_slot [] = []
 lowest_slot (slot ∷ slots) = 0 ∷ []
@@ -51,12 +51,12 @@ lowest_slot (slot ∷ slots) = 0 ∷ []
 abbrev pub turn_events : WorldState → List Event
 turn_events w = StartNext ∷ rounds (length w.slaves) true (lowest_slot w.slots)
 
--- so many turns
+-- this many turns
 abbrev pub turns_events : WorldState → ℕ → List Event
 turns_events w zero = []
 turns_events w (suc turns) = turn_events w ++ turns_events w turns
 
--- the start-up goes on when these events were made
+-- the start-up goes on after these events
 pub record GoesOn (events : List Event) (old : WorldState) : Type 0 where
   pub mid : WorldState
   pub made : AreMade events old mid true
@@ -72,8 +72,8 @@ pub record RunsReady (old new : WorldState) (all : Bool) : Type 0 where
 
 -- ---- a line
 
--- Whether all of its events could be made. What expects something, or shows it, has none; a variable that can't be given a
--- value has none either, and that can't be done.
+-- Whether all of its events could be made. A line that expects or prints something has none. A line that gives a variable a value
+-- that it can't have has none either, and can't be done.
 abbrev pub RunsLine : LineAction → WorldState → WorldState → Bool → Type 0
 RunsLine (One e) old new all = AreMade (e ∷ []) old new all
 RunsLine (Input v x) old new all = Onward (is_input_of x (slice_get old.plan.variables v)) (AreMade (input_events old v x) old new all) ((new ≡ old) × (all ≡ false))
@@ -83,7 +83,7 @@ RunsLine Ready old new all = RunsReady old new all
 RunsLine Cycle old new all = AreMade (cycle_events old) old new all
 RunsLine Show old new all = AreMade [] old new all
 
--- What a line does is a run of its events; it says no exactly where one can't be made.
+-- What a line does is a run of its events; it says `no` exactly if one can't be made.
 abbrev pub LinesRun : Type 0
 LinesRun = (act : LineAction) (old new : WorldState) (word : LineOutput) → Does act old new word → RunsLine act old new (is_done word)
 
@@ -94,6 +94,6 @@ abbrev pub DoesAll : List Line → WorldState → WorldState → Type 0
 DoesAll [] old new = new ≡ old
 DoesAll (line ∷ lines) old new = (mid : WorldState) × (word : LineOutput) × Does line.act old mid word × DoesAll lines mid new
 
--- Whatever a script does to a world, with each line as often as it is done, a run of events does it.
+-- A run of events does to a world what a script does, with each line as often as it is done.
 abbrev pub ScriptsRun : Type 0
 ScriptsRun = (lines : List Line) (old new : WorldState) → DoesAll (repeated lines) old new → (events : List Event) × IsRun old events new (length events)

@@ -1,4 +1,4 @@
--- When what a line expects of a world is so (this project's profile).
+-- When what a line expects of a world holds (this project's profile).
 use Rattle.std.specs.Prelude.{ℕ, ◌+◌, ◌-◌, ◌*◌, ◌%◌, ◌==◌, ◌&&◌, not, List, length, nat_le, slice_get, Bool, true, false, if◌then◌else◌, Option, Some, None, Result, Ok, Err}
 use Rattle.std.specs.List.{list_all, list_any, zip}
 use Rattle.ec_al.specs.declared.state.State.{State}
@@ -32,7 +32,7 @@ has_bits v x l outputs =
 abbrev pub is_published : WorldState → Variable → ℕ → Link → Bool
 is_published w v x l = if is_of v l then is_slave w l.slave && has_bits v x l (outputs_shown (slave_of w l.slave)) else true
 
--- so do all that are linked; bits of the variable that aren't linked count for nothing
+-- all slaves publish their linked bits so; bits of the variable that aren't linked don't count
 abbrev pub is_value : WorldState → ℕ → ℕ → Option Variable → Bool
 is_value w n x None = false
 is_value w n x (Some v) =
@@ -41,7 +41,7 @@ is_value w n x (Some v) =
 
 -- ---- sync units
 
--- of the last report, if there is one
+-- a test of the last report; false without one
 abbrev pub of_report : (ReportState → Bool) → Option ReportState → Bool
 of_report test None = false
 of_report test (Some r) = test r
@@ -62,7 +62,7 @@ is_unit u taken r = list_any (λ p. (p.0 == u) && same taken p.1) (zip r.units r
 abbrev pub is_in_state : WorldState → ℕ → State → Bool
 is_in_state w s state = is_slave w s && (slave_byte w s 0x0130 % 16 == state_number state)
 
--- the AL status code (0x0134), if one is wanted
+-- the AL status code (0x0134), if one is given
 abbrev pub has_code : WorldState → ℕ → Option ℕ → Bool
 has_code w s None = true
 has_code w s (Some code) = slave_byte w s 0x0134 + 256 * slave_byte w s 0x0135 == code

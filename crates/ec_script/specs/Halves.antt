@@ -4,14 +4,14 @@ use Rattle.std.specs.List.{starts_with}
 use Rattle.std.specs.Str.{bytes_eq}
 use Rattle.ec_script.specs.Words.{Text}
 
--- how many bytes the line has with its end, `\n`, `\r\n` or that of the text, where a text begins with it
+-- how many bytes the line has with its end, `\n`, `\r\n` or that of the text, if a text begins with it
 unfoldable pub divider_in : Text → Option ℕ
 divider_in text =
     if bytes_eq text (37 ∷ 37 ∷ []) then Some 2 else
     (if starts_with nat_eq text (37 ∷ 37 ∷ 10 ∷ []) then Some 3 else
     (if starts_with nat_eq text (37 ∷ 37 ∷ 13 ∷ 10 ∷ []) then Some 4 else None))
 
--- the same at a place, where a line has to begin
+-- as `divider_in`, at a place of a text at which a line begins
 unfoldable pub divider_at : Text → ℕ → Option ℕ
 divider_at text place = if place == 0 || slice_index text (place - 1) == 10 then divider_in (drop place text) else None
 
@@ -33,7 +33,7 @@ pub record IsAlone (text table script : Text) : Type 0 where
 abbrev pub Splits : Text → Text → Text → Type 0
 Splits text table script = AreApart text table script ⊎ IsAlone text table script
 
--- what serves the code alone: such a line has bytes, and begins and ends with ASCII
+-- for private code alone: such a line has bytes, and begins and ends with ASCII
 pub record Begins (text : Text) (n : ℕ) : Type 0 where
   pub within : n ≤ length text
   pub some : 0 < n

@@ -1,4 +1,4 @@
--- An input variable as the plant has it: the bytes that the applications of slaves write (this project's profile).
+-- An input variable as the plant sets it: the bytes that the applications of slaves write (this project's profile).
 use Rattle.std.specs.Prelude.{ℕ, zero, suc, ◌+◌, ◌-◌, ◌^◌, ◌==◌, ◌&&◌, not, List, [], ◌∷◌, ◌++◌, length, nat_le, nat_lt, slice_get, Bool, false, if◌then◌else◌, Option, Some, None}
 use Rattle.std.specs.Int.{to_le_bytes, w64}
 use Rattle.std.specs.List.{list_any}
@@ -15,7 +15,7 @@ use Rattle.ec_world.specs.World.{WorldState, is_slave, slave_of}
 
 -- ---- a value in bits
 
--- a number has at most so many bits
+-- a number has at most this many bits
 abbrev pub is_short : ℕ → ℕ → Bool
 is_short bits x = nat_lt x (2 ^ bits)
 
@@ -34,7 +34,7 @@ is_of v l = nat_le v.from l.image && nat_le (l.image + l.count) (v.from + v.bits
 
 -- ---- the bytes of a slave's inputs
 
--- what an address of slave s reads; 0 where there is none
+-- the byte at an address of slave s; 0 if there is none
 abbrev pub slave_byte : WorldState → ℕ → ℕ → ℕ
 slave_byte w s a = if is_slave w s && nat_lt a ram_end then byte_at (slave_of w s) a else 0
 
@@ -42,7 +42,7 @@ unfoldable pub bytes_from : WorldState → ℕ → ℕ → ℕ → List ℕ
 bytes_from w s a zero = []
 bytes_from w s a (suc n) = slave_byte w s a ∷ bytes_from w s (a + 1) n
 
--- its input bytes as it published them last, which their addresses read
+-- the input bytes of a slave as it published them last, which their addresses read
 abbrev pub inputs_read : WorldState → ℕ → List ℕ
 inputs_read w s = bytes_from w s (slave_at w.plan s).kind.in_start (bytes_of_bits (slave_at w.plan s).share.ins)
 
@@ -68,7 +68,7 @@ puts s i (b ∷ bs) = AppPut s i b ∷ puts s (i + 1) bs
 abbrev pub slave_puts : WorldState → Variable → ℕ → ℕ → List Event
 slave_puts w v x s = if list_any (is_to v s) w.plan.in_links then puts s 0 (with_links v x s w.plan.in_links (inputs_read w s)) else []
 
--- n slaves from s on
+-- n slaves, the first of which is s
 unfoldable pub puts_from : WorldState → Variable → ℕ → ℕ → ℕ → List Event
 puts_from w v x s zero = []
 puts_from w v x s (suc n) = slave_puts w v x s ++ puts_from w v x (s + 1) n
@@ -77,6 +77,6 @@ abbrev pub input_puts : WorldState → ℕ → Option Variable → List Event
 input_puts w x None = []
 input_puts w x (Some v) = puts_from w v x 0 (length w.plan.slaves)
 
--- each slave with bits of the variable, in its turn
+-- each slave with bits of the variable, one after another
 abbrev pub input_events : WorldState → ℕ → ℕ → List Event
 input_events w v x = input_puts w x (slice_get w.plan.variables v)

@@ -1,4 +1,4 @@
--- What a script's `ready` does where nothing disturbs it, and then its `cycle`.
+-- What a script's `ready` does if nothing disturbs it, and then its `cycle`.
 use Rattle.std.specs.Prelude.{ℕ, ◌≡◌, ◌++◌, List, length, Some, codes}
 use Rattle.std.specs.Fmt.{decimal}
 use Rattle.ec_device.specs.declared.slave_type.Identity.{Identity}
@@ -19,21 +19,21 @@ use Rattle.ec_script.specs.declared.said.LineOutput.TheVariants as said
 use Rattle.ec_text.specs.ReportText.{units_text}
 use Rattle.ec_script.specs.Work.{Does}
 
--- The turns of a whole start-up were made, and it is Ready: each slave is in OP and works as planned, after one frame for each
--- action of its script.
+-- The turns of a whole start-up were made, one frame for each action of its script. It is Ready: each slave is in OP and works as
+-- planned.
 pub record IsReadied (t : Contents) (old new : WorldState) : Type 0 where
   pub events : List Event
   pub turns : BringUp t events
   pub run : IsRun old events new (length events)
   pub up : IsBroughtUp t old events new (length events)
 
--- Of a new world of devices, and of one whose last start-up failed: `ready` brings it up, and how it ended is said.
+-- On a new world of devices, or one whose last start-up failed, `ready` brings the slaves up and says how it ended.
 abbrev pub ReadyLaw : Type 0
 ReadyLaw = (t : Contents) (old new : WorldState) (word : LineOutput) → IsToStart t old → Does Ready old new word → (word ≡ said.Ended) × IsReadied t old new
 
 -- ---- a cycle
 
--- Of a world that is Ready and at rest: `cycle` is taken in every unit, and its report is said.
+-- On a world that is Ready and at rest, `cycle` takes every unit, and its output is the report.
 abbrev pub CycleLaw : Type 0
 CycleLaw =
     (t : Contents) (identities : List Identity) (old new : WorldState) (word : LineOutput) → Rests t identities old → Does Cycle old new word
@@ -48,20 +48,20 @@ abbrev pub taken_units : Version → List ℕ → List ℕ
 taken_units version.One units = codes " taken"
 taken_units version.Two units = lines_from taken_unit 0 units
 
--- So what is printed of it says "taken" of each unit.
+-- The text of that report says "taken" of each unit.
 abbrev pub TakenTextLaw : Type 0
 TakenTextLaw =
     (t : Contents) (identities : List Identity) (old new : WorldState) (word : LineOutput) → Rests t identities old → Does Cycle old new word
     → (r : ReportState) → new.report ≡ Some r → units_text t.version r ≡ taken_units t.version r.units
 
--- `ready` and then `cycle` on a new world of devices: the start-up ends Ready, and the cycle is taken in every unit.
+-- `ready` and then `cycle` on a new world of devices: the start-up ends Ready, and the cycle takes every unit.
 abbrev pub ReadyCycleLaw : Type 0
 ReadyCycleLaw =
     (t : Contents) (identities : List Identity) (old mid new : WorldState) (first second : LineOutput) → IsNew t identities old → AreOfTypes t identities
     → Does Ready old mid first → Does Cycle mid new second
     → (first ≡ said.Ended) × IsReadied t old mid × (second ≡ said.Report) × IsExchanged t mid new (length (cycle_of t))
 
--- A world that is made of a machine is so.
+-- This holds for a world that is made of a machine.
 abbrev pub MachineCycleLaw : Type 0
 MachineCycleLaw =
     (t : Contents) (old mid new : WorldState) (first second : LineOutput) → IsOfMachine t old → Does Ready old mid first → Does Cycle mid new second

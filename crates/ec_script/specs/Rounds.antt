@@ -15,12 +15,12 @@ abbrev pub has_number : ℕ → Option Flight → Bool
 has_number n None = false
 has_number n (Some f) = f.number == n
 
--- the slots that hold a frame of a number, rising; the first slot is k
+-- the slots that hold a frame with this number, rising; the first slot is k
 abbrev pub slots_with : ℕ → ℕ → List (Option Flight) → List ℕ
 slots_with n k [] = []
 slots_with n k (slot ∷ slots) = if has_number n slot then k ∷ slots_with n (k + 1) slots else slots_with n (k + 1) slots
 
--- the frame in slot k passes n slaves, which each serve once if they are to, and comes back
+-- the frame in slot k passes n slaves, which then each serve once if they are to, and comes back
 abbrev pub round_events : ℕ → Bool → ℕ → List Event
 round_events n serving k = replicate n (Pass k) ++ ((if serving then servings 0 n else []) ++ (Return k ∷ []))
 

@@ -1,5 +1,5 @@
--- What a script stands for: a line for each text that isn't empty without its comment, or the number of the first that stands
--- for none (this project's profile).
+-- What a script stands for (this project's profile). It is a line for each text that isn't empty without its comment, or the number
+-- of the first text that stands for nothing.
 use Rattle.std.specs.Prelude.{◌≡◌, ℕ, ◌+◌, List, [], ◌∷◌, ◌++◌, replicate, if◌then◌else◌, Option, Some, None, option_map, Result, Ok, Err, codes}
 use Rattle.std.specs.Str.{bytes_eq}
 use Rattle.std.specs.Str.Lines.{lines}
@@ -28,13 +28,13 @@ abbrev pub error_line : ScriptError → Option ℕ
 error_line Memory = None
 error_line (BadScript n) = Some n
 
--- what is told of it: behind its name stands the number of the bad line
+-- the refusal of an error: behind its name stands the number of the bad line
 abbrev pub error_told : ScriptError → Told
 error_told error = record { number = error_number error; name = error_name error; values = one_value (error_line error) }
 
 -- ---- lines
 
--- line n, whose act is done so often
+-- line n, whose act is done this often
 abbrev pub done_times : ℕ → ℕ → Option LineAction → Option Line
 done_times n times act = option_map (λ a. record { number = n; times = times; act = a }) act
 
@@ -48,7 +48,7 @@ abbrev pub line_of_words : Contents → ℕ → List Text → Option Line
 line_of_words t n [] = None
 line_of_words t n (verb ∷ words) = if bytes_eq verb (codes "repeat") then repeated_line t n words else done_times n 1 (act_of_words t (verb ∷ words))
 
--- what a text stands for as line n that isn't empty and has no comment
+-- what a text, not empty and without a comment, stands for as line n
 abbrev pub line_on : Contents → ℕ → Text → Option Line
 line_on t n text = line_of_words t n (words_of text)
 
@@ -61,7 +61,7 @@ abbrev pub reading_without : Contents → ℕ → Text → Reading
 reading_without t n [] = reading.Empty
 reading_without t n (c ∷ cs) = found_line (line_on t n (c ∷ cs))
 
--- what the text of line n is: without its comment it may be empty
+-- what line n is, by its text: without its comment it may be empty
 abbrev pub reading_of : Contents → ℕ → Text → Reading
 reading_of t n text = reading_without t n (uncommented text)
 
@@ -74,7 +74,7 @@ with_reading n reading.Bad rest = Err n
 with_reading n (reading.Line line) (Ok lines) = Ok (line ∷ lines)
 with_reading n (reading.Line line) (Err bad) = Err bad
 
--- texts of which the first has number n
+-- the lines of texts, the first of which has number n
 unfoldable pub script_from : Contents → ℕ → List Text → Result (List Line) ℕ
 script_from t n [] = Ok []
 script_from t n (text ∷ texts) = with_reading n (reading_of t n text) (script_from t (n + 1) texts)
@@ -83,7 +83,7 @@ script_from t n (text ∷ texts) = with_reading n (reading_of t n text) (script_
 abbrev pub script_of : Contents → Text → Result (List Line) ℕ
 script_of t text = script_from t 1 (lines text)
 
--- what a reader answers is what the definition gives, unless memory ran out
+-- what a reader returns is what the definition gives, unless memory ran out
 abbrev pub Fails : ScriptError → Result (List Line) ℕ → Type 0
 Fails Memory read = Unit {0}
 Fails (BadScript n) read = read ≡ Err n

@@ -1,4 +1,4 @@
--- What is printed of a script (this project's profile). Numbers are decimal where they aren't said to be hex.
+-- What a script prints (this project's profile). Numbers are decimal unless they are said to be hex.
 use Rattle.std.specs.Prelude.{ℕ, List, [], ◌∷◌, ◌++◌, Option, Some, None, codes}
 use Rattle.std.specs.Fmt.{decimal}
 use Rattle.hex.specs.Hex.{encode_lower}
@@ -17,11 +17,11 @@ abbrev pub byte_text : Option ℕ → List ℕ
 byte_text None = []
 byte_text (Some byte) = codes "byte " ++ encode_lower (byte ∷ []) ++ newline
 
--- what the last closing said
+-- the report on the last cycle that was closed
 abbrev pub last_report_text : Version → WorldState → List ℕ
 last_report_text v w = report_if v w.plan.parts w.report
 
--- what is printed where line n has this to say of a world of the table
+-- what line n prints for this output, with a world of the table
 abbrev pub output_text : Contents → ℕ → WorldState → LineOutput → List ℕ
 output_text t n w Nothing = []
 output_text t n w No = codes "no " ++ decimal n ++ newline

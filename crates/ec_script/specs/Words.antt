@@ -26,7 +26,7 @@ abbrev pub cut_at : Text → Option ℕ → Text
 cut_at line None = line
 cut_at line (Some place) = without_end_blanks (take place line)
 
--- without its comment, which is from a `#` on, and the blanks before it
+-- without its comment, which begins at the first `#`, and without the blanks before that
 abbrev pub uncommented : Text → Text
 uncommented line = cut_at line (position (λ b. b == 35) line)
 
@@ -48,7 +48,7 @@ number_of word = if is_number word then Some (digits_value 10 word) else None
 unfoldable pub byte_of : Text → Option ℕ
 byte_of word = option_and_then (λ n. if nat_lt n 256 then Some n else None) (number_of word)
 
--- how often a line may be done
+-- the count behind `repeat`
 unfoldable pub times_of : Text → Option ℕ
 times_of word = option_and_then (λ n. if nat_le 1 n && nat_le n 1000000 then Some n else None) (number_of word)
 
@@ -73,10 +73,10 @@ code_of word = if length word == 4 then option_and_then (λ n. if nat_lt n (2 ^ 
 unfoldable pub plain_of : Text → Option ℕ
 plain_of word = if bytes_eq (take 2 word) (codes "0x") then hex_of (drop 2 word) else number_of word
 
--- a number below 0 by its two's complement in so many bits, where they have one
+-- a number below 0 by its two's complement in this many bits, if they have one
 abbrev pub negative_of : ℕ → ℕ → WrittenValue
 negative_of bits n = if n == 0 then Number 0 else (if nat_le n (2 ^ (bits - 1)) then Number (2 ^ bits - n) else Outside)
 
--- the value that a word writes for so many bits
+-- the value that a word writes for this many bits
 unfoldable pub value_of : ℕ → Text → Option WrittenValue
 value_of bits word = if slice_index word 0 == 45 then option_map (negative_of bits) (number_of (drop 1 word)) else option_map Number (plain_of word)

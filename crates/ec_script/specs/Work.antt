@@ -1,5 +1,5 @@
--- What a line of a script does to a world, and what there is to say of it (this project's profile). A line ends at the first
--- event that can't be made; what its last event says is said.
+-- What a line of a script does to a world, and its output (this project's profile). A line ends at the first
+-- event that can't be made; its output is that of its last event.
 use Rattle.std.specs.Prelude.{ℕ, zero, suc, ◌-◌, ◌^◌, ◌≡◌, ◌&&◌, List, [], ◌∷◌, ◌++◌, Bool, true, false, if◌then◌else◌, is_some, is_none, slice_get}
 use Rattle.ec_start.specs.Running.{outcome_of}
 use Rattle.ec_world.specs.declared.event.Event.{Event}
@@ -36,7 +36,7 @@ said_else (AppGet s i) = said.Byte
 said_else (Fault s) = said.Nothing
 said_else (Reset s) = said.Nothing
 
--- what there is to say of an event, by whether it was made
+-- the output of an event, by whether it was made
 abbrev pub said_of : WorldState → Event → WorldState → Bool → LineOutput
 said_of old e new false = said.No
 said_of old e new true = if ends old new then said.Ended else said_else e
@@ -46,7 +46,7 @@ pub record Makes (e : Event) (old new : WorldState) (word : LineOutput) : Type 0
   pub step : IsStep old e new made
   pub says : word ≡ said_of old e new made
 
--- what there is to say where something is expected, by whether it is so
+-- the output of an expectation, by whether it holds
 abbrev pub said_if : Bool → LineOutput
 said_if true = said.Nothing
 said_if false = said.Unmet
@@ -70,7 +70,7 @@ abbrev pub Onward : Bool → Type 0 → Type 0 → Type 0
 Onward true x y = x
 Onward false x y = y
 
--- work, and further work where that was done and the test says so; what the last of them says is said
+-- work, and further work if that was done and the test holds; the output is that of the last of them
 pub record Then (test : WorldState → Bool) (first rest : WorldState → WorldState → LineOutput → Type 0) (old new : WorldState) (word : LineOutput) : Type 0 where
   pub mid : WorldState
   pub told : LineOutput
@@ -94,7 +94,7 @@ RunsTurn old new word = Then always (Makes StartNext) (λ w. MakesAll (rounds_fo
 abbrev pub is_starting : WorldState → Bool
 is_starting w = is_none (outcome_of w.start.phase)
 
--- turn after turn until it has ended, at most so many
+-- turn after turn until it has ended, at most this many
 unfoldable pub Starts : ℕ → WorldState → WorldState → LineOutput → Type 0
 Starts zero old new word = (new ≡ old) × (word ≡ said.Nothing)
 Starts (suc n) old new word = Then is_starting RunsTurn (Starts n) old new word
@@ -109,9 +109,9 @@ last_turn = 2 ^ 64 - 1
 abbrev pub RunsCycle : WorldState → WorldState → LineOutput → Type 0
 RunsCycle old new word = Then always (Makes Begin) (λ w. MakesAll (rounds_found false w ++ (Close ∷ [])) w) old new word
 
--- ---- a variable of the inputs
+-- ---- an input variable
 
--- slave after slave writes its inputs; where it is no input, or doesn't hold the value, nothing is done
+-- slave after slave writes its inputs; if it is no input, or can't hold the value, nothing is done
 abbrev pub RunsInput : ℕ → ℕ → WorldState → WorldState → LineOutput → Type 0
 RunsInput v x old new word =
     Onward (is_input_of x (slice_get old.plan.variables v)) (MakesAll (input_events old v x) old new word) ((new ≡ old) × (word ≡ said.No))

@@ -11,7 +11,7 @@ use crate::words::{byte_of, number_of};
 use ec_table::{SlaveRow, Table, VariableRow};
 use ec_world::Event;
 
-/// The place of the variable with a name.
+/// The place of the variable with this name; `None` if there is none.
 pub fn variable_named(variables: &[VariableRow], name: &str) -> Option<usize>
     ensures place { result ≡ variable_named variables.now name.now }
     ensures there { IfSome result (λ place. place < length variables.now) }
@@ -21,7 +21,7 @@ pub fn variable_named(variables: &[VariableRow], name: &str) -> Option<usize>
         .position(|variable| variable.name.as_str() == name)
 }
 
-/// The place of the slave that a word names, by its number or by its name; digits alone are a number.
+/// The place of the slave that a word names, by its number or by its name; a word of digits alone is a number.
 #[tactic(auto, unfolding(crate::specs::Acts::slave_in))]
 pub fn slave_in(table: &Table, word: &str) -> Option<usize>
     ensures { result ≡ slave_in table.now word.now }
@@ -33,7 +33,7 @@ pub fn slave_in(table: &Table, word: &str) -> Option<usize>
     }
 }
 
-/// The value that a word writes for the variable at a place.
+/// The value that a word writes for the variable at a place; `None` if it writes none.
 pub fn value_for(table: &Table, variable: usize, word: &str) -> Option<WrittenValue>
     requires { variable < length table.now.variables }
     ensures { result ≡ value_for table.now.variables variable word.now }
@@ -41,7 +41,7 @@ pub fn value_for(table: &Table, variable: usize, word: &str) -> Option<WrittenVa
     value_of(table.variables()[variable].bits, word)
 }
 
-/// What the words of a line stand for.
+/// What the words of a line stand for; `None` if for nothing.
 pub fn act_of_words(table: &Table, words: &[&str]) -> Option<LineAction>
     ensures { result ≡ act_of_words table.now (map (λ x. x.now) words.now) }
 {
@@ -55,14 +55,14 @@ pub fn act_of_words(table: &Table, words: &[&str]) -> Option<LineAction>
     }
 }
 
-/// Whether a word is digits alone.
+/// Whether a word has digits alone.
 fn is_digits(word: &str) -> bool
     ensures { result ≡ list_all is_ascii_digit word.now }
 {
     word.as_bytes().iter().all(|byte| byte.is_ascii_digit())
 }
 
-/// The place of the slave with a name.
+/// The place of the slave with this name; `None` if there is none.
 fn slave_named(slaves: &[SlaveRow], name: &str) -> Option<usize>
     ensures { result ≡ slave_named slaves.now name.now }
 {
@@ -158,7 +158,7 @@ fn act_of_one(verb: &str) -> Option<LineAction>
     }
 }
 
-/// A variable of the inputs becomes a value.
+/// The act that gives an input variable a value.
 fn input_act(variable: usize, value: WrittenValue) -> LineAction
     ensures { result ≡ input_act variable value }
 {
@@ -168,7 +168,7 @@ fn input_act(variable: usize, value: WrittenValue) -> LineAction
     }
 }
 
-/// A variable of the outputs becomes a value.
+/// The act that sets an output variable to a value.
 fn set_act(variable: usize, value: WrittenValue) -> LineAction
     ensures { result ≡ set_act variable value }
 {

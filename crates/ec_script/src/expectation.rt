@@ -4,19 +4,19 @@ use ec_al::State;
 /// What a line expects of the world that it finds.
 #[derive(Clone, Copy, Debug, PartialEq, Eq, Drop)]
 pub enum Expectation {
-    /// A variable, by its place, is this value: an input in the process image, an output in the bits
+    /// The variable at this place has this value: an input in the process image, an output in the bits
     /// that slaves publish.
     Is(usize, u64),
-    /// The variable at a place is a value that its bits don't hold: that is never so.
+    /// The variable at this place has a value that its bits can't hold: this never holds.
     Never(usize),
-    /// Every sync unit of the last report was taken, or each was not.
+    /// Every sync unit of the last report was taken; or with false, none was.
     Units(bool),
-    /// This sync unit of the last report was taken, or was not.
+    /// The sync unit with this number was taken in the last report; or with false, it wasn't.
     Unit(u64, bool),
-    /// The slave at a place is in this AL state, and shows this AL status code if one is given.
+    /// The slave at this place is in this AL state, and shows this AL status code if one is given.
     State(usize, State, Option<u16>),
     /// The start-up has ended Ready.
     Ready,
-    /// The start-up has failed, by the refusal of this number if one is given.
+    /// The start-up has failed, by the refusal with this number if one is given.
     Failed(Option<u64>),
 }

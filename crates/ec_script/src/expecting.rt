@@ -9,7 +9,7 @@ use crate::words::{code_of, number_of};
 use ec_al::State;
 use ec_table::Table;
 
-/// What one word stands for.
+/// What one word stands for; `None` if for nothing.
 #[tactic(auto, unfolding(crate::specs::Acts::expected_by_one))]
 pub fn expected_by_one(word: &str) -> Option<Expectation>
     ensures { result ≡ expected_by_one word.now }
@@ -23,7 +23,7 @@ pub fn expected_by_one(word: &str) -> Option<Expectation>
     }
 }
 
-/// What two words stand for; the words of reports and start-ups come before the names of variables.
+/// What two words stand for, `None` if for nothing; the words of reports and start-ups come before the names of variables.
 #[tactic(auto, unfolding(crate::specs::Acts::expected_by_two))]
 pub fn expected_by_two(table: &Table, first: &str, second: &str) -> Option<Expectation>
     ensures { result ≡ expected_by_two table.now first.now second.now }
@@ -36,7 +36,7 @@ pub fn expected_by_two(table: &Table, first: &str, second: &str) -> Option<Expec
     }
 }
 
-/// What three words stand for.
+/// What three words stand for; `None` if for nothing.
 #[tactic(auto, unfolding(crate::specs::Acts::expected_by_three))]
 pub fn expected_by_three(
     table: &Table,
@@ -55,7 +55,7 @@ pub fn expected_by_three(
     }
 }
 
-/// What four words stand for.
+/// What four words stand for; `None` if for nothing.
 #[tactic(auto, unfolding(crate::specs::Acts::expected_by_four))]
 pub fn expected_by_four(
     table: &Table,
@@ -76,7 +76,7 @@ pub fn expected_by_four(
     }
 }
 
-/// The AL state with a name.
+/// The AL state with this name; `None` if there is none.
 #[tactic(auto, unfolding(crate::specs::Acts::state_named))]
 fn state_named(name: &str) -> Option<State>
     ensures { result ≡ state_named name.now }
@@ -99,7 +99,7 @@ fn value_expected(table: &Table, name: &str, value: &str) -> Option<Expectation>
     Some(is_act(variable, value_for(table, variable, value)?))
 }
 
-/// A variable is a value.
+/// The expectation that a variable has a value.
 fn is_act(variable: usize, value: WrittenValue) -> Expectation
     ensures { result ≡ is_act variable value }
 {

@@ -2,7 +2,7 @@
 ghost use Rattle.std.specs.Prelude.{◌≡◌, ◌<◌, length, drop, IfSome};
 ghost use Rattle.ec_script.specs.Halves.{Begins, Splits, divider_at, divider_in};
 
-/// A table and its script in one text: what stands before the first line `%%`, and what stands behind that line. A text
+/// Splits a text into a table and its script: what stands before the first line `%%`, and what stands behind it. A text
 /// without such a line is a table with an empty script.
 pub fn split_script(text: &str) -> (&str, &str)
     ensures { Splits text.now result.0.now result.1.now }
@@ -16,7 +16,7 @@ pub fn split_script(text: &str) -> (&str, &str)
     (text, "")
 }
 
-/// How many bytes the line `%%` with its end has, where that line begins at a place of a text.
+/// How many bytes the line `%%` with its end has, if it begins at this place of a text.
 #[tactic(auto, unfolding(crate::specs::Halves::divider_at))]
 fn divider_at(text: &[u8], place: usize) -> Option<usize>
     requires { place < length text.now }
@@ -30,7 +30,7 @@ fn divider_at(text: &[u8], place: usize) -> Option<usize>
     }
 }
 
-/// How many bytes the line `%%` with its end has, where a text begins with that line.
+/// How many bytes the line `%%` with its end has, if a text begins with it.
 #[tactic(auto, using(crate::proofs::Halving::begins_if), unfolding(crate::specs::Halves::divider_in))]
 fn divider_in(text: &[u8]) -> Option<usize>
     ensures value { result ≡ divider_in text.now }

@@ -1,4 +1,4 @@
-//! An input variable as the plant has it: what the applications of its slaves write.
+//! An input variable as the plant sets it: what the applications of its slaves write.
 ghost use Rattle.std.specs.Prelude.{◌≡◌, ◌≤◌, ◌<◌, ◌+◌, ◌*◌, ◌^◌, length, slice_get};
 ghost use Rattle.std.specs.List.{AllByRecursion, list_any};
 ghost use Rattle.ec_bits.specs.Bits.{bytes_of_bits};
@@ -18,7 +18,7 @@ use ec_world::{Event, Watcher, World};
 /// More bytes than a slave has inputs.
 const MAX_BYTES: usize = 0x1000;
 
-/// Whether a number has at most so many bits.
+/// Whether a number has at most `bits` bits.
 pub fn is_short(bits: u8, value: u64) -> bool
     requires some { 1 ≤ bits }
     requires few { bits ≤ 64 }
@@ -38,7 +38,7 @@ pub fn is_of(variable: Variable, link: &Link) -> bool
     link.count <= bits - (link.image - variable.from)
 }
 
-/// What an address of a slave reads; 0 where there is none.
+/// The byte at an address of a slave; 0 if there is none.
 pub fn slave_byte(world: &World<'_>, slave: usize, address: usize) -> u8
     ensures { result ≡ slave_byte world.now slave address }
 {
@@ -51,8 +51,8 @@ pub fn slave_byte(world: &World<'_>, slave: usize, address: usize) -> u8
     }
 }
 
-/// A variable of the inputs becomes a value, as the plant has it: each slave with bits of it writes all its input bytes, these
-/// bits changed and all others as it published them last.
+/// Gives an input variable a value, as the plant does. Each slave with bits of it writes all its input bytes, with these bits
+/// changed and all others as it published them last. `No` if it is no input that holds the value, or at an event that can't be made.
 #[tactic(auto, using(crate::proofs::Seeing::sees_none, crate::proofs::Seeing::sees_then))]
 pub fn put_input<S: Watcher>(
     world: &mut World<'_>,
@@ -92,7 +92,7 @@ fn is_input_of(plan: &Plan, variable: usize, value: u64) -> bool
     }
 }
 
-/// The application of each slave in its turn writes all its input bytes with the bits of a variable changed, if it has any. An
+/// Lets the application of each slave that has bits of a variable write all its input bytes, with these bits changed. An
 /// event that can't be made ends it.
 #[tactic(auto, using(crate::proofs::Seeing::sees_none, crate::proofs::Seeing::sees_then))]
 fn put_slaves<S: Watcher>(
@@ -116,7 +116,7 @@ fn put_slaves<S: Watcher>(
     LineOutput::Nothing
 }
 
-/// The application of a slave writes all its input bytes with the bits of a variable changed, if it has any.
+/// Lets the application of a slave write all its input bytes with the bits of a variable changed, if it has any of them.
 #[tactic(auto, using(crate::proofs::Seeing::sees_none, crate::proofs::Seeing::sees_then))]
 fn put_slave<S: Watcher>(
     world: &mut World<'_>,
@@ -143,7 +143,7 @@ fn put_slave<S: Watcher>(
     put_bytes(world, watcher, slave, bytes)
 }
 
-/// How many bytes of inputs a slave has, which its memory has room for.
+/// How many bytes of inputs a slave has; its memory has room for them.
 fn input_count(plan: &Plan, slave: usize) -> usize
     requires usable { IsUsable plan.now }
     requires there { slave < length plan.now.slaves }
@@ -160,7 +160,7 @@ fn is_linked(links: &[Link], variable: Variable, slave: usize) -> bool
     links.iter().any(|link| is_to(variable, slave, link))
 }
 
-/// The application of a slave writes bytes of its inputs, one after another.
+/// Lets the application of a slave write bytes of its inputs, one after another.
 #[tactic(auto, using(crate::proofs::Seeing::sees_none, crate::proofs::Seeing::sees_then))]
 fn put_bytes<S: Watcher>(
     world: &mut World<'_>,
@@ -181,7 +181,7 @@ fn put_bytes<S: Watcher>(
     said
 }
 
-/// Changes the bits of a slave's inputs that links bring a value of a variable.
+/// Writes a variable's value into those bits of a slave's inputs that links join to it.
 fn change_bits(links: &[Link], variable: Variable, value: u64, slave: usize, bytes: &mut [u8])
     requires few { variable.bits ≤ 64 }
     requires inside { AllByRecursion (λ l. l.slave ≡ slave
@@ -203,7 +203,7 @@ fn change_bits(links: &[Link], variable: Variable, value: u64, slave: usize, byt
     }
 }
 
-/// Reads bytes of a slave from an address on.
+/// Fills `bytes` with the bytes of a slave that begin at the address `start`.
 fn read_bytes(world: &World<'_>, slave: usize, start: u16, bytes: &mut [u8])
     ensures { bytes.new ≡ bytes_from world.now slave start (length bytes.old) }
 {

@@ -3,36 +3,36 @@ ghost use Rattle.ec_script.specs.Events.{LinesRun, ScriptsRun};
 ghost use Rattle.ec_script.specs.Promised.{CycleLaw, MachineCycleLaw, ReadyCycleLaw, ReadyLaw, TakenTextLaw};
 ghost use Rattle.ec_script.specs.Writing.{ActsReadBack};
 
-/// What a line does to a world is a run of the line's events, up to the first that can't be made; it says no exactly where
+/// What a line does to a world is a run of the line's events, up to the first that can't be made. It says `no` exactly if
 /// there is such an event.
 #[tactic(auto, using(crate::proofs::Running::lines_run))]
 pub fn lines_are_runs()
     ensures { LinesRun }
 {}
 
-/// Whatever the lines of a script do to a world, one after another, a run of events does it.
+/// A run of events does to a world what the lines of a script do, one after another.
 #[tactic(auto, using(crate::proofs::Running::scripts_run))]
 pub fn scripts_are_runs()
     ensures { ScriptsRun }
 {}
 
-/// Where a start-up may begin, in a new world of devices or after a failure, `ready` brings every slave up, and says how it ended.
+/// `ready` brings every slave up and says how it ended, in a new world of devices or after a failure.
 pub fn ready_brings_up()
     ensures { ReadyLaw }
 {}
 
-/// `cycle` of a world that is Ready and at rest is taken in every unit, and its report is said.
+/// `cycle` of a world that is Ready and at rest takes every unit, and its output is the report.
 pub fn cycle_is_taken()
     ensures { CycleLaw }
 {}
 
-/// What is printed of that report says of each unit that it was taken.
+/// The text of that report says that each unit was taken.
 pub fn taken_is_printed()
     ensures { TakenTextLaw }
 {}
 
-/// `ready` and then `cycle` on a new world of devices, as one that is made of a machine is: the start-up ends Ready, and the cycle
-/// is taken in every unit.
+/// `ready` and then `cycle` on a new world of devices, such as one that is made of a machine. The start-up ends Ready, and the
+/// cycle takes every unit.
 pub fn ready_and_cycle()
     ensures devices { ReadyCycleLaw }
     ensures machine { MachineCycleLaw }

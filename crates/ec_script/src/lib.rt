@@ -1,4 +1,4 @@
-//! Scripts of events for a simulated segment: what their lines stand for, what they do to a world, and what is printed of it.
+//! Scripts of events for a simulated segment: what their lines stand for, what they do to a world, and what they print.
 #![tactic(auto)]
 
 mod acts;

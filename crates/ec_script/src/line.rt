@@ -7,11 +7,11 @@ use ec_world::Event;
 pub enum LineAction {
     /// One event.
     One(Event),
-    /// A variable of the inputs, by its place, becomes this value in the slaves that have bits of it.
+    /// The slaves that have bits of the input variable at this place write this value into them.
     Input(usize, u64),
-    /// The variable at a place becomes a value that its bits don't hold: no event does that.
+    /// The variable at this place becomes a value that its bits can't hold: no event does that.
     Never(usize),
-    /// Nothing is done: something is expected of the world.
+    /// An expectation of the world is checked; nothing changes.
     Expect(Expectation),
     /// The frames of a start-up, until it ends.
     Ready,

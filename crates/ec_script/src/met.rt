@@ -1,4 +1,4 @@
-//! Whether what a line expects of a world is so.
+//! Whether what a line expects of a world holds.
 ghost use Rattle.std.specs.Prelude.{◌≡◌, ◌≤◌, true, slice_get};
 ghost use Rattle.ec_script.specs.Expecting.{all_units, has_bits, has_code, is_failed, is_in_state, is_met, is_published, is_unit, is_value, of_report};
 ghost use Rattle.ec_script.specs.Inputs.{is_of};
@@ -19,7 +19,7 @@ use ec_world::World;
 /// More bits than the memory of a slave has room for.
 const MAX_BITS: usize = 0x10000;
 
-/// Whether what a line expects of a world is so.
+/// Whether what a line expects of a world holds.
 pub fn is_met(world: &World<'_>, expected: Expectation) -> bool
     ensures { result ≡ is_met expected world.now }
 {
@@ -36,7 +36,7 @@ pub fn is_met(world: &World<'_>, expected: Expectation) -> bool
     }
 }
 
-/// Whether a start-up has failed, by the refusal of a number if one is wanted.
+/// Whether a start-up has failed, by the refusal with this number if one is given.
 pub fn is_failed(number: Option<u64>, outcome: Option<Result<(), StartError>>) -> bool
     ensures { result ≡ is_failed number outcome }
 {
@@ -47,7 +47,7 @@ pub fn is_failed(number: Option<u64>, outcome: Option<Result<(), StartError>>) -
     }
 }
 
-/// Whether the sync unit of a number was taken in a cycle, or was not, as `taken` says.
+/// Whether a report has the sync unit with this number as `taken` says: taken, or not.
 pub fn is_unit(number: u64, taken: bool, report: &Report) -> bool
     ensures { result ≡ is_unit number taken report.now }
 {
@@ -58,14 +58,14 @@ pub fn is_unit(number: u64, taken: bool, report: &Report) -> bool
         .any(|(unit, was)| u64::from(*unit) == number && *was == taken)
 }
 
-/// Whether every sync unit was taken in a cycle, or each was not, as `taken` says.
+/// Whether a report has every sync unit as `taken` says: taken, or not.
 pub fn all_units(taken: bool, report: &Report) -> bool
     ensures { result ≡ all_units taken report.now }
 {
     report.units_taken().iter().all(|unit| *unit == taken)
 }
 
-/// Whether a slave shows an AL status code, if one is wanted.
+/// Whether a slave shows this AL status code; true without one.
 fn has_code(world: &World<'_>, slave: usize, code: Option<u16>) -> bool
     ensures { result ≡ has_code world.now slave code }
 {
@@ -85,7 +85,7 @@ fn is_in_state(world: &World<'_>, slave: usize, state: State) -> bool
     slave < world.slaves() && status % 16 == state.number()
 }
 
-/// Whether a sync unit of the last report was taken, or was not.
+/// Whether the last report has this sync unit as `taken` says; false without a report.
 fn has_unit(world: &World<'_>, number: u64, taken: bool) -> bool
     ensures { result ≡ of_report (is_unit number taken) world.now.report }
 {
@@ -95,7 +95,7 @@ fn has_unit(world: &World<'_>, number: u64, taken: bool) -> bool
     }
 }
 
-/// Whether every sync unit of the last report was taken, or each was not.
+/// Whether the last report has every sync unit as `taken` says; false without a report.
 fn are_units(world: &World<'_>, taken: bool) -> bool
     ensures { result ≡ of_report (all_units taken) world.now.report }
 {
@@ -105,7 +105,7 @@ fn are_units(world: &World<'_>, taken: bool) -> bool
     }
 }
 
-/// Whether a variable is a value: an input in the process image, an output as slaves publish it.
+/// Whether a variable has a value: an input in the process image, an output as slaves publish it.
 fn is_value(world: &World<'_>, place: usize, value: u64) -> bool
     ensures { result ≡ is_value world.now place value (slice_get world.now.plan.variables place) }
 {
@@ -132,7 +132,7 @@ fn is_output(world: &World<'_>, variable: Variable, value: u64) -> bool
         .all(|link| is_published(world, variable, value, link))
 }
 
-/// Whether the slave of a link publishes the bits of a value, if the link is one of the variable.
+/// Whether the slave of a link publishes the bits of a value; true if the link is none of the variable.
 fn is_published(world: &World<'_>, variable: Variable, value: u64, link: &Link) -> bool
     requires { variable.bits ≤ 64 }
     ensures { result ≡ is_published world.now variable value link.now }
@@ -143,7 +143,7 @@ fn is_published(world: &World<'_>, variable: Variable, value: u64, link: &Link) 
     link.slave < world.slaves() && has_bits(variable, value, link, world.outputs(link.slave))
 }
 
-/// Whether published outputs have the bits of a link of a variable, and they are those of a value.
+/// Whether published outputs have all bits of a link of a variable, and these are those of a value.
 fn has_bits(variable: Variable, value: u64, link: &Link, outputs: &[u8]) -> bool
     requires few { variable.bits ≤ 64 }
     requires linked { is_of variable link.now ≡ true }

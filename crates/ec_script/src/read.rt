@@ -12,22 +12,22 @@ use ec_listed::Listed;
 use ec_table::Table;
 use std::alloc::{AllocError, Global};
 
-/// What the text of a line is.
+/// What a line is, by its text.
 #[derive(Clone, Copy, Debug, PartialEq, Eq, Drop)]
 pub enum Reading {
     /// Nothing but a comment, or nothing at all.
     Empty,
-    /// It stands for nothing.
+    /// The line stands for nothing.
     Bad,
-    /// What it asks for.
+    /// What the line asks for.
     Line(Line),
 }
 
-/// What the text of the line with a number is; its names are the table's.
+/// What line `number` is, by its text; its names are those of the table.
 ///
 /// # Errors
 ///
-/// `AllocError` where memory ran out.
+/// `AllocError` if memory ran out.
 pub fn read_line(
     alloc: Global,
     table: &Table,
@@ -46,11 +46,11 @@ pub fn read_line(
     })
 }
 
-/// The lines of a script that aren't empty without their comments. Its names are the table's.
+/// The lines of a script that aren't empty without their comments; their names are those of the table.
 ///
 /// # Errors
 ///
-/// `BadScript`, with the number of the first line that stands for nothing; `Memory` where memory ran
+/// `BadScript`, with the number of the first line that stands for nothing; `Memory` if memory ran
 /// out.
 pub fn read_script(alloc: Global, table: &Table, text: &str) -> Result<Listed<Line>, ScriptError>
     ensures { Gives result (script_of table.now text.now) }
@@ -75,7 +75,7 @@ fn lines_of<'a>(alloc: Global, text: &'a str) -> Result<Vec<&'a str>, AllocError
     text.lines().collect(alloc)
 }
 
-/// A line without its comment, which is from a `#` on, and the blanks before it.
+/// A line without its comment, which begins at the first `#`, and without the blanks before that.
 fn uncommented(line: &str) -> &str
     ensures { result.now ≡ uncommented line.now }
 {
@@ -92,7 +92,7 @@ fn without_end_blanks(text: &str) -> &str
     text.trim_end_matches(' ')
 }
 
-/// What a text stands for as the line of a number that isn't empty and has no comment.
+/// What a text that isn't empty and has no comment stands for as line `number`.
 fn line_on(
     alloc: Global,
     table: &Table,
@@ -112,7 +112,7 @@ fn words_of<'a>(alloc: Global, line: &'a str) -> Result<Vec<&'a str>, AllocError
     line.split(' ').collect(alloc)
 }
 
-/// What words stand for as the line of a number.
+/// What words stand for as line `number`.
 fn line_of_words(table: &Table, number: usize, words: &[&str]) -> Option<Line>
     ensures { result ≡ line_of_words table.now number (map (λ x. x.now) words.now) }
 {
@@ -128,7 +128,7 @@ fn line_of_words(table: &Table, number: usize, words: &[&str]) -> Option<Line>
     })
 }
 
-/// What the words behind `repeat` stand for.
+/// What the words behind `repeat` stand for as line `number`.
 fn repeated_line(table: &Table, number: usize, words: &[&str]) -> Option<Line>
     ensures { result ≡ repeated_line table.now number (map (λ x. x.now) words.now) }
 {

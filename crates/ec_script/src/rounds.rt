@@ -15,7 +15,7 @@ use crate::met::is_met;
 use crate::said::LineOutput;
 use ec_world::{Event, Watcher, World};
 
-/// Does what a line asks for, as [`do_act`] does; its events are made by a watcher, which may keep what it sees of them.
+/// Does what a line asks for, as [`do_act`] does; a watcher makes its events, and may keep what it sees of them.
 #[tactic(auto, using(crate::proofs::Plans::act_keeps, crate::proofs::Running::lines_run, crate::proofs::Seeing::sees_none))]
 pub fn watch_act<S: Watcher>(world: &mut World<'_>, watcher: &mut S, act: LineAction) -> LineOutput
     ensures does { Does act world.old world.new result }
@@ -34,7 +34,7 @@ pub fn watch_act<S: Watcher>(world: &mut World<'_>, watcher: &mut S, act: LineAc
     }
 }
 
-/// Makes an event, if it can be made, and returns what there is to say of it.
+/// Makes an event, if it can be made, and returns its output.
 #[tactic(auto, using(crate::proofs::Seeing::sees_none, crate::proofs::Seeing::sees_made, crate::proofs::Seeing::sees_then))]
 pub fn make<S: Watcher>(world: &mut World<'_>, watcher: &mut S, event: Event) -> LineOutput
     ensures made { Makes event world.old world.new result }
@@ -54,7 +54,7 @@ pub fn make<S: Watcher>(world: &mut World<'_>, watcher: &mut S, event: Event) ->
     }
 }
 
-/// Frames of a start-up are sent and go round, until it has ended.
+/// Sends frames of a start-up round the ring, one after another, until it has ended or an event can't be made.
 #[tactic(auto, using(crate::proofs::Seeing::sees_none, crate::proofs::Seeing::sees_made, crate::proofs::Seeing::sees_then))]
 pub fn start_up<S: Watcher>(world: &mut World<'_>, watcher: &mut S) -> LineOutput
     ensures made { Starts last_turn world.old world.new result }
@@ -72,7 +72,7 @@ pub fn start_up<S: Watcher>(world: &mut World<'_>, watcher: &mut S) -> LineOutpu
     LineOutput::Nothing
 }
 
-/// A cycle begins, its frames go round, and it is closed.
+/// Begins a cycle, sends its frames round the ring, and closes it. It ends at an event that can't be made.
 #[tactic(auto, using(crate::proofs::Seeing::sees_none, crate::proofs::Seeing::sees_made, crate::proofs::Seeing::sees_then))]
 pub fn run_cycle<S: Watcher>(world: &mut World<'_>, watcher: &mut S) -> LineOutput
     ensures made { RunsCycle world.old world.new result }
@@ -89,7 +89,7 @@ pub fn run_cycle<S: Watcher>(world: &mut World<'_>, watcher: &mut S) -> LineOutp
     make(world, watcher, Event::Close)
 }
 
-/// What there is to say where something is expected of a world.
+/// The output of an expectation, by whether it holds.
 fn expect(world: &World<'_>, expected: Expectation) -> LineOutput
     ensures { result ≡ said_if (is_met expected world.now) }
 {
@@ -100,7 +100,7 @@ fn expect(world: &World<'_>, expected: Expectation) -> LineOutput
     }
 }
 
-/// One frame of a start-up is sent and goes round.
+/// Sends one frame of a start-up round the ring.
 #[tactic(auto, using(crate::proofs::Seeing::sees_none, crate::proofs::Seeing::sees_made, crate::proofs::Seeing::sees_then))]
 fn take_turn<S: Watcher>(world: &mut World<'_>, watcher: &mut S) -> LineOutput
     ensures made { RunsTurn world.old world.new result }
@@ -113,7 +113,7 @@ fn take_turn<S: Watcher>(world: &mut World<'_>, watcher: &mut S) -> LineOutput
     go_rounds(world, watcher, true)
 }
 
-/// The newest frames go round, one after another in the order of their slots.
+/// Takes the newest frames round the ring, one after another in the order of their slots.
 #[tactic(auto, using(crate::proofs::Seeing::sees_none, crate::proofs::Seeing::sees_made, crate::proofs::Seeing::sees_then))]
 fn go_rounds<S: Watcher>(world: &mut World<'_>, watcher: &mut S, serving: bool) -> LineOutput
     ensures made { MakesAll (rounds_found serving world.old) world.old world.new result }
@@ -133,7 +133,7 @@ fn go_rounds<S: Watcher>(world: &mut World<'_>, watcher: &mut S, serving: bool) 
     said
 }
 
-/// The frame in a slot passes so many slaves, which make a firmware step if `serving` says so, and comes back.
+/// Takes the frame in a slot past that many slaves, lets each make a firmware step if `serving`, and returns the frame.
 #[tactic(auto, using(crate::proofs::Seeing::sees_none, crate::proofs::Seeing::sees_made, crate::proofs::Seeing::sees_then))]
 fn go_round<S: Watcher>(
     world: &mut World<'_>,
@@ -156,7 +156,7 @@ fn go_round<S: Watcher>(
     make(world, watcher, Event::Return(slot))
 }
 
-/// So many slaves make a firmware step, each in its turn, if they are to; else nothing happens.
+/// Lets that many slaves make a firmware step, one after another, if `serving`; else it does nothing.
 #[tactic(auto, using(crate::proofs::Seeing::sees_none, crate::proofs::Seeing::sees_made, crate::proofs::Seeing::sees_then))]
 fn serve_if<S: Watcher>(
     world: &mut World<'_>,
@@ -174,7 +174,7 @@ fn serve_if<S: Watcher>(
     }
 }
 
-/// So many slaves make a firmware step, each in its turn.
+/// Lets that many slaves make a firmware step, one after another.
 #[tactic(auto, using(crate::proofs::Seeing::sees_none, crate::proofs::Seeing::sees_made, crate::proofs::Seeing::sees_then))]
 fn serve_slaves<S: Watcher>(world: &mut World<'_>, watcher: &mut S, slaves: usize) -> LineOutput
     ensures made { MakesAll (servings 0 slaves) world.old world.new result }
@@ -190,7 +190,7 @@ fn serve_slaves<S: Watcher>(world: &mut World<'_>, watcher: &mut S, slaves: usiz
     said
 }
 
-/// The frame in a slot passes so many slaves, up to one that it can't pass.
+/// Takes the frame in a slot past that many slaves, up to one that it can't pass.
 #[tactic(auto, using(crate::proofs::Seeing::sees_none, crate::proofs::Seeing::sees_made, crate::proofs::Seeing::sees_then))]
 fn pass_slaves<S: Watcher>(
     world: &mut World<'_>,
@@ -211,7 +211,7 @@ fn pass_slaves<S: Watcher>(
     said
 }
 
-/// Whether a slot holds a frame of a number.
+/// Whether a slot holds a frame with this number.
 fn holds(world: &World<'_>, slot: usize, number: u64) -> bool
     ensures { result ≡ has_number number (flight_at world.now slot) }
 {

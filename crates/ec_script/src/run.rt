@@ -17,8 +17,8 @@ use ec_table::Table;
 use ec_world::{Unwatched, World};
 use std::alloc::{AllocError, Global};
 
-/// Does what a line asks for, up to the first event that can't be made, and returns what there is to say of it. The world is
-/// left as `World::run` of the line's events leaves it. It takes no memory.
+/// Does what a line asks for, up to the first event that can't be made, and returns its output. The world is
+/// left as `World::run` of the line's events leaves it. It allocates nothing.
 pub fn do_act(world: &mut World<'_>, act: LineAction) -> LineOutput
     ensures does { Does act world.old world.new result }
     ensures run { RunsLine act world.old world.new (is_done result) }
@@ -27,15 +27,15 @@ pub fn do_act(world: &mut World<'_>, act: LineAction) -> LineOutput
     watch_act(world, &mut Unwatched, act)
 }
 
-/// Does once what a line asks for, up to the first event that can't be made, and returns what is printed of it: a line is done
-/// by as many calls as its `times` say. The world is left
-/// as `World::run` of the line's events leaves it, and the text is that of the last of them. The world is one of the table.
-/// `ready` on a new world of devices, or where the last start-up failed and no frame is on its way, brings every slave up, and
-/// `ready` is printed.
+/// Does once what a line asks for, up to the first event that can't be made, and returns the text that it prints. Call it as
+/// often as the line's `times` say. It leaves the world
+/// as `World::run` of the line's events does, and the text is that of the last of them. The world is one of the table.
+/// `ready` on a new world of devices, or after a failed start-up with no frame on its way, brings every slave up and prints
+/// `ready`.
 ///
 /// # Errors
 ///
-/// `AllocError` where there is no memory for the text; the world is then as the line leaves it.
+/// `AllocError` if there is no memory for the text; the world is then as the line leaves it.
 pub fn run_line(
     alloc: Global,
     world: &mut World<'_>,

@@ -1,4 +1,4 @@
-//! What is printed of a line.
+//! What a line prints.
 ghost use Rattle.std.specs.Prelude.{◌≡◌, ◌++◌, IfOk, OnOk, slice_get, string_bytes};
 ghost use Rattle.ec_cycle.specs.Master.{value_at};
 ghost use Rattle.ec_text.specs.PlanText.{lines_from};
@@ -12,14 +12,14 @@ use ec_world::World;
 use std::alloc::{AllocError, Global};
 use std::fmt::Write as _;
 
-/// What there is to say when a line of a script has done its work.
+/// The output of a line of a script: what it prints when it is done.
 #[derive(Clone, Copy, Drop)]
 pub enum LineOutput {
     /// Nothing.
     Nothing,
     /// An event can't be made, and the line ended there.
     No,
-    /// What was expected isn't so.
+    /// What was expected doesn't hold.
     Unmet,
     /// The byte that an application read.
     Byte,
@@ -47,7 +47,7 @@ impl LineOutput {
         }
     }
 
-    /// Whether what was expected isn't so.
+    /// Whether what was expected doesn't hold.
     pub fn is_unmet(self) -> bool
         ensures { result ≡ is_unmet self }
     {
@@ -55,7 +55,7 @@ impl LineOutput {
     }
 }
 
-/// What a variable is now; 0 where the world has no such variable.
+/// The value of a variable in the process image; 0 if the world has no such variable.
 pub fn value_of(world: &World<'_>, place: usize) -> u64
     ensures { result ≡ value_at world.now.master (slice_get world.now.master.plan.variables place) }
 {
@@ -66,8 +66,8 @@ pub fn value_of(world: &World<'_>, place: usize) -> u64
     }
 }
 
-/// What is printed where a line of this number has this to say of a world; the world is one of the
-/// table. The error is want of memory.
+/// The text that line `number` prints for this output; the world is one of the table. `AllocError` if
+/// memory ran out.
 pub fn output_text(
     alloc: Global,
     world: &World<'_>,

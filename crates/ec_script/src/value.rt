@@ -24,7 +24,7 @@ pub fn hex_of(word: &str) -> Option<u64>
     u64::from_str_radix(word, 16).ok()
 }
 
-/// The value that a word writes for a variable of so many bits: a number, or `-` and decimal digits.
+/// The value that a word writes for a variable of `bits` bits: a number, or `-` and decimal digits. `None` if it writes none.
 pub fn value_of(bits: u8, word: &str) -> Option<WrittenValue>
     requires some { 1 ≤ bits }
     requires few { bits ≤ 64 }
@@ -36,7 +36,7 @@ pub fn value_of(bits: u8, word: &str) -> Option<WrittenValue>
     }
 }
 
-/// The number `-n` in so many bits.
+/// The two's complement of `-n` in `bits` bits; `Outside` if it has none.
 fn negative_of(bits: u8, n: u64) -> WrittenValue
     requires some { 1 ≤ bits }
     requires few { bits ≤ 64 }

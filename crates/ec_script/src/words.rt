@@ -22,7 +22,7 @@ pub fn byte_of(word: &str) -> Option<u8>
     u8::try_from(number_of(word)?).ok()
 }
 
-/// The number of 16 bits that four hex digits write.
+/// The 16-bit number that a word of four hex digits writes.
 pub fn code_of(word: &str) -> Option<u16>
     ensures { result ≡ code_of word.now }
 {
@@ -32,7 +32,7 @@ pub fn code_of(word: &str) -> Option<u16>
     u16::try_from(hex_of(word)?).ok()
 }
 
-/// How often a line is to be done that this word stands before: 1 to 1,000,000 times.
+/// The count that a word behind `repeat` writes: 1 to 1,000,000.
 pub fn times_of(word: &str) -> Option<u32>
     ensures { result ≡ times_of word.now }
 {

@@ -1,6 +1,6 @@
--- To be believed: which register lies at which address, what a datagram is seen to say, and which state a number is.
+-- To be believed: which register lies at which address, what a datagram says, and which state a number is.
 pub mod Registers
 pub mod Seeing
 pub mod States
--- Laws: other words for the same, proved.
+-- Laws: other words for these definitions, proved.
 pub mod Laws

@@ -84,7 +84,7 @@ size_of SystemTime = 8
 size_of SystemTimeOffset = 8
 size_of SystemTimeDelay = 4
 
--- those that are named, in the order of their addresses
+-- the registers that have a name, in the order of their addresses
 abbrev pub registers : List Register
 registers =
     ControllerType ∷ Revision ∷ Build ∷ FmmuCount ∷ ManagerCount ∷ RamSize ∷ PortDescriptors ∷ Features ∷ StationAddress ∷ StationAlias
@@ -97,11 +97,11 @@ registers =
 
 -- ---- registers and the data of a datagram
 
--- all its bytes are among the n from an address on
+-- all its bytes are among the n bytes that begin at an address
 abbrev pub lies_within : (from n : ℕ) → Register → Bool
 lies_within from n r = nat_le from (place_of r) && nat_le (place_of r + size_of r) (from + n)
 
--- those of which a datagram has all bytes
+-- the registers of which a datagram has all bytes
 abbrev pub registers_within : (from n : ℕ) → List Register
 registers_within from n = filter (lies_within from n) registers
 
@@ -113,6 +113,6 @@ has_address a r = nat_le (place_of r) a && nat_lt a (place_of r + size_of r)
 abbrev pub register_of : ℕ → Option Register
 register_of a = find (has_address a) registers
 
--- its bytes, of data that begin at an address
+-- its bytes, in data that begin at an address
 abbrev pub bytes_in : ℕ → List ℕ → Register → List ℕ
 bytes_in from bytes r = slice_range bytes (place_of r - from) (place_of r - from + size_of r)

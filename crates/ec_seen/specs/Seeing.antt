@@ -3,7 +3,7 @@ use Rattle.std.specs.Prelude.{◌≡◌, ℕ, ◌+◌, ◌&&◌, nat_le, Bool, L
 use Rattle.ec_frame.specs.Datagram.{Datagram, data_length}
 use Rattle.ec_seen.specs.declared.seen.Seen.{Seen}
 
--- A whole datagram begins the bytes: its heading, its data and its counter are there, and its command is one of those
+-- The bytes begin with a whole datagram, with its heading, its data and its counter. Its command is one of those
 -- that there are (ETG.1000.4, "EtherCAT datagram" and "Commands").
 abbrev pub begins_a_datagram : List ℕ → Bool
 begins_a_datagram bytes =

@@ -6,7 +6,7 @@ pub fn registers_follow_each_other()
     ensures { RegistersFollowEachOther }
 {}
 
-/// All of them lie before the RAM.
+/// All registers that have a name lie before the RAM.
 pub fn registers_lie_before_the_ram()
     ensures { RegistersLieBeforeTheRam }
 {}

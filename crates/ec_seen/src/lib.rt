@@ -1,5 +1,5 @@
-//! What is seen of frames by the standard's names: the registers of a slave, by name and address, the states that numbers are, and
-//! the datagrams that bytes spell.
+//! Frames by the standard's names: the registers of a slave, by name and address; AL states by their numbers; and the
+//! datagrams that bytes spell.
 #![tactic(auto)]
 
 pub mod laws;

@@ -216,7 +216,7 @@ impl Register {
         }
     }
 
-    /// Whether all its bytes are among so many from an address on.
+    /// Whether all its bytes are among the `count` bytes that begin at the address `from`.
     pub fn lies_within(self, from: usize, count: usize) -> bool
         ensures { result ≡ lies_within from count self }
     {
@@ -224,7 +224,7 @@ impl Register {
         from <= place && place + size <= from.saturating_add(count)
     }
 
-    /// Whether one of its bytes has an address.
+    /// Whether one of its bytes has this address.
     pub fn has_address(self, address: usize) -> bool
         ensures { result ≡ has_address address self }
     {
@@ -275,8 +275,8 @@ impl Register {
     }
 }
 
-/// The registers all of whose bytes are among so many from an address on, in the order of their addresses.
-/// The error is want of memory.
+/// The registers all of whose bytes are among the `count` bytes at the address `from`, in the order of their addresses.
+/// `AllocError` if memory ran out.
 pub fn registers_within(
     alloc: Global,
     from: usize,
@@ -291,7 +291,7 @@ pub fn registers_within(
         .collect(alloc)
 }
 
-/// The register that has a byte at an address.
+/// The register that has a byte at this address; `None` if there is none.
 pub fn register_at(address: usize) -> Option<Register>
     ensures { result ≡ register_of address }
 {
@@ -301,7 +301,7 @@ pub fn register_at(address: usize) -> Option<Register>
         .find(|register| register.has_address(address))
 }
 
-/// The bytes of a register, of data that begin at an address; none where they aren't all there.
+/// The bytes of a register, in data that begin at the address `from`; `None` if the data haven't all of them.
 pub fn register_bytes(register: Register, from: usize, content: &[u8]) -> Option<&[u8]>
     ensures { option_map (λ x. x.now) result
         ≡ (if lies_within from (length content.now) register then Some (bytes_in from content.now register) else None) }

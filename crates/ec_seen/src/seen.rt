@@ -7,7 +7,7 @@ use byteorder::{ByteOrder, LittleEndian};
 use ec_frame::Command;
 use ec_frame::field::{HEADER_LEN, OVERHEAD};
 
-/// In a datagram: the address, and the word whose low eleven bits are the length of the data.
+/// Offsets in a datagram: of the address, and of the word whose low eleven bits are the length of the data in bytes.
 const ADDRESS: usize = 2;
 
 const FLAGS: usize = 6;
@@ -27,7 +27,7 @@ pub struct Seen<'a> {
     pub counter: u16,
 }
 
-/// The datagram that begins some bytes, and what follows it; none where it isn't whole or has no command.
+/// The datagram at the start of some bytes, and the bytes behind it; `None` if it isn't whole or its command is unknown.
 pub fn first_seen(bytes: &[u8]) -> Option<(Seen<'_>, &[u8])>
     ensures found { is_some result ≡ begins_a_datagram bytes.now }
     ensures shows { IfSome result (λ found. Shows found.0 (decoded bytes.now)) }

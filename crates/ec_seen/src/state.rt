@@ -1,9 +1,9 @@
-//! The states that numbers of an AL word are.
+//! AL states by their numbers in an AL word.
 ghost use Rattle.ec_seen.specs.States.{IsStateOf};
 
 use ec_al::State;
 
-/// The state with a number in an AL word; BOOT is none of these.
+/// The state with this number in an AL word; `None` if there is none, as for BOOT.
 pub fn state_of(number: u8) -> Option<State>
     ensures { IsStateOf number result }
 {

@@ -1,2 +1,2 @@
--- To be believed by reading: what `ecat segment` prints and tells.
+-- To be believed by reading: what `ecat segment` prints on the output and on the fault stream.
 pub mod Serving

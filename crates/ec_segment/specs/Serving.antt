@@ -10,24 +10,24 @@ use Rattle.ec_console.specs.declared.refusal.Refusal.{Refusal}
 use Rattle.ec_console.specs.declared.refusal.Refusal.TheVariants.{Memory, Output, Socket}
 use Rattle.ec_console.specs.Printing.{IsCutOff, IsPrinted, IsTold, OutputState}
 
--- how many payloads were answered, and how many not
+-- the line that says how many payloads were answered, and how many weren't
 abbrev pub served_line : ℕ → ℕ → List ℕ
 served_line answered refused = codes "served " ++ (decimal answered ++ (codes " refused " ++ (decimal refused ++ 10 ∷ [])))
 
--- where a segment listens
+-- the line that says where a segment listens
 abbrev pub listening_line : ℕ → List ℕ
 listening_line port = codes "ecat: listening on 127.0.0.1:" ++ decimal port ++ 10 ∷ []
 
 -- ---- on a wire
 
--- Slaves that answered on a wire so many payloads and refused so many, by what the slaves and the wire are before and after:
--- as many came as there were to come, or a call of the wire was a fault before.
+-- Slaves on a wire answered and refused payloads, by what the slaves and the wire are before and after. As many payloads came as
+-- there were to come, or a call of the wire was a fault before.
 abbrev pub HasAnswered : (shows : List ℕ → List ℕ → Type 0) → (first last : List SlaveState) → (before after : WireState) → (frames answered refused : ℕ) → Type 0
 HasAnswered shows first last before after frames answered refused =
     HasServed shows first last before after frames answered refused ⊎ WasCutOff shows first last before after frames answered refused
 
--- The counts are printed at every end: all payloads came; or a call of the wire was a fault; or a write is refused, and a
--- first part of the line is printed.
+-- The counts are printed at every end: all payloads came, or a call of the wire was a fault. Or a write was refused, and a first
+-- part of the line is printed.
 abbrev pub ServesSegment : ℕ → (shows : List ℕ → List ℕ → Type 0) → (first last : List SlaveState) → (before after : WireState) → (old new : OutputState) → Result Unit Refusal → Type 0
 ServesSegment frames shows first last before after old new (Ok done) =
     (answered : ℕ) × (refused : ℕ) × HasServed shows first last before after frames answered refused × IsPrinted old new (served_line answered refused)
@@ -39,12 +39,12 @@ ServesSegment frames shows first last before after old new (Err _) = ⊥
 
 -- ---- on a socket
 
--- an application of which nothing is said
+-- an application that may make any inputs
 abbrev pub any_inputs : List ℕ → List ℕ → Type 0
 any_inputs outputs inputs = Unit {0}
 
--- A socket on this port, and slaves at it: it is told that they listen there, and then they are served. A socket tells no payload, so
--- what it carried is any.
+-- Slaves at a socket on this port: the fault stream says that they listen there, and then they are served. A socket's state has no
+-- payload, so it may have carried any.
 pub record ListensOn (frames port : ℕ) (first : List SlaveState) (old new quiet told : OutputState) (ended : Result Unit Refusal) : Type 0 where
   pub opened : SocketState
   pub closed : SocketState
@@ -53,20 +53,20 @@ pub record ListensOn (frames port : ℕ) (first : List SlaveState) (old new quie
   pub tells : IsTold (listening_line opened.port) quiet told
   pub serves : ServesSegment frames any_inputs first last (silent opened.failed) (silent closed.failed) old new ended
 
--- they are served; or there is no such socket, and nothing is printed or told
+-- slaves on a port are served; or there is no such socket, and nothing is printed
 abbrev pub ServesOnPort : (frames port : ℕ) → List SlaveState → (old new quiet told : OutputState) → Result Unit Refusal → Type 0
 ServesOnPort frames port first old new quiet told ended =
     ListensOn frames port first old new quiet told ended ⊎ ((ended ≡ Err Socket) × (new ≡ old) × (told ≡ quiet))
 
 -- ---- on a card
 
--- A card's socket, and slaves at it, which are served.
+-- Slaves at a card's socket are served.
 pub record AnswersOnCard (frames : ℕ) (first : List SlaveState) (old new : OutputState) (ended : Result Unit Refusal) : Type 0 where
   pub closed : WireState
   pub last : List SlaveState
   pub serves : ServesSegment frames any_inputs first last (silent 0) closed old new ended
 
--- they are served; or the descriptor is no socket's, and nothing is printed
+-- slaves on a card are served; or the descriptor isn't that of a socket, and nothing is printed
 abbrev pub ServesOnCard : (frames : ℕ) → List SlaveState → (old new : OutputState) → Result Unit Refusal → Type 0
 ServesOnCard frames first old new ended = AnswersOnCard frames first old new ended ⊎ ((ended ≡ Err Socket) × (new ≡ old))
 

@@ -1,4 +1,4 @@
-//! `ecat segment`: the slaves of a link table answer what comes on a wire.
+//! `ecat segment`: the slaves of a link table answer frames on a wire.
 #![tactic(auto)]
 
 mod segment;

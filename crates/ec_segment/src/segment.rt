@@ -19,15 +19,15 @@ use std::io::Write;
 use std::net::Net;
 use std::time::Clock;
 
-/// As many bytes as one of these lines may have.
+/// The most bytes of a printed line.
 const LINE_SIZE: usize = 80;
 
-/// Answers payloads on a wire, so many in all, as slaves whose applications are `app`. At its end, also where a call of the
-/// wire was a fault, it prints how many payloads were frames, which were answered, and how many were not.
+/// Serves `frames` payloads on a wire, with slaves whose application is `app`. At its end, also after a fault of the wire, it prints
+/// how many frames it answered, and how many other payloads came.
 ///
 /// # Errors
 ///
-/// `Refusal::Socket` where a call of the wire was a fault, and `Refusal::Output` where the counts could not be printed.
+/// `Refusal::Socket` if a call of the wire was a fault, and `Refusal::Output` if the counts couldn't be printed.
 #[tactic(auto, using(crate::proofs::SegmentLemmas::all_served, crate::proofs::SegmentLemmas::some_served, crate::proofs::SegmentLemmas::served_unprinted))]
 pub fn print_served_segment<W: Wire, O: Write + Drop>(
     slaves: &mut Ring,
@@ -48,27 +48,27 @@ pub fn print_served_segment<W: Wire, O: Write + Drop>(
     }
 }
 
-/// Where a segment waits for payloads, how many it answers, and how long it waits for one.
+/// Where a segment waits for payloads, how many it serves, and how long it waits for one.
 #[derive(Clone, Copy, Debug, PartialEq, Eq, Drop)]
 pub struct Endpoint {
     pub frames: u32,
     /// The port of 127.0.0.1.
     pub port: u16,
-    /// The descriptor of a card's raw socket, in the place of the port.
+    /// The descriptor of a card's raw socket; it replaces the port.
     pub descriptor: Option<u16>,
-    /// In seconds; 0 is without an end.
+    /// How long it waits, in seconds; 0 is without end.
     pub idle: u32,
 }
 
-/// Answers payloads on a port, or Ethernet frames on a card with bit 1 of the source set, as the slaves of a machine, just switched
-/// on, whose applications are `app`. Once it listens on a port it says so on `faults`; at every end from then on it prints how many
-/// payloads were frames, which were answered, and how many were not. If no payload comes for `idle` seconds it ends as by a fault of
-/// the socket. What the segment receives and sends goes into a capture that is open, if there is one.
+/// Serves payloads on a port or a card, with the slaves of a machine, just switched on. Their application is `app`. Once it listens on
+/// a port, it prints that on `faults`. Ethernet frames that a card sends have bit 1 of the source set. Once the wire is open, it prints
+/// at every end how many frames it answered, and how many other payloads came. If no payload comes for `idle` seconds, it ends as by a
+/// fault of the socket. What the segment receives and sends goes into an open capture, if there is one.
 ///
 /// # Errors
 ///
-/// `Refusal::Memory` if there is no memory for the slaves, `Refusal::Socket` if there is no such socket, and what
-/// [`print_served_segment`] ends by.
+/// `Refusal::Memory` if there is no memory for the slaves, `Refusal::Socket` if there is no such socket, and the errors of
+/// [`print_served_segment`].
 pub fn run_segment<H: AllocGlobal + Net + Files + Clock, W: Write + Drop, F: Write + Drop>(
     rt: &H,
     machine: &Machine,
@@ -85,7 +85,7 @@ pub fn run_segment<H: AllocGlobal + Net + Files + Clock, W: Write + Drop, F: Wri
     serve(rt, &mut slaves, app, endpoint, capture, output, faults)
 }
 
-/// Prints how many payloads were answered, and how many not.
+/// Prints how many payloads were answered, and how many weren't.
 #[tactic(auto, using(ec_console::proofs::PrintLemmas::shown))]
 fn print_served<W: Write + Drop>(
     counts: Served,
@@ -97,7 +97,7 @@ fn print_served<W: Write + Drop>(
     print_text(line.as_bytes(), output)
 }
 
-/// Tells where a segment listens. A fault in telling it changes nothing.
+/// Prints on the fault stream where a segment listens. A refused write changes nothing else.
 fn tell_listening<F: Write + Drop>(port: u16, faults: &mut OutputStream<F>)
     ensures { IsTold (listening_line port) faults.old faults.new }
 {
@@ -105,7 +105,7 @@ fn tell_listening<F: Write + Drop>(port: u16, faults: &mut OutputStream<F>)
     faults.tell_text(line.as_bytes());
 }
 
-/// A segment's socket on a port, of which it is told where it listens.
+/// Opens a segment's socket on a port, and prints on the fault stream where it listens.
 fn listen<H: Net, F: Write + Drop>(
     rt: &H,
     port: u16,
@@ -120,7 +120,7 @@ fn listen<H: Net, F: Write + Drop>(
     Ok(wire)
 }
 
-/// The line that says how many payloads were answered, and how many not.
+/// The line that says how many payloads were answered, and how many weren't.
 fn served(counts: Served) -> ArrayString<LINE_SIZE>
     ensures { result.bytes ≡ served_line counts.answered counts.refused }
 {
@@ -144,7 +144,7 @@ fn listening(port: u16) -> ArrayString<LINE_SIZE>
     line
 }
 
-/// Answers payloads on a port or a card, as [`run_segment`] does.
+/// Serves payloads on a port or a card as [`run_segment`] does.
 fn serve<H: AllocGlobal + Net + Files + Clock, W: Write + Drop, F: Write + Drop>(
     rt: &H,
     slaves: &mut Ring,
@@ -163,7 +163,7 @@ fn serve<H: AllocGlobal + Net + Files + Clock, W: Write + Drop, F: Write + Drop>
     }
 }
 
-/// Answers payloads on a port, as [`run_segment`] does.
+/// Serves payloads on a port as [`run_segment`] does, and notes them in an open capture, if there is one.
 fn serve_port<H: AllocGlobal + Net + Files + Clock, W: Write + Drop, F: Write + Drop>(
     rt: &H,
     slaves: &mut Ring,
@@ -180,7 +180,7 @@ fn serve_port<H: AllocGlobal + Net + Files + Clock, W: Write + Drop, F: Write + 
     serve_tapped(rt, slaves, app, wire, endpoint.frames, capture, output)
 }
 
-/// Answers payloads on a card, as [`run_segment`] does.
+/// Serves payloads on a card as [`run_segment`] does, and notes them in an open capture, if there is one.
 fn serve_card<H: AllocGlobal + Files + Clock, W: Write + Drop>(
     rt: &H,
     slaves: &mut Ring,
@@ -198,7 +198,7 @@ fn serve_card<H: AllocGlobal + Files + Clock, W: Write + Drop>(
     serve_tapped(rt, slaves, app, wire, endpoint.frames, capture, output)
 }
 
-/// Answers payloads on a wire that has carried nothing yet, as [`print_served_segment`] does, and notes them in a capture, if
+/// Serves payloads on a wire that has carried nothing yet, as [`print_served_segment`] does, and notes them in an open capture, if
 /// there is one.
 #[tactic(auto, using(crate::proofs::SegmentLemmas::tapped_serves))]
 fn serve_tapped<H: AllocGlobal + Files + Clock, W: Wire + Drop, O: Write + Drop>(

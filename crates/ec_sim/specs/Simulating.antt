@@ -1,4 +1,4 @@
--- What `ecat sim` answers (this project's profile).
+-- What `ecat sim` prints and returns (this project's profile).
 use Rattle.std.specs.Prelude.{◌≡◌, ◌⊎◌, ℕ, ◌+◌, List, [], ◌∷◌, ◌++◌, take, if◌then◌else◌, true, Result, Ok, Err}
 use Rattle.ec_table.specs.Contents.{Contents}
 use Rattle.ec_world.specs.Whole.{IsOfMachine}
@@ -18,12 +18,12 @@ use Rattle.ec_console.specs.Unmet.{EndsUnmet}
 
 -- ---- lines
 
--- 1 where what is expected isn't so
+-- 1 if what is expected isn't so
 abbrev pub unmet_of : LineOutput → ℕ
 unmet_of said = if is_unmet said then 1 else 0
 
--- a line is done once: it leaves the world as `World::run` of its events does (`RunsLine`), whether reasons are told or not, and
--- its text is that of the world then; why it says `no` stands behind it, where that is told
+-- A line is run once. It leaves the world as `World::run` of its events does (`RunsLine`), with or without reasons, and its text is
+-- that of the world then. Why it says `no` stands behind it, if reasons are wanted.
 pub record SaysLine (reasons : Reasons) (t : Contents) (w : WorldState) (line : Line) (new : WorldState) (printed : List ℕ) (unmet : ℕ) : Type 0 where
   pub said : LineOutput
   pub does : Does line.act w new said
@@ -33,20 +33,20 @@ pub record SaysLine (reasons : Reasons) (t : Contents) (w : WorldState) (line : 
   pub text : printed ≡ output_text t line.number new said ++ why
   pub count : unmet ≡ unmet_of said
 
--- What lines print that are done once each, and how often what they expect isn't so. Each is done in the world that the one
+-- What lines print that are run once each, and how often what they expect isn't so. Each is run in the world that the one
 -- before left.
 abbrev pub Says : Reasons → Contents → WorldState → List Line → WorldState → List ℕ → ℕ → Type 0
 Says reasons t w [] new printed unmet = (new ≡ w) × (printed ≡ []) × (unmet ≡ 0)
 Says reasons t w (line ∷ lines) new printed unmet = (mid : WorldState) × (text : List ℕ) × (more : List ℕ) × (one : ℕ) × (rest : ℕ)
     × SaysLine reasons t w line mid text one × Says reasons t mid lines new more rest × (printed ≡ text ++ more) × (unmet ≡ one + rest)
 
--- these lines are printed
+-- the texts of these lines are printed
 pub record PrintsAll (reasons : Reasons) (t : Contents) (w : WorldState) (lines : List Line) (last : WorldState) (unmet : ℕ) (old new : OutputState) : Type 0 where
   pub printed : List ℕ
   pub says : Says reasons t w lines last printed unmet
   pub appends : IsPrinted old new printed
 
--- a first part is printed of what some first of these lines say
+-- a first part is printed of the texts of some first of these lines
 pub record PrintsPart (reasons : Reasons) (t : Contents) (w : WorldState) (lines : List Line) (old new : OutputState) : Type 0 where
   pub count : ℕ
   pub last : WorldState
@@ -55,7 +55,7 @@ pub record PrintsPart (reasons : Reasons) (t : Contents) (w : WorldState) (lines
   pub says : Says reasons t w (take count lines) last printed unmet
   pub appends : IsPartPrinted old new printed
 
--- the lines of a script are printed, each as often as it is done
+-- the lines of a script are printed, each as many times as it is run
 abbrev pub PrintsLines : Reasons → Contents → WorldState → List Line → ℕ → (old new : OutputState) → Type 0
 PrintsLines reasons t w lines unmet old new = (last : WorldState) × PrintsAll reasons t w (repeated lines) last unmet old new
 

@@ -1,4 +1,4 @@
--- What private code answers of a line; none of it is needed to read what is printed.
+-- What private code returns for a line. You don't need it to read what is printed.
 use Rattle.std.specs.Prelude.{◌≡◌, ℕ, List, ◌++◌}
 use Rattle.ec_table.specs.Contents.{Contents}
 use Rattle.ec_why.specs.declared.wanted.Reasons.{Reasons}

@@ -1,7 +1,7 @@
 //! Laws of what scripts print. Each function does nothing: its contract is the law.
 ghost use Rattle.ec_sim.specs.Laws.{ReasonsOnlyAdd};
 
-/// Where reasons are told, lines do the same and print the same, with the reasons between.
+/// With reasons, lines do and print what they do and print without them, and the reasons stand between.
 #[tactic(auto, using(crate::proofs::Reasoned::reasons_only_add))]
 pub fn reasons_only_add()
     ensures { ReasonsOnlyAdd }

@@ -1,4 +1,4 @@
-//! `ecat sim`: what a script does to a simulated segment of a link table.
+//! `ecat sim`: runs a script over a simulated segment of a link table.
 #![tactic(auto)]
 
 pub mod laws;

@@ -1,4 +1,4 @@
-//! `ecat sim`: what the lines of a script do to a simulated segment of a machine.
+//! `ecat sim`: runs the lines of a script over a simulated segment of a machine.
 ghost use Rattle.std.specs.Prelude.{◌≡◌, ◌∷◌, [], ℕ, IfErr, IfOk, OnErr, is_some, string_bytes, if◌then◌else◌, replicate};
 ghost use Rattle.ec_sim.specs.Simulating.{IsLate, PrintsAll, PrintsLines, PrintsPart, PrintsSome, RunsLines};
 ghost use Rattle.ec_console.specs.Unmet.{counted};
@@ -16,12 +16,12 @@ use ec_world::{Unwatched, Watcher, World};
 use std::alloc::{AllocError, Global};
 use std::io::Write;
 
-/// Does a line as often as it is to be done, prints each time what there is to say before it is done again, and answers how
-/// often what it expects isn't so.
+/// Runs a line as many times as it says, and prints its text each time before it is run again. Returns how often what it expects
+/// isn't so.
 ///
 /// # Errors
 ///
-/// `Refusal::Memory` or `Refusal::Output`, which cut the line short, after what was printed until then.
+/// `Refusal::Memory` or `Refusal::Output`. They cut the line short; what was printed until then stays.
 pub fn print_line<S: Watcher, W: Write + Drop>(
     alloc: Global,
     table: &Table,
@@ -49,13 +49,13 @@ pub fn print_line<S: Watcher, W: Write + Drop>(
     Ok(unmet)
 }
 
-/// Runs the lines of a script over a world of a table, each as often as it is to be done, prints of each what there is to say
-/// before the next one runs, and answers how often what they expect isn't so. A capture notes exactly the frames of the run,
-/// event by event in order, each where it was.
+/// Runs the lines of a script over a world of a table, each as many times as it says. It prints the text of each before the next one
+/// runs, and returns how often what they expect isn't so. A capture notes exactly the frames of the run, event by event in order,
+/// each where it was.
 ///
 /// # Errors
 ///
-/// `Refusal::Memory` or `Refusal::Output`, which cut the run short: what was noted is that of the run until then.
+/// `Refusal::Memory` or `Refusal::Output`. They cut the run short; the capture notes the run until then.
 #[tactic(auto, using(crate::proofs::Noting::run_noted))]
 pub fn print_noted<F: Write + Drop, W: Write + Drop>(
     alloc: Global,
@@ -77,14 +77,14 @@ pub fn print_noted<F: Write + Drop, W: Write + Drop>(
     print_lines(alloc, table, reasons, world, watch, lines, output)
 }
 
-/// Runs the lines of a script over a new segment of a machine, each as often as it is to be done. Its slaves begin at power-on, with
-/// the identities that the table says. What a line says is printed before the next line runs, and why it says `no`, where reasons
-/// are told. The frames that pass go into a capture that is open, if there is one.
+/// Runs the lines of a script over a new segment of a machine, each as many times as it says. Its slaves begin at power-on, with the
+/// identities of the table. The text of a line is printed before the next line runs, and with `reasons` also why it says `no`. The
+/// frames go into an open capture, if there is one.
 ///
 /// # Errors
 ///
-/// `Refusal::Memory` or `Refusal::Output` where memory or a write was refused, after what was printed until then; and
-/// `Refusal::Unmet` where what lines expect isn't so.
+/// `Refusal::Memory` or `Refusal::Output` if memory or a write was refused; what was printed until then stays. `Refusal::Unmet` if
+/// what lines expect isn't so.
 pub fn run_script<F: Write + Drop, W: Write + Drop>(
     alloc: Global,
     machine: &Machine,
@@ -102,7 +102,7 @@ pub fn run_script<F: Write + Drop, W: Write + Drop>(
     end_of(unmet)
 }
 
-/// Does a line once, prints what there is to say, and answers whether what it expects isn't so.
+/// Runs a line once and prints its text. Returns whether what it expects isn't so.
 #[tactic(auto, using(crate::proofs::SimLemmas::refused_late))]
 fn print_once<S: Watcher, W: Write + Drop>(
     alloc: Global,
@@ -128,8 +128,8 @@ fn print_once<S: Watcher, W: Write + Drop>(
     Ok(said.is_unmet())
 }
 
-/// What is printed of a line: what there is to say of it in the world that it left, and behind that why it says `no`, where
-/// reasons are told.
+/// The text of a line, by the world that it left. If it says `no` and reasons are wanted, a line that says why stands
+/// behind it.
 #[tactic(auto, using(crate::proofs::SimLemmas::line_alone, crate::proofs::SimLemmas::line_reasoned))]
 fn line_text(
     alloc: Global,
@@ -152,8 +152,8 @@ fn line_text(
     Ok(text)
 }
 
-/// Runs the lines of a script over a world of a table, each as often as it is to be done, prints of each what there is to say
-/// before the next one runs, and answers how often what they expect isn't so.
+/// Runs the lines of a script over a world of a table, each as many times as it says. It prints the text of each before the next one
+/// runs, and returns how often what they expect isn't so.
 fn print_lines<S: Watcher, W: Write + Drop>(
     alloc: Global,
     table: &Table,
@@ -179,7 +179,7 @@ fn print_lines<S: Watcher, W: Write + Drop>(
     Ok(unmet)
 }
 
-/// Runs the lines of a script as `print_lines` does; the frames of the world go into a capture that is open, if there is one.
+/// Runs the lines of a script as [`print_lines`] does. The frames of the world go into an open capture, if there is one.
 fn print_watched<F: Write + Drop, W: Write + Drop>(
     alloc: Global,
     table: &Table,

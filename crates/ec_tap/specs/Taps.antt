@@ -12,7 +12,7 @@ pub record Carried : Type 0 where
   pub time : ℕ
   pub payload : List ℕ
 
--- those that were sent, and those that were received, in order
+-- the payloads that were sent, and those that were received, in order
 abbrev pub sent_of : List Carried → List (List ℕ)
 sent_of [] = []
 sent_of (c ∷ cs) = if c.is_sent then c.payload ∷ sent_of cs else sent_of cs
@@ -21,27 +21,27 @@ abbrev pub received_of : List Carried → List (List ℕ)
 received_of [] = []
 received_of (c ∷ cs) = if c.is_sent then received_of cs else c.payload ∷ received_of cs
 
--- whether a payload has passed slaves, by the end at which it was seen: what comes from a segment has
+-- whether a payload has passed slaves, by the end at which it was seen: a payload that comes from a segment has
 abbrev pub has_passed : Side → Bool → Bool
 has_passed Master is_sent = not is_sent
 has_passed Segment is_sent = is_sent
 
--- what is noted of a payload, at the one interface
+-- what a capture notes of a payload, at interface 0
 abbrev pub seen_of : Side → Carried → Seen
 seen_of side c = record { interface = 0; time = c.time; passed = has_passed side c.is_sent; payload = c.payload; comment = None }
 
--- Where a wire tells payloads, it tells these. Of one that counts from any number on, or tells nothing, nothing is said.
+-- If a wire's state has its payloads, they are these. If it has their number or nothing, this says nothing.
 abbrev pub Tells : Told → List (List ℕ) → Type 0
 Tells Nothing payloads = Unit {0}
 Tells (Number count) payloads = Unit {0}
 Tells (Payloads told) payloads = told ≡ payloads
 
--- All that a wire carried is noted, in order: one packet for each payload, up to the first write that was refused.
+-- All that a wire carried is noted, in order: one packet for each payload, up to the first refused write.
 pub record IsTapped (side : Side) (wire : WireState) (capture : Recording) : Type 0 where
   pub carried : List Carried
   pub sent : Tells wire.sent (sent_of carried)
   pub received : Tells wire.received (received_of carried)
-  -- the capture before the first
+  -- the capture before the first payload
   pub begun : Recording
   pub notes : Notes (map (seen_of side) carried) begun capture
 

@@ -1,4 +1,4 @@
-//! A wire that notes what passes over it.
+//! A wire that notes its payloads in a capture.
 ghost use Rattle.std.specs.Prelude.{◌≡◌, ℕ, [], ◌∷◌};
 ghost use Rattle.ec_capture.specs.Recordings.{Notes};
 ghost use Rattle.ec_tap.specs.Taps.{has_passed, seen_of};
@@ -9,17 +9,17 @@ use std::io::Write;
 use std::marker::Model;
 use std::time::{Clock, SystemTime, UNIX_EPOCH};
 
-/// At which end of a segment a wire is.
+/// The end of a segment at which a wire is.
 #[derive(Clone, Copy, Debug, PartialEq, Eq)]
 pub enum Side {
-    /// At the master's: what it receives has passed the slaves.
+    /// The master's end: payloads that it receives have passed the slaves.
     Master,
-    /// At the slaves': what they send has passed them.
+    /// The slaves' end: payloads that it sends have passed the slaves.
     Segment,
 }
 
-/// A wire whose payloads are noted in a capture, at its first interface, with the time of a clock. It carries them as the wire
-/// in it does; a capture that is cut short changes nothing of that.
+/// A wire that notes its payloads in a capture, at interface 0, with the time of a clock in microseconds since 1970. It carries
+/// payloads as the inner wire does, also if the capture is cut short.
 #[derive(Drop)]
 pub struct CapturedWire<'c, W: Wire + Drop, O: Write + Drop, C: Clock> {
     wire: W,
@@ -41,7 +41,7 @@ impl<'c, W: Wire + Drop, O: Write + Drop, C: Clock> Model for CapturedWire<'c, W
 impl<'c, W: Wire + Drop, O: Write + Drop, C: Clock> CapturedWire<'c, W, O, C> {
     ghost use Rattle.ec_tap.specs.Taps.{IsTapped, Tells};
 
-    /// The wire, which has carried nothing yet, with a capture.
+    /// Joins a wire that has carried nothing yet with a capture.
     pub fn new(wire: W, capture: Recorder<O>, side: Side, clock: &'c C) -> CapturedWire<'c, W, O, C>
         requires sent { Tells (W.state wire).sent [] }
         requires received { Tells (W.state wire).received [] }
@@ -55,7 +55,7 @@ impl<'c, W: Wire + Drop, O: Write + Drop, C: Clock> CapturedWire<'c, W, O, C> {
         }
     }
 
-    /// The wire, and the capture, in which all that the wire carried is noted, in order.
+    /// Returns the wire and the capture, which notes all that the wire carried, in order, up to the first refused write.
     pub fn into_parts(self) -> (W, Recorder<O>)
         ensures wire { W.state result.0 ≡ self.entry.wire }
         ensures capture { result.1 ≡ self.entry.capture }
@@ -99,7 +99,7 @@ impl<'c, W: Wire + Drop, O: Write + Drop, C: Clock> Wire for CapturedWire<'c, W,
     }
 }
 
-/// Notes a payload, with the time.
+/// Notes a payload, with the time of the clock.
 fn note<O: Write + Drop, C: Clock>(
     capture: &mut Recorder<O>,
     side: Side,
@@ -119,7 +119,7 @@ fn note<O: Write + Drop, C: Clock>(
     });
 }
 
-/// Whether a payload has passed slaves.
+/// Whether a payload has passed the slaves.
 fn has_passed(side: Side, is_sent: bool) -> bool
     ensures { result ≡ has_passed side is_sent }
 {
@@ -129,7 +129,7 @@ fn has_passed(side: Side, is_sent: bool) -> bool
     }
 }
 
-/// The time since 1970 in microseconds, or 0 where the clock tells none.
+/// The time since 1970 in microseconds, or 0 if the clock has none or is before 1970.
 fn micros_now<C: Clock>(clock: &C) -> u64 {
     let Ok(now) = SystemTime::now(clock) else {
         return 0;

@@ -1,4 +1,4 @@
--- The variables of a table as a header of C (this project's profile). Numbers are decimal.
+-- The variables of a table as a C header (this project's profile). Numbers are decimal.
 use Rattle.std.specs.Prelude.{ℕ, List, length, ◌++◌, codes}
 use Rattle.std.specs.Fmt.{decimal}
 use Rattle.ec_table.specs.declared.rows.Direction.{Direction}
@@ -11,7 +11,7 @@ abbrev pub flag : Direction → ℕ
 flag Out = 1
 flag In = 0
 
--- what a name stands for, behind what it is told of
+-- the definition of a name, behind the word for what it says
 unfoldable pub define_line : List ℕ → List ℕ → ℕ → List ℕ
 define_line what name value = codes "#define ECAT_" ++ (what ++ (codes "_" ++ (name ++ (codes " " ++ (decimal value ++ newline)))))
 

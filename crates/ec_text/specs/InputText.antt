@@ -1,4 +1,4 @@
--- The input variables of a table as text (this project's profile): of each, in file order, its name and its value in decimal.
+-- The input variables of a table as text (this project's profile): for each, in file order, its name and its value in decimal.
 use Rattle.std.specs.Prelude.{◌≡◌, ◌<◌, ◌^◌, ℕ, List, [], ◌++◌, slice_get, codes}
 use Rattle.std.specs.Fmt.{decimal}
 use Rattle.ec_table.specs.declared.rows.Direction.{Direction}
@@ -20,10 +20,10 @@ input_line value n row = input_by row.direction (value n) row.name
 abbrev pub inputs_text : (ℕ → ℕ) → Contents → List ℕ
 inputs_text value t = lines_from (input_line value) 0 t.variables
 
--- what is answered at each place, which has 64 bits, is the value there
+-- what a function returns for each place, which has 64 bits, is the value there
 abbrev pub Answers : (ℕ → ℕ → Type 0) → (ℕ → ℕ) → Type 0
 Answers answered value = (n x : ℕ) → n < 2 ^ 64 → answered n x → x ≡ value n
 
--- the n-th variable as a master has it
+-- the value of the n-th variable of a master
 abbrev pub shown : MasterState → ℕ → ℕ
 shown m n = value_at m (slice_get m.plan.variables n)

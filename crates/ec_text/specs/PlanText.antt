@@ -18,7 +18,7 @@ use Rattle.ec_link.specs.Plan.{PlanState, predicted_of}
 abbrev pub newline : List ℕ
 newline = 10 ∷ []
 
--- the texts of elements one after another, each with its number, the first of which is n
+-- the texts of elements, one after another, each with its number; the first number is n
 abbrev pub lines_from : {X : Type 0} → (ℕ → X → List ℕ) → ℕ → List X → List ℕ
 lines_from text n [] = []
 lines_from text n (x ∷ xs) = text n x ++ lines_from text (n + 1) xs
@@ -43,13 +43,13 @@ slave_line n s =
 abbrev pub slave_lines : ℕ → SlavePlan → List ℕ
 slave_lines n s = slave_line n s ++ lines_from manager_line 0 s.managers ++ lines_from fmmu_line 0 s.fmmus
 
--- the working counters that a part predicts: of its LRW, or of its LWR and its LRD; a part with no byte has no such
+-- the working counters that a part predicts: of its LRW, or of its LWR and its LRD. A part with no byte has no such
 -- datagram, and stands as 0
 abbrev pub counter_text : PartPlan → ExpectedCounters → List ℕ
 counter_text part (Lrw n) = decimal n
 counter_text part (Split write read) = if part.bytes == 0 then codes "0" else decimal write ++ codes "/" ++ decimal read
 
--- the sync unit, where the table's version has units
+-- the sync unit, if the table's version has units
 abbrev pub unit_text : Version → ℕ → List ℕ
 unit_text One unit = []
 unit_text Two unit = codes " unit " ++ decimal unit

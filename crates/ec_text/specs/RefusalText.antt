@@ -1,4 +1,4 @@
--- What is told of a refusal: its number, its name and its values, as text (this project's profile).
+-- A refusal as text: its number, its name and its values (this project's profile).
 use Rattle.std.specs.Prelude.{ℕ, List, [], ◌∷◌, ◌++◌, Option, None, Some, codes}
 use Rattle.std.specs.Fmt.{decimal}
 use Rattle.std.specs.List.{flat_map}
@@ -37,13 +37,13 @@ told_text told = decimal told.number ++ 32 ∷ told.name ++ values_text told.val
 abbrev pub told_line : Told → List ℕ
 told_line told = codes "ecat: " ++ told_text told ++ 10 ∷ []
 
--- ---- of each error
+-- ---- the number, name and values of each error
 
 -- nothing but its number and its name
 abbrev pub plain_told : ℕ → List ℕ → Told
 plain_told number name = record { number = number; name = name; values = [] }
 
--- where it is, or how many there are, if that is told
+-- where it is, or how many there are, if the error says so
 abbrev pub one_value : Option ℕ → List ℕ
 one_value None = []
 one_value (Some value) = value ∷ []

@@ -1,4 +1,4 @@
--- What is printed of start-ups and of closed cycles (this project's profile). Numbers are decimal where they aren't said to be hex.
+-- The text of start-ups and of closed cycles (this project's profile). Numbers are decimal unless they are said to be hex.
 use Rattle.std.specs.Prelude.{ℕ, ◌/◌, ◌%◌, List, [], ◌∷◌, ◌++◌, get_or, Bool, false, if◌then◌else◌, Option, Some, None, Result, Ok, Err, codes}
 use Rattle.std.specs.Fmt.{decimal}
 use Rattle.std.specs.List.{list_all}
@@ -34,7 +34,7 @@ abbrev pub units_text : Version → ReportState → List ℕ
 units_text version.One r = taken_text (list_all (λ (t : Bool). t) r.taken)
 units_text version.Two r = lines_from (unit_at r.taken) 0 r.units
 
--- the working counters of a part that was kept
+-- the working counters of a part that was kept, or `-`
 abbrev pub kept_text : PartPlan → Option ExpectedCounters → List ℕ
 kept_text part None = codes "-"
 kept_text part (Some counters) = counter_text part counters
@@ -52,7 +52,7 @@ report_text v parts r =
     codes "report" ++ units_text v r ++ (codes " missing " ++ decimal r.missing ++ codes " counters") ++ lines_from (counter_at r.counters) 0 parts
     ++ codes " al " ++ word_text r.al_word ++ newline
 
--- of the last cycle that was closed, if one was
+-- the report on the last cycle that was closed, if one was
 abbrev pub report_if : Version → List PartPlan → Option ReportState → List ℕ
 report_if v parts None = []
 report_if v parts (Some r) = report_text v parts r

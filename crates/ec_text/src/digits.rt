@@ -9,14 +9,14 @@ use ec_link::{ExpectedCounters, PartPlan};
 use itoa::Buffer;
 use std::alloc::AllocError;
 
-/// As many bytes as working counters of a part may have: two numbers and what stands between them.
+/// The most bytes that the working counters of a part may have: two numbers and what stands between them.
 const COUNTER_SIZE: usize = 41;
 
-/// Adds working counters of a part, as `ecat plan` and reports show them.
+/// Adds working counters of a part, as `ecat plan` and reports print them.
 ///
 /// # Errors
 ///
-/// `AllocError` where memory ran out; the text is then as it was.
+/// `AllocError` if memory ran out; the text is then as it was.
 pub fn write_counter(
     text: &mut String,
     part: &PartPlan,
@@ -29,7 +29,7 @@ pub fn write_counter(
     text.push_str(counter_of(part, predicted).as_str())
 }
 
-/// Adds a number.
+/// Adds a number in decimal.
 pub fn push_number<const N: usize>(line: &mut ArrayString<N>, number: u64)
     requires { array_string_len line.old + 20 ≤ N }
     ensures bytes { line.new.bytes ≡ line.old.bytes ++ decimal number }
@@ -39,7 +39,7 @@ pub fn push_number<const N: usize>(line: &mut ArrayString<N>, number: u64)
     line.push_str(buffer.format(number));
 }
 
-/// Adds a number with a blank before it.
+/// Adds a number in decimal, with a blank before it.
 pub fn push_value<const N: usize>(line: &mut ArrayString<N>, value: u64)
     requires { array_string_len line.old + 21 ≤ N }
     ensures bytes { line.new.bytes ≡ line.old.bytes ++ 32 ∷ decimal value }
@@ -49,7 +49,7 @@ pub fn push_value<const N: usize>(line: &mut ArrayString<N>, value: u64)
     push_number(line, value);
 }
 
-/// Working counters of a part: the one of its LRW, or `W/R` of its LWR and its LRD, and `0` where it has no byte.
+/// Working counters of a part: that of its LRW, `W/R` of its LWR and its LRD, or `0` if a split part has no byte.
 fn counter_of(part: &PartPlan, predicted: ExpectedCounters) -> ArrayString<COUNTER_SIZE>
     ensures { result.bytes ≡ counter_text part.now predicted }
 {

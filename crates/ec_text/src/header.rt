@@ -1,4 +1,4 @@
-//! The variables of a table as a header of C.
+//! The variables of a table as a C header.
 ghost use Rattle.std.specs.Prelude.{◌≡◌, ◌++◌, IfOk, OnOk, string_bytes};
 ghost use Rattle.ec_text.specs.HeaderText.{define_line, flag, header_text, variable_lines};
 ghost use Rattle.ec_text.specs.PlanText.{lines_from};
@@ -7,9 +7,9 @@ use ec_table::{Direction, Table, VariableRow};
 use std::alloc::{AllocError, Global};
 use std::fmt::Write as _;
 
-/// The variables of a table as a header of C, for programs that use the library: of each variable, in file order, its number,
-/// how many bits it has, and 1 for an output or 0 for an input, under its name behind `ECAT_NUMBER_`, `ECAT_BITS_` and
-/// `ECAT_OUTPUT_`; and `ECAT_VARIABLES`, how many there are. The error is want of memory.
+/// The variables of a table as a C header, for programs that use the library. For each variable, in file order, it has the number,
+/// the bits, and 1 for an output or 0 for an input. Their names are the variable's behind `ECAT_NUMBER_`, `ECAT_BITS_` and
+/// `ECAT_OUTPUT_`. `ECAT_VARIABLES` is how many variables there are. `AllocError` if memory ran out.
 #[tactic(auto, using(crate::proofs::Lines::header_added))]
 pub fn header_text(alloc: Global, table: &Table) -> Result<String, AllocError>
     ensures { IfOk result (λ text. string_bytes text ≡ header_text table.now.variables) }
@@ -47,7 +47,7 @@ fn write_variable(text: &mut String, number: usize, row: &VariableRow) -> Result
     write_define(text, "OUTPUT", name, flag(row.direction))
 }
 
-/// Adds the line that says what a name stands for.
+/// Adds the line that defines a name.
 #[tactic(auto, unfolding(crate::specs::HeaderText::define_line))]
 fn write_define(text: &mut String, what: &str, name: &str, value: usize) -> Result<(), AllocError>
     ensures { OnOk result
@@ -56,7 +56,7 @@ fn write_define(text: &mut String, what: &str, name: &str, value: usize) -> Resu
     writeln!(text, "#define ECAT_{what}_{name} {value}")
 }
 
-/// 1 for an output of the image, 0 for an input.
+/// Returns 1 for an output of the image, 0 for an input.
 fn flag(direction: Direction) -> usize
     ensures { result ≡ flag direction }
 {

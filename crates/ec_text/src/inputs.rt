@@ -12,7 +12,7 @@ use std::fmt::Write as _;
 ///
 /// # Errors
 ///
-/// `AllocError` where memory ran out.
+/// `AllocError` if memory ran out.
 pub fn write_inputs<F: Fn(usize) -> u64>(
     text: &mut String,
     rows: &[VariableRow],
@@ -28,7 +28,7 @@ pub fn write_inputs<F: Fn(usize) -> u64>(
     Ok(())
 }
 
-/// What a variable of a master is now; 0 where it has no such variable.
+/// The value of a variable of a master; 0 if it has no such variable.
 pub fn value_of(master: &Master<'_>, place: usize) -> u64
     ensures { result ≡ shown master.now place }
 {
@@ -43,7 +43,7 @@ pub fn value_of(master: &Master<'_>, place: usize) -> u64
 ///
 /// # Errors
 ///
-/// `AllocError` where memory ran out.
+/// `AllocError` if memory ran out.
 pub fn input_lines(alloc: Global, table: &Table, master: &Master<'_>) -> Result<String, AllocError>
     ensures { IfOk result (λ text. string_bytes text ≡ inputs_text (shown master.now) table.now) }
 {
@@ -52,7 +52,7 @@ pub fn input_lines(alloc: Global, table: &Table, master: &Master<'_>) -> Result<
     Ok(text)
 }
 
-/// Adds the line of a variable that has a value, if it is an input: its name and the value.
+/// Adds the line of a variable and its value, if it is an input.
 fn write_input(text: &mut String, row: &VariableRow, value: u64) -> Result<(), AllocError>
     ensures { OnOk result (string_bytes text.new
         ≡ string_bytes text.old ++ input_by row.now.direction value row.now.name) }

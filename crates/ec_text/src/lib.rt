@@ -1,5 +1,5 @@
-//! The texts that are printed: plans, in a fixed form for programs and as a header of C; reports on cycles, how start-ups ended,
-//! input variables; and refusals.
+//! Printed texts: plans, in a fixed form for programs and as a C header, reports on cycles, how start-ups ended,
+//! input variables, and refusals.
 #![tactic(auto)]
 
 mod digits;

@@ -9,11 +9,11 @@ use ec_table::Version;
 use std::alloc::{AllocError, Global};
 use std::fmt::Write as _;
 
-/// The plan of a table of this version as a text: for each slave a line with its part and how many
-/// output and input bits it has, then its sync managers that are set and its FMMUs that are active,
-/// by number, with their register bytes in hex; then for each part its first logical byte, its
-/// bytes, and the working counters of its frame. Numbers are decimal. In version 2 a part's line
-/// ends in its sync unit. The error is want of memory.
+/// The plan of a table of this version as a text. Each slave has a line with its part, and how many
+/// output and input bits it has. Its sync managers that are set and its FMMUs that are active follow, by
+/// number, with their register bytes in hex. Behind all slaves, each part has a line with its first
+/// logical byte, its bytes, and the working counters of its frame. Numbers are decimal. In version 2 a
+/// part's line ends in its sync unit. `AllocError` if memory ran out.
 pub fn plan_text(alloc: Global, version: Version, plan: &Plan) -> Result<String, AllocError>
     ensures { IfOk result (λ text. string_bytes text ≡ plan_text version plan.now) }
 {
@@ -174,7 +174,7 @@ fn write_part(
     text.push_str("\n")
 }
 
-/// Adds the sync unit of a part, where the table's version has units.
+/// Adds the sync unit of a part, if the table's version has units.
 fn write_unit(text: &mut String, version: Version, unit: u8) -> Result<(), AllocError>
     ensures { OnOk result
         (string_bytes text.new ≡ string_bytes text.old ++ unit_text version unit) }

@@ -15,15 +15,15 @@ use ec_table::TableError;
 /// The values of a refusal, at most four.
 pub type Values = ArrayVec<u64, 4>;
 
-/// As many bytes as the text of a refusal may have: a number and four values of 20 digits each, a blank before each value and
-/// before the name, and a name of 16 letters.
+/// The most bytes that the text of a refusal may have. It has a number and four values of 20 digits each, a blank before each value
+/// and the name, and a name of 16 letters.
 const TEXT_SIZE: usize = 121;
 
-/// As many bytes as the line of a refusal may have.
+/// Room for the line of a refusal: `ecat: `, its text and its end have at most 128 bytes.
 const LINE_SIZE: usize = 160;
 
-/// An error by which the program is refused. It has a row in the table of refusals: a number, a name, and the values that are
-/// told behind them.
+/// An error by which the program is refused. It has a row in the table of refusals: a number, a name, and the values that stand
+/// behind them.
 pub trait Refused {
     ghost use Rattle.ec_text.specs.RefusalText.{Told};
 
@@ -39,12 +39,12 @@ pub trait Refused {
         ensures value { result.now ≡ (told self.now).name }
         ensures short { length result.now ≤ 16 };
 
-    /// The values that stand behind the name, in the order in which they are printed.
+    /// The values behind the name, at most four, in the order in which they are printed.
     fn values(&self) -> Values
         ensures { result.items ≡ (told self.now).values };
 }
 
-/// Values as they are handed out, at most four.
+/// These values, at most four, as a list.
 pub fn listed(values: &[u64]) -> Values
     requires { length values.now ≤ 4 }
     ensures { result.items ≡ values.now }
@@ -177,7 +177,7 @@ impl Refused for CycleError {
     }
 }
 
-/// The text of a refusal: its number, its name and its values in decimal, with blanks between. It takes no memory.
+/// The text of a refusal: its number, its name and its values in decimal, with blanks between. It allocates nothing.
 pub fn refusal_text<E: Refused>(error: &E) -> ArrayString<TEXT_SIZE>
     ensures { result.bytes ≡ told_text (E.told error.now) }
 {
@@ -189,7 +189,7 @@ pub fn refusal_text<E: Refused>(error: &E) -> ArrayString<TEXT_SIZE>
     text
 }
 
-/// The line that says a refusal: `ecat: NUMBER NAME VALUES` and its end. It takes no memory.
+/// The line of a refusal: `ecat: NUMBER NAME VALUES` and its end. It allocates nothing.
 pub fn refusal_line<E: Refused>(error: &E) -> ArrayString<LINE_SIZE>
     ensures { result.bytes ≡ told_line (E.told error.now) }
 {

@@ -15,7 +15,7 @@ use std::fmt::Write as _;
 ///
 /// # Errors
 ///
-/// `AllocError` where memory ran out.
+/// `AllocError` if memory ran out.
 #[tactic(auto, using(crate::proofs::Lines::added), unfolding(crate::specs::ReportText::report_text))]
 pub fn write_report(
     alloc: Global,
@@ -41,7 +41,7 @@ pub fn write_report(
 ///
 /// # Errors
 ///
-/// `AllocError` where memory ran out.
+/// `AllocError` if memory ran out.
 pub fn write_outcome(
     text: &mut String,
     outcome: Option<Result<(), StartError>>,
@@ -96,7 +96,7 @@ fn write_part(
     write_kept(text, part, counters.get(place).copied().unwrap_or(None))
 }
 
-/// Adds the working counters of a part, if it was kept.
+/// Adds the working counters of a part, or `-` if it wasn't kept.
 fn write_kept(
     text: &mut String,
     part: &PartPlan,
@@ -111,7 +111,7 @@ fn write_kept(
     }
 }
 
-/// Adds whether inputs were taken, unit by unit where the table's version has units.
+/// Adds whether inputs were taken, unit by unit if the table's version has units.
 fn write_units(text: &mut String, version: Version, report: &Report) -> Result<(), AllocError>
     ensures { OnOk result
         (string_bytes text.new ≡ string_bytes text.old ++ units_text version report.now) }

@@ -1,7 +1,7 @@
 -- The form of a line that says why something can't be made (a choice of this project); its words are tested.
 use Rattle.std.specs.Prelude.{◌≡◌, ◌≢◌, ℕ, All, List, [], ◌∷◌, ◌++◌, codes}
 
--- two blanks, words, and the line's end, of which there is no other
+-- two blanks, words, and the line's end, which is the only one
 pub record IsReason (text : List ℕ) : Type 0 where
   pub words : List ℕ
   pub some : words ≢ []

@@ -7,7 +7,7 @@ use Rattle.ec_told.specs.declared.spot.Spot.{Spot}
 use Rattle.ec_told.specs.declared.remark.Remark.{Remark}
 use Rattle.ec_told.specs.Spots.{LiesIn}
 
--- a text and what is said of it
+-- a text and the remarks on it
 pub record Said : Type 0 where
   pub text : List ℕ
   pub remarks : List Remark
@@ -20,7 +20,7 @@ IsIn text (Some spot) = LiesIn text spot
 abbrev pub StandsIn : List ℕ → Remark → Type 0
 StandsIn text remark = IsIn text remark.spot
 
--- One remark more, behind those that there were, with its place and its words. How many characters are marked there is
+-- One remark more, behind all others, with its place and its words. How many characters it marks is
 -- left open: tests compare the marks.
 abbrev pub SaysMore : Said → Said → Option Spot → String Global → Type 0
 SaysMore old new spot words =

@@ -1,5 +1,5 @@
-//! What people are told of a text: where its bytes stand, remarks with the line that each is about and a
-//! mark under it, and a reason on one line.
+//! Words for people on a text: where its bytes stand; remarks, with their lines and a mark under each; and a
+//! reason on one line.
 #![tactic(auto)]
 
 mod reason;

@@ -4,15 +4,15 @@ ghost use Rattle.ec_told.specs.Reason.{IsReason};
 
 use std::alloc::{AllocError, Global};
 
-/// What is said where nothing better is known.
+/// The words if no better ones are known.
 const PLAIN: &str = "an event of the line can't be made";
 
-/// Words as a line that says why, with two blanks before them. They are to be on one line: where they aren't, or there are none,
-/// other words stand there.
+/// The line of a reason: two blanks, and these words. If the words are empty or on more than one line, other words stand
+/// there.
 ///
 /// # Errors
 ///
-/// `AllocError` where there is no memory for the text.
+/// `AllocError` if there is no memory for the text.
 pub fn reason_line(alloc: Global, words: &str) -> Result<String, AllocError>
     ensures form { IfOk result (λ text. IsReason (string_bytes text)) }
     ensures words { IfOk result (λ text. words.now ≢ [] → All (λ b. b ≢ 10) words.now
@@ -24,7 +24,7 @@ pub fn reason_line(alloc: Global, words: &str) -> Result<String, AllocError>
     Ok(text)
 }
 
-/// Words, of which there are some, and which are on one line: these, if they are so.
+/// These words, if there are some and they are on one line; else [`PLAIN`].
 fn on_one_line(words: &str) -> &str
     ensures some { result.now ≢ [] }
     ensures one_line { All (λ b. b ≢ 10) result.now }

@@ -1,4 +1,4 @@
-//! Remarks on a text, and how they are told.
+//! Remarks on a text, and how they are printed.
 ghost use Rattle.std.specs.Prelude.{◌≡◌, ◌++◌, [], All, None, OnErr, OnOk, Some, string_bytes};
 ghost use Rattle.ec_told.specs.Remarks.{SaysMore, StandsIn, heading};
 ghost use Rattle.ec_told.specs.Spots.{spot_at};
@@ -12,14 +12,14 @@ use std::marker::Model;
 /// How many characters of a line are shown.
 const SHOWN: usize = 100;
 
-/// Something that there is to say of a text.
+/// A remark on a text.
 #[derive(Debug, Drop)]
 pub struct Remark {
-    /// Where it stands; of some there is no place to say.
+    /// Where the bytes stand that it is about; `None` if it has no place.
     pub spot: Option<Spot>,
-    /// How many characters are marked there.
+    /// How many characters are marked there; 0 without a place.
     pub width: usize,
-    /// What there is to say.
+    /// Its words.
     pub words: String,
 }
 
@@ -42,7 +42,7 @@ impl<'a> Model for Remarks<'a> {
 }
 
 impl<'a> Remarks<'a> {
-    /// None yet.
+    /// No remarks yet.
     pub fn new(alloc: Global, text: &'a str) -> Remarks<'a>
         ensures text { result.text ≡ text.now }
         ensures none { result.remarks ≡ [] }
@@ -53,8 +53,8 @@ impl<'a> Remarks<'a> {
         }
     }
 
-    /// Says something of some bytes of the text, behind all that was said. The error is want of memory, and
-    /// then nothing is added.
+    /// Adds a remark on some bytes of the text, behind all others. `AllocError` if memory ran out; then nothing
+    /// is added.
     pub fn at(&mut self, span: Span, words: String) -> Result<(), AllocError>
         ensures said { OnOk result (SaysMore self.old self.new (Some (spot_at self.old.text span.start)) words) }
         ensures kept { OnErr result (self.new ≡ self.old) }
@@ -67,8 +67,8 @@ impl<'a> Remarks<'a> {
         Ok(())
     }
 
-    /// Says something that has no place, behind all that was said. The error is want of memory, and then
-    /// nothing is added.
+    /// Adds a remark without a place, behind all others. `AllocError` if memory ran out; then nothing is
+    /// added.
     pub fn note(&mut self, words: String) -> Result<(), AllocError>
         ensures said { OnOk result (SaysMore self.old self.new None words) }
         ensures kept { OnErr result (self.new ≡ self.old) }
@@ -89,9 +89,9 @@ impl<'a> Remarks<'a> {
         self.list.as_slice()
     }
 
-    /// What is told of them: for each one that has a place a line with that place and what there is to
-    /// say, the text's line, and a mark under it; for another a line with what there is to say. No line
-    /// has a character that controls but for tabs of the text. The error is want of memory.
+    /// The text of the remarks. One with a place has a line with that place and its words. Below stand the
+    /// line of the text, and a mark. One without a place has a line with its words. The lines of the text
+    /// have no control character but tabs. `AllocError` if memory ran out.
     pub fn told(&self, alloc: Global) -> Result<String, AllocError> {
         let mut told = String::new(alloc);
         for remark in self.list() {
@@ -104,7 +104,7 @@ impl<'a> Remarks<'a> {
     }
 }
 
-/// How many characters some bytes of a text are, 1 at least.
+/// How many characters a span of a text has, 1 at least.
 fn width_of(text: &str, span: Span) -> usize {
     let marked = text.get(span.start..span.end);
     marked.map_or(1, |marked| marked.chars().count().max(1))
@@ -142,7 +142,7 @@ fn line_of(text: &str, line: usize) -> &str {
     found.unwrap_or("").trim_end_matches('\r')
 }
 
-/// How many characters of a line aren't shown, so that the one in a column is.
+/// How many characters at the start of a line aren't shown, so that the one in this column is.
 fn skipped_before(column: usize) -> usize {
     if column <= SHOWN * 3 / 4 {
         0
@@ -151,7 +151,7 @@ fn skipped_before(column: usize) -> usize {
     }
 }
 
-/// Adds characters of a line behind those that are skipped.
+/// Adds the characters of a line behind those that are skipped, as many as are shown.
 fn write_shown(told: &mut String, line: &str, skipped: usize) -> Result<(), AllocError> {
     if skipped > 0 {
         told.push_str("..")?;
@@ -168,8 +168,8 @@ fn write_shown(told: &mut String, line: &str, skipped: usize) -> Result<(), Allo
     Ok(())
 }
 
-/// Adds a mark of so many characters under a column, as far as the line is shown, behind what leads
-/// there: blanks, and a tab for each tab.
+/// Adds a mark of `width` characters under a column, as far as the line is shown. Before it stand blanks,
+/// and a tab for each tab of the line.
 fn write_under(
     told: &mut String,
     line: &str,

@@ -1,27 +1,27 @@
-//! Places of a text as people count them.
+//! Places in a text as people count them.
 ghost use Rattle.std.specs.Prelude.{◌≡◌, ◌+◌, ◌<◌, take_while, reverse, count_by};
 ghost use Rattle.ec_told.specs.Spots.{LiesIn, goes_on, is_line_end, opens, spot_at};
 
-/// A place of a text as people count it: lines from 1 on, and in a line characters from 1 on. The
-/// place behind the last character of a line is one of the line.
+/// A place in a text as people count it: lines from 1, and in a line characters from 1. The
+/// place behind the last character of a line belongs to the line.
 #[derive(Clone, Copy, Debug, PartialEq, Eq)]
 pub struct Spot {
     /// The line.
     pub line: usize,
-    /// The character in it.
+    /// The character in the line.
     pub column: usize,
 }
 
 /// Some bytes of a text, from `start` to before `end`.
 #[derive(Clone, Copy, Debug, Default, PartialEq, Eq)]
 pub struct Span {
-    /// The first of them.
+    /// The place of the first byte.
     pub start: usize,
-    /// The first behind them.
+    /// The place behind the last byte.
     pub end: usize,
 }
 
-/// Where a byte of a text stands; past the text it is where the text ends.
+/// Where a byte of a text stands; for a place past the text, where the text ends.
 #[tactic(auto, using(crate::proofs::Lying::lies))]
 pub fn spot_of(text: &str, place: usize) -> Spot
     ensures exact { result ≡ spot_at text.now place }

@@ -1,7 +1,7 @@
 //! Texts as they are read and printed.
 ghost use Rattle.ec_told.specs.Texts.{IsUnmarked};
 
-/// A text without the mark that some editors write before it.
+/// A text without the byte order mark (U+FEFF) that some editors write before it.
 pub fn without_mark(text: &str) -> &str
     ensures { IsUnmarked text.now result.now }
 {
@@ -11,7 +11,7 @@ pub fn without_mark(text: &str) -> &str
     }
 }
 
-/// A character as it may be printed: in place of one that controls, the replacement character.
+/// A character as it may be printed: U+FFFD in place of a control character.
 pub fn printed(character: char) -> char {
     if character.is_control() {
         '\u{FFFD}'

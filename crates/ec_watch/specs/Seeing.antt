@@ -14,7 +14,7 @@ use Rattle.ec_world.specs.World.{Flight, IsStep, WorldState, can_happen, flight_
 abbrev pub seen_at : ℕ → Option (List ℕ) → Flight → Seen
 seen_at time comment f = record { interface = f.passed; time = time; passed = nat_lt 0 f.passed; payload = f.bytes; comment = comment }
 
--- if there is one
+-- the frame in a slot, if there is one
 abbrev pub seen_if : ℕ → Option (List ℕ) → Option Flight → List Seen
 seen_if time comment None = []
 seen_if time comment (Some f) = seen_at time comment f ∷ []
@@ -29,14 +29,14 @@ abbrev pub seen_sent : ℕ → Option (List ℕ) → List Seen
 seen_sent time None = []
 seen_sent time (Some bytes) = record { interface = 0; time = time; passed = false; payload = bytes; comment = None } ∷ []
 
--- those of the first parts of the open cycle
+-- the frames of the first n parts of the open cycle
 abbrev pub seen_parts : ℕ → WorldState → ℕ → List Seen
 seen_parts time w zero = []
 seen_parts time w (suc n) = seen_parts time w n ++ seen_sent time (sent_of w n)
 
 -- ---- events
 
--- the comment where a frame is lost
+-- the comment on a frame that is lost
 abbrev pub lost_here : List ℕ
 lost_here = codes "lost here"
 
@@ -59,7 +59,7 @@ seen_before time w (AppGet s i) = []
 seen_before time w (Fault s) = []
 seen_before time w (Reset s) = []
 
--- what is seen of frames that were sent, and of one behind the slave that it passed
+-- what is seen of frames that an event has sent, or of the frame behind the slave that it has passed by it
 abbrev pub seen_after : ℕ → Event → WorldState → List Seen
 seen_after time StartNext w = seen_if time None (flight_at w 0)
 seen_after time Begin w = seen_parts time w (length w.master.plan.parts)
@@ -85,7 +85,7 @@ pub record Watched : Type 0 where
   pub capture : Recording
   pub events : ℕ
 
--- the number of the next event, as far as the count goes
+-- the number of the next event, up to the last value of the count
 abbrev pub next_event : ℕ → ℕ
 next_event n = min (n + 1) (2 ^ 64 - 1)
 
@@ -94,13 +94,13 @@ pub record Saw (a : Watched) (old : WorldState) (event : Event) (new : WorldStat
   pub events : b.events ≡ next_event a.events
   pub notes : Notes (seen_of (next_event a.events) old event new) a.capture b.capture
 
--- Events one after another: each is made if it can be made, and exactly what is seen of those that were is noted, in order.
+-- Events one after another. Each is made if it can be made. Exactly what is seen of those that were made is noted, in order.
 abbrev pub SeesRun : Watched → WorldState → List Event → WorldState → Watched → Type 0
 SeesRun a w [] v b = (v ≡ w) × (b ≡ a)
 SeesRun a w (e ∷ es) v b =
     (x : WorldState) × (c : Watched) × (made : Bool) × IsStep w e x made × (made ≡ true → Saw a w e x c) × (made ≡ false → c ≡ a) × SeesRun c x es v b
 
--- whether a frame leaves a world by an event that can be made
+-- whether an event can be made and lets a frame leave the world
 abbrev pub leaves : WorldState → Event → Bool
 leaves w (Lose k) = can_happen w (Lose k)
 leaves w (Return k) = can_happen w (Return k)

@@ -1,4 +1,4 @@
-//! Captures of the frames of a simulated segment: what is sent, what is behind each slave, what comes back, and what is lost.
+//! Captures of the frames of a simulated segment: as they are sent, behind each slave, as they come back, and where they are lost.
 #![tactic(auto)]
 
 mod watch;

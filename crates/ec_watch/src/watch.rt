@@ -1,4 +1,4 @@
-//! What a world's events show of each hop of the frames.
+//! A watcher of a world's events, which notes each hop of the frames in a capture.
 ghost use Rattle.std.specs.Prelude.{◌≡◌, false, length, option_map, true};
 ghost use Rattle.ec_capture.specs.Recordings.{Notes};
 ghost use Rattle.ec_world.specs.World.{flight_at};
@@ -10,10 +10,10 @@ use ec_world::{Event, Watcher, World};
 use std::io::Write;
 use std::marker::Model;
 
-/// The comment where a frame is lost.
+/// The comment on a frame that is lost.
 const LOST_HERE: &str = "lost here";
 
-/// A capture of the frames of a world: its interface 0 is the master's, and interface `s + 1` is behind slave `s`.
+/// A capture of the frames of a world. Its interface 0 is the master's, and interface `s + 1` is behind slave `s`.
 #[derive(Drop)]
 pub struct Watch<W: Write + Drop> {
     capture: Recorder<W>,
@@ -31,15 +31,15 @@ impl<W: Write + Drop> Model for Watch<W> {
 impl<W: Write + Drop> Watch<W> {
     ghost use Rattle.ec_watch.specs.Seeing.{SeesRun};
 
-    /// A capture in which nothing is noted yet.
+    /// A watch over a capture, with no events made yet.
     pub fn new(capture: Recorder<W>) -> Watch<W>
         ensures { result ≡ record { capture = capture; events = 0 } }
     {
         Watch { capture, events: 0 }
     }
 
-    /// Makes those of the events that can be made, in their order, and notes what is seen of each: the packets of the capture
-    /// are exactly the frames of that run.
+    /// Makes the events that can be made, in their order, and notes the frames of each. The packets that it adds are exactly the frames of
+    /// that run, unless the capture is cut short.
     pub fn run(&mut self, world: &mut World<'_>, events: &[Event])
         ensures { SeesRun self.old world.old events.now world.new self.new }
     {
@@ -81,7 +81,7 @@ impl<W: Write + Drop> Watcher for Watch<W> {
     }
 }
 
-/// Notes what is seen of a frame before it leaves, if one leaves by an event that can be made.
+/// Notes a frame before it leaves the world, if the event can be made and lets one leave.
 fn see_leaving<W: Write + Drop>(
     capture: &mut Recorder<W>,
     time: u64,
@@ -97,7 +97,7 @@ fn see_leaving<W: Write + Drop>(
     }
 }
 
-/// Whether a frame leaves a world by an event that can be made.
+/// Whether an event can be made and lets a frame leave the world.
 fn leaves(world: &World<'_>, event: Event) -> bool
     ensures { result ≡ leaves world.now event }
 {
@@ -111,7 +111,7 @@ fn leaves(world: &World<'_>, event: Event) -> bool
     }
 }
 
-/// Notes what is seen of frames that were sent, and of one that passed a slave.
+/// Notes the frames that an event has sent, or the frame that has passed a slave by it.
 fn see_after<W: Write + Drop>(capture: &mut Recorder<W>, time: u64, event: Event, world: &World<'_>)
     ensures { Notes (seen_after time event world.now) capture.old capture.new }
 {
@@ -123,7 +123,7 @@ fn see_after<W: Write + Drop>(capture: &mut Recorder<W>, time: u64, event: Event
     }
 }
 
-/// Notes what is seen of a frame before it leaves.
+/// Notes a frame before it leaves the world: where it is lost, or as it comes back.
 fn see_before<W: Write + Drop>(
     capture: &mut Recorder<W>,
     time: u64,
@@ -182,7 +182,7 @@ fn see_back<W: Write + Drop>(capture: &mut Recorder<W>, time: u64, world: &World
     });
 }
 
-/// Notes the frame in a slot where it is, if there is one; it may be lost there.
+/// Notes the frame in a slot where it is, if there is one. With `is_lost` it is lost there.
 fn see_slot<W: Write + Drop>(
     capture: &mut Recorder<W>,
     time: u64,
@@ -207,7 +207,7 @@ fn see_slot<W: Write + Drop>(
     });
 }
 
-/// The comment on a frame that is lost, or isn't.
+/// The comment on a frame, if it is lost.
 fn comment_if(is_lost: bool) -> Option<&'static str>
     ensures { option_map (λ t. t.now) result ≡ comment_if is_lost }
 {

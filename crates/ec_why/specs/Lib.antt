@@ -1,2 +1,2 @@
--- To be believed by reading: where a line stands that says why.
+-- To be believed by reading: which lines a reason follows.
 pub mod Reasons

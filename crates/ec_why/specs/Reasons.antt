@@ -1,4 +1,4 @@
--- Where a line stands that says why an event can't be made (a choice of this project); its form is that of `Reason`, and its words are tested.
+-- Which lines a reason follows that says why an event can't be made (a choice of this project). It has the form of `Reason`; its words are tested.
 use Rattle.std.specs.Prelude.{◌≡◌, ◌⊎◌, ℕ, Bool, true, false, List, [], ◌∷◌, ◌++◌}
 use Rattle.ec_script.specs.declared.said.LineOutput.{LineOutput}
 use Rattle.ec_script.specs.declared.said.LineOutput.TheVariants.{No}
@@ -6,12 +6,12 @@ use Rattle.ec_told.specs.Reason.{IsReason}
 use Rattle.ec_why.specs.declared.wanted.Reasons.{Reasons}
 use Rattle.ec_why.specs.declared.wanted.Reasons.TheVariants.{Told, Untold}
 
--- they are told where an explanation is wanted
+-- reasons are printed if an explanation is wanted
 abbrev pub reasons_of : Bool → Reasons
 reasons_of true = Told
 reasons_of false = Untold
 
--- the lines behind which one stands
+-- the lines that a reason follows
 abbrev pub is_reasoned : Reasons → LineOutput → Bool
 is_reasoned Told No = true
 is_reasoned _ _ = false
@@ -20,13 +20,13 @@ abbrev pub ReasonIf : Bool → List ℕ → Type 0
 ReasonIf true why = IsReason why
 ReasonIf false why = why ≡ []
 
--- why a line says `no`, where reasons are told; behind any other line there is nothing
+-- why a line says `no`, if reasons are wanted; no other line is followed by anything
 abbrev pub IsWhy : Reasons → LineOutput → List ℕ → Type 0
 IsWhy reasons said why = ReasonIf (is_reasoned reasons said) why
 
 -- ---- texts with reasons between
 
--- what a line says, and a reason behind it, if there is one
+-- the text of a line, and a reason behind it, if there is one
 pub record Part : Type 0 where
   pub said : List ℕ
   pub why : List ℕ

@@ -1,4 +1,4 @@
-//! Why an event can't be made, by the world as it is.
+//! Why an event can't be made, in the world as it is.
 use crate::reasons::has_cycle;
 use crate::scene::{Firmware, Scene};
 use ec_outline::{Counted, Printable, Words};
@@ -6,12 +6,12 @@ use ec_table::Direction;
 use ec_world::{Event, Progress};
 
 impl Scene<'_, '_> {
-    /// Why the frames of the cycle that was begun last don't go round.
+    /// Why the frames of the last cycle that was begun don't come back.
     pub fn frame_words(&self) -> Words {
         self.why_no_pass(self.newest_slot())
     }
 
-    /// The first slot that has a frame of the cycle that was begun last; where no slot has a frame, the first one.
+    /// The first slot with a frame of the highest number, which is the last cycle's; the first slot if no slot has a frame.
     fn newest_slot(&self) -> usize {
         let mut newest = None;
         let mut found = 0;
@@ -25,7 +25,7 @@ impl Scene<'_, '_> {
         found
     }
 
-    /// Why an event can't be made that can't be made in a world; of any other the words say nothing.
+    /// Why an event can't be made in this world. If it can be made, the words mean nothing.
     pub fn event_words(&self, event: Event) -> Words {
         match event {
             Event::StartNext => self.why_no_start(),
@@ -64,7 +64,7 @@ impl Scene<'_, '_> {
         }
     }
 
-    /// The slot of an older frame that has passed no more slaves.
+    /// The first slot with an older frame that has passed no more slaves.
     fn slot_before(&self, frame: &Progress) -> Option<usize> {
         for slot in 0..self.world.slots() {
             if is_before(self.world.progress(slot), frame) {
@@ -169,7 +169,7 @@ impl Scene<'_, '_> {
         )
     }
 
-    /// What a slave has in a direction, and how many bytes of that.
+    /// The word for a slave's data in a direction, and how many bytes of them it has.
     fn bytes_of(&self, slave: usize, direction: Direction) -> (&'static str, usize) {
         let (outputs, inputs) = match self.world.plan().slaves().get(slave) {
             Some(settings) => (settings.share.outs, settings.share.ins),
@@ -196,7 +196,7 @@ impl Scene<'_, '_> {
     }
 }
 
-/// Whether there is a frame that is older than another one, and has passed no more slaves.
+/// Whether a frame is older than another one, and has passed no more slaves.
 fn is_before(frame: Option<Progress>, other: &Progress) -> bool {
     match frame {
         Some(frame) => frame.is_older(other) && frame.passed <= other.passed,

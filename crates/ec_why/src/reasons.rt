@@ -1,4 +1,4 @@
-//! Why a line ended at an event that can't be made, as the line that is printed of it.
+//! Why a line ended at an event that can't be made, as a printed line.
 ghost use Rattle.std.specs.Prelude.{◌≡◌, IfOk, is_some, string_bytes};
 ghost use Rattle.ec_told.specs.Reason.{IsReason};
 ghost use Rattle.ec_world.specs.Watching.{sent_of};
@@ -19,13 +19,13 @@ pub fn has_cycle(world: &World<'_>) -> bool
     world.sent(0).is_some()
 }
 
-/// Why an act ended at an event that can't be made, as a line with two blanks before it. The world is the one that the act left,
-/// and that event changed nothing of it; `had_cycle` is [`has_cycle`] of the world before the act. Of an act that didn't end so
-/// the words say nothing.
+/// Why an act ended at an event that can't be made, as a line with two blanks before it. `world` is the one that the act left, and the
+/// event changed nothing of it. `had_cycle` is what [`has_cycle`] returned before the act. If the act didn't end so, the words mean
+/// nothing.
 ///
 /// # Errors
 ///
-/// `AllocError` where there is no memory for the text.
+/// `AllocError` if there is no memory for the text.
 pub fn reason_text(
     alloc: Global,
     table: &Table,
@@ -44,7 +44,7 @@ pub fn reason_text(
     reason_line(alloc, words.as_str())
 }
 
-/// Why an act ended at an event that can't be made, in the world that it left. Where nothing is known of that there are no words.
+/// Why an act ended at an event that can't be made, in the world that it left. There are no words if there is nothing to say.
 fn act_words(scene: &Scene<'_, '_>, act: LineAction, had_cycle: bool) -> Words {
     match act {
         LineAction::One(event) => scene.event_words(event),
@@ -60,7 +60,7 @@ fn act_words(scene: &Scene<'_, '_>, act: LineAction, had_cycle: bool) -> Words {
     }
 }
 
-/// Why the plant can't have a value in a variable of the inputs.
+/// Why the plant can't set a variable of the inputs to a value.
 fn input_words(scene: &Scene<'_, '_>, variable: usize, value: u64) -> Words {
     match still_slave(scene.world, variable, value) {
         Some(slave) => scene.event_words(Event::AppPut(slave, 0, 0)),
@@ -68,7 +68,7 @@ fn input_words(scene: &Scene<'_, '_>, variable: usize, value: u64) -> Words {
     }
 }
 
-/// A slave that has bits of a variable of the inputs, which holds a value, and isn't in SAFEOP or OP.
+/// The first slave that has bits of an input variable and isn't in SAFEOP or OP, if the variable can hold the value.
 fn still_slave(world: &World<'_>, variable: usize, value: u64) -> Option<usize> {
     let variable = *world.plan().variables().get(variable)?;
     if variable.direction == Direction::Out || value > greatest(variable.bits) {

@@ -1,4 +1,4 @@
-//! A world as a person sees it: slaves, variables and slots by their names, and what they don't have.
+//! Words for people about a world: its slaves, variables and slots by name, and those that don't exist.
 use ec_outline::{Counted, Printable, Words};
 use ec_table::{Direction, Table, VariableRow};
 use ec_world::World;
@@ -7,10 +7,10 @@ use std::alloc::Global;
 /// The register of the AL status (ETG.1000.4), whose low four bits are the state.
 const AL_STATUS: u16 = 0x0130;
 
-/// The byte of sync manager 2, of the outputs, that the slave's side sets (ETG.1000.4): its bit 0 deactivates the manager.
+/// The byte of sync manager 2 (outputs) that the slave's side sets (ETG.1000.4). Its bit 0 deactivates the manager.
 const OUTPUTS_LOCK: u16 = 0x0817;
 
-/// A world with the table that its names are of.
+/// A world, and the table that has its names.
 #[derive(Clone, Copy)]
 pub struct Scene<'w, 'p> {
     /// Where memory comes from.
@@ -19,17 +19,17 @@ pub struct Scene<'w, 'p> {
     pub world: &'w World<'p>,
 }
 
-/// How far a firmware is.
+/// The state of a slave's firmware.
 #[derive(Clone, Copy)]
 pub struct Firmware {
-    /// The name of its state.
+    /// The name of the state.
     pub state: &'static str,
-    /// Whether applications exchange process data in that.
+    /// Whether applications exchange process data in it.
     pub is_running: bool,
 }
 
 impl Firmware {
-    /// That of a slave that is there.
+    /// The state of the firmware of a slave. For a slave that doesn't exist it is INIT.
     pub fn of(world: &World<'_>, slave: usize) -> Firmware {
         let (state, is_running) = match register(world, slave, AL_STATUS) & 0x0F {
             2 => ("PREOP", false),
@@ -42,17 +42,17 @@ impl Firmware {
 }
 
 impl Scene<'_, '_> {
-    /// Whether the outputs of a slave are locked: a fault does that, and only INIT ends it.
+    /// Whether the outputs of a slave are locked. A fault locks them, and only INIT ends that.
     pub fn has_locked_outputs(&self, slave: usize) -> bool {
         register(self.world, slave, OUTPUTS_LOCK) & 1 == 1
     }
 
-    /// Whether the table has a slave.
+    /// Whether the table has a slave of this number.
     pub fn has_slave(&self, slave: usize) -> bool {
         slave < self.table.slaves().len()
     }
 
-    /// The name of a slave.
+    /// The name of a slave; empty if there is no such slave.
     pub fn slave_name(&self, slave: usize) -> Printable<'_> {
         match self.table.slaves().get(slave) {
             Some(row) => Printable(row.name.as_str()),
@@ -60,7 +60,7 @@ impl Scene<'_, '_> {
         }
     }
 
-    /// That there is no such slave.
+    /// The words for a slave that doesn't exist.
     pub fn no_slave(&self, slave: usize) -> Words {
         let alloc = self.alloc;
         match self.table.slaves().len() {
@@ -73,7 +73,7 @@ impl Scene<'_, '_> {
         }
     }
 
-    /// That there is no frame in a slot.
+    /// The words for a slot that has no frame, or doesn't exist.
     pub fn no_frame(&self, slot: usize) -> Words {
         let alloc = self.alloc;
         if slot < self.world.slots() {
@@ -83,7 +83,7 @@ impl Scene<'_, '_> {
         format!(in alloc; "there is no slot {slot}: frames are on their way in slots 0 to {last}")
     }
 
-    /// Why a variable doesn't become a value by an act that writes variables of one direction.
+    /// Why an act that writes variables of direction `wanted` doesn't set a variable.
     pub fn not_written(&self, variable: usize, wanted: Direction) -> Words {
         let alloc = self.alloc;
         let Some(row) = self.table.variables().get(variable) else {
@@ -102,7 +102,7 @@ impl Scene<'_, '_> {
     }
 }
 
-/// That a variable has too few bits for a value, also for one that is no number of 64 bits.
+/// The words for a value that a variable has too few bits for, also for a number of more than 64 bits.
 pub fn misfit_words(alloc: Global, table: &Table, variable: usize) -> Words {
     match table.variables().get(variable) {
         None => format!(in alloc; "the table has no variable {variable}"),
@@ -110,13 +110,13 @@ pub fn misfit_words(alloc: Global, table: &Table, variable: usize) -> Words {
     }
 }
 
-/// The greatest value of so many bits.
+/// The greatest value of `bits` bits.
 pub fn greatest(bits: u8) -> u64 {
     let power = 1_u64.checked_shl(u32::from(bits));
     power.map_or(u64::MAX, |power| power.saturating_sub(1))
 }
 
-/// That a variable has too few bits for a value; the least is as far below 0 as a two's complement of so many bits goes.
+/// The words for a value that a variable has too few bits for. The least value is that of a two's complement of its bits.
 fn misfit(alloc: Global, row: &VariableRow) -> Words {
     let name = Printable(row.name.as_str());
     let bits = Counted(usize::from(row.bits), "bit");
@@ -125,7 +125,7 @@ fn misfit(alloc: Global, row: &VariableRow) -> Words {
     format!(in alloc; "`{name}` has {bits}, and its values go from -{least} to {most}")
 }
 
-/// A byte of the registers of a slave; 0 where there is none.
+/// A byte of the registers of a slave; 0 if there is none.
 fn register(world: &World<'_>, slave: usize, address: u16) -> u8 {
     if slave < world.slaves() {
         world.slave(slave).byte(address).unwrap_or(0)

@@ -1,10 +1,10 @@
-//! Whether lines are followed by the reason that they say `no`.
+//! Whether a reason follows each line that says `no`.
 ghost use Rattle.std.specs.Prelude.{◌≡◌};
 ghost use Rattle.ec_why.specs.Reasons.{is_reasoned, reasons_of};
 
 use ec_script::LineOutput;
 
-/// Whether each line that says `no` is followed by a line that says why.
+/// Whether a line that says why follows each line that says `no`.
 #[derive(Clone, Copy, Drop)]
 pub enum Reasons {
     /// It is.
@@ -14,7 +14,7 @@ pub enum Reasons {
 }
 
 impl Reasons {
-    /// They are told where an explanation is wanted.
+    /// `Told` if an explanation is wanted, else `Untold`.
     pub fn of(explained: bool) -> Reasons
         ensures { result ≡ reasons_of explained }
     {
@@ -25,7 +25,7 @@ impl Reasons {
         }
     }
 
-    /// Whether a reason stands behind a line that has this to say.
+    /// Whether a reason follows a line that says this.
     pub fn stand_behind(self, said: LineOutput) -> bool
         ensures { result ≡ is_reasoned self said }
     {

@@ -1,51 +1,51 @@
--- The applications of a segment. A choice of this project: after each frame the firmware of slave after slave steps, and then
--- its application, which sees its outputs as a whole and publishes its inputs as a whole.
+-- The applications of a segment. A choice of this project: after each frame, slave after slave makes a firmware step, and then its
+-- application steps. The application sees its outputs as a whole and publishes its inputs as a whole.
 use Rattle.std.specs.Prelude.{ℕ, ◌≡◌, ◌<◌, ◌==◌, ◌&&◌, List, [], length, slice_get, slice_index, Bool, true, false, if◌then◌else◌, Some, None}
 use Rattle.ec_sync.specs.SyncManager.{SyncManager}
 use Rattle.ec_slave.specs.State.{SlaveState, manager_at}
 use Rattle.ec_slave.specs.Application.{get_size, put_size, with_manager}
 use Rattle.ec_slave.specs.Serving.{served}
 
--- the outputs that the application of a slave sees: those that were published last; none where it is denied them
+-- the outputs that a slave's application sees: those that were published last; none if it is denied them
 abbrev pub outputs_seen : SlaveState → List ℕ
 outputs_seen s = if get_size s == 0 then [] else (manager_at s.managers 2).buffer.published
 
 abbrev pub without_view : SyncManager → SyncManager
 without_view m = record m { buffer = record m.buffer { view = None } }
 
--- it read them to the last byte, which closes its view
+-- the application has read its outputs to the last byte, which closes its view
 abbrev pub outputs_read : SlaveState → SlaveState
 outputs_read s = if get_size s == 0 then s else with_manager s 2 (without_view (manager_at s.managers 2))
 
 abbrev pub with_published : SyncManager → List ℕ → SyncManager
 with_published m inputs = record m { buffer = record m.buffer { published = inputs; draft = None } }
 
--- it wrote its inputs to the last byte, which publishes them
+-- the application has written its inputs to the last byte, which publishes them
 abbrev pub inputs_written : SlaveState → List ℕ → SlaveState
 inputs_written s inputs = if put_size s == 0 then s else with_manager s 3 (with_published (manager_at s.managers 3) inputs)
 
--- An application steps: of its outputs it makes as many bytes of inputs as it may publish. Which ones it makes is said by
--- `shows`.
+-- An application steps: from its outputs it makes as many bytes of inputs as it may publish. `shows` relates the outputs to the
+-- inputs that it may make.
 pub record HasStepped (shows : List ℕ → List ℕ → Type 0) (old new : SlaveState) : Type 0 where
   pub inputs : List ℕ
   pub size : length inputs ≡ put_size old
   pub made : shows (outputs_seen old) inputs
   pub slave : new ≡ inputs_written (outputs_read old) inputs
 
--- it may read outputs or write inputs now
+-- the application may read outputs or write inputs now
 abbrev pub has_data : SlaveState → Bool
 has_data s = if get_size s == 0 && (put_size s == 0) then false else true
 
--- The firmware of a slave steps, and then its application, where it has process data.
+-- A slave makes a firmware step, and then its application steps, if it has process data.
 pub record IsServed (shows : List ℕ → List ℕ → Type 0) (old new : SlaveState) : Type 0 where
   pub idle : has_data (served old) ≡ false → new ≡ served old
   pub works : has_data (served old) ≡ true → HasStepped shows (served old) new
 
--- that of each slave
+-- each slave is served
 pub record AreServed (shows : List ℕ → List ℕ → Type 0) (old new : List SlaveState) : Type 0 where
   pub count : length new ≡ length old
   pub each : (i : ℕ) (s t : SlaveState) → slice_get old i ≡ Some s → slice_get new i ≡ Some t → IsServed shows s t
 
--- The application of `ecat loop` and `ecat segment` shows its outputs as its inputs, and 0 where it has more inputs.
+-- The application of `ecat loop` and `ecat segment` copies its outputs to its inputs, and sets the inputs beyond them to 0.
 abbrev pub IsEchoed : List ℕ → List ℕ → Type 0
 IsEchoed outputs inputs = (i : ℕ) → i < length inputs → slice_index inputs i ≡ slice_index outputs i

@@ -9,7 +9,7 @@ use Rattle.ec_start.specs.Actions.{frame_of}
 use Rattle.ec_start.specs.Running.{StartState, IsStartTaken, action_of, asked, next_frame, given_up}
 use Rattle.ec_wire.specs.Wires.{WireState, Carries, is_fault}
 
--- so many payloads that don't answer a frame are received for it
+-- the most payloads that are received for one frame
 abbrev pub max_foreign : ℕ
 max_foreign = 64
 
@@ -17,7 +17,7 @@ max_foreign = 64
 abbrev pub AreForeign : StartState → List (List ℕ) → Type 0
 AreForeign s payloads = All (λ p. IsStartTaken s p false s) payloads
 
--- The frame is sent; payloads come that don't answer it, and then one that does.
+-- The frame is sent. Fewer than 64 payloads come that don't answer it, and then one that does.
 pub record IsAnswered (sent after : StartState) (frame : List ℕ) (old new : WireState) : Type 0 where
   pub foreign : List (List ℕ)
   pub answer : List ℕ
@@ -27,7 +27,7 @@ pub record IsAnswered (sent after : StartState) (frame : List ℕ) (old new : Wi
   pub kept : IsStartTaken sent answer true after
   pub fine : is_fault old new ≡ false
 
--- Or a call of the wire is a fault, or the most payloads come that don't.
+-- A call of the wire is a fault, or 64 payloads come that don't answer the frame.
 pub record IsUnanswered (sent : StartState) (frame : List ℕ) (old new : WireState) : Type 0 where
   pub frames : List (List ℕ)
   pub foreign : List (List ℕ)
@@ -48,8 +48,8 @@ pub record IsTurn (s t : StartState) (w v : WireState) : Type 0 where
   pub is_next : IsNextFrame s frame
   pub answered : IsAnswered (asked s) t frame w v
 
--- Where a start-up over a wire leads, and the wire: one that has ended or has no number left rests, one whose frame is
--- outstanding is lost. Any other sends its next frame: answered it goes on, and else it is lost.
+-- Where a start-up over a wire leads, and the wire. A start-up that has ended or has no number left rests; one whose frame is
+-- outstanding is lost. Any other sends its next frame. If the frame is answered the start-up goes on, else it is lost.
 pub data IsBroughtUp : StartState → WireState → StartState → WireState → Type 0 where
   Rests : (s : StartState) (w : WireState) → next_frame s ≡ Ended → IsBroughtUp s w (asked s) w
   Waits : (s : StartState) (w : WireState) → next_frame s ≡ Waiting → IsBroughtUp s w (given_up s) w

@@ -10,12 +10,12 @@ use Rattle.ec_bringup.specs.ComesUp.{IsUpAndWorks}
 use Rattle.ec_wire.specs.Wires.{WireState, Carries, is_fault, tells_all}
 use Rattle.ec_wire.specs.Segments.{AreTreated}
 
--- an application that may show any inputs
+-- an application that may make any inputs
 abbrev pub AnyInputs : List ℕ → List ℕ → Type 0
 AnyInputs outputs inputs = Unit {0}
 
--- The wire tells what it carried, and no call of it was a fault. At its other end a segment treated each payload that was sent, in
--- order: a frame passed all slaves, each of which then served and let its application step. Its answers are what was received.
+-- The wire's state has each payload that it carried, and no call was a fault. At the other end, a segment treated each sent payload,
+-- in order. A frame passed all slaves, each of which then served and let its application step. The answers are what was received.
 pub record IsCarriedPast (old new : WireState) (before after : List SlaveState) : Type 0 where
   pub tells_sent : tells_all old.sent ≡ true
   pub tells_received : tells_all old.received ≡ true
@@ -25,8 +25,8 @@ pub record IsCarriedPast (old new : WireState) (before after : List SlaveState) 
   pub carried : Carries old new sent received
   pub treated : AreTreated AnyInputs before sent after received
 
--- A new start-up of a complete plan over such a wire, with devices of the plan's types in any state at its other end, ends Ready
--- after one frame for each action of its script, and then every slave works as planned.
+-- Over such a wire, with devices of its types in any state at the other end, a new start-up of a complete plan ends Ready. It sends one
+-- frame for each action of its script, and then every slave works as planned.
 abbrev pub ComesUpOver : (s e : StartState) (old new : WireState) → Type 0
 ComesUpOver s e old new =
     (ps : List SlavePlan) (from : ℕ) (before after : List SlaveState) → ArePlans ps → s ≡ begun ps from → AreDevices ps before → from + length (script ps) ≤ last_number

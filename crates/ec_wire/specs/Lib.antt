@@ -1,6 +1,6 @@
 -- To be believed, in this order: what wires are, and what is done over one.
 
--- what a wire tells of itself, and what its calls make of that
+-- what a wire's state says, and how calls change it
 pub mod Wires
 -- how long sockets wait
 pub mod Waiting

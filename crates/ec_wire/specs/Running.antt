@@ -16,12 +16,12 @@ abbrev pub AreTaken : MasterState → List (List ℕ) → MasterState → Type 0
 AreTaken old [] new = new ≡ old
 AreTaken old (p ∷ ps) new = (0 < missing_of old.cycle) × ((is_kept : Bool) × (m : MasterState) × IsTaken old p is_kept m × AreTaken m ps new)
 
--- at most so many payloads are received in a cycle of so many parts
+-- the most payloads that a cycle of so many parts receives
 abbrev pub max_received : ℕ → ℕ
 max_received parts = 2 * parts + 64
 
--- What an open cycle sent and received: its frames in order, and then payloads until all parts were kept or the most were
--- received, up to the first fault.
+-- What an open cycle sent and received, up to the first fault. It sends its frames in order, and then receives payloads until all
+-- parts are kept or the most were received.
 pub record IsExchanged (begun last : MasterState) (old new : WireState) : Type 0 where
   -- how many frames were sent, and what was received
   pub count : ℕ
@@ -35,13 +35,13 @@ pub record IsExchanged (begun last : MasterState) (old new : WireState) : Type 0
   pub all_sent : is_fault old new ≡ false → count ≡ length begun.plan.parts
   pub all_received : is_fault old new ≡ false → (missing_of last.cycle ≡ 0) ⊎ (length got ≡ max_received (length begun.plan.parts))
 
--- How a cycle ends that came so far: it is closed, or after a fault of the wire dropped.
+-- How a cycle ends after its exchange: it is closed, or, after a fault of the wire, dropped.
 abbrev pub IsEnded : MasterState → WireState → WireState → Result ReportState RunError → MasterState → Type 0
 IsEnded last old new (Ok report) after = (is_fault old new ≡ false) × IsClosed last after report
 IsEnded last old new (Err Wire) after = (is_fault old new ≡ true) × (after ≡ abandoned last)
 IsEnded last old new (Err (Refused error)) after = ⊥
 
--- A cycle begun, exchanged and ended.
+-- A cycle is begun, exchanged and ended.
 pub record IsRun (master : MasterState) (old new : WireState) (answer : Result ReportState RunError) (after : MasterState) : Type 0 where
   pub cycle : OpenCycle
   pub begun : MasterState

@@ -5,14 +5,14 @@ use Rattle.ec_ring.specs.Rings.{HasPassedRing, IsNoFrame}
 use Rattle.ec_wire.specs.Applications.{AreServed}
 use Rattle.ec_wire.specs.Wires.{WireState, Carries, is_fault}
 
--- A frame passes all slaves, and then each is served; what the frame is behind the last slave is the answer.
+-- A frame passes all slaves, and then each is served. The answer is the frame as it is behind the last slave.
 pub record IsAnswer (shows : List ℕ → List ℕ → Type 0) (old : List SlaveState) (payload : List ℕ) (new : List SlaveState) (answer : List ℕ) : Type 0 where
   pub is_frame : IsNoFrame payload → ⊥
   pub passed : List SlaveState
   pub ring : HasPassedRing old payload passed answer
   pub served : AreServed shows passed new
 
--- what a payload leaves of the slaves, and its answer if it has one
+-- the slaves after a payload, and its answer if it has one
 abbrev pub IsTreated : (List ℕ → List ℕ → Type 0) → List SlaveState → List ℕ → List SlaveState → List (List ℕ) → Type 0
 IsTreated shows old payload new answers =
     ((answer : List ℕ) × (answers ≡ answer ∷ []) × IsAnswer shows old payload new answer)
@@ -24,7 +24,7 @@ AreTreated shows old [] new answers = (new ≡ old) × (answers ≡ [])
 AreTreated shows old (p ∷ ps) new answers =
     (mid : List SlaveState) × (first : List (List ℕ)) × (rest : List (List ℕ)) × IsTreated shows old p mid first × AreTreated shows mid ps new rest × (answers ≡ first ++ rest)
 
--- A segment received so many payloads, sent the answers, and counted both kinds.
+-- A segment received `frames` payloads, sent the answers, and counted both kinds.
 pub record HasServed (shows : List ℕ → List ℕ → Type 0) (old new : List SlaveState) (before after : WireState) (frames answered refused : ℕ) : Type 0 where
   pub got : List (List ℕ)
   pub sent : List (List ℕ)
@@ -34,7 +34,7 @@ pub record HasServed (shows : List ℕ → List ℕ → Type 0) (old new : List 
   pub answers : answered ≡ length sent
   pub others : answered + refused ≡ frames
 
--- A call of the wire was a fault: the same until then; the last answer may be lost, and is not counted.
+-- A call of the wire was a fault. Payloads until then were treated; the last answer may be lost, and isn't counted.
 pub record WasCutOff (shows : List ℕ → List ℕ → Type 0) (old new : List SlaveState) (before after : WireState) (frames answered refused : ℕ) : Type 0 where
   pub got : List (List ℕ)
   pub sent : List (List ℕ)

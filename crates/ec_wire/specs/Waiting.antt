@@ -10,7 +10,7 @@ abbrev pub lasts : Patience → Option ℕ
 lasts Endless = None
 lasts (For whole) = Some (as_nanos whole)
 
--- So many waits, each for one part, are no longer than the patience in all; where that has no end, neither has a wait.
+-- `count` waits, each of one part, take no longer than the patience in all. If the patience has no end, a wait has none.
 abbrev pub AreWithin : Patience → (part : Option Duration) → (count : ℕ) → Type 0
 AreWithin Endless part count = part ≡ None
 AreWithin (For whole) None count = ⊥

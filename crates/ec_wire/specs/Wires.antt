@@ -1,33 +1,33 @@
--- What a wire tells of itself, and what a call makes of that.
+-- What a wire's state says, and how calls change it.
 use Rattle.std.specs.Prelude.{◌≡◌, ◌≢◌, ◌≤◌, ◌++◌, ◌||◌, ◌==◌, ◌+◌, if◌then◌else◌, ℕ, List, length, Bool, true, false, Option, is_some, nat_lt}
 
--- What a wire tells of the payloads that went one way: nothing, how many they were, or each of them.
+-- What a wire's state says of the payloads that went one way: nothing, their number, or each of them.
 pub data Told : Type 0 where
   Nothing : Told
   Number : ℕ → Told
   Payloads : List (List ℕ) → Told
 
--- What it tells of those sent and received so far, and how many of its calls were faults.
+-- What a wire's state says of the payloads sent and received so far, and how many of its calls were faults.
 pub record WireState : Type 0 where
   pub sent : Told
   pub received : Told
   pub failed : ℕ
 
--- the last value of the count of faults: there every call is a fault, and the count stays
+-- the last value of the count of faults: every call is a fault then, and the count stays
 abbrev pub max_failed : ℕ
 max_failed = 18446744073709551615
 
--- A call was a fault, or one of several was: the count rose in it, or stood at its last value.
+-- A call was a fault, or one of several was: the count rose, or had its last value.
 abbrev pub is_fault : WireState → WireState → Bool
 is_fault old new = nat_lt old.failed new.failed || (old.failed == max_failed)
 
--- what it tells after these too went that way
+-- what the state says after these payloads went that way too
 abbrev pub grown : Told → List (List ℕ) → Told
 grown Nothing payloads = Nothing
 grown (Number count) payloads = Number (count + length payloads)
 grown (Payloads told) payloads = Payloads (told ++ payloads)
 
--- each payload is told
+-- the state has each payload
 abbrev pub tells_all : Told → Bool
 tells_all Nothing = false
 tells_all (Number count) = false
@@ -39,12 +39,12 @@ pub record Carries (old new : WireState) (sent received : List (List ℕ)) : Typ
   pub receives : new.received ≡ grown old.received received
   pub faults : old.failed ≤ new.failed
 
--- a wire that tells nothing of payloads, with so many faults
+-- a wire whose state says nothing of payloads, with this count of faults
 abbrev pub silent : ℕ → WireState
 silent failed = record { sent = Nothing; received = Nothing; failed = failed }
 
--- What went over the wires of a master to slaves in its own process: how many slaves the last wire was opened to, and how many
--- payloads were sent and received and how many calls were faults, over all of them.
+-- What went over a master's wires to slaves in its own process. It has the slaves of the last wire that was opened. Over all wires it
+-- counts payloads sent, payloads received, and calls that were faults.
 pub record Traffic : Type 0 where
   pub slaves : ℕ
   pub sent : ℕ
@@ -55,15 +55,15 @@ pub record Traffic : Type 0 where
 abbrev pub nothing_sent : Traffic
 nothing_sent = record { slaves = 0; sent = 0; received = 0; failed = 0 }
 
--- a new wire to so many slaves
+-- a new wire to this number of slaves
 abbrev pub opened_to : ℕ → Traffic → Traffic
 opened_to slaves traffic = record traffic { slaves = slaves }
 
--- a wire that tells how many payloads it carried
+-- a wire whose state says how many payloads it carried
 abbrev pub counted : Traffic → WireState
 counted traffic = record { sent = Number traffic.sent; received = Number traffic.received; failed = traffic.failed }
 
--- What is known of a socket, which doesn't tell what it carried: its port, and how many of its calls were faults.
+-- What is known of a socket: its port, and how many of its calls were faults. Nothing is known of what it carried.
 pub record SocketState : Type 0 where
   pub port : ℕ
   pub failed : ℕ
@@ -78,7 +78,7 @@ pub record LoopState : Type 0 where
   pub ports : Ports
   pub traffic : Traffic
 
--- An application of simulated slaves, while it is at no wire, and what went over sockets to slaves that had it.
+-- An application of simulated slaves, unless a wire has it, and what went over sockets to slaves that had it.
 pub record LoopbackState (A : Type 0) : Type 0 where
   pub app : Option A
   pub traffic : Traffic
@@ -87,12 +87,12 @@ pub record LoopbackState (A : Type 0) : Type 0 where
 abbrev pub IsBack : {A : Type 0} → (old new : LoopbackState A) → Type 0
 IsBack {A} old new = is_some old.app ≡ true → is_some new.app ≡ true
 
--- a new socket that was asked for on a port, where 0 lets the system pick one
+-- a new socket on the port that was asked for; with 0 the system picks one
 pub record IsOpened (asked : ℕ) (s : SocketState) : Type 0 where
   pub port : asked ≢ 0 → s.port ≡ asked
   pub fine : s.failed ≡ 0
 
--- one more, as far as the count of faults goes
+-- one more, up to the last value of the count of faults
 abbrev pub one_more : ℕ → ℕ
 one_more failed = if failed == max_failed then max_failed else failed + 1
 

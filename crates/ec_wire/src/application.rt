@@ -1,4 +1,4 @@
-//! The applications of simulated slaves.
+//! The applications of simulated slaves, and how a segment serves its slaves after a frame.
 ghost use Rattle.std.specs.Prelude.{◌≡◌, ◌<◌, ℕ, List, false, true, length};
 ghost use Rattle.ec_slave.specs.Application.{get_size, put_size};
 ghost use Rattle.ec_ring.specs.Rings.{IsNoFrame};
@@ -8,15 +8,15 @@ ghost use Rattle.ec_wire.specs.Segments.{IsAnswer};
 use ec_ring::Ring;
 use ec_slave::Slave;
 
-/// The most bytes of inputs of a slave: its RAM has three buffers for them.
+/// The most bytes of inputs of a slave: its RAM of 8192 bytes has three buffers for them.
 const MAX_DATA: usize = 2730;
 
-/// A slave's application: what it makes of its outputs.
+/// A slave's application, which makes the slave's inputs from its outputs.
 pub trait App {
-    /// Which inputs it may make of which outputs, now or later.
+    /// Relates outputs to the inputs that the application may make from them, now or later.
     ghost shows: { Self → List ℕ → List ℕ → Type 0 } = { λ app outputs inputs. Unit {0} };
 
-    /// Sets the inputs from the outputs.
+    /// Sets the bytes of `inputs` from the bytes of `outputs`. Before the call, `inputs` may hold any bytes.
     fn step(&mut self, outputs: &[u8], inputs: &mut [u8])
         ensures made { shows self.old outputs.now inputs.new }
         ensures later { (o i : List ℕ) → shows self.new o i → shows self.old o i };
@@ -30,7 +30,7 @@ impl App for &mut dyn App {
     }
 }
 
-/// An application that shows its outputs as its inputs, and 0 where it has more inputs.
+/// An application that copies its outputs to its inputs, and sets the inputs beyond them to 0.
 #[derive(Drop)]
 pub struct Echo;
 
@@ -46,8 +46,8 @@ impl App for Echo {
     }
 }
 
-/// A payload passes the slaves, and each is served. It answers whether the payload was a frame; one that is none changes
-/// nothing.
+/// Passes a payload through all slaves, and then serves each of them. Returns whether the payload was a frame; if it wasn't, the
+/// slaves stay as they were.
 pub(crate) fn answer<A: App>(ring: &mut Ring, app: &mut A, payload: &mut [u8]) -> bool
     ensures answered { result ≡ true → IsAnswer (A.shows app.old) ring.old payload.old ring.new payload.new }
     ensures refused { result ≡ false → IsNoFrame payload.old }
@@ -61,7 +61,7 @@ pub(crate) fn answer<A: App>(ring: &mut Ring, app: &mut A, payload: &mut [u8]) -
     true
 }
 
-/// Each slave is served, in order.
+/// Serves each slave, in the order of the ring.
 fn serve_slaves<A: App>(ring: &mut Ring, app: &mut A)
     ensures served { AreServed (A.shows app.old) ring.old ring.new }
     ensures later { (o i : List ℕ) → A.shows app.new o i → A.shows app.old o i }
@@ -72,7 +72,7 @@ fn serve_slaves<A: App>(ring: &mut Ring, app: &mut A)
     }
 }
 
-/// A slave's firmware steps; then its application, where it has process data now. It makes its inputs in `inputs`.
+/// Makes a firmware step of a slave, and steps its application if it has process data now. `inputs` is the buffer for its inputs.
 #[tactic(auto, using(ec_slave::proofs::Wholes::few_inputs))]
 fn serve_slave<A: App>(slave: &mut Slave, app: &mut A, inputs: &mut [u8])
     requires { length inputs.old ≡ 2730 }
@@ -87,7 +87,7 @@ fn serve_slave<A: App>(slave: &mut Slave, app: &mut A, inputs: &mut [u8])
     step_application(slave, app, output_count, &mut inputs[..input_count]);
 }
 
-/// An application sees all output bytes, steps and writes all input bytes.
+/// Steps an application on all output bytes of a slave, then reads these and writes all input bytes at the slave.
 fn step_application<A: App>(slave: &mut Slave, app: &mut A, output_count: usize, inputs: &mut [u8])
     requires outputs { output_count ≡ get_size slave.old }
     requires inputs { length inputs.old ≡ put_size slave.old }
@@ -99,7 +99,7 @@ fn step_application<A: App>(slave: &mut Slave, app: &mut A, output_count: usize,
     write_inputs(slave, inputs);
 }
 
-/// The application writes its inputs, as many as it may write now.
+/// Writes a slave's inputs as its application does, as many bytes as it may write now.
 fn write_inputs(slave: &mut Slave, inputs: &[u8])
     requires { length inputs.now ≡ put_size slave.old }
     ensures { slave.new ≡ inputs_written slave.old inputs.now }
@@ -108,7 +108,7 @@ fn write_inputs(slave: &mut Slave, inputs: &[u8])
     slave.app_put_all(inputs);
 }
 
-/// The application reads its outputs, as many as it may read now.
+/// Reads a slave's outputs as its application does, as many bytes as it may read now.
 fn read_outputs(slave: &mut Slave)
     ensures { slave.new ≡ outputs_read slave.old }
 {
@@ -116,7 +116,7 @@ fn read_outputs(slave: &mut Slave)
     slave.app_get_all();
 }
 
-/// The outputs that the application sees, as many as it may read now.
+/// The outputs that a slave's application sees: `count` bytes, as many as it may read now.
 fn outputs_of(slave: &Slave, count: usize) -> &[u8]
     requires { count ≡ get_size slave.now }
     ensures { result.now ≡ outputs_seen slave.now }

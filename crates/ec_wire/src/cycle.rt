@@ -11,13 +11,13 @@ use crate::wire::{Wire, receive_on, send_on};
 use ec_cycle::{Master, Report};
 use ec_frame::field::MAX_FRAME_LEN;
 
-/// One cycle over a wire: begins it, sends the frames of its parts in order, gives each payload that comes to
-/// [`Master::take`], until all parts are kept or `2 * parts + 64` payloads came, and closes it.
+/// Runs one cycle over a wire, and returns its report. It begins the cycle, sends the frames of its parts in order, and gives each
+/// received payload to [`Master::take`]. It closes the cycle once all parts are kept or `2 * parts + 64` payloads were received.
 ///
 /// # Errors
 ///
-/// `Refused`, where the master begins no cycle; nothing is sent, and the master is as it was. `Wire`, exactly where a cycle was
-/// begun and a call of the wire was a fault: the cycle is then dropped, and no input changed.
+/// `Refused` if the master can't begin a cycle: nothing is sent, and the master stays as it was. `Wire` exactly if a cycle was begun
+/// and a call of the wire was a fault: the cycle is then dropped, and no input changes.
 pub fn run_cycle<W: Wire>(master: &mut Master<'_>, wire: &mut W) -> Result<Report, RunError>
     ensures run { begin_refusal master.old ≡ None → IsRun master.old (W.state wire.old) (W.state wire.new) result master.new }
     ensures refused { (e : CycleError) → begin_refusal master.old ≡ Some e → result ≡ Err (Refused e) }
@@ -33,7 +33,7 @@ pub fn run_cycle<W: Wire>(master: &mut Master<'_>, wire: &mut W) -> Result<Repor
     Ok(master.close()?)
 }
 
-/// Sends the frames of the open cycle and takes what comes back, and answers whether that was no fault.
+/// Sends the frames of the open cycle and takes what comes back. Returns whether no call of the wire was a fault.
 fn exchange<W: Wire>(master: &mut Master<'_>, wire: &mut W) -> bool
     requires open { is_some master.old.cycle ≡ true }
     requires count { length (frames_of master.old.cycle) ≡ length master.old.plan.parts }
@@ -43,8 +43,8 @@ fn exchange<W: Wire>(master: &mut Master<'_>, wire: &mut W) -> bool
     send_parts(master, wire) && receive_parts(master, wire)
 }
 
-/// Receives until all parts are kept or the most payloads were received, and gives each to the master. It answers whether that
-/// was no fault.
+/// Receives payloads and gives each to the master, until all parts are kept or the most payloads were received. Returns whether no
+/// call of the wire was a fault.
 fn receive_parts<W: Wire>(master: &mut Master<'_>, wire: &mut W) -> bool
     ensures received { (got : List (List ℕ)) × Carries (W.state wire.old) (W.state wire.new) [] got × AreTaken master.old got master.new
         × (length got ≤ max_received (length master.old.plan.parts))
@@ -66,7 +66,7 @@ fn receive_parts<W: Wire>(master: &mut Master<'_>, wire: &mut W) -> bool
     true
 }
 
-/// Sends the frames of the open cycle in order, and answers whether that was no fault.
+/// Sends the frames of the open cycle in order, up to the first fault. Returns whether there was none.
 fn send_parts<W: Wire>(master: &Master<'_>, wire: &mut W) -> bool
     requires open { is_some master.now.cycle ≡ true }
     requires count { length (frames_of master.now.cycle) ≡ length master.now.plan.parts }

@@ -1,14 +1,14 @@
-//! Why a call over a wire took nothing.
+//! Errors of cycles over wires, and of sockets.
 ghost use Rattle.std.specs.Prelude.{◌≡◌, codes};
 ghost use Rattle.ec_wire.specs.Errors.{run_number, run_name};
 
 use ec_cycle::CycleError;
 use thiserror::Error;
 
-/// Why a cycle over a wire took nothing.
+/// Why no input of a cycle over a wire was taken.
 #[derive(Clone, Copy, Debug, PartialEq, Eq, Drop, Error)]
 pub enum RunError {
-    /// The master began no cycle, and is as it was.
+    /// The master can't begin a cycle, and stays as it was.
     #[error("{0}")]
     Refused(CycleError),
     /// A call of the wire was a fault. The cycle was dropped, and no input changed.
@@ -17,7 +17,7 @@ pub enum RunError {
 }
 
 impl RunError {
-    /// The number by which the program names this error.
+    /// The number by which the program prints this error.
     pub fn number(self) -> u8
         ensures { result ≡ run_number self }
     {
@@ -27,7 +27,7 @@ impl RunError {
         }
     }
 
-    /// The name that the program tells behind the number: of a master's refusal the one that the master gives it.
+    /// The name that the program prints behind the number. A master's refusal keeps the name of its [`CycleError`].
     pub fn name(self) -> &'static str
         ensures { result.now ≡ run_name self }
     {
@@ -49,20 +49,20 @@ impl From<CycleError> for RunError {
     }
 }
 
-/// A socket couldn't be had, or a call on one was a fault.
+/// A socket couldn't be opened, or a call on one was a fault.
 #[derive(Clone, Copy, Debug, PartialEq, Eq, Drop, Error)]
 #[error("a fault of a socket")]
 pub struct SocketFault;
 
 impl SocketFault {
-    /// The number by which the program names it.
+    /// The number by which the program prints this error.
     pub fn number(self) -> u8
         ensures { result ≡ 43 }
     {
         43
     }
 
-    /// The name that the program tells behind the number.
+    /// The name that the program prints behind the number.
     pub fn name(self) -> &'static str
         ensures { result.now ≡ codes "Socket" }
     {

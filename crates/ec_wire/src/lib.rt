@@ -1,6 +1,6 @@
-//! Wires and sockets: cycles of a master over whatever carries its frames, and segments of simulated slaves that answer there.
+//! Wires, which carry a master's frames to a segment and back: cycles and start-ups over them, and segments of simulated slaves.
 //!
-//! A [`Wire`] sends and receives payloads and counts its faults. What a cycle over a wire promises is promised of every wire.
+//! A [`Wire`] sends and receives payloads and counts its faults. The contract of a cycle holds for every wire.
 #![tactic(auto)]
 
 mod application;

@@ -11,8 +11,8 @@ use ec_ring::Ring;
 use std::marker::Model;
 use std::net::Net;
 
-/// The sockets of a master and of its segment, on ports of 127.0.0.1 that the system picks, connected with each other: neither
-/// receives what comes from elsewhere.
+/// The sockets of a master and of its segment, on ports of 127.0.0.1 that the system picks. They are connected with each other:
+/// neither receives what comes from elsewhere.
 #[derive(Drop)]
 struct Sockets {
     master: UdpWire,
@@ -20,7 +20,7 @@ struct Sockets {
 }
 
 impl Sockets {
-    /// Two such sockets, if there are any.
+    /// Opens two such sockets. `SocketFault` if one can't be opened or connected.
     fn bind<R: Net>(rt: &R) -> Result<Sockets, SocketFault> {
         let segment = UdpWire::bind_impatient(rt)?;
         let master = UdpWire::connect(rt, segment.port())?;
@@ -29,7 +29,7 @@ impl Sockets {
     }
 }
 
-/// How many slaves the last wire was opened to, and how many payloads were sent and received and how many calls were faults.
+/// The slaves of the last wire that was opened, the payloads sent, the payloads received, and the calls that were faults.
 #[derive(Clone, Copy, Drop)]
 struct Counts {
     slaves: usize,
@@ -38,12 +38,12 @@ struct Counts {
     failed: u64,
 }
 
-/// An application of simulated slaves in this process, and how many payloads a master sent to slaves that have it, and received
-/// from them, over two sockets; how many calls were faults, and how many slaves the last wire was opened to. The counts change by
-/// nothing but what a wire that was opened here carries, at whose slaves that application steps and no other.
+/// An application of simulated slaves in this process, and counts of a master's traffic with slaves that have it, over sockets. They
+/// are the slaves of the last wire, payloads sent and received, and calls that were faults. Only wires that [`Loopback::open`] returned
+/// change the counts of payloads and faults. At the slaves of such a wire, only the application that it was opened with steps.
 #[derive(Drop)]
 pub struct Loopback<A: Drop> {
-    /// None while a wire has it.
+    /// `None` while a wire has the application.
     app: Option<A>,
     counts: Counts,
 }
@@ -60,7 +60,7 @@ impl<A: Drop> Model for Loopback<A> {
 }
 
 impl<A: App + Drop> Loopback<A> {
-    /// An application to whose slaves nothing was sent yet.
+    /// A loopback with this application, whose counts are 0.
     pub fn new(app: A) -> Loopback<A>
         ensures { result ≡ record { app = Some app; traffic = nothing_sent } }
     {
@@ -76,14 +76,14 @@ impl<A: App + Drop> Loopback<A> {
         }
     }
 
-    /// How many payloads a master sent to its slaves so far.
+    /// How many payloads a master sent to its slaves, over all wires that were closed.
     pub fn sent(&self) -> u64
         ensures { result ≡ self.now.traffic.sent }
     {
         self.counts.sent
     }
 
-    /// How many calls of its wires were faults.
+    /// How many calls were faults, over all wires that were closed.
     pub fn failures(&self) -> u64
         ensures { result ≡ self.now.traffic.failed }
     {
@@ -97,19 +97,19 @@ impl<A: App + Drop> Loopback<A> {
         self.counts.slaves
     }
 
-    /// How many payloads came back from them.
+    /// How many payloads a master received from its slaves, over all wires that were closed.
     pub fn received(&self) -> u64
         ensures { result ≡ self.now.traffic.received }
     {
         self.counts.received
     }
 
-    /// A master's wire to these slaves, whose application is this one, over two new sockets on ports of 127.0.0.1 that the
-    /// system picks. They are connected with each other: neither receives what comes from elsewhere.
+    /// Opens a master's wire to these slaves over two new sockets, on ports of 127.0.0.1 that the system picks. The wire takes the
+    /// application. The sockets are connected with each other: neither receives what comes from elsewhere.
     ///
     /// # Errors
     ///
-    /// `SocketFault` where there are no such sockets, or another wire has the application. The slaves are lost then.
+    /// `SocketFault` if there are no such sockets, or another wire has the application. The slaves are lost then.
     pub fn open<R: Net>(&mut self, rt: &R, ring: Ring) -> Result<LoopWire<A>, SocketFault>
         ensures opened { IfOk result (λ wire. wire.traffic ≡ opened_to (length ring) self.old.traffic) }
         ensures taken { IfOk result (λ wire. (is_some self.old.app ≡ true) × (self.new.app ≡ None)) }
@@ -132,7 +132,7 @@ impl<A: App + Drop> Loopback<A> {
         })
     }
 
-    /// Takes the application of a wire back, with what the wire carried.
+    /// Takes back the application of a wire, and the wire's counts.
     pub fn close(&mut self, wire: LoopWire<A>)
         ensures counts { self.new.traffic ≡ opened_to self.old.traffic.slaves wire.traffic }
         ensures back { is_some self.new.app ≡ true }
@@ -153,9 +153,9 @@ impl<A: App + Drop> Loopback<A> {
     }
 }
 
-/// A master's wire to a segment on a second socket of the same thread: while the master sends a frame, the segment receives
-/// it, its slaves are passed and served, and the frame is sent back. It tells how many payloads it carried; where either
-/// number is 2^64 - 1, calls that would count more are faults.
+/// A master's wire to a segment on a second socket of the same thread. While the master sends a frame, the segment receives it,
+/// passes and serves its slaves, and sends the frame back. Contracts know how many payloads the wire sent and received. If one of
+/// these counts is 2^64 - 1, each call that would raise it is a fault.
 #[derive(Drop)]
 pub struct LoopWire<A: Drop> {
     sockets: Sockets,
@@ -178,21 +178,21 @@ impl<A: Drop> Model for LoopWire<A> {
 }
 
 impl<A: App + Drop> LoopWire<A> {
-    /// The port of the master's socket, and of the segment's.
+    /// The ports of the master's socket and of the segment's, in this order.
     pub fn ports(&self) -> (u16, u16)
         ensures { result ≡ (self.now.ports.master, self.now.ports.segment) }
     {
         self.ports
     }
 
-    /// Whether a call may carry a payload more than so many.
+    /// Whether a call may carry one payload more than `count`.
     fn may_count(&self, count: u64) -> bool
         ensures { result ≡ true → (self.now.traffic.failed < max_failed) × (count < max_failed) }
     {
         self.counts.failed != u64::MAX && count != u64::MAX
     }
 
-    /// Sends a payload over the master's socket; the segment receives it, and answers it where it is a frame. Whether no call
+    /// Sends a payload over the master's socket. The segment receives it, and sends an answer if it is a frame. Returns whether no call
     /// was a fault.
     fn is_answered(&mut self, payload: &[u8]) -> bool
         ensures { self.new ≡ self.old }
@@ -206,7 +206,7 @@ impl<A: App + Drop> LoopWire<A> {
             )
     }
 
-    /// Receives a payload over the master's socket, and answers its length, or nothing at a fault.
+    /// Receives a payload over the master's socket. Returns its length in bytes, or `None` at a fault.
     fn receive(&mut self, buffer: &mut [u8]) -> Option<usize>
         ensures kept { self.new ≡ self.old }
         ensures within { IfSome result (λ count. count ≤ length buffer.new) }
@@ -222,7 +222,7 @@ impl<A: App + Drop> LoopWire<A> {
     }
 }
 
-/// A segment receives a payload and answers it, where it is a frame. Whether no call was a fault.
+/// Receives a payload at a segment's socket, and sends an answer if it is a frame. Returns whether no call was a fault.
 fn serve<A: App>(socket: &mut UdpWire, ring: &mut Ring, app: &mut A, buffer: &mut [u8]) -> bool {
     let Some(count) = receive_on(socket, buffer) else {
         return false;

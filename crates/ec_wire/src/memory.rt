@@ -10,9 +10,9 @@ use ec_ring::Ring;
 use std::alloc::{AllocError, Global};
 use std::marker::Model;
 
-/// A wire to a ring of slaves in memory, whose applications show their outputs as their inputs. A frame that is sent passes the
-/// slaves, each is served, and what came of it is on its way until it is received. It tells what it carried, and one of its
-/// calls is a fault, so that a master's answer to a fault at each place can be tried.
+/// A wire to a ring of slaves in memory, whose applications copy their outputs to their inputs. A sent frame passes the slaves, each
+/// is served, and the frame waits until it is received. Contracts know each payload that the wire carried. One of its calls is a
+/// fault, so that tests can try a fault at each place.
 #[derive(Drop)]
 pub struct MemoryWire {
     ring: Ring,
@@ -38,12 +38,12 @@ impl Model for MemoryWire {
 }
 
 impl MemoryWire {
-    /// A wire to these slaves, with room for so many payloads sent and so many received. The call of this number, the first
-    /// being 0, is a fault and carries nothing, and so is each that finds no room, no payload, or more than 1472 bytes.
+    /// A wire to these slaves, with room for `room` payloads sent and `room` received. Call number `fails_at`, counted from 0, is a fault
+    /// and carries nothing. So is each call that finds no room or no payload, and each that sends more than 1472 bytes.
     ///
     /// # Errors
     ///
-    /// `AllocError` where there is no memory. The slaves are lost then.
+    /// `AllocError` if there is no memory. The slaves are lost then.
     pub fn new(
         alloc: Global,
         ring: Ring,
@@ -64,7 +64,7 @@ impl MemoryWire {
         })
     }
 
-    /// The slaves, with what was done to them.
+    /// The slaves, as the frames left them.
     pub fn into_ring(self) -> Ring {
         self.ring
     }
@@ -76,7 +76,7 @@ impl MemoryWire {
         self.received.len()
     }
 
-    /// Counts a call, and answers whether it may carry something.
+    /// Counts a call, and returns whether it may carry something.
     fn begin_call(&mut self) -> bool
         ensures kept { self.new ≡ self.old }
         ensures few { result ≡ true → self.old.failed < max_failed }
@@ -86,7 +86,7 @@ impl MemoryWire {
         call != self.fails_at && self.failures != u64::MAX
     }
 
-    /// Carries a payload to the slaves, and answers whether there was room for it.
+    /// Carries a payload to the slaves, and returns whether there was room for it.
     fn carry(&mut self, payload: &[u8]) -> bool
         requires { length payload.now ≤ 1472 }
         ensures carried { result ≡ true → Carries self.old self.new (payload.now ∷ []) [] }
@@ -105,8 +105,8 @@ impl MemoryWire {
         self.sent.push(Payload::new(payload)).is_ok()
     }
 
-    /// Receives what has been on its way longest, and answers how many bytes of it are in the buffer; nothing where there is
-    /// none, or no room for it.
+    /// Puts the oldest answer that wasn't received yet into `buffer`. Returns how many bytes of it are there, or `None` if there is no
+    /// answer, or no room to keep it as received.
     fn deliver(&mut self, buffer: &mut [u8]) -> Option<usize>
         ensures within { IfSome result (λ count. count ≤ length buffer.new) }
         ensures carried { IfSome result (λ count. Carries self.old self.new [] (take count buffer.new ∷ [])) }

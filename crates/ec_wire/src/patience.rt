@@ -7,7 +7,7 @@ use std::io::ErrorKind;
 use std::net::{SocketAddr, UdpSocket};
 use std::time::Duration;
 
-/// A patience has so many parts at least.
+/// The least number of parts of a patience that ends.
 const LEAST_PARTS: u32 = 2;
 
 /// One part of a long patience, in milliseconds.
@@ -16,14 +16,14 @@ const LONG_PART: u128 = 250;
 /// How long a receive waits.
 #[derive(Clone, Copy, Debug, PartialEq, Eq, Drop)]
 pub enum Patience {
-    /// Without an end.
+    /// Without end.
     Endless,
-    /// So long, which is more than nothing.
+    /// This long. A socket refuses a patience of 0.
     For(Duration),
 }
 
 impl Patience {
-    /// So many seconds; with 0 there is no end.
+    /// A patience of so many seconds; with 0 it has no end.
     pub fn of_seconds(seconds: u32) -> Patience
         ensures { lasts result ≡ (if seconds == 0 then None else Some (seconds * 1_000_000_000)) }
     {
@@ -34,14 +34,14 @@ impl Patience {
         }
     }
 
-    /// So many milliseconds.
+    /// A patience of so many milliseconds. A socket refuses one of 0.
     pub fn of_millis(millis: u16) -> Patience
         ensures { lasts result ≡ Some (millis * 1_000_000) }
     {
         Patience::For(Duration::from_millis(u64::from(millis)))
     }
 
-    /// How long one part of a wait is, if it ends, and how many parts there are.
+    /// How long one part of a wait is, `None` if it has no end, and how many parts there are.
     #[tactic(auto, using(crate::proofs::Waiting::parts_within))]
     fn parts(self) -> (Option<Duration>, u64)
         ensures { AreWithin self result.0 result.1 }
@@ -56,7 +56,7 @@ impl Patience {
     }
 }
 
-/// In how many parts a receive waits so long.
+/// How many parts a receive has that waits this long in all.
 fn parts_of(whole: Duration) -> u32
     ensures { 2 ≤ result }
 {
@@ -76,11 +76,11 @@ pub struct PatientSocket {
 }
 
 impl PatientSocket {
-    /// A socket whose receives wait so long, also if it didn't wait before.
+    /// A socket whose receives wait with this patience, also if the socket was non-blocking before.
     ///
     /// # Errors
     ///
-    /// The socket, if it has no such patience, as one of 0, or isn't a socket.
+    /// The socket itself, if it isn't a socket or the system refuses the patience, as it refuses 0.
     pub fn new(socket: UdpSocket, patience: Patience) -> Result<PatientSocket, UdpSocket> {
         let (part, parts) = patience.parts();
         if socket.set_read_timeout(part).is_err() || socket.set_nonblocking(false).is_err() {
@@ -94,13 +94,13 @@ impl PatientSocket {
         Ok(self.socket.local_addr()?.port())
     }
 
-    /// Connects the socket with one peer, from which alone it receives from now on.
+    /// Connects the socket with one peer. It then receives from this peer alone.
     pub(crate) fn connect(&self, peer: SocketAddr) -> io::Result<()> {
         self.socket.connect(peer)
     }
 
-    /// Sends a datagram to an address, or else to the peer that the socket is connected with. It returns whether all of it was
-    /// sent.
+    /// Sends a datagram to the address `to`, or to the peer that the socket is connected with if that is `None`. Returns whether all
+    /// of it was sent.
     pub fn has_sent(&self, datagram: &[u8], to: Option<SocketAddr>) -> bool {
         for _ in 0..self.parts {
             match self.send_once(datagram, to) {
@@ -112,12 +112,12 @@ impl PatientSocket {
         false
     }
 
-    /// Receives a datagram, of which the buffer gets as much as it has room for, and returns how many bytes that are. When the
-    /// patience is over it takes what has come by then.
+    /// Receives a datagram into `buffer`, cut to the room there, and returns how many bytes are there. When the patience is over, it
+    /// takes a datagram that has come by then.
     ///
     /// # Errors
     ///
-    /// What the system says, and `ErrorKind::WouldBlock` if nothing came.
+    /// The system's error; `ErrorKind::WouldBlock` if nothing came.
     pub fn receive(&self, buffer: &mut [u8]) -> io::Result<usize>
         ensures { IfOk result (λ count. count ≤ length buffer.new) }
     {
@@ -133,7 +133,7 @@ impl PatientSocket {
         ended
     }
 
-    /// The same, with the address that the datagram came from.
+    /// Receives as [`PatientSocket::receive`] does, and also returns the address that the datagram came from.
     ///
     /// # Errors
     ///
@@ -162,7 +162,7 @@ impl PatientSocket {
     }
 }
 
-/// Whether one part of a wait is over: its time is, or a signal ended it.
+/// Whether an error ends one part of a wait: its time is over, or a signal interrupted it.
 fn is_over(error: &io::Error) -> bool {
     matches!(error.kind(), ErrorKind::WouldBlock | ErrorKind::Interrupted)
 }

@@ -29,7 +29,7 @@ pub(crate) fn frame_of(bytes: &[u8]) -> Frame
 }
 
 impl Payload {
-    /// The payload of these bytes.
+    /// The payload of these bytes, at most 1472.
     pub fn new(bytes: &[u8]) -> Payload
         requires { length bytes.now ≤ 1472 }
         ensures { result ≡ bytes.now }
@@ -46,7 +46,7 @@ impl Payload {
         Payload { bytes: frame }
     }
 
-    /// Its bytes.
+    /// The bytes of the payload.
     pub fn as_slice(&self) -> &[u8]
         ensures bytes { result.now ≡ self.now }
         ensures few { length result.now ≤ 1472 }

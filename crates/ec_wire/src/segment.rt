@@ -9,17 +9,17 @@ use crate::wire::{Wire, receive_on, send_on};
 use ec_frame::field::MAX_FRAME_LEN;
 use ec_ring::Ring;
 
-/// How many payloads came to a segment; an answer that a fault of the wire lost is not counted.
+/// How many payloads a segment received. A frame whose answer was lost by a fault of the wire isn't counted.
 #[derive(Clone, Copy, Debug, PartialEq, Eq, Drop)]
 pub struct Served {
     /// Frames, which were answered.
     pub answered: u32,
-    /// Other payloads, which were not.
+    /// Other payloads, which weren't answered.
     pub refused: u32,
 }
 
 impl Served {
-    /// One payload more.
+    /// Counts one payload more.
     fn count(&mut self, is_answered: bool)
         requires { self.old.answered + self.old.refused < 4294967295 }
         ensures answered { self.new.answered ≡ self.old.answered + (if is_answered then 1 else 0) }
@@ -33,11 +33,11 @@ impl Served {
     }
 }
 
-/// Receives payloads, so many in all, as [`serve_segment`] does, and also counts what came before a fault.
+/// Receives `frames` payloads as [`serve_segment`] does, and returns the counts also if a call of the wire was a fault.
 ///
 /// # Errors
 ///
-/// What came until a call of the wire was a fault. It was treated so; the last answer may be lost, and is not counted.
+/// The counts until a call of the wire was a fault. The payloads until then were served; the last answer may be lost, and isn't counted.
 pub fn serve_counted<W: Wire>(
     ring: &mut Ring,
     app: &mut dyn App,
@@ -52,12 +52,12 @@ pub fn serve_counted<W: Wire>(
     serve_payloads(ring, &mut app, wire, frames)
 }
 
-/// Receives payloads, so many in all. A frame passes the slaves, each is served, its application steps, and the frame is sent
-/// back; a payload that is no frame is counted and not answered.
+/// Receives `frames` payloads, and returns the counts. A frame passes the slaves, each is served, its application steps, and the frame
+/// is sent back. A payload that is no frame is counted and not answered.
 ///
 /// # Errors
 ///
-/// `SocketFault` where a call of the wire was a fault. What came until then was treated so; the last answer may be lost.
+/// `SocketFault` if a call of the wire was a fault. The payloads until then were served; the last answer may be lost.
 pub fn serve_segment<W: Wire>(
     ring: &mut Ring,
     app: &mut dyn App,
@@ -74,8 +74,8 @@ pub fn serve_segment<W: Wire>(
     }
 }
 
-/// Receives payloads, so many in all, and answers those that are frames. How many were and were not; an error has those until
-/// a fault of the wire.
+/// Receives `frames` payloads, and answers those that are frames. Returns how many were frames and how many weren't; an error has
+/// the counts until a fault of the wire.
 fn serve_payloads<A: App, W: Wire>(
     ring: &mut Ring,
     app: &mut A,
@@ -99,7 +99,7 @@ fn serve_payloads<A: App, W: Wire>(
     Ok(served)
 }
 
-/// Receives one payload and answers it where it is a frame. Whether it was, or nothing at a fault of the wire.
+/// Receives one payload, and answers it if it is a frame. Returns whether it was one, or `None` at a fault of the wire.
 fn serve_payload<A: App, W: Wire>(ring: &mut Ring, app: &mut A, wire: &mut W) -> Option<bool>
     ensures later { (o i : List ℕ) → A.shows app.new o i → A.shows app.old o i }
     ensures done { IfSome result (λ is_answered. (payload : List ℕ) × (sent : List (List ℕ))

@@ -9,14 +9,14 @@ use ec_frame::Frame;
 use ec_frame::field::MAX_FRAME_LEN;
 use ec_start::{NextFrame, Startup, Taken};
 
-/// So many payloads that don't answer a frame are received for it.
+/// The most payloads that are received for one frame of a start-up.
 const MAX_FOREIGN: usize = 64;
 
-/// Brings the slaves up that answer on a wire: turn after turn the next frame is sent and its answer taken, until the start-up
-/// has ended. A fault of the wire, or 64 payloads that don't answer a frame, ends it as lost.
+/// Brings up the slaves that answer on a wire. Each turn sends the next frame and takes its answer, until the start-up has ended.
+/// A fault of the wire, or 64 payloads in a row that don't answer a frame, ends it as lost.
 ///
-/// Where the wire carries each frame past all slaves and back, a new start-up of a plan that the link compiler made ends Ready
-/// over devices of its types, and every slave works as planned.
+/// If the wire carries each frame past all slaves and back, a new start-up of a compiled plan ends Ready over devices of its types.
+/// Every slave then works as planned.
 ///
 /// A start-up whose frame is outstanding ends as lost.
 pub fn bring_up_wire<W: Wire>(startup: &mut Startup<'_>, wire: &mut W)
@@ -35,8 +35,8 @@ pub fn bring_up_wire<W: Wire>(startup: &mut Startup<'_>, wire: &mut W)
     turn(startup, wire, &mut frame);
 }
 
-/// One turn: the next frame is sent and its answer taken. It answers whether the start-up goes on; one whose frame isn't
-/// answered is given up.
+/// Makes one turn: sends the next frame and takes its answer. Returns whether the start-up goes on. It is given up if its frame isn't
+/// answered.
 fn turn<W: Wire>(startup: &mut Startup<'_>, wire: &mut W, frame: &mut Frame) -> bool
     ensures made { result ≡ true → IsTurn startup.old startup.new (W.state wire.old) (W.state wire.new) }
     ensures ended { result ≡ false → IsBroughtUp startup.old (W.state wire.old) startup.new (W.state wire.new) }
@@ -54,7 +54,7 @@ fn turn<W: Wire>(startup: &mut Startup<'_>, wire: &mut W, frame: &mut Frame) -> 
     false
 }
 
-/// Sends a frame of the start-up and receives until it is answered. It answers whether it was; else the start-up is as it was.
+/// Sends a frame of the start-up and receives until it is answered. Returns whether it was; if not, the start-up stays as it was.
 fn exchange<W: Wire>(startup: &mut Startup<'_>, wire: &mut W, frame: &[u8]) -> bool
     ensures answered { result ≡ true → IsAnswered startup.old startup.new frame.now (W.state wire.old) (W.state wire.new) }
     ensures unanswered { result ≡ false → IsUnanswered startup.old frame.now (W.state wire.old) (W.state wire.new) }

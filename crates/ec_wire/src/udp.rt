@@ -10,22 +10,22 @@ use std::io;
 use std::marker::Model;
 use std::net::{Ipv4Addr, Net, SocketAddr, SocketAddrV4, UdpSocket};
 
-/// A master waits so long for a payload, in milliseconds, where nothing else is asked for.
+/// How long a master waits for a payload by default, in milliseconds.
 const PATIENCE: u16 = 500;
 
-/// A segment waits so many seconds for a payload, where nothing else is asked for.
+/// How long a segment waits for a payload by default, in seconds.
 const MAX_IDLE: u32 = 60;
 
 /// Whom a wire sends to.
 #[derive(Clone, Copy)]
 enum Peer {
-    /// The one that its socket is connected with, from whom alone it receives.
+    /// The peer that the socket is connected with. The wire receives from it alone.
     Connected,
-    /// Whoever sent the last payload that it received, once there was one.
+    /// The sender of the last payload that the wire received, if there was one.
     Last(Option<SocketAddr>),
 }
 
-/// A UDP socket and its peer, on 127.0.0.1 unless the peer is elsewhere. It doesn't tell what it carried.
+/// A wire over a UDP socket, on 127.0.0.1 unless [`UdpWire::connect_patient`] opened it. Contracts know nothing of what it carried.
 #[derive(Drop)]
 pub struct UdpWire {
     socket: PatientSocket,
@@ -43,63 +43,63 @@ impl Model for UdpWire {
 }
 
 impl UdpWire {
-    /// This wire, connected with the one peer on a port, from which alone it receives.
+    /// This wire, connected with the peer on a port of 127.0.0.1. It receives from that peer alone.
     pub(crate) fn connected_to(self, port: u16) -> Result<UdpWire, SocketFault>
         ensures { IfOk result (λ w. w ≡ self) }
     {
         self.connected_with(here(port))
     }
 
-    /// A segment's wire on a port, where 0 lets the system pick one. It sends to whoever sent the last payload that it
-    /// received. A receive that got nothing for a minute is a fault.
+    /// A segment's wire on a port of 127.0.0.1; with port 0 the system picks one. It sends to the sender of the last payload that it
+    /// received. A receive that gets nothing for a minute is a fault.
     ///
     /// # Errors
     ///
-    /// `SocketFault` where there is no such socket, as on a port in use.
+    /// `SocketFault` if there is no such socket, for example because the port is in use.
     pub fn bind<R: Net>(rt: &R, port: u16) -> Result<UdpWire, SocketFault>
         ensures { IfOk result (IsOpened port) }
     {
         UdpWire::bind_idle(rt, port, MAX_IDLE)
     }
 
-    /// A segment's wire on a port, where 0 lets the system pick one. It sends to whoever sent the last payload that it
-    /// received. A receive that got nothing for so many seconds is a fault; with 0 seconds it waits on.
+    /// A segment's wire on a port of 127.0.0.1; with port 0 the system picks one. It sends to the sender of the last payload that it
+    /// received. A receive that gets nothing for `seconds` seconds is a fault; with 0 it waits without end.
     ///
     /// # Errors
     ///
-    /// `SocketFault` where there is no such socket, as on a port in use.
+    /// `SocketFault` if there is no such socket, for example because the port is in use.
     pub fn bind_idle<R: Net>(rt: &R, port: u16, seconds: u32) -> Result<UdpWire, SocketFault>
         ensures { IfOk result (IsOpened port) }
     {
         UdpWire::new(rt, port, Patience::of_seconds(seconds))
     }
 
-    /// A wire on a port that the system picks, which sends to whoever sent the last payload that it received. A receive that got
-    /// nothing in half a second is a fault.
+    /// A wire on a port of 127.0.0.1 that the system picks. It sends to the sender of the last payload that it received. A receive that
+    /// gets nothing in half a second is a fault.
     pub(crate) fn bind_impatient<R: Net>(rt: &R) -> Result<UdpWire, SocketFault>
         ensures { IfOk result (λ w. w.failed ≡ 0) }
     {
         UdpWire::new(rt, 0, Patience::of_millis(PATIENCE))
     }
 
-    /// A master's wire to the segment on a port, from which alone it receives. A receive that got nothing in half a second
-    /// is a fault.
+    /// A master's wire to the segment on a port of 127.0.0.1. It receives from that segment alone. A receive that gets nothing in half
+    /// a second is a fault.
     ///
     /// # Errors
     ///
-    /// `SocketFault` where there is no socket.
+    /// `SocketFault` if no socket can be opened and connected.
     pub fn connect<R: Net>(rt: &R, port: u16) -> Result<UdpWire, SocketFault>
         ensures { IfOk result (λ w. w.failed ≡ 0) }
     {
         UdpWire::bind_impatient(rt)?.connected_to(port)
     }
 
-    /// A master's wire to the segment at an address, from which alone it receives. A receive that got nothing in so many
-    /// milliseconds is a fault.
+    /// A master's wire to the segment at an address and port. It receives from that segment alone. A receive that gets nothing in
+    /// `patience` milliseconds is a fault.
     ///
     /// # Errors
     ///
-    /// `SocketFault` where there is no such socket, or the patience is 0.
+    /// `SocketFault` if no such socket can be opened and connected, or `patience` is 0.
     pub fn connect_patient<R: Net>(
         rt: &R,
         peer: SocketAddrV4,
@@ -125,7 +125,7 @@ impl UdpWire {
         self.port
     }
 
-    /// This wire, connected with one peer, from which alone it receives.
+    /// This wire, connected with one peer. It receives from that peer alone.
     fn connected_with(self, peer: SocketAddr) -> Result<UdpWire, SocketFault>
         ensures { IfOk result (λ w. w ≡ self) }
     {
@@ -139,7 +139,7 @@ impl UdpWire {
         }
     }
 
-    /// A wire on a port, which sends to whoever sent the last payload that it received.
+    /// A wire on a port of 127.0.0.1, which sends to the sender of the last payload that it received.
     fn new<R: Net>(rt: &R, port: u16, patience: Patience) -> Result<UdpWire, SocketFault>
         ensures { IfOk result (IsOpened port) }
     {
@@ -155,7 +155,7 @@ impl UdpWire {
         })
     }
 
-    /// Sends a payload to the peer, and answers whether all of it was sent.
+    /// Sends a payload to the peer. Returns whether all of it was sent.
     fn has_sent(&self, payload: &[u8]) -> bool {
         if payload.len() > MAX_FRAME_LEN {
             return false;
@@ -167,7 +167,7 @@ impl UdpWire {
         }
     }
 
-    /// Receives a payload, and answers how many bytes of it are in the buffer, and whom to send to from now on.
+    /// Receives a payload. Returns how many bytes of it are in `buffer`, and the peer to send to next.
     fn receive(&self, buffer: &mut [u8]) -> io::Result<(usize, Peer)>
         ensures { IfOk result (λ came. came.0 ≤ length buffer.new) }
     {
@@ -206,7 +206,7 @@ impl Wire for UdpWire {
     }
 }
 
-/// A socket at an address, whose receives wait so long, and its port.
+/// Opens a socket at an address, whose receives wait with this patience. Returns it and its port.
 fn open<R: Net>(
     rt: &R,
     at: SocketAddr,
@@ -224,7 +224,7 @@ fn open<R: Net>(
     }
 }
 
-/// A port on 127.0.0.1.
+/// The address of a port on 127.0.0.1.
 fn here(port: u16) -> SocketAddr {
     SocketAddr::from((Ipv4Addr::LOCALHOST, port))
 }

@@ -4,8 +4,8 @@ ghost use Rattle.ec_wire.specs.Wires.{WireState, Carries, is_fault};
 
 /// What carries payloads to a segment and back.
 ///
-/// A call was a fault exactly where the count of faults rose in it, or stood at its last value, 2^64 - 1. A wire may tell what
-/// it carried; what contracts say of payloads holds for one that does, and the rest for each.
+/// A call is a fault exactly if the count of faults rises in it, or has its last value, 2^64 - 1. A wire's state may say which payloads
+/// it carried, or how many. Clauses about payloads say something of such a wire alone; all other clauses hold for every wire.
 pub trait Wire {
     ghost state: { Self → WireState };
 
@@ -13,19 +13,19 @@ pub trait Wire {
     fn failures(&self) -> u64
         ensures { result ≡ (state self.now).failed };
 
-    /// Sends a payload. One of more than 1472 bytes is a fault.
+    /// Sends a payload. A call with more than 1472 bytes is a fault.
     fn send(&mut self, payload: &[u8])
         ensures done { is_fault (state self.old) (state self.new) ≡ false → Carries (state self.old) (state self.new) (payload.now ∷ []) [] }
         ensures lost { is_fault (state self.old) (state self.new) ≡ true → Carries (state self.old) (state self.new) [] [] };
 
-    /// Receives a payload into `buffer`, and answers how many bytes it has there. What the buffer has no room for is dropped.
+    /// Receives a payload into `buffer`, and returns how many bytes of it are there. Bytes that the buffer has no room for are dropped.
     fn recv(&mut self, buffer: &mut [u8]) -> usize
         ensures within { result ≤ length buffer.new }
         ensures done { is_fault (state self.old) (state self.new) ≡ false → Carries (state self.old) (state self.new) [] (take result buffer.new ∷ []) }
         ensures lost { is_fault (state self.old) (state self.new) ≡ true → Carries (state self.old) (state self.new) [] [] };
 }
 
-/// Sends a payload, and answers whether that was no fault.
+/// Sends a payload. Returns whether the call was no fault.
 pub fn send_on<W: Wire>(wire: &mut W, payload: &[u8]) -> bool
     ensures fault { result ≡ not (is_fault (W.state wire.old) (W.state wire.new)) }
     ensures same { result ≡ true → (W.state wire.new).failed ≡ (W.state wire.old).failed }
@@ -37,7 +37,7 @@ pub fn send_on<W: Wire>(wire: &mut W, payload: &[u8]) -> bool
     is_fine(before, wire.failures())
 }
 
-/// Receives a payload into `buffer`, and answers its length there, or nothing at a fault.
+/// Receives a payload into `buffer`. Returns its length there in bytes, or `None` at a fault.
 pub fn receive_on<W: Wire>(wire: &mut W, buffer: &mut [u8]) -> Option<usize>
     ensures fault { is_some result ≡ not (is_fault (W.state wire.old) (W.state wire.new)) }
     ensures same { IfSome result (λ count. (W.state wire.new).failed ≡ (W.state wire.old).failed) }
@@ -54,7 +54,7 @@ pub fn receive_on<W: Wire>(wire: &mut W, buffer: &mut [u8]) -> Option<usize>
     }
 }
 
-/// Whether a call was no fault, by the counts before and after it.
+/// Whether a call was no fault, by the counts of faults before and after it.
 fn is_fine(before: u64, after: u64) -> bool
     ensures { (old new : WireState) → old.failed ≡ before → new.failed ≡ after → result ≡ not (is_fault old new) }
 {

@@ -1,5 +1,5 @@
-//! The program `ecat`: an EtherCAT master and a segment of simulated slaves. All that it does is
-//! `ec_commands`'s, over the arguments, the streams and the memory of the system.
+//! The program `ecat`: an EtherCAT master and a segment of simulated slaves. It runs the commands of
+//! `ec_commands` over the arguments, the streams and the memory of the system.
 #![tactic(auto)]
 
 use ec_commands::{Console, InputStream, OutputStream, run_program};

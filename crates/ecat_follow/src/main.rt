@@ -2,10 +2,10 @@
 //!
 //!     ecat_follow ADDRESS:PORT CYCLES < TABLE
 //!
-//! The table has outputs `lamp` and `valves` and an input `switches`, as examples/small_machine.toml, and a segment of it answers
-//! at the address, as `ecat segment` does. The program brings the slaves up, lights the lamp, runs so many cycles, and sets the
-//! two valves after each one as the first two switches are. It prints how both are in the end; where the slaves don't come up or a
-//! cycle isn't taken it says so, and the status is 1.
+//! The table has outputs `lamp` and `valves` and an input `switches`, as examples/small_machine.toml has. A segment of it answers
+//! at the address, such as `ecat segment`. The program brings the slaves up, lights the lamp, and runs CYCLES cycles. After each it
+//! sets the two valves as the first two switches are. At the end it prints how many cycles were taken, and both variables. The
+//! status is 1 if the slaves don't come up, which it says on standard error, or if a cycle isn't taken.
 #![tactic(auto)]
 
 ghost use Rattle.std.specs.Prelude.{◌≡◌};
@@ -23,7 +23,7 @@ use std::process::ExitCode;
 use std::{env, io};
 use thiserror::Error;
 
-/// An answer is awaited so many milliseconds.
+/// How many milliseconds an answer is awaited.
 const PATIENCE: u16 = 500;
 
 /// The first two switches, which the valves follow.
@@ -54,7 +54,7 @@ enum Failure {
     StartUp,
 }
 
-/// How a run ended: how many cycles were taken, and what the variables are then.
+/// How a run ended: how many cycles were taken, and the values of the variables then.
 #[derive(Clone, Copy, Debug, PartialEq, Eq)]
 struct Ending {
     taken: u32,
@@ -62,7 +62,7 @@ struct Ending {
     valves: u64,
 }
 
-/// Where the variable of a name is.
+/// The place of the variable with this name; `None` if there is none.
 fn place_of(table: &Table, name: &str) -> Option<usize> {
     table
         .variables()
@@ -70,7 +70,7 @@ fn place_of(table: &Table, name: &str) -> Option<usize> {
         .position(|variable| variable.name.as_str() == name)
 }
 
-/// Where the machine's variables are; none where the table lacks one.
+/// The places of the machine's variables; `None` if the table lacks one.
 fn places_of(table: &Table) -> Option<Places> {
     Some(Places {
         lamp: place_of(table, "lamp")?,
@@ -86,7 +86,7 @@ fn set(master: &mut Master<'_>, variable: usize, value: u64) {
     }
 }
 
-/// What a variable is; 0 where there is none.
+/// The value of a variable; 0 if there is none.
 fn get(master: &Master<'_>, variable: usize) -> u64 {
     if variable < master.variables() {
         master.get(variable)
@@ -95,7 +95,7 @@ fn get(master: &Master<'_>, variable: usize) -> u64 {
     }
 }
 
-/// One cycle, behind which the valves are as the switches. Whether every sync unit was taken.
+/// Runs a cycle, and then sets the valves as the switches are. Returns whether every sync unit was taken.
 fn follow_once(master: &mut Master<'_>, wire: &mut UdpWire, places: Places) -> bool {
     let Ok(report) = run_cycle(master, wire) else {
         return false;
@@ -105,7 +105,7 @@ fn follow_once(master: &mut Master<'_>, wire: &mut UdpWire, places: Places) -> b
     report.is_taken()
 }
 
-/// How a run ends of which so many cycles were taken.
+/// How a run ends in which this many cycles were taken.
 fn end_of(master: &Master<'_>, places: Places, taken: u32) -> Ending {
     Ending {
         taken,
@@ -114,7 +114,7 @@ fn end_of(master: &Master<'_>, places: Places, taken: u32) -> Ending {
     }
 }
 
-/// So many cycles, up to one that isn't taken.
+/// Lights the lamp, and runs that many cycles, up to one that isn't taken.
 fn follow(master: &mut Master<'_>, wire: &mut UdpWire, places: Places, cycles: u32) -> Ending {
     set(master, places.lamp, 1);
     for taken in 0..cycles {
@@ -143,7 +143,7 @@ fn bring_up(
     }
 }
 
-/// Runs the machine of a plan, whose slaves answer on a wire.
+/// Runs the machine of a plan, whose slaves answer on a wire. The error says why no cycle was run.
 #[tactic(auto, unfolding(ec_start::specs::Running::begun))]
 fn run_plan<H: AllocGlobal>(
     rt: &H,
@@ -163,7 +163,7 @@ fn run_plan<H: AllocGlobal>(
     Ok(follow(&mut master, wire, places, cycles))
 }
 
-/// Runs the machine of a table, whose slaves answer at an address.
+/// Runs the machine of a table, whose slaves answer at an address. The error says why no cycle was run.
 fn run_table<H: AllocGlobal + Net>(
     rt: &H,
     table: &Table,
@@ -187,7 +187,7 @@ fn run_text<H: AllocGlobal + Net>(
     run_table(rt, &table, peer, cycles)
 }
 
-/// What the arguments say: an address with a port, and how many cycles.
+/// The arguments: an address with a port, and how many cycles; `None` if they aren't that.
 fn task_of(args: &[String]) -> Option<(SocketAddrV4, u32)> {
     let peer = args.get(1)?.as_str().parse::<SocketAddrV4>().ok()?;
     let cycles = args.get(2)?.as_str().parse::<u32>().ok()?;
