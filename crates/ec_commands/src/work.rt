@@ -78,6 +78,7 @@ impl Work<'_> {
 ///
 /// The refusal of the input or of what it states. `Refusal::Output` or `Memory` if the file couldn't be opened. The errors of the work.
 /// `Refusal::Output` if that was through and the capture isn't whole.
+#[tactic(auto, using(crate::proofs::RunLemmas::left_alone))]
 pub(crate) fn run_work<
     H: AllocGlobal + Net + Files + Clock,
     R: Read + Drop,
@@ -106,6 +107,7 @@ pub(crate) fn run_work<
 }
 
 /// Does some work with the machine that a text states.
+#[tactic(auto, using(crate::proofs::RunLemmas::left_alone))]
 fn run_text<H: AllocGlobal + Net + Files + Clock, R: Read + Drop, W: Write + Drop, F: Write + Drop>(
     rt: &H,
     work: Work<'_>,

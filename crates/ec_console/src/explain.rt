@@ -2,7 +2,7 @@
 ghost use Rattle.std.specs.Prelude.{◌≡◌, []};
 ghost use Rattle.ec_console.specs.Explaining.{IsLeft};
 
-use crate::remarks::explanation;
+use crate::remarks::remarks_text;
 use crate::{Refusal, Source};
 use ec_script::split_script;
 use ec_table::{Fault, TableError};
@@ -105,7 +105,7 @@ fn text_on(
 ) -> Result<String, AllocError> {
     match (source, ended) {
         (_, Ok(())) => Ok(String::new(alloc)),
-        (Source::Table | Source::Lines, Err(refusal)) => explanation(alloc, text, 0, refusal),
+        (Source::Table | Source::Lines, Err(refusal)) => remarks_text(alloc, text, 0, refusal),
         (Source::Script, Err(refusal)) => script_text(alloc, text, refusal),
     }
 }
@@ -116,15 +116,15 @@ fn script_text(alloc: Global, text: &str, refusal: &Refusal) -> Result<String, A
     match refusal {
         Refusal::Script(_) => {
             let from = text.len().saturating_sub(script.len());
-            explanation(alloc, text, from, refusal)
+            remarks_text(alloc, text, from, refusal)
         }
         Refusal::Table(TableError::Refused(Fault::Toml)) if table.len() == text.len() => {
-            let mut told = explanation(alloc, table, 0, refusal)?;
+            let mut told = remarks_text(alloc, table, 0, refusal)?;
             told.push_str(
                 "There is no line `%%`, so all lines were read as lines of the table.\n",
             )?;
             Ok(told)
         }
-        _ => explanation(alloc, table, 0, refusal),
+        _ => remarks_text(alloc, table, 0, refusal),
     }
 }

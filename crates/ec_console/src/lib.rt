@@ -26,6 +26,6 @@ pub use crate::machine::read_machine;
 pub use crate::output::OutputStream;
 pub use crate::printing::print_text;
 pub use crate::refusal::{Refusal, end_of};
-pub use crate::remarks::{explanation, remarks_on};
+pub use crate::remarks::{remarks_on, remarks_text};
 pub use crate::stated::{Source, Stated, read_source, read_stated};
 pub use ec_lines::InputStream;

@@ -36,7 +36,7 @@ pub fn remarks_on<'a>(
 }
 
 /// The remarks on a text and its refusal, as one text: it stands behind the refusal's line.
-pub fn explanation(
+pub fn remarks_text(
     alloc: Global,
     text: &str,
     script: usize,

@@ -1,7 +1,7 @@
 //! Start-ups and cycles that fail, and what is told of them. What a run of `ecat` tells of tables, of lines of a script and of what
 //! they expect stands as cases in `tools/cases/data/`.
 use crate::explain::machine::MACHINE;
-use ec_console::{Refusal, explanation};
+use ec_console::{Refusal, remarks_text};
 use ec_cycle::CycleError;
 use ec_device::Device;
 use ec_script::ScriptError;
@@ -18,7 +18,7 @@ fn expect_phrases(rt: &impl Abort, told: &str, wanted: &str) {
 
 /// What explains a refusal on a text.
 fn told_of(rt: &(impl AllocGlobal + Abort), text: &str, refusal: Refusal) -> String {
-    explanation(rt.alloc(), text, 0, &refusal).expect(rt, "memory")
+    remarks_text(rt.alloc(), text, 0, &refusal).expect(rt, "memory")
 }
 
 /// Compares what explains a refusal of the machine.
