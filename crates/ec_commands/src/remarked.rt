@@ -7,7 +7,9 @@ ghost use Rattle.ec_console.specs.Given.{given_by};
 
 use crate::translate::print_decode;
 use ec_annotate::{Links, Names, annotate_text};
-use ec_console::{InputStream, OutputStream, Refusal, print_text, read_machine, read_text};
+use ec_console::{
+    InputStream, OutputStream, Refusal, SlaveForm, print_text, read_machine, read_text,
+};
 use ec_link::Machine;
 use std::alloc::Global;
 use std::fs::{File, Files};
@@ -94,7 +96,7 @@ fn print_by_text<R: Read + Drop, W: Write + Drop>(
     ensures { RunsByText text.now (given_by R.remaining input.old input.new) output.old
         output.new result }
 {
-    let machine = read_machine(alloc, text)?;
+    let machine = read_machine(alloc, SlaveForm::Plain, text)?;
     print_linked(alloc, names, &machine, input, output)
 }
 

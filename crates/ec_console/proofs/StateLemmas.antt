@@ -1,5 +1,5 @@
 -- What a text states, by what it is refused, and how a command ends that runs a machine.
-use Rattle.std.proofs.Common.{◌≡◌, ◌∙◌, ap, inl, inr, ℕ, List, [], refl, sym, subst, Option, None, Result, Ok, Err, IfOk, IfErr, OnOk}
+use Rattle.std.proofs.Common.{◌≡◌, ◌∙◌, ap, ℕ, List, refl, sym, subst, Option, None, Result, Ok, Err, IfOk, IfErr, OnOk}
 use Rattle.std.specs.Result.{IsErrAnd}
 use Rattle.ec_lines.specs.declared.error.LinesError.{LinesError}
 use Rattle.ec_lines.specs.Taking.{RefusesText}
@@ -8,7 +8,6 @@ use Rattle.ec_table.specs.Reading.{table_of}
 use Rattle.ec_link.specs.Faults.{Fails as LinkFails, compile_fault}
 use Rattle.ec_link.proofs.FacesShown.{faces}
 use Rattle.ec_script.specs.declared.error.ScriptError.{ScriptError}
-use Rattle.ec_script.specs.declared.line.Line.{Line}
 use Rattle.ec_script.specs.Halves.{Splits}
 use Rattle.ec_script.specs.Scripts.{Fails as ScriptFails, script_of}
 use Rattle.ec_console.specs.declared.form.SlaveForm.{SlaveForm}
@@ -19,7 +18,7 @@ use Rattle.ec_console.specs.declared.stated.Source.{Source}
 use Rattle.ec_console.specs.declared.stated.Source.TheVariants as takes
 use Rattle.ec_console.specs.declared.stated.Stated.{Stated}
 use Rattle.ec_console.specs.Given.{Given, IsLinkRefusal, IsTableRefusal, lines_refusal}
-use Rattle.ec_console.specs.Stating.{IsNeverRun, RefusesHalves, RefusesSource, RefusesStated, RunsSource, RunsStated, States, StatesIn, shown_in}
+use Rattle.ec_console.specs.Stating.{IsNeverRun, RefusesHalves, RefusesSource, RefusesStated, States, StatesIn, shown_in}
 
 -- ---- the input
 
@@ -31,15 +30,15 @@ front_refused (Err e) given left error is why = (error, left, why, is)
 
 -- ---- the table, in a form
 
-pub states_in : {T : Type 0} (r : Result Contents T) (form : SlaveForm) (text : List ℕ) (t u : Contents) → table_of text ≡ Ok t → u ≡ shown_in form t → IfOk r (λ m. m ≡ u) → OnOk r (compile_fault u ≡ None)
-    → IfOk r (StatesIn form text)
-states_in (Ok m) form text t u read shown is accepted = (t, read, is ∙ shown, ap compile_fault is ∙ accepted)
-states_in (Err e) form text t u read shown is accepted = tt
-
 -- a table shown in full is refused as the table is
 shown_fault : (form : SlaveForm) (t : Contents) → compile_fault (shown_in form t) ≡ compile_fault t
 shown_fault Full t = faces.fault t
 shown_fault Plain t = refl
+
+pub states_in : {T : Type 0} (r : Result Contents T) (form : SlaveForm) (text : List ℕ) (t u : Contents) → table_of text ≡ Ok t → u ≡ shown_in form t → IfOk r (λ m. m ≡ u) → OnOk r (compile_fault u ≡ None)
+    → IfOk r (StatesIn form text)
+states_in (Ok m) form text t u read shown is accepted = (t, (read, sym (shown_fault form t) ∙ (ap compile_fault (sym shown) ∙ accepted)), is ∙ shown)
+states_in (Err e) form text t u read shown is accepted = tt
 
 same_refusal : (text : List ℕ) (t u : Contents) (x : Refusal) → table_of text ≡ Ok t → compile_fault u ≡ compile_fault t → IsLinkRefusal u x → IsTableRefusal text x
 same_refusal text t u refusal.Memory read e h = tt

@@ -1,10 +1,9 @@
 -- Commands that run a machine: the text that states it, and by what they are refused before it runs (this project's profile).
-use Rattle.std.specs.Prelude.{◌≡◌, ◌⊎◌, ℕ, Bool, true, false, List, [], IfSome, Option, None, Result, Ok, Err}
+use Rattle.std.specs.Prelude.{◌≡◌, ◌⊎◌, ℕ, Bool, true, false, List, [], IfSome, Option, Result, Ok, Err}
 use Rattle.ec_lines.specs.declared.error.LinesError.{LinesError}
 use Rattle.ec_lines.specs.Taking.{RefusesText, TakesText}
 use Rattle.ec_table.specs.Contents.{Contents, shown_full}
-use Rattle.ec_table.specs.Reading.{table_of}
-use Rattle.ec_link.specs.Faults.{compile_fault}
+use Rattle.ec_link.specs.Machine.{StatesMachine}
 use Rattle.ec_script.specs.declared.line.Line.{Line}
 use Rattle.ec_script.specs.Halves.{Splits}
 use Rattle.ec_script.specs.Scripts.{Fails as ScriptFails, script_of}
@@ -44,11 +43,11 @@ abbrev pub shown_in : SlaveForm → Contents → Contents
 shown_in Plain t = t
 shown_in Full t = shown_full t
 
--- the table that a text states, shown in a form, which has a plan
+-- the machine that a text states, with its slaves in a form
 abbrev pub StatesIn : SlaveForm → List ℕ → Contents → Type 0
-StatesIn form text t = (table : Contents) × (table_of text ≡ Ok table) × (t ≡ shown_in form table) × (compile_fault t ≡ None)
+StatesIn form text t = (table : Contents) × StatesMachine text table × (t ≡ shown_in form table)
 
--- that table, and the lines of the script behind it, if there is to be one
+-- that machine, and the lines of the script behind it, if there is to be one
 abbrev pub States : Source → SlaveForm → List ℕ → Contents → List Line → Type 0
 States takes.Table form text t lines = StatesIn form text t × (lines ≡ [])
 States takes.Script form text t lines =

@@ -1,19 +1,17 @@
 //! What the text of a command states: a machine, and the lines of its script.
-ghost use Rattle.std.specs.Prelude.{◌≡◌, [], IfErr, IfOk, None, Ok, OnOk, string_bytes};
+ghost use Rattle.std.specs.Prelude.{◌≡◌, [], IfErr, IfOk, Ok, string_bytes};
 ghost use Rattle.ec_lines.specs.Taking.{TakesText};
-ghost use Rattle.ec_link.specs.Faults.{compile_fault};
 ghost use Rattle.ec_script.specs.Scripts.{script_of};
-ghost use Rattle.ec_console.specs.Given.{IsLinkRefusal, IsTableRefusal, given_by};
+ghost use Rattle.ec_console.specs.Given.{IsTableRefusal, given_by};
 ghost use Rattle.ec_console.specs.Stating.{RefusesHalves, RefusesSource, RefusesStated, States, StatesIn, TakesSource};
 
-use crate::form::show_in;
 use crate::input::read_text;
+use crate::machine::read_machine;
 use crate::{Refusal, SlaveForm};
 use ec_lines::{InputStream, take_text};
 use ec_link::Machine;
 use ec_listed::Listed;
 use ec_script::{Line, read_script, split_script};
-use ec_table::{Table, read_table};
 use std::alloc::Global;
 use std::io::Read;
 
@@ -96,7 +94,7 @@ fn read_alone(alloc: Global, form: SlaveForm, text: &str) -> Result<Stated, Refu
     ensures states { IfOk result (λ stated. StatesIn form text.now stated.machine × (stated.lines ≡ [])) }
     ensures refused { IfErr result (IsTableRefusal text.now) }
 {
-    let machine = machine_in(alloc, form, text)?;
+    let machine = read_machine(alloc, form, text)?;
     let lines = Listed::new(alloc);
     Ok(Stated { machine, lines })
 }
@@ -111,26 +109,7 @@ fn read_both(
     ensures states { IfOk result (λ stated. StatesIn form table.now stated.machine × (script_of stated.machine script.now ≡ Ok stated.lines)) }
     ensures refused { IfErr result (RefusesHalves form table.now script.now) }
 {
-    let machine = machine_in(alloc, form, table)?;
+    let machine = read_machine(alloc, form, table)?;
     let lines = read_script(alloc, machine.table(), script)?;
     Ok(Stated { machine, lines })
-}
-
-/// The machine that a text states, whose slaves are shown in a form.
-fn machine_in(alloc: Global, form: SlaveForm, text: &str) -> Result<Machine, Refusal>
-    ensures machine { IfOk result (StatesIn form text.now) }
-    ensures refused { IfErr result (IsTableRefusal text.now) }
-{
-    let mut table = read_table(alloc, text)?;
-    show_in(&mut table, form);
-    machine_of(alloc, table)
-}
-
-/// The machine of a table.
-fn machine_of(alloc: Global, table: Table) -> Result<Machine, Refusal>
-    ensures machine { IfOk result (λ machine. machine ≡ table) }
-    ensures accepted { OnOk result (compile_fault table ≡ None) }
-    ensures refused { IfErr result (IsLinkRefusal table) }
-{
-    Ok(Machine::new(alloc, table)?)
 }
