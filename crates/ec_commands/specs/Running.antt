@@ -55,23 +55,23 @@ IsSilent output told = (output.new ≡ output.old) × IsQuiet told
 
 -- ---- commands that run a machine
 
--- the lines of its script are run
+-- `ecat sim`: the lines of the script are run
 abbrev pub RunsScript : Reasons → (output told : Stream) → Given → Contents → List Line → Result Unit Refusal → Type 0
 RunsScript reasons output told input t lines ended = RunsLines reasons t lines output.old output.new ended × IsQuiet told
 
--- the lines that the input gives are run as they come
+-- `ecat sim --live`: the lines that the input gives are run as they come
 abbrev pub RunsAsTheyCome : Reasons → (output told : Stream) → Given → Contents → List Line → Result Unit Refusal → Type 0
 RunsAsTheyCome reasons output told input t lines ended = RunsLive reasons t input output.old output.new ended × IsQuiet told
 
--- cycles are run over sockets of this process, over which nothing was sent before
+-- `ecat loop`: cycles are run over sockets of this process, over which nothing was sent before
 abbrev pub RunsCycles : ℕ → (output told : Stream) → Given → Contents → List Line → Result Unit Refusal → Type 0
 RunsCycles cycles output told input t lines ended = ((after : Traffic) × LoopsOnSockets cycles t output.old output.new nothing_sent after ended) × IsQuiet told
 
--- its slaves are served, on a port or the card of a descriptor
+-- `ecat segment`: the slaves are served, on a port or the card of a descriptor
 abbrev pub RunsSegment : (descriptor : Option ℕ) → (frames port : ℕ) → (output told : Stream) → Given → Contents → List Line → Result Unit Refusal → Type 0
 RunsSegment descriptor frames port output told input t lines ended = ServesMachine descriptor frames port t output.old output.new told.old told.new ended
 
--- the lines that the input gives move its master
+-- `ecat master`: the lines that the input gives are run with a new master
 abbrev pub RunsMaster : Reasons → (output told : Stream) → Given → Contents → List Line → Result Unit Refusal → Type 0
 RunsMaster reasons output told input t lines ended = RunsMachine reasons t input output.old output.new ended × IsQuiet told
 

@@ -1,4 +1,4 @@
--- Commands that run a machine: the text that states it, and by what they are refused before it runs (this project's profile).
+-- Commands that run a machine: the text that states it, and the refusals before it runs (this project's profile).
 use Rattle.std.specs.Prelude.{◌≡◌, ◌⊎◌, ℕ, Bool, true, false, List, [], IfSome, Option, Result, Ok, Err}
 use Rattle.ec_lines.specs.declared.error.LinesError.{LinesError}
 use Rattle.ec_lines.specs.Taking.{RefusesText, TakesText}
@@ -18,13 +18,13 @@ use Rattle.ec_console.specs.Given.{Given, IsInputRefusal, IsTableRefusal, lines_
 
 -- ---- the text
 
--- what is read of the bytes that an input gives, where they are known, and what it gives then
+-- the text that is read of the bytes that an input gives, if they are known, and what it gives then
 abbrev pub TakesSource : Source → (given : Option (List ℕ)) → (text : List ℕ) → (rest : Option (List ℕ)) → Type 0
 TakesSource takes.Table given text rest = IfSome given (λ bytes. text ≡ bytes)
 TakesSource takes.Script given text rest = IfSome given (λ bytes. text ≡ bytes)
 TakesSource takes.Lines given text rest = TakesText given rest text
 
--- by what the input is refused: as a whole, or up to a line `%%`
+-- refusals of the input: of all of it, or of the text up to a line `%%`
 abbrev pub RefusesSource : Source → Given → Refusal → Type 0
 RefusesSource takes.Table given refusal = IsInputRefusal given refusal
 RefusesSource takes.Script given refusal = IsInputRefusal given refusal
@@ -66,18 +66,18 @@ RefusesStated takes.Lines form text refusal = IsTableRefusal text refusal
 
 -- ---- the run
 
--- it is refused, and nothing is done
+-- a command is refused, and does nothing
 abbrev pub IsNeverRun : (Refuses : Refusal → Type 0) → (Nothing : Type 0) → Result Unit Refusal → Type 0
 IsNeverRun Refuses Nothing ended = (refusal : Refusal) × (ended ≡ Err refusal) × Refuses refusal × Nothing
 
--- a text states a machine and lines, and this is done with them, with a capture if its file is named; or it is refused, and no file
--- is opened
+-- A text states a machine and lines, and `Does` says what is done with them, with a capture if its file is named. Or the text is
+-- refused, and no file is opened.
 abbrev pub RunsStated : Source → SlaveForm → (file : Option (List ℕ)) → (Does : Contents → List Line → Result Unit Refusal → Type 0) → (Nothing : Type 0) → List ℕ → Result Unit Refusal → Type 0
 RunsStated source form file Does Nothing text ended =
     ((t : Contents) × (lines : List Line) × States source form text t lines × EndsWith file (Does t lines) Nothing ended)
     ⊎ IsNeverRun (RefusesStated source form text) Nothing ended
 
--- the same of the text that the input gives, and of what it gives behind that; or the input is refused
+-- a command on the text that the input gives, and on what the input gives behind that; or the input is refused
 abbrev pub RunsSource : Source → SlaveForm → (file : Option (List ℕ)) → (Does : Given → Contents → List Line → Result Unit Refusal → Type 0) → (Nothing : Type 0) → Given → Result Unit Refusal → Type 0
 RunsSource source form file Does Nothing given ended =
     ((text : List ℕ) × (rest : Option (List ℕ)) × TakesSource source given.bytes text rest

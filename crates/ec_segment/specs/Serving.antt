@@ -72,7 +72,7 @@ ServesOnCard frames first old new ended = AnswersOnCard frames first old new end
 
 -- ---- the whole
 
--- on a port; or on the card whose socket has a descriptor, where one is given, and nothing is told
+-- Slaves are served on a port. If a descriptor is given, it is on the card whose socket has that, and nothing is told.
 abbrev pub ServesOn : (descriptor : Option ℕ) → (frames port : ℕ) → List SlaveState → (old new quiet told : OutputState) → Result Unit Refusal → Type 0
 ServesOn None frames port first old new quiet told ended = ServesOnPort frames port first old new quiet told ended
 ServesOn (Some descriptor) frames port first old new quiet told ended = ServesOnCard frames first old new ended × (told ≡ quiet)
