@@ -49,6 +49,17 @@ word_of (LoopOf cycles capture explained) = codes "loop"
 word_of (SegmentOf frames port descriptor full idle capture explained) = codes "segment"
 word_of (MasterOf to descriptor patience capture explained) = codes "master"
 
+-- whether it is to explain a refusal
+abbrev pub is_explained : Command → Bool
+is_explained (PassOf slaves text) = false
+is_explained (PlanOf header explained) = explained
+is_explained (DecodeOf table explained) = false
+is_explained EncodeOf = false
+is_explained (SimOf live capture explained) = explained
+is_explained (LoopOf cycles capture explained) = explained
+is_explained (SegmentOf frames port descriptor full idle capture explained) = explained
+is_explained (MasterOf to descriptor patience capture explained) = explained
+
 -- ---- what `clap` finds for its arguments
 
 -- for an argument, the numeral of a number below a limit

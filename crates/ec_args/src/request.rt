@@ -6,7 +6,7 @@ ghost use Rattle.clap.specs.Simple.{subcommand_of, subcommand_rows_of};
 ghost use Rattle.clap.specs.Values.{kind_of};
 ghost use Rattle.clap.specs.Walk.{rows_of};
 ghost use Rattle.ec_args.specs.CommandLine.{ecat};
-ghost use Rattle.ec_args.specs.Requests.{Asks, IsFault, IsNotice, IsNoticeFor, MeetsCommand, Reads};
+ghost use Rattle.ec_args.specs.Requests.{Asks, IsFault, IsNotice, IsNoticeFor, MeetsCommand, Reads, command_of, is_explained};
 ghost use Rattle.ec_args.specs.Stages.{IsAskedAs, IsNeverAsked};
 
 use crate::commands::command;
@@ -97,6 +97,22 @@ pub enum Request<'a> {
         /// Whether a refusal is explained, and why a line can't be done or a start-up failed.
         explained: bool,
     },
+}
+
+impl Request<'_> {
+    /// Whether a refusal is to be explained.
+    pub fn explained(&self) -> bool
+        ensures { result ≡ is_explained (command_of self.now) }
+    {
+        match *self {
+            Request::Pass { .. } | Request::Decode { .. } | Request::Encode => false,
+            Request::Plan { explained, .. }
+            | Request::Sim { explained, .. }
+            | Request::Loop { explained, .. }
+            | Request::Segment { explained, .. }
+            | Request::Master { explained, .. } => explained,
+        }
+    }
 }
 
 /// Why arguments are no request.

@@ -1,5 +1,5 @@
 -- The exit statuses that there are, and how a run ends to which arguments were given.
-use Rattle.std.proofs.Common.{◌≡◌, ℕ, List, [], ◌∷◌, ◌==◌, ◌||◌, inl, inr, Bool, true, false, Option, Result, Ok, Err, String, Global, refl, sym, subst, arith}
+use Rattle.std.proofs.Common.{◌≡◌, ℕ, List, [], ◌∷◌, ◌==◌, ◌||◌, inl, inr, Bool, true, false, Result, Ok, Err, String, Global, refl, sym, subst, arith}
 use Rattle.std.specs.declared.io.Error.{Error}
 use Rattle.std.specs.declared.vec.IntoIter.{IntoIter}
 use Rattle.std.specs.Prelude.{Contains, if◌then◌else◌}
@@ -9,8 +9,11 @@ use Rattle.ec_console.specs.declared.refusal.Refusal.TheVariants.{Memory}
 use Rattle.ec_console.specs.Given.{Given}
 use Rattle.ec_console.specs.Printing.{OutputState}
 use Rattle.ec_wire.specs.Wires.{LoopbackState, Traffic}
-use Rattle.ec_loop.specs.Looping.{RunsLoop}
-use Rattle.ec_commands.specs.Running.{Ends, EndsAlone, EndsGiven, EndsUnread, Stream, Tells, TellsWith, given_words}
+use Rattle.ec_table.specs.Contents.{Contents}
+use Rattle.ec_loop.specs.Looping.{LoopsOnSockets}
+use Rattle.ec_commands.specs.declared.work.Work.{Work}
+use Rattle.ec_commands.specs.declared.work.Work.TheVariants as work
+use Rattle.ec_commands.specs.Running.{Ends, EndsAlone, EndsGiven, EndsUnread, LeavesApp, Stream, Tells, TellsWith, given_words}
 use Rattle.ec_args.specs.Requests.{Reads}
 use Rattle.ec_args.specs.declared.request.Notice.{Notice}
 use Rattle.ec_args.specs.declared.request.Request.{Request}
@@ -61,8 +64,16 @@ pub given_lost : {R : Type 0} (given : Result (IntoIter (String Global) Global) 
 given_lost given words known input output faults status is told =
     subst (λ g. EndsGiven g known input input (record { old = output; new = output }) faults status) (sym is) (inr (refl, refl, told))
 
--- a loop from a loopback to whose slaves nothing was sent
-pub loop_from_nothing : {A : Type 0} (cycles : ℕ) (file : Option (List ℕ)) (given : Given) (output : Stream) (old new began : LoopbackState A) (r : Result Unit Refusal) → old ≡ began
-    → RunsLoop cycles file given output.old output.new old.traffic new.traffic r → (after : Traffic) × RunsLoop cycles file given output.old output.new began.traffic after r
-loop_from_nothing {A} cycles file given output old new began r is runs =
-    (new.traffic, subst (λ (l : LoopbackState A). RunsLoop cycles file given output.old output.new l.traffic new.traffic r) is runs)
+-- cycles of a loopback to whose slaves nothing was sent
+pub from_nothing : {A : Type 0} (cycles : ℕ) (t : Contents) (old new : OutputState) (before after began : LoopbackState A) (r : Result Unit Refusal) → before ≡ began
+    → LoopsOnSockets cycles t old new before.traffic after.traffic r → (last : Traffic) × LoopsOnSockets cycles t old new began.traffic last r
+from_nothing {A} cycles t old new before after began r is runs =
+    (after.traffic, subst (λ (l : LoopbackState A). LoopsOnSockets cycles t old new l.traffic after.traffic r) is runs)
+
+-- work that isn't begun leaves its application alone
+pub left_alone : {A : Type 0} (w : Work) (x : A) → LeavesApp w x x
+left_alone (work.Script reasons) x = refl
+left_alone (work.Live reasons) x = refl
+left_alone (work.Cycles cycles) x = tt
+left_alone (work.Segment form endpoint) x = tt
+left_alone (work.Master reasons way) x = refl

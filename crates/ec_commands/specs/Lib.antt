@@ -1,8 +1,7 @@
--- To be believed by reading, in this order: what `ecat pass` and `ecat plan` print; which commands explain a refusal; and
--- how a run ends.
+-- To be believed by reading, in this order: what `ecat pass` and `ecat plan` print; what `ecat decode` and `ecat encode` print, and
+-- `ecat decode` with remarks; and how a run ends.
 pub mod Passing
 pub mod Planning
-pub mod Explaining
+pub mod Translating
+pub mod Remarking
 pub mod Running
--- Private: the words of private code.
-pub mod Connecting

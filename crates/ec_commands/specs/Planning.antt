@@ -1,7 +1,8 @@
 -- What `ecat plan` prints (this project's profile).
 use Rattle.std.specs.Prelude.{◌≡◌, ℕ, List, Bool, true, false, Result}
 use Rattle.ec_table.specs.Contents.{Contents}
-use Rattle.ec_link.specs.Machine.{StatesMachine}
+use Rattle.ec_console.specs.declared.form.SlaveForm.TheVariants.{Plain}
+use Rattle.ec_console.specs.Stating.{StatesIn}
 use Rattle.ec_link.specs.Plan.{plan_of}
 use Rattle.ec_text.specs.HeaderText.{header_text}
 use Rattle.ec_text.specs.PlanText.{plan_text}
@@ -26,7 +27,7 @@ IsShown Header table answer = answer ≡ header_text table.variables
 -- the text states a machine, and this shows its plan
 abbrev pub IsPlanAnswer : PlanForm → List ℕ → List ℕ → Type 0
 IsPlanAnswer form text answer =
-    (table : Contents) × StatesMachine text table × IsShown form table answer
+    (table : Contents) × StatesIn Plain text table × IsShown form table answer
 
 -- what `ecat plan` prints, by what the input gives
 abbrev pub AnswersPlan : PlanForm → Given → List ℕ → Type 0

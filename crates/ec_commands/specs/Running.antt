@@ -1,5 +1,5 @@
 -- How a run of `ecat` ends, whatever it was asked for (this project's profile).
-use Rattle.std.specs.Prelude.{◌≡◌, ◌≢◌, ◌⊎◌, ℕ, Bool, true, false, List, [], ◌∷◌, ◌++◌, is_some, map, Option, None, Some, Result, Ok, Err, codes}
+use Rattle.std.specs.Prelude.{◌≡◌, ◌≢◌, ◌⊎◌, ℕ, Bool, true, false, List, [], ◌∷◌, ◌++◌, map, Option, Result, Ok, Err, codes}
 use Rattle.std.specs.IoError.{error_kind}
 use Rattle.std.specs.Vec.Iter.{into_iter_items}
 use Rattle.std.specs.declared.alloc.Global.{Global}
@@ -8,27 +8,35 @@ use Rattle.std.specs.declared.io.ErrorKind.TheVariants.{OutOfMemory}
 use Rattle.std.specs.declared.string.String.{String}
 use Rattle.std.specs.declared.vec.IntoIter.{IntoIter}
 use Rattle.std.specs.String.{string_bytes}
-use Rattle.ec_args.specs.Requests.{Command, PassOf, PlanOf, DecodeOf, EncodeOf, SimOf, LoopOf, SegmentOf, MasterOf, Reads, command_of}
+use Rattle.ec_args.specs.Requests.{Command, PassOf, PlanOf, DecodeOf, EncodeOf, SimOf, LoopOf, SegmentOf, MasterOf, Reads, command_of, is_explained}
 use Rattle.ec_args.specs.declared.request.Notice.{Notice}
 use Rattle.ec_args.specs.declared.request.Notice.TheVariants as notice
 use Rattle.ec_args.specs.declared.request.Request.{Request}
 use Rattle.ec_console.specs.declared.refusal.Refusal.{Refusal}
 use Rattle.ec_console.specs.declared.refusal.Refusal.TheVariants.{Memory}
-use Rattle.ec_commands.specs.Explaining.{MayTell, is_explained}
-use Rattle.ec_loop.specs.Looping.{RunsLoop}
+use Rattle.ec_loop.specs.Looping.{LoopsOnSockets}
 use Rattle.ec_commands.specs.Passing.{RunsPass}
-use Rattle.ec_commands.specs.Planning.{RunsPlan, form_of}
+use Rattle.ec_commands.specs.Planning.{RunsPlan, form_of as shown_as}
 use Rattle.ec_console.specs.Given.{Given}
 use Rattle.ec_console.specs.Printing.{IsTold, OutputState, Shows}
 use Rattle.ec_console.specs.Refusals.{line_of, status_of}
 use Rattle.ec_live.specs.Living.{RunsLive}
-use Rattle.ec_master.specs.Mastering.{RunsMaster}
-use Rattle.ec_segment.specs.declared.form.SlaveForm.{SlaveForm}
-use Rattle.ec_segment.specs.Serving.{RunsCardSegment, RunsSegment, slave_form}
+use Rattle.ec_table.specs.Contents.{Contents}
+use Rattle.ec_script.specs.declared.line.Line.{Line}
+use Rattle.ec_console.specs.declared.form.SlaveForm.{SlaveForm}
+use Rattle.ec_console.specs.declared.form.SlaveForm.TheVariants.{Plain}
+use Rattle.ec_console.specs.declared.stated.Source.{Source}
+use Rattle.ec_console.specs.declared.stated.Source.TheVariants as takes
+use Rattle.ec_console.specs.Stating.{RunsSource, slave_form}
+use Rattle.ec_commands.specs.declared.work.Work.{Work}
+use Rattle.ec_commands.specs.declared.work.Work.TheVariants as work
+use Rattle.ec_master.specs.Mastering.{RunsMachine}
+use Rattle.ec_segment.specs.Serving.{ServesMachine}
 use Rattle.ec_annotate.specs.Annotating.{names_of}
-use Rattle.ec_translate.specs.Remarking.{RunsDecodeWith}
-use Rattle.ec_translate.specs.Translating.{RunsEncode}
-use Rattle.ec_sim.specs.Simulating.{RunsSim}
+use Rattle.ec_commands.specs.Remarking.{RunsDecodeWith}
+use Rattle.ec_commands.specs.Translating.{RunsEncode}
+use Rattle.ec_sim.specs.Simulating.{RunsLines}
+use Rattle.ec_why.specs.declared.wanted.Reasons.{Reasons}
 use Rattle.ec_why.specs.Reasons.{reasons_of}
 use Rattle.ec_wire.specs.Wires.{Traffic, nothing_sent}
 
@@ -41,31 +49,78 @@ pub record Stream : Type 0 where
 abbrev pub IsQuiet : Stream → Type 0
 IsQuiet told = told.new ≡ told.old
 
--- `ecat segment` on a port. If a descriptor is given, it is on the card whose socket has that, and says nothing. It writes a capture if
--- its file is named.
-abbrev pub RunsSegmentOn : (descriptor : Option ℕ) → (frames port : ℕ) → SlaveForm → (file : Option (List ℕ)) → (given : Given) → (output told : Stream) → Result Unit Refusal → Type 0
-RunsSegmentOn None frames port form file given output told ended = RunsSegment frames port form file given output.old output.new told.old told.new ended
-RunsSegmentOn (Some descriptor) frames port form file given output told ended = RunsCardSegment frames form file given output.old output.new ended × IsQuiet told
+-- a command writes nothing
+abbrev pub IsSilent : (output told : Stream) → Type 0
+IsSilent output told = (output.new ≡ output.old) × IsQuiet told
+
+-- ---- commands that run a machine
+
+-- `ecat sim`: the lines of the script are run
+abbrev pub RunsScript : Reasons → (output told : Stream) → Given → Contents → List Line → Result Unit Refusal → Type 0
+RunsScript reasons output told input t lines ended = RunsLines reasons t lines output.old output.new ended × IsQuiet told
+
+-- `ecat sim --live`: the lines that the input gives are run as they come
+abbrev pub RunsAsTheyCome : Reasons → (output told : Stream) → Given → Contents → List Line → Result Unit Refusal → Type 0
+RunsAsTheyCome reasons output told input t lines ended = RunsLive reasons t input output.old output.new ended × IsQuiet told
+
+-- `ecat loop`: cycles are run over sockets of this process, over which nothing was sent before
+abbrev pub RunsCycles : ℕ → (output told : Stream) → Given → Contents → List Line → Result Unit Refusal → Type 0
+RunsCycles cycles output told input t lines ended = ((after : Traffic) × LoopsOnSockets cycles t output.old output.new nothing_sent after ended) × IsQuiet told
+
+-- `ecat segment`: the slaves are served, on a port or the card of a descriptor
+abbrev pub RunsSegment : (descriptor : Option ℕ) → (frames port : ℕ) → (output told : Stream) → Given → Contents → List Line → Result Unit Refusal → Type 0
+RunsSegment descriptor frames port output told input t lines ended = ServesMachine descriptor frames port t output.old output.new told.old told.new ended
+
+-- `ecat master`: the lines that the input gives are run with a new master
+abbrev pub RunsMaster : Reasons → (output told : Stream) → Given → Contents → List Line → Result Unit Refusal → Type 0
+RunsMaster reasons output told input t lines ended = RunsMachine reasons t input output.old output.new ended × IsQuiet told
+
+-- what some work reads of the input, in which form its slaves are shown, and what it does
+abbrev pub source_of : Work → Source
+source_of (work.Script reasons) = takes.Script
+source_of (work.Live reasons) = takes.Lines
+source_of (work.Cycles cycles) = takes.Table
+source_of (work.Segment form endpoint) = takes.Table
+source_of (work.Master reasons way) = takes.Lines
+
+abbrev pub form_of : Work → SlaveForm
+form_of (work.Script reasons) = Plain
+form_of (work.Live reasons) = Plain
+form_of (work.Cycles cycles) = Plain
+form_of (work.Segment form endpoint) = form
+form_of (work.Master reasons way) = Plain
+
+abbrev pub does_of : Work → (output told : Stream) → Given → Contents → List Line → Result Unit Refusal → Type 0
+does_of (work.Script reasons) = RunsScript reasons
+does_of (work.Live reasons) = RunsAsTheyCome reasons
+does_of (work.Cycles cycles) = RunsCycles cycles
+does_of (work.Segment form endpoint) = RunsSegment endpoint.descriptor endpoint.frames endpoint.port
+does_of (work.Master reasons way) = RunsMaster reasons
+
+-- the machine that the input states is run, with a capture if its file is named
+abbrev pub RunsWork : Source → SlaveForm → (does : Stream → Stream → Given → Contents → List Line → Result Unit Refusal → Type 0) → (file : Option (List ℕ)) → (given : Given) → (output told : Stream) → Result Unit Refusal → Type 0
+RunsWork source form does file given output told ended = RunsSource source form file (does output told) (IsSilent output told) given ended
 
 -- `ecat sim`, whose lines are run as a script, or as they come, with a capture if its file is named. If it explains, it prints why
 -- they say `no`.
-abbrev pub RunsLines : (live : Bool) → (file : Option (List ℕ)) → (explained : Bool) → (given : Given) → (output : Stream) → Result Unit Refusal → Type 0
-RunsLines false file explained given output ended = RunsSim (reasons_of explained) (is_some file) given output.old output.new ended
-RunsLines true file explained given output ended = RunsLive (reasons_of explained) (is_some file) given output.old output.new ended
+abbrev pub RunsSim : (live : Bool) → (file : Option (List ℕ)) → (explained : Bool) → (given : Given) → (output told : Stream) → Result Unit Refusal → Type 0
+RunsSim false file explained = RunsWork takes.Script Plain (RunsScript (reasons_of explained)) file
+RunsSim true file explained = RunsWork takes.Lines Plain (RunsAsTheyCome (reasons_of explained)) file
+
+-- ---- all commands
 
 -- what a command does with the output, and what it says while it runs, by what the input gives, if that is known
 abbrev pub Runs : Command → (given : Given) → (output told : Stream) → Result Unit Refusal → Type 0
 Runs (PassOf slaves text) given output told ended = RunsPass slaves text output.old output.new ended × IsQuiet told
-Runs (PlanOf header explained) given output told ended = RunsPlan (form_of header explained) given output.old output.new ended × IsQuiet told
+Runs (PlanOf header explained) given output told ended = RunsPlan (shown_as header explained) given output.old output.new ended × IsQuiet told
 Runs (DecodeOf table explained) given output told ended = RunsDecodeWith table (names_of explained) given output.old output.new ended × IsQuiet told
 Runs EncodeOf given output told ended = RunsEncode given output.old output.new ended × IsQuiet told
-Runs (SimOf live capture explained) given output told ended = RunsLines live capture explained given output ended × IsQuiet told
-Runs (LoopOf cycles capture explained) given output told ended =
-    ((after : Traffic) × RunsLoop cycles capture given output.old output.new nothing_sent after ended) × IsQuiet told
+Runs (SimOf live capture explained) given output told ended = RunsSim live capture explained given output told ended
+Runs (LoopOf cycles capture explained) given output told ended = RunsWork takes.Table Plain (RunsCycles cycles) capture given output told ended
 Runs (SegmentOf frames port descriptor full idle capture explained) given output told ended =
-    RunsSegmentOn descriptor frames port (slave_form full) capture given output told ended
+    RunsWork takes.Table (slave_form full) (RunsSegment descriptor frames port) capture given output told ended
 Runs (MasterOf to descriptor patience capture explained) given output told ended =
-    RunsMaster (reasons_of explained) capture given output.old output.new ended × IsQuiet told
+    RunsWork takes.Lines Plain (RunsMaster (reasons_of explained)) capture given output told ended
 
 -- what a command leaves alone: one that reads no input leaves it as it is, and one with no simulated application steps
 -- none
@@ -78,6 +133,19 @@ LeavesAlone (SimOf live capture explained) input_old input_new app_old app_new =
 LeavesAlone (LoopOf cycles capture explained) input_old input_new app_old app_new = Unit {0}
 LeavesAlone (SegmentOf frames port descriptor full idle capture explained) input_old input_new app_old app_new = Unit {0}
 LeavesAlone (MasterOf to descriptor patience capture explained) input_old input_new app_old app_new = app_new ≡ app_old
+
+-- what some work leaves alone: the application, unless it simulates slaves
+abbrev pub LeavesApp : {A : Type 0} → Work → (old new : A) → Type 0
+LeavesApp (work.Script reasons) old new = new ≡ old
+LeavesApp (work.Live reasons) old new = new ≡ old
+LeavesApp (work.Cycles cycles) old new = Unit {0}
+LeavesApp (work.Segment form endpoint) old new = Unit {0}
+LeavesApp (work.Master reasons way) old new = new ≡ old
+
+-- what may stand behind the line of a refusal: nothing, unless the refusal is to be explained; then the text is free
+abbrev pub MayTell : Bool → List ℕ → Type 0
+MayTell false more = more ≡ []
+MayTell true more = Unit {0}
 
 -- the exit status of a run, and what it writes to the fault stream: the line of a refusal
 abbrev pub Tells : Stream → ℕ → Result Unit Refusal → Type 0

@@ -5,19 +5,25 @@
 mod pass;
 mod plan;
 mod program;
+mod remarked;
 mod run;
+mod translate;
+mod work;
 
 pub use crate::pass::{pass_hex, print_pass};
 pub use crate::plan::{PlanForm, print_plan, show_plan};
 pub use crate::program::run_program;
+pub use crate::remarked::{print_payloads, print_remarked};
 pub use crate::run::run_command;
+pub use crate::translate::{print_decode, print_encode};
 pub use ec_bringup::{bring_up, identities_of};
-pub use ec_console::{Explanation, InputStream, OutputStream, Refusal, print_text, read_text};
-pub use ec_live::print_live;
-pub use ec_loop::{print_loop, run_loop};
+pub use ec_console::{
+    Console, Explanation, InputStream, OutputStream, Refusal, SlaveForm, print_text, read_text,
+};
+pub use ec_live::run_live;
+pub use ec_loop::{run_loop, run_loopback};
 pub use ec_script::{Line, LineAction, ScriptError, read_script, run_line};
-pub use ec_segment::{SlaveForm, print_card_segment, print_segment, print_served_segment};
-pub use ec_sim::print_sim;
+pub use ec_segment::{Endpoint, print_served_segment, run_segment};
+pub use ec_sim::run_script;
 pub use ec_text::{Refused, header_text, plan_text};
-pub use ec_translate::{print_decode, print_encode};
 pub use ec_wire::{App, MemoryWire, UdpWire, bring_up_wire, serve_segment};

@@ -32,7 +32,7 @@ pub fn pass_hex(alloc: Global, slaves: usize, text: &str) -> Result<String, Refu
     let mut payload = read_payload(alloc, text)?;
     ec_frame::check(payload.as_slice())?;
     let mut ring = plain_ring(alloc, slaves)?;
-    ring.pass_all(payload.as_mut_slice()).unwrap();
+    ring.pass_frame(payload.as_mut_slice());
     Ok(hex::encode(alloc, payload.as_slice())?)
 }
 

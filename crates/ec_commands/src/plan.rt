@@ -6,7 +6,8 @@ ghost use Rattle.ec_commands.specs.Planning.{IsPlanAnswer, IsShown, RunsPlan, fo
 ghost use Rattle.ec_console.specs.Given.{IsTableRefusal, given_by};
 
 use ec_console::{
-    Explanation, InputStream, OutputStream, Refusal, print_text, read_machine, read_text,
+    Explanation, InputStream, OutputStream, Refusal, SlaveForm, Source, print_text, read_machine,
+    read_text,
 };
 use ec_link::Machine;
 use ec_plan_table::explain_text;
@@ -47,7 +48,7 @@ pub fn show_plan(alloc: Global, form: PlanForm, text: &str) -> Result<String, Re
     ensures answer { IfOk result (λ answer. IsPlanAnswer form text.now (string_bytes answer)) }
     ensures refused { IfErr result (IsTableRefusal text.now) }
 {
-    let machine = read_machine(alloc, text)?;
+    let machine = read_machine(alloc, SlaveForm::Plain, text)?;
     text_of(alloc, form, &machine)
 }
 
@@ -73,7 +74,7 @@ pub fn print_plan<R: Read + Drop, W: Write + Drop>(
     match show_plan(alloc, form, text.as_str()) {
         Ok(answer) => print_text(answer.as_bytes(), output),
         Err(refusal) => {
-            behind.explain(alloc, text.as_str(), &refusal);
+            behind.explain(alloc, Source::Table, text.as_str(), &Err(refusal));
             Err(refusal)
         }
     }

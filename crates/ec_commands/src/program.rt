@@ -5,7 +5,7 @@ ghost use Rattle.ec_commands.specs.Running.{EndsGiven, TellsUnread};
 ghost use Rattle.ec_console.specs.Given.{given_by};
 
 use crate::run::run_command;
-use ec_console::{InputStream, OutputStream, Refusal};
+use ec_console::{Console, OutputStream, Refusal};
 use ec_wire::Echo;
 use std::alloc::{AllocError, Global};
 use std::env::Args;
@@ -26,26 +26,20 @@ pub fn run_program<
     R: Read + Drop,
     W: Write + Drop,
     F: Write + Drop,
->(
-    rt: &H,
-    given: io::Result<Args>,
-    input: &mut InputStream<R>,
-    output: &mut OutputStream<W>,
-    faults: &mut OutputStream<F>,
-) -> u8
-    ensures ends { EndsGiven given (given_by R.remaining input.old input.new) input.old input.new
-        (record { old = output.old; new = output.new })
-        (record { old = faults.old; new = faults.new }) result }
+>(rt: &H, given: io::Result<Args>, console: &mut Console<R, W, F>) -> u8
+    ensures ends { EndsGiven given (given_by R.remaining console.old.input console.new.input) console.old.input console.new.input
+        (record { old = console.old.output; new = console.new.output })
+        (record { old = console.old.faults; new = console.new.faults }) result }
     ensures status { Contains (0 ∷ 2 ∷ 3 ∷ 4 ∷ 5 ∷ []) result }
-    ensures unprinted { result ≡ 2 → output.new ≡ output.old }
+    ensures unprinted { result ≡ 2 → console.new.output ≡ console.old.output }
 {
     let given = match given {
         Ok(given) => given,
-        Err(error) => return tell_unread(&error, faults),
+        Err(error) => return tell_unread(&error, &mut console.faults),
     };
     match collected(rt.alloc(), given) {
-        Ok(args) => run_command(rt, args.as_slice(), input, output, faults, &mut Echo),
-        Err(_) => faults.tell_and_end(&Refusal::Memory),
+        Ok(args) => run_command(rt, args.as_slice(), console, &mut Echo),
+        Err(_) => console.faults.tell_and_end(&Refusal::Memory),
     }
 }
 

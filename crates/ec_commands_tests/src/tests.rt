@@ -9,7 +9,9 @@ mod sockets;
 mod streams;
 
 use self::streams::{Sink, Source, sink_of, source_of};
-use ec_commands::{App, InputStream, OutputStream, UdpWire, print_text, read_text, run_command};
+use ec_commands::{
+    App, Console, InputStream, OutputStream, UdpWire, print_text, read_text, run_command,
+};
 use ec_test_data::THREE_SLAVES;
 use std::fs::Files;
 use std::net::Net;
@@ -117,30 +119,38 @@ fn expect_args<H: AllocGlobal + Net + Files + Clock + Abort>(
     run: &Run,
     told: &str,
 ) {
-    let mut input = InputStream::new(input_of(run.0, run.2));
+    let input = InputStream::new(input_of(run.0, run.2));
     let sink = sink_of(rt.alloc(), output_writes(run.0), run.0 == "stuck output");
-    let mut output = OutputStream::new(sink);
+    let output = OutputStream::new(sink);
     let sink = sink_of(rt.alloc(), fault_writes(run.0), run.0 == "stuck faults");
-    let mut faults = OutputStream::new(sink);
-    let status = run_args(rt, args, &mut input, &mut output, &mut faults);
-    let is_unread = input.is_refused();
-    let streams = RunStreams {
-        is_unread,
+    let faults = OutputStream::new(sink);
+    let mut console = Console::new(rt.alloc(), input, output, faults);
+    let status = run_args(rt, args, &mut console);
+    expect_ended(rt, run, told, status, streams_of(console));
+}
+
+/// The streams of a console, after a run.
+fn streams_of(console: Console<Source<'_>, Sink, Sink>) -> RunStreams {
+    let Console {
+        input,
         output,
         faults,
-    };
-    expect_ended(rt, run, told, status, streams);
+        explanation: _,
+    } = console;
+    RunStreams {
+        is_unread: input.is_refused(),
+        output,
+        faults,
+    }
 }
 
 /// Runs the program. It promises nothing, so what calls it is quickly checked.
 fn run_args<H: AllocGlobal + Net + Files + Clock>(
     rt: &H,
     args: &[&str],
-    input: &mut InputStream<Source<'_>>,
-    output: &mut OutputStream<Sink>,
-    faults: &mut OutputStream<Sink>,
+    console: &mut Console<Source<'_>, Sink, Sink>,
 ) -> u8 {
-    run_command(rt, args, input, output, faults, &mut Idle)
+    run_command(rt, args, console, &mut Idle)
 }
 
 /// A text with a port in it.

@@ -7,8 +7,6 @@ use Rattle.ec_lines.specs.declared.error.LinesError.TheVariants as lines
 use Rattle.ec_table.specs.Contents.{Contents}
 use Rattle.ec_table.specs.InOrder.{Fails as TableFails}
 use Rattle.ec_table.specs.Reading.{table_of}
-use Rattle.ec_link.specs.declared.machine.MachineError.{MachineError}
-use Rattle.ec_link.specs.declared.machine.MachineError.TheVariants as machine
 use Rattle.ec_link.specs.Faults.{Fails as LinkFails, compile_fault}
 use Rattle.ec_console.specs.declared.refusal.Refusal.{Refusal}
 use Rattle.ec_console.specs.declared.refusal.Refusal.TheVariants.{Memory, Input, Table, Link}
@@ -55,11 +53,6 @@ IsTableRefusal text Memory = Unit {0}
 IsTableRefusal text (Table error) = TableFails error (table_of text)
 IsTableRefusal text (Link error) = (table : Contents) × (table_of text ≡ Ok table) × LinkFails error (compile_fault table)
 IsTableRefusal text _ = ⊥
-
--- the refusal of a text that states no machine
-abbrev pub machine_refusal : MachineError → Refusal
-machine_refusal (machine.Table error) = Table error
-machine_refusal (machine.Link error) = Link error
 
 -- the refusals of a command that reads a link table: a fault of the input, or of the table that it states
 abbrev pub RefusesTable : Given → Refusal → Type 0

@@ -1,7 +1,7 @@
 //! A capture in a file of the system, and how a command with a capture ends.
 ghost use Rattle.std.specs.Prelude.{◌≡◌, All, IfErr, IfOk, is_some, map, option_map, true};
 ghost use Rattle.ec_capture.specs.Captures.{IsText};
-ghost use Rattle.ec_console.specs.Capturing.{IsUnopened, finished, is_complete};
+ghost use Rattle.ec_console.specs.Capturing.{IsUnopened, finished, is_complete, is_through};
 
 use crate::refusal::Refusal;
 use ec_capture::{MAX_TEXT, Recorder};
@@ -16,7 +16,16 @@ pub type Recording<F> = Recorder<BufWriter<F>>;
 /// The capture of a command, if there is to be one.
 pub type Capture<F> = Option<Recording<F>>;
 
-/// Opens the file of a capture with one interface, of this name, if a file is named. Returns `None` if none is named.
+/// The interfaces of a capture.
+#[derive(Clone, Copy, Debug, PartialEq, Eq, Drop)]
+pub enum Interfaces {
+    /// One, of this name.
+    One(&'static str),
+    /// An interface `master`, and one behind each slave of a table, by its name.
+    Segment,
+}
+
+/// Opens the file of a capture with such interfaces, if a file is named. Returns `None` if none is named.
 ///
 /// # Errors
 ///
@@ -24,57 +33,68 @@ pub type Capture<F> = Option<Recording<F>>;
 pub fn open_capture<H: AllocGlobal + Files>(
     rt: &H,
     file: Option<&str>,
-    name: &'static str,
+    interfaces: Interfaces,
+    table: &Table,
 ) -> Result<Capture<H::File>, Refusal>
     ensures refused { IfErr result (λ refusal. (is_some (option_map (λ x. x.now) file.entry) ≡ true) × IsUnopened refusal) }
     ensures opened { IfOk result (λ capture. is_some capture ≡ is_some (option_map (λ x. x.now) file.entry)) }
 {
     match file {
-        Some(path) => Ok(Some(open_recorder(rt, path, &[short(name)])?)),
+        Some(path) => Ok(Some(open_recording(rt, path, interfaces, table)?)),
         None => Ok(None),
     }
 }
 
-/// Opens the file of a capture for a table's segment, with an interface `master`, and one behind each slave, of the slave's name.
-///
-/// # Errors
-///
-/// Those of [`open_capture`].
-pub fn open_segment<H: AllocGlobal + Files>(
-    rt: &H,
-    path: &str,
-    table: &Table,
-) -> Result<Recording<H::File>, Refusal>
-    ensures { IfErr result IsUnopened }
-{
-    let names = interfaces_of(rt.alloc(), table)?;
-    open_recorder(rt, path, names.as_slice())
-}
-
-/// Returns how a command with a capture ends: with `Refusal::Output` if `ended` is `Ok` and the capture isn't whole, else as
+/// Returns how a command ends that may have a capture: with `Refusal::Output` if it was through and the capture isn't whole, else as
 /// `ended`.
-pub fn finish_recording<T: Copy + Drop, F: Write + Drop>(
-    ended: Result<T, Refusal>,
-    recording: &Recorder<F>,
-) -> Result<T, Refusal>
-    ensures { result ≡ finished recording.now.is_whole ended }
-{
-    match ended {
-        Ok(_) if !recording.is_whole() => Err(Refusal::Output),
-        _ => ended,
-    }
-}
-
-/// Returns how a command ends that may have a capture: as [`finish_recording`] returns if it has one, else as `ended`.
 pub fn close_capture<F: Write + Drop>(
     ended: Result<(), Refusal>,
     capture: &Capture<F>,
 ) -> Result<(), Refusal>
     ensures { result ≡ finished (is_complete capture.now) ended }
 {
+    if is_complete(capture) || !is_through(&ended) {
+        ended
+    } else {
+        Err(Refusal::Output)
+    }
+}
+
+/// Whether all of a capture is written and handed on, if there is one.
+fn is_complete<F: Write + Drop>(capture: &Capture<F>) -> bool
+    ensures { result ≡ is_complete capture.now }
+{
     match capture {
-        Some(recording) => finish_recording(ended, recording),
-        None => ended,
+        Some(recording) => recording.is_whole(),
+        None => true,
+    }
+}
+
+/// Whether a command was through, whether or not all that it expected was so.
+fn is_through(ended: &Result<(), Refusal>) -> bool
+    ensures { result ≡ is_through ended.now }
+{
+    match ended {
+        Ok(()) => true,
+        Err(refusal) => matches!(refusal, Refusal::Unmet(_)),
+    }
+}
+
+/// Opens a file and begins a capture in it, with such interfaces.
+fn open_recording<H: AllocGlobal + Files>(
+    rt: &H,
+    path: &str,
+    interfaces: Interfaces,
+    table: &Table,
+) -> Result<Recording<H::File>, Refusal>
+    ensures { IfErr result IsUnopened }
+{
+    match interfaces {
+        Interfaces::One(name) => open_recorder(rt, path, &[short(name)]),
+        Interfaces::Segment => {
+            let names = interfaces_of(rt.alloc(), table)?;
+            open_recorder(rt, path, names.as_slice())
+        }
     }
 }
 

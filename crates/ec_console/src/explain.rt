@@ -2,12 +2,10 @@
 ghost use Rattle.std.specs.Prelude.{◌≡◌, []};
 ghost use Rattle.ec_console.specs.Explaining.{IsLeft};
 
-use crate::Refusal;
-use ec_explain::{Cause, explanation};
-use ec_link::LinkError;
-use ec_script::{ScriptError, split_script};
+use crate::remarks::remarks_text;
+use crate::{Refusal, Source};
+use ec_script::split_script;
 use ec_table::{Fault, TableError};
-use ec_wire::RunError;
 use std::alloc::{AllocError, Global};
 use std::marker::Model;
 
@@ -45,30 +43,27 @@ impl Explanation {
         self.text.as_bytes()
     }
 
-    /// Explains the refusal of a link table, if that is wanted and there is memory for it.
-    pub fn explain(&mut self, alloc: Global, table: &str, refusal: &Refusal)
+    /// Explains the refusal of a command that read a text of this source, if that is wanted and there is memory for it.
+    pub fn explain(
+        &mut self,
+        alloc: Global,
+        source: Source,
+        text: &str,
+        ended: &Result<(), Refusal>,
+    )
         ensures { IsLeft self.old self.new }
     {
         if self.is_wanted {
-            self.keep(table_text(alloc, table, refusal));
+            self.keep(text_on(alloc, source, text, ended));
         }
     }
 
     /// Explains a fault of the input, the output or a socket, if that is wanted and nothing is explained yet.
-    pub fn explain_stream(&mut self, alloc: Global, refusal: &Refusal)
+    pub fn explain_stream(&mut self, alloc: Global, ended: &Result<(), Refusal>)
         ensures { IsLeft self.old self.new }
     {
-        if let (true, Some(text)) = (self.is_wanted && self.text.is_empty(), stream_text(refusal)) {
+        if let (true, Some(text)) = (self.is_wanted && self.text.is_empty(), stream_text(ended)) {
             self.keep(String::from_str(alloc, text));
-        }
-    }
-
-    /// Explains the refusal of a link table and a script, if that is wanted and there is memory for it.
-    pub fn explain_script(&mut self, alloc: Global, text: &str, refusal: &Refusal)
-        ensures { IsLeft self.old self.new }
-    {
-        if self.is_wanted {
-            self.keep(script_text(alloc, text, refusal));
         }
     }
 
@@ -82,17 +77,17 @@ impl Explanation {
 
 /// What a fault of the input, the output or a socket means, and what to do. `None` for other refusals, which have a text at
 /// fault.
-fn stream_text(refusal: &Refusal) -> Option<&'static str> {
-    match refusal {
-        Refusal::Output => Some(
+fn stream_text(ended: &Result<(), Refusal>) -> Option<&'static str> {
+    match ended {
+        Err(Refusal::Output) => Some(
             "What was to be printed, or the file of the capture, couldn't be written; what was written before stays.\n\
             To do: see whether whoever reads standard output is still there, and whether the disk is full.\n",
         ),
-        Refusal::Input => Some(
+        Err(Refusal::Input) => Some(
             "The input couldn't be read, isn't text in UTF-8, or is longer than 1048576 bytes.\n\
             To do: see where standard input comes from, and save the text as UTF-8.\n",
         ),
-        Refusal::Socket => Some(
+        Err(Refusal::Socket) => Some(
             "There is no socket as it is asked for: its port is in use or its address isn't this system's, its \
             descriptor is no open socket, or no payload came in time.\n\
             To do: take another port, open the card as `tools/with_card` does, or start the other side in time.\n",
@@ -101,44 +96,35 @@ fn stream_text(refusal: &Refusal) -> Option<&'static str> {
     }
 }
 
+/// The explanation of how a command ended, on the text that it read; empty if it wasn't refused.
+fn text_on(
+    alloc: Global,
+    source: Source,
+    text: &str,
+    ended: &Result<(), Refusal>,
+) -> Result<String, AllocError> {
+    match (source, ended) {
+        (_, Ok(())) => Ok(String::new(alloc)),
+        (Source::Table | Source::Lines, Err(refusal)) => remarks_text(alloc, text, 0, refusal),
+        (Source::Script, Err(refusal)) => script_text(alloc, text, refusal),
+    }
+}
+
 /// The explanation of a refusal of a link table and a script.
 fn script_text(alloc: Global, text: &str, refusal: &Refusal) -> Result<String, AllocError> {
     let (table, script) = split_script(text);
-    let from = text.len().saturating_sub(script.len());
-    match cause_of(refusal, from) {
-        Some(cause @ Cause::Script { .. }) => explanation(alloc, text, cause),
-        Some(cause) => {
-            let mut told = explanation(alloc, table, cause)?;
-            if cause == Cause::Table(Fault::Toml) && table.len() == text.len() {
-                told.push_str(
-                    "There is no line `%%`, so all lines were read as lines of the table.\n",
-                )?;
-            }
+    match refusal {
+        Refusal::Script(_) => {
+            let from = text.len().saturating_sub(script.len());
+            remarks_text(alloc, text, from, refusal)
+        }
+        Refusal::Table(TableError::Refused(Fault::Toml)) if table.len() == text.len() => {
+            let mut told = remarks_text(alloc, table, 0, refusal)?;
+            told.push_str(
+                "There is no line `%%`, so all lines were read as lines of the table.\n",
+            )?;
             Ok(told)
         }
-        None => Ok(String::new(alloc)),
-    }
-}
-
-/// The explanation of a refusal of a link table; empty if there is nothing to explain.
-fn table_text(alloc: Global, table: &str, refusal: &Refusal) -> Result<String, AllocError> {
-    match cause_of(refusal, 0) {
-        Some(cause) => explanation(alloc, table, cause),
-        None => Ok(String::new(alloc)),
-    }
-}
-
-/// What there is to explain of a refusal, or `None`. The line of a script is one of the script that begins at
-/// byte `from` of the text.
-fn cause_of(refusal: &Refusal, from: usize) -> Option<Cause> {
-    match *refusal {
-        Refusal::Table(TableError::Refused(fault)) => Some(Cause::Table(fault)),
-        Refusal::Link(LinkError::Refused(fault)) => Some(Cause::Link(fault)),
-        Refusal::Start(error) => Some(Cause::Start(error)),
-        Refusal::Run(RunError::Refused(error)) => Some(Cause::Cycle(error)),
-        Refusal::Run(RunError::Wire) => Some(Cause::Wire),
-        Refusal::Script(ScriptError::BadScript(line)) => Some(Cause::Script { from, line }),
-        Refusal::Unmet(count) => Some(Cause::Unmet(count)),
-        _ => None,
+        _ => remarks_text(alloc, table, 0, refusal),
     }
 }

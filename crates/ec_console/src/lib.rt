@@ -1,25 +1,31 @@
-//! What the commands of `ecat` share: the refusals by number, the text of the input, and texts on the output and the fault stream.
-//! Explanations for people stand behind refusals. The file of a capture is opened once a table is accepted, and is whole if a run
-//! ends well.
+//! What the commands of `ecat` share: the refusals by number, the streams of a run, the text of the input, the machine that it states,
+//! and texts on the output and the fault stream. Explanations for people stand behind refusals. The file of a capture is opened once a
+//! table is accepted, and is whole if a run ends well.
 #![tactic(auto)]
 
 mod captures;
+mod console;
 mod explain;
+mod form;
 mod input;
 pub mod laws;
 mod machine;
 mod output;
 mod printing;
 mod refusal;
+mod remarks;
+mod stated;
 mod telling;
 
-pub use crate::captures::{
-    Capture, Recording, close_capture, finish_recording, open_capture, open_segment,
-};
+pub use crate::captures::{Capture, Interfaces, Recording, close_capture, open_capture};
+pub use crate::console::Console;
 pub use crate::explain::Explanation;
+pub use crate::form::SlaveForm;
 pub use crate::input::read_text;
 pub use crate::machine::read_machine;
 pub use crate::output::OutputStream;
 pub use crate::printing::print_text;
 pub use crate::refusal::{Refusal, end_of};
+pub use crate::remarks::{remarks_on, remarks_text};
+pub use crate::stated::{Source, Stated, read_source, read_stated};
 pub use ec_lines::InputStream;

@@ -1,35 +1,34 @@
 //! The machine that a text states.
-ghost use Rattle.std.specs.Prelude.{IfErr, IfOk};
-ghost use Rattle.ec_link.specs.Machine.{StatesMachine};
-ghost use Rattle.ec_console.specs.Given.{IsTableRefusal};
+ghost use Rattle.std.specs.Prelude.{◌≡◌, IfErr, IfOk, None, OnOk};
+ghost use Rattle.ec_link.specs.Faults.{compile_fault};
+ghost use Rattle.ec_console.specs.Given.{IsLinkRefusal, IsTableRefusal};
+ghost use Rattle.ec_console.specs.Stating.{StatesIn};
 
-use crate::Refusal;
-use ec_link::{Machine, MachineError};
+use crate::form::show_in;
+use crate::{Refusal, SlaveForm};
+use ec_link::Machine;
+use ec_table::{Table, read_table};
 use std::alloc::Global;
 
-impl From<MachineError> for Refusal {
-    ghost use Rattle.std.specs.Prelude.{◌≡◌};
-    ghost use Rattle.ec_console.specs.Given.{machine_refusal};
-
-    ghost from_gives = { λ error refusal. refusal ≡ machine_refusal error };
-
-    fn from(error: MachineError) -> Refusal {
-        match error {
-            MachineError::Table(error) => Refusal::Table(error),
-            MachineError::Link(error) => Refusal::Link(error),
-        }
-    }
-}
-
-/// The machine that a text states: a link table and its plan.
+/// The machine that a text states, with its slaves in a form: the one way of all commands from a text to a table and its plan.
 ///
 /// # Errors
 ///
-/// The first fault of the text as a link table, else the first that keeps the table from having a plan. Or memory runs out.
-pub fn read_machine(alloc: Global, text: &str) -> Result<Machine, Refusal>
-    ensures machine { IfOk result (StatesMachine text.now) }
+/// The first fault of the text as a link table, else the first that keeps the table from having a plan.
+pub fn read_machine(alloc: Global, form: SlaveForm, text: &str) -> Result<Machine, Refusal>
+    ensures machine { IfOk result (StatesIn form text.now) }
     ensures refused { IfErr result (IsTableRefusal text.now) }
 {
-    let machine = Machine::read(alloc, text)?;
-    Ok(machine)
+    let mut table = read_table(alloc, text)?;
+    show_in(&mut table, form);
+    machine_of(alloc, table)
+}
+
+/// The machine of a table.
+fn machine_of(alloc: Global, table: Table) -> Result<Machine, Refusal>
+    ensures machine { IfOk result (λ machine. machine ≡ table) }
+    ensures accepted { OnOk result (compile_fault table ≡ None) }
+    ensures refused { IfErr result (IsLinkRefusal table) }
+{
+    Ok(Machine::new(alloc, table)?)
 }

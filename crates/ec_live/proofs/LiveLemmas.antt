@@ -1,5 +1,5 @@
 -- Lines that are taken from an input and run as they come.
-use Rattle.std.proofs.Common.{◌≡◌, ◌∙◌, inl, inr, ℕ, ◌+◌, ◌-◌, ◌^◌, ◌<◌, ◌==◌, List, [], ◌∷◌, ◌++◌, length, min, Bool, true, false, Option, refl, sym, ap, subst, append_assoc, append-nil, length-append, arith, if◌then◌else◌, Result, Ok, Err, IfErr, IfOk, OnErr}
+use Rattle.std.proofs.Common.{◌≡◌, ◌∙◌, inl, inr, ℕ, ◌+◌, ◌-◌, ◌^◌, ◌<◌, ◌==◌, List, [], ◌∷◌, ◌++◌, length, min, Bool, true, false, Option, refl, sym, ap, subst, append_assoc, append-nil, length-append, arith, if◌then◌else◌, Result, Ok, Err, IfErr, OnErr}
 use Rattle.std.proofs.lemmas.Bool.Decides.{nat_tests}
 use Rattle.ec_table.specs.Contents.{Contents}
 use Rattle.ec_world.specs.Whole.{IsOfMachine}
@@ -7,7 +7,6 @@ use Rattle.ec_world.specs.World.{WorldState}
 use Rattle.ec_script.specs.declared.read.Reading.{Reading}
 use Rattle.ec_script.specs.declared.read.Reading.TheVariants as reading
 use Rattle.ec_why.specs.declared.wanted.Reasons.{Reasons}
-use Rattle.ec_console.specs.Capturing.{IsUnopened}
 use Rattle.ec_console.specs.declared.refusal.Refusal.{Refusal}
 use Rattle.ec_console.specs.declared.refusal.Refusal.TheVariants as refusal
 use Rattle.ec_console.specs.declared.refusal.Refusal.TheVariants.{Memory, Output, Input, Unmet}
@@ -15,13 +14,13 @@ use Rattle.ec_console.specs.Printing.{IsCutOff, IsPartPrinted, IsPrinted, Output
 use Rattle.ec_sim.specs.Simulating.{IsLate}
 use Rattle.ec_console.specs.Given.{Given, lines_refusal}
 use Rattle.std.specs.Result.{IsErrAnd}
-use Rattle.ec_live.specs.Living.{IsLiveLate, LiveSays, RunsLive, RunsLiveTable, LivesOn, LivesOut, LivesPart, SaysPart, SaysReading, live_reading}
+use Rattle.ec_live.specs.Living.{IsLiveLate, LiveSays, RunsLive, LivesOn, LivesOut, LivesPart, SaysPart, SaysReading, live_reading}
 use Rattle.ec_live.specs.Stages.{taken_reading}
 use Rattle.ec_lines.specs.declared.lines.NextLine.{NextLine}
 use Rattle.ec_lines.specs.declared.lines.NextLine.TheVariants as taken
 use Rattle.ec_lines.specs.declared.error.LinesError.{LinesError}
 use Rattle.ec_lines.specs.declared.error.LinesError.TheVariants as lines
-use Rattle.ec_lines.specs.Taking.{IsReadFault, IsTaken, RefusesText, TakesLine}
+use Rattle.ec_lines.specs.Taking.{IsReadFault, IsTaken, TakesLine}
 use Rattle.ec_lines.proofs.TakeLemmas.{takes_push}
 use Rattle.ec_script.specs.Scripts.{reading_of}
 use Rattle.ec_console.specs.Unmet.{counted, ended_by}
@@ -133,94 +132,33 @@ counted_some count unmet is some = let more : 0 < count = grind (arith, nat_test
 zero_of : (count : ℕ) → (count == 0) ≡ true → count ≡ 0
 zero_of count is = grind (arith, nat_tests)
 
-ran : (b : Bool) (given : Given) (old new : OutputState) (reasons : Reasons) (captured : Bool) (t : Contents) (w : WorldState) (count unmet : ℕ) → (count == 0) ≡ b → IsOfMachine t w → count ≡ counted unmet → LivesOut reasons t w given.bytes unmet old new
-    → RunsLiveTable reasons captured t given old new (if b then Ok tt else Err (Unmet count))
-ran true given old new reasons captured t w count unmet is begins counts all =
+ran : (b : Bool) (given : Given) (old new : OutputState) (reasons : Reasons) (t : Contents) (w : WorldState) (count unmet : ℕ) → (count == 0) ≡ b → IsOfMachine t w → count ≡ counted unmet → LivesOut reasons t w given.bytes unmet old new
+    → RunsLive reasons t given old new (if b then Ok tt else Err (Unmet count))
+ran true given old new reasons t w count unmet is begins counts all =
     let none : unmet ≡ 0 = counted_none count unmet counts (zero_of count is) in
     (w, begins, subst (λ (n : ℕ). LivesOut reasons t w given.bytes n old new) none all)
-ran false given old new reasons captured t w count unmet is begins counts all = inr (inr (unmet, counted_some count unmet counts is, ap Unmet counts, (w, begins, all)))
+ran false given old new reasons t w count unmet is begins counts all = inr (inr (unmet, counted_some count unmet counts is, ap Unmet counts, (w, begins, all)))
 
-pub lives_ran : (r : Result Unit Refusal) (given : Given) (old new : OutputState) (reasons : Reasons) (captured : Bool) (t u : Contents) (w : WorldState) (count : ℕ) → u ≡ t → r ≡ ended_by count → IsOfMachine t w
-    → (unmet : ℕ) × (count ≡ counted unmet) × LivesOut reasons u w given.bytes unmet old new → RunsLiveTable reasons captured t given old new r
-lives_ran r given old new reasons captured t u w count same is begins (unmet, counts, all) =
+pub lives_ran : (r : Result Unit Refusal) (given : Given) (old new : OutputState) (reasons : Reasons) (t u : Contents) (w : WorldState) (count : ℕ) → u ≡ t → r ≡ ended_by count → IsOfMachine t w
+    → (unmet : ℕ) × (count ≡ counted unmet) × LivesOut reasons u w given.bytes unmet old new → RunsLive reasons t given old new r
+lives_ran r given old new reasons t u w count same is begins (unmet, counts, all) =
     let of_it : LivesOut reasons t w given.bytes unmet old new = subst (λ (x : Contents). LivesOut reasons x w given.bytes unmet old new) same all in
-    subst (RunsLiveTable reasons captured t given old new) (sym is) (ran (count == 0) given old new reasons captured t w count unmet refl begins counts of_it)
+    subst (RunsLive reasons t given old new) (sym is) (ran (count == 0) given old new reasons t w count unmet refl begins counts of_it)
 
 -- and lines that are cut short
-pub lives_cut : {T : Type 0} (r : Result Unit Refusal) (printed : Result T Refusal) (e : Refusal) (given : Given) (old new : OutputState) (reasons : Reasons) (captured : Bool) (t u : Contents) (w : WorldState) → u ≡ t → IsOfMachine t w
-    → printed ≡ Err e → OnErr printed (LivesPart reasons u w given.bytes old new) → IfErr printed (IsLiveLate captured given.is_refused new) → IsErrAnd r (λ x. x ≡ e) → RunsLiveTable reasons captured t given old new r
-lives_cut (Ok done) printed e given old new reasons captured t u w table begins is some late same = absurd same
-lives_cut {T} (Err x) printed e given old new reasons captured t u w table begins is some late same =
+pub lives_cut : {T : Type 0} (r : Result Unit Refusal) (printed : Result T Refusal) (e : Refusal) (given : Given) (old new : OutputState) (reasons : Reasons) (t u : Contents) (w : WorldState) → u ≡ t → IsOfMachine t w
+    → printed ≡ Err e → OnErr printed (LivesPart reasons u w given.bytes old new) → IfErr printed (IsLiveLate given.is_refused new) → IsErrAnd r (λ x. x ≡ e) → RunsLive reasons t given old new r
+lives_cut (Ok done) printed e given old new reasons t u w table begins is some late same = absurd same
+lives_cut {T} (Err x) printed e given old new reasons t u w table begins is some late same =
     let of_table : LivesPart reasons u w given.bytes old new = subst (λ (p : Result T Refusal). OnErr p (LivesPart reasons u w given.bytes old new)) is some in
     let part : LivesPart reasons t w given.bytes old new = subst (λ (y : Contents). LivesPart reasons y w given.bytes old new) table of_table in
-    let is_late : IsLiveLate captured given.is_refused new e = subst (λ (p : Result T Refusal). IfErr p (IsLiveLate captured given.is_refused new)) is late in
-    inr (inl (subst (IsLiveLate captured given.is_refused new) (sym same) is_late, w, begins, part))
-
--- a text that can't be taken
-pub untaken : (reasons : Reasons) (captured : Bool) (r : Result Unit Refusal) (given : Given) (mid : Option (List ℕ)) (known : OutputState) (error : LinesError) → IsErrAnd r (λ refusal. refusal ≡ lines_refusal error) → RefusesText given.is_refused given.bytes mid error
-    → RunsLive reasons captured given known known r
-untaken reasons captured (Ok done) given mid known error is h = absurd is
-untaken reasons captured (Err refusal) given mid known error is h = inr (refusal, refl, refl, inr (mid, error, h, is))
-
--- ---- a capture
-
-pub none_part : (reasons : Reasons) (t : Contents) (w : WorldState) (given : Option (List ℕ)) (old : OutputState) → LivesPart reasons t w given old old
-none_part reasons t w given old =
-    record { left = given; count = 0; now = w; unmet = 0; half = old; so_far = none_lived reasons t w given old; reading = reading.Empty; next = refl }
-
--- all that is printed is a first part of it
-pub out_part : (reasons : Reasons) (t : Contents) (w : WorldState) (given : Option (List ℕ)) (unmet : ℕ) (old new : OutputState) → LivesOut reasons t w given unmet old new → LivesPart reasons t w given old new
-out_part reasons t w given unmet old new h =
-    record { left = h.left; count = h.count; now = h.last; unmet = unmet; half = new; so_far = h.so_far; reading = reading.Empty; next = refl }
-
-pub counted_out_part : (r : Result ℕ Refusal) (reasons : Reasons) (t : Contents) (w : WorldState) (given : Option (List ℕ)) (old new : OutputState)
-    → IfOk r (λ count. (unmet : ℕ) × (count ≡ counted unmet) × LivesOut reasons t w given unmet old new) → IfOk r (λ count. LivesPart reasons t w given old new)
-counted_out_part (Ok count) reasons t w given old new (unmet, is, all) = out_part reasons t w given unmet old new all
-counted_out_part (Err e) reasons t w given old new all = tt
-
--- a capture that can't be opened cuts the lines short
-pub unopened_late : (is_unread : Bool) (output : OutputState) (x : Refusal) → IsUnopened x → IsLiveLate true is_unread output x
-unopened_late is_unread output x (inl is) = subst (IsLiveLate true is_unread output) (sym is) (inr refl)
-unopened_late is_unread output x (inr is) = subst (IsLiveLate true is_unread output) (sym is) tt
-
--- what ends a run without one ends a run with one
-pub late_captured : {T : Type 0} (captured : Bool) (r : Result T Refusal) (is_unread : Bool) (output : OutputState) → IfErr r (IsLiveLate false is_unread output) → IfErr r (IsLiveLate captured is_unread output)
-late_captured captured (Ok x) is_unread output late = tt
-late_captured captured (Err Memory) is_unread output late = tt
-late_captured captured (Err Input) is_unread output late = late
-late_captured captured (Err Output) is_unread output (inl refused) = inl refused
-late_captured captured (Err Output) is_unread output (inr none) = let bad : false ≡ true = none in cc
-late_captured captured (Err (refusal.Frame e)) is_unread output late = absurd late
-late_captured captured (Err (refusal.Table e)) is_unread output late = absurd late
-late_captured captured (Err (refusal.Link e)) is_unread output late = absurd late
-late_captured captured (Err (refusal.Start e)) is_unread output late = absurd late
-late_captured captured (Err (refusal.Run e)) is_unread output late = absurd late
-late_captured captured (Err refusal.Socket) is_unread output late = absurd late
-late_captured captured (Err (refusal.Script e)) is_unread output late = absurd late
-late_captured captured (Err refusal.BadHex) is_unread output late = absurd late
-late_captured captured (Err (refusal.Unmet n)) is_unread output late = absurd late
-
--- and what ends one whose capture may be cut ends one with a capture
-pub cut_late : {T : Type 0} (captured : Bool) (r : Result T Refusal) (is_unread : Bool) (output : OutputState) → IfErr r (IsLiveLate captured is_unread output) → IfErr r (IsLiveLate true is_unread output)
-cut_late captured (Ok x) is_unread output late = tt
-cut_late captured (Err Memory) is_unread output late = tt
-cut_late captured (Err Input) is_unread output late = late
-cut_late captured (Err Output) is_unread output (inl refused) = inl refused
-cut_late captured (Err Output) is_unread output (inr cut) = inr refl
-cut_late captured (Err (refusal.Frame e)) is_unread output late = absurd late
-cut_late captured (Err (refusal.Table e)) is_unread output late = absurd late
-cut_late captured (Err (refusal.Link e)) is_unread output late = absurd late
-cut_late captured (Err (refusal.Start e)) is_unread output late = absurd late
-cut_late captured (Err (refusal.Run e)) is_unread output late = absurd late
-cut_late captured (Err refusal.Socket) is_unread output late = absurd late
-cut_late captured (Err (refusal.Script e)) is_unread output late = absurd late
-cut_late captured (Err refusal.BadHex) is_unread output late = absurd late
-cut_late captured (Err (refusal.Unmet n)) is_unread output late = absurd late
+    let is_late : IsLiveLate given.is_refused new e = subst (λ (p : Result T Refusal). IfErr p (IsLiveLate given.is_refused new)) is late in
+    inr (inl (subst (IsLiveLate given.is_refused new) (sym same) is_late, w, begins, part))
 
 -- ---- what ends a run of lines
 
 -- what ends a line
-pub said_late : (is_unread : Bool) (output : OutputState) (x : Refusal) → IsLate false output x → IsLiveLate false is_unread output x
+pub said_late : (is_unread : Bool) (output : OutputState) (x : Refusal) → IsLate output x → IsLiveLate is_unread output x
 said_late is_unread output Memory late = tt
 said_late is_unread output Output late = late
 said_late is_unread output Input late = absurd late
@@ -235,16 +173,16 @@ said_late is_unread output refusal.BadHex late = absurd late
 said_late is_unread output (refusal.Unmet n) late = absurd late
 
 -- a line that can't be taken
-pub unread_late : (is_unread : Bool) (output : OutputState) (error : LinesError) → IsReadFault is_unread error → IsLiveLate false is_unread output (lines_refusal error)
+pub unread_late : (is_unread : Bool) (output : OutputState) (error : LinesError) → IsReadFault is_unread error → IsLiveLate is_unread output (lines_refusal error)
 unread_late is_unread output lines.Memory fault = tt
 unread_late is_unread output lines.Unread fault = fault
 unread_late is_unread output lines.TooLong fault = absurd fault
 unread_late is_unread output lines.NoText fault = absurd fault
 
 -- a line that can't be printed
-pub write_late : (r : Result Unit Refusal) (old new : OutputState) (text : List ℕ) → OnErr r (IsCutOff old new text) → IfErr r (λ x. x ≡ Output) → IfErr r (IsLate false new)
+pub write_late : (r : Result Unit Refusal) (old new : OutputState) (text : List ℕ) → OnErr r (IsCutOff old new text) → IfErr r (λ x. x ≡ Output) → IfErr r (IsLate new)
 write_late (Ok done) old new text cut is = tt
-write_late (Err x) old new text cut is = subst (IsLate false new) (sym is) (inl cut.refused)
+write_late (Err x) old new text cut is = subst (IsLate new) (sym is) cut.refused
 
 pub cut_part : (r : Result Unit Refusal) (old new : OutputState) (text : List ℕ) → OnErr r (IsCutOff old new text) → OnErr r (IsPartPrinted old new text)
 cut_part (Ok done) old new text cut = tt

@@ -1,10 +1,8 @@
 -- What `ecat sim --live` prints and returns (this project's profile).
 use Rattle.std.specs.Prelude.{◌≡◌, ◌⊎◌, ℕ, ◌+◌, List, [], ◌∷◌, ◌++◌, length, replicate, if◌then◌else◌, Bool, true, Option, Result, Ok, Err, codes}
 use Rattle.std.specs.Fmt.{decimal}
-use Rattle.ec_lines.specs.declared.error.LinesError.{LinesError}
-use Rattle.ec_lines.specs.Taking.{RefusesText, TakesLine, TakesLines, TakesText, is_text_line, without_end}
+use Rattle.ec_lines.specs.Taking.{TakesLine, TakesLines, is_text_line, without_end}
 use Rattle.ec_table.specs.Contents.{Contents}
-use Rattle.ec_link.specs.Machine.{StatesMachine}
 use Rattle.ec_text.specs.PlanText.{newline}
 use Rattle.ec_world.specs.Whole.{IsOfMachine}
 use Rattle.ec_world.specs.World.{WorldState}
@@ -14,9 +12,8 @@ use Rattle.ec_script.specs.Scripts.{reading_of}
 use Rattle.ec_why.specs.declared.wanted.Reasons.{Reasons}
 use Rattle.ec_console.specs.declared.refusal.Refusal.{Refusal}
 use Rattle.ec_console.specs.declared.refusal.Refusal.TheVariants.{Memory, Output, Input}
-use Rattle.ec_console.specs.Given.{Given, IsTableRefusal, lines_refusal}
+use Rattle.ec_console.specs.Given.{Given}
 use Rattle.ec_console.specs.Printing.{IsPartPrinted, IsPrinted, OutputState}
-use Rattle.ec_console.specs.Capturing.{IsUnwritten}
 use Rattle.ec_sim.specs.Simulating.{PrintsPart, Says}
 use Rattle.ec_console.specs.Unmet.{EndsUnmet}
 
@@ -75,27 +72,17 @@ pub record LivesPart (reasons : Reasons) (t : Contents) (w : WorldState) (given 
   pub reading : Reading
   pub next : SaysPart reasons t now (count + 1) reading half new
 
--- refusals of a run, by whether there is a capture, whether a read was refused, and the output;
--- memory may run out at any time
-abbrev pub IsLiveLate : (captured is_unread : Bool) → OutputState → Refusal → Type 0
-IsLiveLate captured is_unread output Memory = Unit {0}
-IsLiveLate captured is_unread output Output = IsUnwritten captured output
-IsLiveLate captured is_unread output Input = is_unread ≡ true
-IsLiveLate captured is_unread output _ = ⊥
+-- refusals of a run, by whether a read was refused, and the output; memory may run out at any time
+abbrev pub IsLiveLate : (is_unread : Bool) → OutputState → Refusal → Type 0
+IsLiveLate is_unread output Memory = Unit {0}
+IsLiveLate is_unread output Output = output.is_refused ≡ true
+IsLiveLate is_unread output Input = is_unread ≡ true
+IsLiveLate is_unread output _ = ⊥
 
 -- the lines run over slaves of the table that are switched on, and are printed to the end or in part
-abbrev pub RunsLiveTable : Reasons → (captured : Bool) → Contents → (given : Given) → (old new : OutputState) → Result Unit Refusal → Type 0
-RunsLiveTable reasons captured t given old new (Ok done) = (w : WorldState) × IsOfMachine t w × LivesOut reasons t w given.bytes 0 old new
-RunsLiveTable reasons captured t given old new (Err refusal) =
+abbrev pub RunsLive : Reasons → Contents → (given : Given) → (old new : OutputState) → Result Unit Refusal → Type 0
+RunsLive reasons t given old new (Ok done) = (w : WorldState) × IsOfMachine t w × LivesOut reasons t w given.bytes 0 old new
+RunsLive reasons t given old new (Err refusal) =
     ((refusal ≡ Memory) × (new ≡ old))
-    ⊎ ((IsLiveLate captured given.is_refused new refusal × (w : WorldState) × IsOfMachine t w × LivesPart reasons t w given.bytes old new)
+    ⊎ ((IsLiveLate given.is_refused new refusal × (w : WorldState) × IsOfMachine t w × LivesPart reasons t w given.bytes old new)
     ⊎ EndsUnmet refusal (λ unmet. (w : WorldState) × IsOfMachine t w × LivesOut reasons t w given.bytes unmet old new))
-
--- the input begins with a table that is accepted; or with one that is refused or can't be taken, and nothing is printed
-abbrev pub RunsLive : Reasons → (captured : Bool) → (given : Given) → (old new : OutputState) → Result Unit Refusal → Type 0
-RunsLive reasons captured given old new ended =
-    ((mid : Option (List ℕ)) × (table : List ℕ) × TakesText given.bytes mid table × (t : Contents) × StatesMachine table t
-    × RunsLiveTable reasons captured t (record given { bytes = mid }) old new ended)
-    ⊎ ((refusal : Refusal) × (ended ≡ Err refusal) × (new ≡ old)
-    × (((mid : Option (List ℕ)) × (table : List ℕ) × TakesText given.bytes mid table × IsTableRefusal table refusal)
-    ⊎ ((mid : Option (List ℕ)) × (error : LinesError) × RefusesText given.is_refused given.bytes mid error × (refusal ≡ lines_refusal error))))

@@ -4,4 +4,4 @@
 pub mod laws;
 mod live;
 
-pub use crate::live::print_live;
+pub use crate::live::run_live;

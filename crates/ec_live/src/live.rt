@@ -1,21 +1,17 @@
-//! `ecat sim --live`: reads a link table and a line `%%`, and then lines of a script, each of which is run as it comes.
+//! `ecat sim --live`: runs the lines that an input gives over a simulated segment of a machine, each as it comes.
 
-ghost use Rattle.std.specs.Prelude.{◌≡◌, ◌++◌, ℕ, List, IfOk, IfErr, OnOk, OnErr, codes, false, is_some, not, option_map, true};
+ghost use Rattle.std.specs.Prelude.{◌≡◌, ◌++◌, ℕ, List, IfOk, IfErr, OnOk, OnErr, codes, is_some};
 ghost use Rattle.std.specs.Fmt.{decimal};
 ghost use Rattle.ec_text.specs.PlanText.{newline};
-ghost use Rattle.ec_live.specs.Living.{IsLiveLate, LivesOut, LivesPart, RunsLive, RunsLiveTable, SaysPart, SaysReading};
-ghost use Rattle.ec_console.specs.Explaining.{IsLeft};
+ghost use Rattle.ec_live.specs.Living.{IsLiveLate, LivesOut, LivesPart, RunsLive, SaysPart, SaysReading};
 ghost use Rattle.ec_console.specs.Given.{given_by};
 ghost use Rattle.ec_console.specs.Printing.{IsPartPrinted, IsPrinted};
 ghost use Rattle.ec_sim.specs.Simulating.{IsLate};
 ghost use Rattle.ec_console.specs.Unmet.{counted};
-ghost use Rattle.ec_live.specs.Stages.{RunsLiveText, taken_reading};
+ghost use Rattle.ec_live.specs.Stages.{taken_reading};
 
-use ec_console::{
-    Explanation, InputStream, OutputStream, Refusal, end_of, finish_recording, open_segment,
-    print_text, read_machine,
-};
-use ec_lines::{NextLine, take_line, take_text};
+use ec_console::{Capture, InputStream, OutputStream, Refusal, end_of, print_text};
+use ec_lines::{NextLine, take_line};
 use ec_link::Machine;
 use ec_script::{Reading, read_line};
 use ec_sim::print_line;
@@ -24,114 +20,47 @@ use ec_watch::Watch;
 use ec_why::Reasons;
 use ec_world::{Unwatched, Watcher, World};
 use std::alloc::{AllocError, Global};
-use std::fs::Files;
 use std::io::{Read, Write};
 
-/// Runs the lines that stand on the input behind a link table and a line `%%`, each as it comes. The text of a line is printed before
-/// the next one is read, and with `reasons` also why it says `no`. A line that can't be read prints `bad` and its number, and does
-/// nothing. The slaves begin at power-on, with the identities of the table. If a file is named, the frames go into a capture. A refusal
-/// is explained in `behind`, if that is wanted, once the table's text is taken.
+/// What a line of an input is read as, and its number.
+#[derive(Clone, Copy, Drop)]
+struct Numbered {
+    number: usize,
+    reading: Reading,
+}
+
+/// Runs the lines that an input gives over a new segment of a machine, each as it comes. The text of a line is printed before the next
+/// one is read, and with `reasons` also why it says `no`. A line that can't be read prints `bad` and its number, and does nothing.
+/// The slaves begin at power-on, with the identities of the table. The frames go into an open capture, if there is one.
 ///
 /// # Errors
 ///
-/// The refusal of the table. `Refusal::Unmet` if what a line expected wasn't so. `Refusal::Input`, `Output` or `Memory` if a
-/// read, a write or memory was refused; what was printed until then stays.
-pub fn print_live<H: AllocGlobal + Files, R: Read + Drop, W: Write + Drop>(
-    rt: &H,
-    reasons: Reasons,
-    file: Option<&str>,
-    input: &mut InputStream<R>,
-    output: &mut OutputStream<W>,
-    behind: &mut Explanation,
-) -> Result<(), Refusal>
-    ensures runs { RunsLive reasons (is_some (option_map (λ x. x.now) file.entry)) (given_by R.remaining input.old input.new) output.old output.new
-        result }
-    ensures explains { IsLeft behind.old behind.new }
-{
-    let text = take_text(rt.alloc(), input)?;
-    let ended = run_live_text(rt, file, text.as_str(), reasons, input, output);
-    if let Err(refusal) = &ended {
-        behind.explain(rt.alloc(), text.as_str(), refusal);
-    }
-    ended
-}
-
-/// Runs the lines that an input gives over a new segment of the machine that a text states.
-fn run_live_text<H: AllocGlobal + Files, R: Read + Drop, W: Write + Drop>(
-    rt: &H,
-    file: Option<&str>,
-    text: &str,
-    reasons: Reasons,
-    input: &mut InputStream<R>,
-    output: &mut OutputStream<W>,
-) -> Result<(), Refusal>
-    ensures { RunsLiveText reasons (is_some (option_map (λ x. x.now) file.entry)) text.now (given_by R.remaining input.old input.new) output.old
-        output.new result }
-{
-    let machine = read_machine(rt.alloc(), text)?;
-    run_live_machine(rt, file, &machine, reasons, input, output)
-}
-
-/// Runs the lines that an input gives over a new segment of a machine.
-fn run_live_machine<H: AllocGlobal + Files, R: Read + Drop, W: Write + Drop>(
-    rt: &H,
-    file: Option<&str>,
+/// `Refusal::Unmet` if what a line expected wasn't so. `Refusal::Input`, `Output` or `Memory` if a read, a write or memory was
+/// refused; what was printed until then stays.
+pub fn run_live<F: Write + Drop, R: Read + Drop, W: Write + Drop>(
+    alloc: Global,
     machine: &Machine,
     reasons: Reasons,
+    capture: &mut Capture<F>,
     input: &mut InputStream<R>,
     output: &mut OutputStream<W>,
 ) -> Result<(), Refusal>
-    ensures { RunsLiveTable reasons (is_some (option_map (λ x. x.now) file.entry)) machine.now (given_by R.remaining input.old input.new) output.old
-        output.new result }
+    ensures runs { RunsLive reasons machine.now (given_by R.remaining input.old input.new) output.old output.new result }
+    ensures kept { is_some capture.new ≡ is_some capture.old }
 {
     let table = machine.table();
-    let mut world = World::of_machine(rt.alloc(), machine)?;
-    let unmet = print_live_watched(rt, table, reasons, &mut world, file, input, output)?;
+    let mut world = World::of_machine(alloc, machine)?;
+    let unmet = print_watched(alloc, table, reasons, &mut world, capture, input, output)?;
     end_of(unmet)
 }
 
-/// Runs the lines that an input gives as [`print_live_lines`] does. If a file is named, the frames of the world go into a
-/// capture.
-#[tactic(auto, using(crate::proofs::LiveLemmas::none_part, crate::proofs::LiveLemmas::unopened_late, crate::proofs::LiveLemmas::cut_late))]
-fn print_live_watched<H: AllocGlobal + Files, R: Read + Drop, W: Write + Drop>(
-    rt: &H,
-    table: &Table,
-    reasons: Reasons,
-    world: &mut World<'_>,
-    file: Option<&str>,
-    input: &mut InputStream<R>,
-    output: &mut OutputStream<W>,
-) -> Result<u64, Refusal>
-    ensures all { IfOk result (λ count. (unmet : ℕ) × (count ≡ counted unmet)
-        × LivesOut reasons table.now world.old (R.remaining input.old.stream) unmet
-        output.old output.new) }
-    ensures part { OnErr result (LivesPart reasons table.now world.old (R.remaining input.old.stream)
-        output.old output.new) }
-    ensures late { IfErr result (IsLiveLate (is_some (option_map (λ x. x.now) file.entry)) input.new.is_refused output.new) }
-{
-    let Some(file) = file else {
-        return print_live_lines(
-            rt.alloc(),
-            table,
-            reasons,
-            world,
-            &mut Unwatched,
-            input,
-            output,
-        );
-    };
-    let mut watch = Watch::new(open_segment(rt, file, table)?);
-    print_live_captured(rt.alloc(), table, reasons, world, &mut watch, input, output)
-}
-
-/// Runs the lines that an input gives as [`print_live_lines`] does. The frames of the world go into an open capture. If it returns
-/// `Ok`, the capture is whole: all of it is written and handed on.
-fn print_live_captured<F: Write + Drop, R: Read + Drop, W: Write + Drop>(
+/// Runs the lines that an input gives as [`print_live_lines`] does. The frames of the world go into an open capture, if there is one.
+fn print_watched<F: Write + Drop, R: Read + Drop, W: Write + Drop>(
     alloc: Global,
     table: &Table,
     reasons: Reasons,
     world: &mut World<'_>,
-    watch: &mut Watch<F>,
+    capture: &mut Capture<F>,
     input: &mut InputStream<R>,
     output: &mut OutputStream<W>,
 ) -> Result<u64, Refusal>
@@ -140,11 +69,18 @@ fn print_live_captured<F: Write + Drop, R: Read + Drop, W: Write + Drop>(
         output.old output.new) }
     ensures part { OnErr result (LivesPart reasons table.now world.old (R.remaining input.old.stream)
         output.old output.new) }
-    ensures late { IfErr result (IsLiveLate (not watch.new.capture.is_whole) input.new.is_refused output.new) }
-    ensures whole { OnOk result (watch.new.capture.is_whole ≡ true) }
+    ensures late { IfErr result (IsLiveLate input.new.is_refused output.new) }
+    ensures kept { is_some capture.new ≡ is_some capture.old }
 {
-    let ended = print_live_lines(alloc, table, reasons, world, watch, input, output);
-    finish_recording(ended, watch.capture())
+    match capture.take() {
+        None => print_live_lines(alloc, table, reasons, world, &mut Unwatched, input, output),
+        Some(recording) => {
+            let mut watch = Watch::new(recording);
+            let ended = print_live_lines(alloc, table, reasons, world, &mut watch, input, output);
+            *capture = Some(watch.into_capture());
+            ended
+        }
+    }
 }
 
 /// Runs the lines that an input gives over a world of a table. It prints the text of each before the next one is read, and returns
@@ -164,7 +100,7 @@ fn print_live_lines<S: Watcher, R: Read + Drop, W: Write + Drop>(
         output.old output.new) }
     ensures part { OnErr result (LivesPart reasons table.now world.old (R.remaining input.old.stream)
         output.old output.new) }
-    ensures late { IfErr result (IsLiveLate false input.new.is_refused output.new) }
+    ensures late { IfErr result (IsLiveLate input.new.is_refused output.new) }
 {
     let mut unmet: u64 = 0;
     for place in 0..usize::MAX {
@@ -174,9 +110,8 @@ fn print_live_lines<S: Watcher, R: Read + Drop, W: Write + Drop>(
         }
         let number = place + 1;
         let reading = reading_of(alloc, table, number, &taken)?;
-        let count = print_reading(
-            alloc, table, reasons, world, watcher, number, reading, output,
-        )?;
+        let line = Numbered { number, reading };
+        let count = print_reading(alloc, table, reasons, world, watcher, line, output)?;
         unmet = unmet.saturating_add(count);
     }
     // There is no number for a further line.
@@ -190,22 +125,21 @@ fn print_reading<S: Watcher, W: Write + Drop>(
     reasons: Reasons,
     world: &mut World<'_>,
     watcher: &mut S,
-    number: usize,
-    reading: Reading,
+    line: Numbered,
     output: &mut OutputStream<W>,
 ) -> Result<u64, Refusal>
     ensures all { IfOk result (λ count. (unmet : ℕ) × (count ≡ counted unmet) × (printed : List ℕ)
-        × SaysReading reasons table.now world.old number reading world.new printed unmet
+        × SaysReading reasons table.now world.old line.number line.reading world.new printed unmet
         × IsPrinted output.old output.new printed) }
-    ensures part { OnErr result (SaysPart reasons table.now world.old number reading
+    ensures part { OnErr result (SaysPart reasons table.now world.old line.number line.reading
         output.old output.new) }
-    ensures late { IfErr result (IsLate false output.new) }
+    ensures late { IfErr result (IsLate output.new) }
 {
-    match reading {
+    match line.reading {
         Reading::Empty => Ok(0),
         Reading::Line(line) => print_line(alloc, table, reasons, world, watcher, &line, output),
         Reading::Bad => {
-            print_bad(alloc, number, output)?;
+            print_bad(alloc, line.number, output)?;
             Ok(0)
         }
     }
@@ -222,7 +156,7 @@ fn print_bad<W: Write + Drop>(
         (codes "bad " ++ decimal number ++ newline)) }
     ensures part { OnErr result (IsPartPrinted output.old output.new
         (codes "bad " ++ decimal number ++ newline)) }
-    ensures late { IfErr result (IsLate false output.new) }
+    ensures late { IfErr result (IsLate output.new) }
 {
     let text = format!(in alloc; "bad {number}\n")?;
     print_text(text.as_bytes(), output)

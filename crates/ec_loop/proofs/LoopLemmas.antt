@@ -16,7 +16,6 @@ use Rattle.ec_link.specs.LinkRuns.{is_out}
 use Rattle.ec_link.specs.Plan.{PlanState, plan_of}
 use Rattle.ec_start.specs.declared.phase.Phase.{Phase}
 use Rattle.ec_start.specs.declared.phase.Phase.TheVariants.{Idle, Sent, Ready, Failed}
-use Rattle.ec_link.specs.Machine.{StatesMachine}
 use Rattle.ec_start.specs.declared.error.StartError.{StartError}
 use Rattle.ec_start.specs.Running.{StartState, begun, is_ended, outcome_of}
 use Rattle.ec_wire.specs.BringingUp.{IsBroughtUp}
@@ -35,10 +34,8 @@ use Rattle.ec_text.specs.InputText.{inputs_text, shown}
 use Rattle.ec_text.specs.ReportText.{report_text}
 use Rattle.ec_console.specs.declared.refusal.Refusal.{Refusal}
 use Rattle.ec_console.specs.declared.refusal.Refusal.TheVariants as refusal
-use Rattle.ec_loop.specs.Looping.{AreRun, CanCycle, EndsEarly, EndsUnwritten, IsCycleRefusal, IsNeverRun, IsRunEnd, IsSoFar, IsStartRefusal, IsUnbound, IsUp, Loops, LoopsOnSockets, LoopsText, RunsCycles, cycles_text, output_put, outputs_put, ready_line, with_outputs}
+use Rattle.ec_loop.specs.Looping.{AreRun, CanCycle, EndsEarly, EndsUnwritten, IsCycleRefusal, IsNeverRun, IsRunEnd, IsSoFar, IsStartRefusal, IsUnbound, IsUp, Loops, LoopsOnSockets, RunsCycles, cycles_text, output_put, outputs_put, ready_line, with_outputs}
 use Rattle.ec_loop.specs.Stages.{IsCut}
-use Rattle.ec_console.specs.Capturing.{EndsWith}
-use Rattle.ec_console.specs.Given.{IsTableRefusal}
 use Rattle.ec_console.specs.Printing.{IsCutOff, IsPrinted, OutputState}
 use Rattle.ec_console.proofs.PrintLemmas.{texts}
 
@@ -498,15 +495,6 @@ looped_between r cycles t slaves before given began ended after old new are open
   runs = subst (λ (x : Traffic). Loops cycles t (counted before) (counted x) old new r) (sym ends)
       (subst (λ (x : Traffic). Loops cycles t (counted x) (counted ended) old new r) (starts ∙ opens) runs);
 })
-
-pub looped : (cycles : ℕ) (file : Option (List ℕ)) (text : List ℕ) (t : Contents) (old new : OutputState) (before after : Traffic) (r : Result Unit Refusal) → StatesMachine text t
-    → EndsWith file (LoopsOnSockets cycles t old new before after) ((new ≡ old) × (after ≡ before)) r → LoopsText cycles file text old new before after r
-looped cycles file text t old new before after r states ends = inl (t, states, ends)
-
--- a text that states none
-pub unstated : (r : Result Unit Refusal) (x : Refusal) (cycles : ℕ) (file : Option (List ℕ)) (text : List ℕ) (known : OutputState) (before : Traffic) → IsErrAnd r (λ e. e ≡ x) → IsTableRefusal text x
-    → LoopsText cycles file text known known before before r
-unstated r x cycles file text known before is why = inr (never_run r x (IsTableRefusal text) known before before is why refl)
 
 -- cycles over a wire whose payloads are noted are cycles over the wire
 pub tapped_loops : (cycles : ℕ) (t : Contents) (first began after last : WireState) (old new : OutputState) (r : Result Unit Refusal)

@@ -1,8 +1,7 @@
 -- What `ecat loop` prints (this project's profile).
-use Rattle.std.specs.Prelude.{◌≡◌, ◌⊎◌, ◌≤◌, ◌<◌, ◌+◌, ◌%◌, ◌^◌, ℕ, List, [], ◌∷◌, ◌++◌, length, true, if◌then◌else◌, Option, None, Some, Result, Ok, Err, codes}
+use Rattle.std.specs.Prelude.{◌≡◌, ◌⊎◌, ◌≤◌, ◌<◌, ◌+◌, ◌%◌, ◌^◌, ℕ, List, [], ◌∷◌, ◌++◌, length, true, if◌then◌else◌, None, Some, Result, Ok, Err, codes}
 use Rattle.std.specs.List.{flat_map}
 use Rattle.ec_table.specs.Contents.{Contents}
-use Rattle.ec_link.specs.Machine.{StatesMachine}
 use Rattle.ec_link.specs.declared.image.Variable.{Variable}
 use Rattle.ec_link.specs.LinkRuns.{is_out}
 use Rattle.ec_link.specs.Plan.{PlanState, plan_of}
@@ -24,8 +23,6 @@ use Rattle.ec_text.specs.InputText.{inputs_text, shown}
 use Rattle.ec_text.specs.ReportText.{report_text}
 use Rattle.ec_console.specs.declared.refusal.Refusal.{Refusal}
 use Rattle.ec_console.specs.declared.refusal.Refusal.TheVariants.{Memory, Start, Run, Socket, Output}
-use Rattle.ec_console.specs.Given.{Given, GivesText, IsInputRefusal, IsTableRefusal}
-use Rattle.ec_console.specs.Capturing.{EndsWith}
 use Rattle.ec_console.specs.Printing.{IsCutOff, IsPrinted, OutputState}
 
 -- ---- lines
@@ -173,15 +170,3 @@ IsUnbound refusal = (refusal ≡ Memory) ⊎ (refusal ≡ Socket)
 -- the cycles of a table; or there is no memory for its slaves, or there are no sockets
 abbrev pub LoopsOnSockets : ℕ → Contents → (old new : OutputState) → (before after : Traffic) → Result Unit Refusal → Type 0
 LoopsOnSockets cycles t old new before after ended = LoopsBetween cycles t old new before after ended ⊎ IsNeverRun IsUnbound old new before after ended
-
--- cycles of the table in a text, with a capture if a file is named; or the text is refused, and no file is opened
-abbrev pub LoopsText : ℕ → (file : Option (List ℕ)) → List ℕ → (old new : OutputState) → (before after : Traffic) → Result Unit Refusal → Type 0
-LoopsText cycles file text old new before after ended =
-    ((t : Contents) × StatesMachine text t × EndsWith file (LoopsOnSockets cycles t old new before after) ((new ≡ old) × (after ≡ before)) ended)
-    ⊎ IsNeverRun (IsTableRefusal text) old new before after ended
-
--- cycles of the table that the input gives, as in `LoopsText`; or the input is refused
-abbrev pub RunsLoop : ℕ → (file : Option (List ℕ)) → (given : Given) → (old new : OutputState) → (before after : Traffic) → Result Unit Refusal → Type 0
-RunsLoop cycles file given old new before after ended =
-    ((text : List ℕ) × GivesText given text × LoopsText cycles file text old new before after ended)
-    ⊎ IsNeverRun (IsInputRefusal given) old new before after ended

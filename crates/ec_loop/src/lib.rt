@@ -3,4 +3,4 @@
 
 mod looping;
 
-pub use crate::looping::{print_loop, run_loop};
+pub use crate::looping::{run_loop, run_loopback};

@@ -1,5 +1,5 @@
 //! `ecat loop`: cycles of a link table over two sockets of this process.
-ghost use Rattle.std.specs.Prelude.{◌≡◌, ◌≤◌, ◌<◌, ◌%◌, ◌^◌, List, [], All, None, Some, Ok, Result, IfErr, IfOk, OnErr, OnOk, is_some, length, option_map, slice_get};
+ghost use Rattle.std.specs.Prelude.{◌≡◌, ◌≤◌, ◌%◌, ◌^◌, List, [], All, Some, Ok, IfErr, IfOk, OnErr, OnOk, is_some, length, slice_get};
 ghost use Rattle.std.specs.String.{string_bytes};
 ghost use Rattle.ec_link.specs.Plan.{plan_of};
 ghost use Rattle.ec_start.specs.Planned.{HasFewAssigned};
@@ -11,19 +11,12 @@ ghost use Rattle.ec_wire.specs.Running.{IsRun};
 ghost use Rattle.ec_wire.specs.Wires.{IsBack, opened_to};
 ghost use Rattle.ec_wire.specs.Taps.{Tells};
 ghost use Rattle.ec_text.specs.ReportText.{report_text};
-ghost use Rattle.ec_console.specs.Capturing.{EndsWith, finished, is_complete};
-ghost use Rattle.ec_console.specs.declared.refusal.Refusal.{Refusal as RefusalValue};
-ghost use Rattle.ec_console.specs.Explaining.{IsLeft};
-ghost use Rattle.ec_loop.specs.Looping.{AreRun, CanCycle, IsCycleRefusal, IsRunEnd, IsStartRefusal, IsUnbound, IsUp, Loops, LoopsOnSockets, LoopsText, RunsCycles, RunsLoop, cycles_text, output_put, with_outputs};
+ghost use Rattle.ec_loop.specs.Looping.{AreRun, CanCycle, IsCycleRefusal, IsRunEnd, IsStartRefusal, IsUnbound, IsUp, Loops, LoopsOnSockets, RunsCycles, cycles_text, output_put, with_outputs};
 ghost use Rattle.ec_console.specs.Printing.{IsPrinted};
 ghost use Rattle.ec_loop.specs.Stages.{IsCut};
-ghost use Rattle.ec_console.specs.Given.{given_by};
 
 use ec_bringup::slaves_of_machine;
-use ec_console::{
-    Capture, Explanation, InputStream, OutputStream, Refusal, close_capture, open_capture,
-    print_text, read_machine, read_text,
-};
+use ec_console::{Capture, OutputStream, Refusal, print_text};
 use ec_cycle::{Master, Report};
 use ec_link::{Machine, Plan, Variable};
 use ec_start::Startup;
@@ -33,7 +26,7 @@ use ec_wire::{
 };
 use std::alloc::Global;
 use std::fs::Files;
-use std::io::{Read, Write};
+use std::io::Write;
 use std::net::Net;
 use std::time::Clock;
 
@@ -62,41 +55,30 @@ pub fn run_loop<W: Wire, O: Write + Drop>(
     run_started(alloc, machine, &mut master, wire, cycles, output)
 }
 
-/// Runs `cycles` cycles of the table that the input states, with master and slaves on two sockets of this process. The slaves have the
-/// application of `loopback`, which counts what goes over the sockets. Cycle n sends each output variable as n, cut to its bits. It
-/// prints a line when the slaves are up, the report on each cycle before the next begins, and at the end the input variables. If a file
-/// is named, what the master sends and receives goes into a capture, at the interface `loop`. A refusal of the table, of its start-up or
-/// of a cycle is explained in `behind`, if that is wanted.
+/// Runs `cycles` cycles of a machine, with master and slaves on two sockets of this process. The slaves have the application of
+/// `loopback`, which counts what goes over the sockets. It prints what [`run_loop`] prints. What the master sends and receives goes
+/// into an open capture, if there is one.
 ///
 /// # Errors
 ///
-/// The refusal of the input or of its table. `Refusal::Output` if the file couldn't be opened, before anything is sent.
 /// `Refusal::Memory` if memory ran out, `Refusal::Socket` if there are no such sockets, and the errors of [`run_loop`].
-/// `Refusal::Output` if all cycles were run and the capture isn't whole.
-pub fn print_loop<
-    H: AllocGlobal + Net + Files + Clock,
-    R: Read + Drop,
-    W: Write + Drop,
-    A: App + Drop,
->(
+#[tactic(auto, using(crate::proofs::LoopLemmas::no_wire, crate::proofs::LoopLemmas::looped_between))]
+pub fn run_loopback<H: AllocGlobal + Net + Files + Clock, W: Write + Drop, A: App + Drop>(
     rt: &H,
+    machine: &Machine,
     cycles: u16,
-    file: Option<&str>,
-    input: &mut InputStream<R>,
+    capture: &mut Capture<H::File>,
     output: &mut OutputStream<W>,
     loopback: &mut Loopback<A>,
-    behind: &mut Explanation,
 ) -> Result<(), Refusal>
-    ensures runs { RunsLoop cycles (option_map (λ x. x.now) file.entry) (given_by R.remaining input.old input.new) output.old output.new
+    ensures loops { LoopsOnSockets cycles machine.now output.old output.new
         loopback.old.traffic loopback.new.traffic result }
+    ensures kept { is_some capture.new ≡ is_some capture.old }
     ensures back { IsBack loopback.old loopback.new }
-    ensures explains { IsLeft behind.old behind.new }
 {
-    let text = read_text(rt.alloc(), input)?;
-    let ended = loop_text(rt, cycles, file, text.as_str(), output, loopback);
-    if let Err(refusal) = &ended {
-        behind.explain(rt.alloc(), text.as_str(), refusal);
-    }
+    let wire = open_loop(rt, machine, loopback)?;
+    let (ended, wire) = run_tapped(rt, machine, wire, cycles, capture, output);
+    loopback.close(wire);
     ended
 }
 
@@ -246,85 +228,8 @@ fn cut_to(number: u64, bits: u8) -> u64
     }
 }
 
-/// Runs cycles of the machine that a text states, over two sockets.
-fn loop_text<H: AllocGlobal + Net + Files + Clock, W: Write + Drop, A: App + Drop>(
-    rt: &H,
-    cycles: u16,
-    file: Option<&str>,
-    text: &str,
-    output: &mut OutputStream<W>,
-    loopback: &mut Loopback<A>,
-) -> Result<(), Refusal>
-    ensures loops { LoopsText cycles (option_map (λ x. x.now) file.entry) text.now output.old output.new
-        loopback.old.traffic loopback.new.traffic result }
-    ensures back { IsBack loopback.old loopback.new }
-{
-    let machine = read_machine(rt.alloc(), text)?;
-    loop_machine(rt, &machine, cycles, file, output, loopback)
-}
-
-/// Runs cycles of a machine over two sockets. If a file is named, what the master sends and receives goes into a capture.
-fn loop_machine<H: AllocGlobal + Net + Files + Clock, W: Write + Drop, A: App + Drop>(
-    rt: &H,
-    machine: &Machine,
-    cycles: u16,
-    file: Option<&str>,
-    output: &mut OutputStream<W>,
-    loopback: &mut Loopback<A>,
-) -> Result<(), Refusal>
-    ensures loops { EndsWith (option_map (λ x. x.now) file.entry)
-        (LoopsOnSockets cycles machine.now output.old output.new loopback.old.traffic loopback.new.traffic)
-        ((output.new ≡ output.old) × (loopback.new.traffic ≡ loopback.old.traffic)) result }
-    ensures back { IsBack loopback.old loopback.new }
-{
-    let mut capture = open_capture(rt, file, "loop")?;
-    loop_captured(rt, machine, cycles, &mut capture, output, loopback)
-}
-
-/// Runs cycles of a machine over two sockets, and notes what the master sends and receives in an open capture, if there is one. If
-/// it returns `Ok`, the capture is whole: all of it is written and handed on.
-fn loop_captured<H: AllocGlobal + Net + Files + Clock, W: Write + Drop, A: App + Drop>(
-    rt: &H,
-    machine: &Machine,
-    cycles: u16,
-    capture: &mut Capture<H::File>,
-    output: &mut OutputStream<W>,
-    loopback: &mut Loopback<A>,
-) -> Result<(), Refusal>
-    ensures loops { (ended : Result Unit RefusalValue)
-        × LoopsOnSockets cycles machine.now output.old output.new loopback.old.traffic loopback.new.traffic ended
-        × (result ≡ finished (is_complete capture.new) ended) }
-    ensures kept { is_some capture.new ≡ is_some capture.old }
-    ensures back { IsBack loopback.old loopback.new }
-{
-    let ended = loop_sockets(rt, machine, cycles, capture, output, loopback);
-    close_capture(ended, capture)
-}
-
-/// Runs cycles of a machine over two sockets, and notes what the master sends and receives in an open capture, if there is
-/// one.
-#[tactic(auto, using(crate::proofs::LoopLemmas::no_wire, crate::proofs::LoopLemmas::looped_between))]
-fn loop_sockets<H: AllocGlobal + Net + Files + Clock, W: Write + Drop, A: App + Drop>(
-    rt: &H,
-    machine: &Machine,
-    cycles: u16,
-    capture: &mut Capture<H::File>,
-    output: &mut OutputStream<W>,
-    loopback: &mut Loopback<A>,
-) -> Result<(), Refusal>
-    ensures loops { LoopsOnSockets cycles machine.now output.old output.new
-        loopback.old.traffic loopback.new.traffic result }
-    ensures kept { is_some capture.new ≡ is_some capture.old }
-    ensures back { IsBack loopback.old loopback.new }
-{
-    let wire = open_loop(rt, machine, loopback)?;
-    let (ended, wire) = run_tapped(rt, machine, wire, cycles, capture, output);
-    loopback.close(wire);
-    ended
-}
-
-/// Runs cycles of a machine over a wire that has carried nothing yet. It notes what the wire carries in an open capture, if there
-/// is one. It also returns the wire.
+/// Runs cycles of a machine over a wire that has carried nothing yet, and notes what it carries in a capture, if there
+/// is one. It hands the wire on.
 #[tactic(auto, using(crate::proofs::LoopLemmas::tapped_loops))]
 fn run_tapped<H: AllocGlobal + Files + Clock, W: Wire + Drop, O: Write + Drop>(
     rt: &H,

@@ -1,22 +1,20 @@
 -- How a run of lines ends, and what that makes of their table.
-use Rattle.std.proofs.Common.{◌≡◌, inl, inr, ℕ, ◌<◌, ◌==◌, List, Bool, true, false, Option, refl, sym, ap, subst, arith, if◌then◌else◌, Result, Ok, Err, IfErr, OnErr}
+use Rattle.std.proofs.Common.{◌≡◌, inl, inr, ℕ, ◌<◌, ◌==◌, Bool, true, false, refl, sym, ap, subst, arith, if◌then◌else◌, Result, Ok, Err, IfErr, OnErr}
 use Rattle.std.specs.Result.{IsErrAnd}
 use Rattle.std.proofs.lemmas.Bool.Decides.{nat_tests}
 use Rattle.ec_table.specs.Contents.{Contents}
 use Rattle.ec_link.specs.Plan.{plan_of}
 use Rattle.ec_wire.specs.Wires.{WireState, silent}
-use Rattle.ec_lines.specs.declared.error.LinesError.{LinesError}
-use Rattle.ec_lines.specs.Taking.{RefusesText}
 use Rattle.ec_console.specs.Unmet.{counted, ended_by}
 use Rattle.ec_why.specs.declared.wanted.Reasons.{Reasons}
 use Rattle.ec_console.specs.declared.refusal.Refusal.{Refusal}
 use Rattle.ec_console.specs.declared.refusal.Refusal.TheVariants.{Unmet}
-use Rattle.ec_console.specs.Given.{Given, lines_refusal}
+use Rattle.ec_console.specs.Given.{Given}
 use Rattle.ec_console.specs.Printing.{OutputState}
 use Rattle.ec_master.specs.State.{ControlState}
 use Rattle.ec_master.specs.Controls.{new_control}
 use Rattle.ec_master.specs.Saying.{IsLate, Moment, ObeysAll, ObeysSome}
-use Rattle.ec_master.specs.Mastering.{IsNeverRun, IsTextRefusal, RunsMachine, RunsMaster, RunsOver, RunsToEnd, begun_over}
+use Rattle.ec_master.specs.Mastering.{RunsMachine, RunsOver, RunsToEnd, begun_over}
 
 -- ---- over a wire
 
@@ -75,12 +73,3 @@ on_wire r reasons t opened after input old new is runs = inl (after, subst (λ (
 
 pub on_socket : (r : Result Unit Refusal) (reasons : Reasons) (t : Contents) (failed : ℕ) (after : WireState) (input : Given) (old new : OutputState) → failed ≡ 0 → RunsOver reasons t (silent failed) after input old new r → RunsMachine reasons t input old new r
 on_socket r reasons t failed after input old new is runs = on_wire r reasons t (silent failed) after input old new (ap silent is) runs
-
--- a refusal, also where a call passes it on
-pub never_run : (r : Result Unit Refusal) (x : Refusal) (Refuses : Refusal → Type 0) (old : OutputState) → IsErrAnd r (λ e. e ≡ x) → Refuses x → IsNeverRun Refuses old old r
-never_run (Ok done) x Refuses old is h = absurd is
-never_run (Err e) x Refuses old is h = (e, refl, subst Refuses (sym is) h, refl)
-
--- no text stands before a line `%%`
-pub no_text : (r : Result Unit Refusal) (reasons : Reasons) (file : Option (List ℕ)) (x : Refusal) (error : LinesError) (input : Given) (left : Option (List ℕ)) (old : OutputState) → IsErrAnd r (λ e. e ≡ x) → x ≡ lines_refusal error → RefusesText input.is_refused input.bytes left error → RunsMaster reasons file input old old r
-no_text r reasons file x error input left old is named why = inr (never_run r x (IsTextRefusal input) old is (error, left, why, named))

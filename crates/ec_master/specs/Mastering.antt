@@ -1,17 +1,13 @@
 -- What `ecat master` does (this project's profile).
-use Rattle.std.specs.Prelude.{◌≡◌, ◌⊎◌, ℕ, List, Option, Result, Ok, Err}
+use Rattle.std.specs.Prelude.{◌≡◌, ◌⊎◌, ℕ, Result, Ok, Err}
 use Rattle.ec_table.specs.Contents.{Contents}
-use Rattle.ec_link.specs.Machine.{StatesMachine}
 use Rattle.ec_link.specs.Plan.{plan_of}
 use Rattle.ec_wire.specs.Wires.{WireState, silent}
-use Rattle.ec_lines.specs.declared.error.LinesError.{LinesError}
-use Rattle.ec_lines.specs.Taking.{RefusesText, TakesText}
 use Rattle.ec_console.specs.Unmet.{EndsUnmet}
 use Rattle.ec_why.specs.declared.wanted.Reasons.{Reasons}
 use Rattle.ec_console.specs.declared.refusal.Refusal.{Refusal}
 use Rattle.ec_console.specs.declared.refusal.Refusal.TheVariants.{Memory, Socket}
-use Rattle.ec_console.specs.Given.{Given, IsTableRefusal, lines_refusal}
-use Rattle.ec_console.specs.Capturing.{EndsWith}
+use Rattle.ec_console.specs.Given.{Given}
 use Rattle.ec_console.specs.Printing.{OutputState}
 use Rattle.ec_master.specs.Controls.{new_control}
 use Rattle.ec_master.specs.Saying.{IsLate, Moment, ObeysAll, ObeysSome}
@@ -46,20 +42,3 @@ IsNeverRun Refuses old new ended = (refusal : Refusal) × (ended ≡ Err refusal
 -- over a socket or a card; or there is none
 abbrev pub RunsMachine : Reasons → Contents → (input : Given) → (old new : OutputState) → Result Unit Refusal → Type 0
 RunsMachine reasons t input old new ended = RunsOnWire reasons t input old new ended ⊎ IsNeverRun (λ refusal. refusal ≡ Socket) old new ended
-
--- a text states a machine, and lines behind it are done, with a capture if its file is named. Or the text is refused, and no file is
--- opened
-abbrev pub RunsText : Reasons → (file : Option (List ℕ)) → List ℕ → (input : Given) → (old new : OutputState) → Result Unit Refusal → Type 0
-RunsText reasons file text input old new ended =
-    ((t : Contents) × StatesMachine text t × EndsWith file (RunsMachine reasons t input old new) (new ≡ old) ended)
-    ⊎ IsNeverRun (IsTableRefusal text) old new ended
-
--- no text stands before a line `%%`
-abbrev pub IsTextRefusal : Given → Refusal → Type 0
-IsTextRefusal input refusal = (error : LinesError) × (left : Option (List ℕ)) × RefusesText input.is_refused input.bytes left error × (refusal ≡ lines_refusal error)
-
--- as `RunsText`, with the text that an input has up to a line `%%`, and the lines behind that
-abbrev pub RunsMaster : Reasons → (file : Option (List ℕ)) → (input : Given) → (old new : OutputState) → Result Unit Refusal → Type 0
-RunsMaster reasons file input old new ended =
-    ((text : List ℕ) × (rest : Option (List ℕ)) × TakesText input.bytes rest text × RunsText reasons file text (record input { bytes = rest }) old new ended)
-    ⊎ IsNeverRun (IsTextRefusal input) old new ended

@@ -11,7 +11,7 @@ mod saying;
 mod why;
 
 pub use crate::answer::{Answer, answer_text};
-pub use crate::command::{Connection, print_master, run_master};
+pub use crate::command::{Connection, run_connected, run_master};
 pub use crate::control::Control;
 pub use crate::order::{Order, Task, read_task};
 pub use crate::saying::{print_lines, print_task};

@@ -1,2 +1,2 @@
--- slaves of an input, and a segment that is served
+-- a segment that is served
 mod SegmentLemmas

@@ -1,55 +1,15 @@
--- Slaves of an input, and a segment that is served.
-use Rattle.std.proofs.Common.{◌≡◌, ◌∙◌, ap, inl, inr, ℕ, List, refl, sym, subst, Option, Result, Ok, Err, IfOk, IfErr}
+-- A segment that is served.
+use Rattle.std.proofs.Common.{◌≡◌, ◌∙◌, ap, inl, inr, ℕ, List, refl, sym, subst, Option, Result, Ok, Err}
 use Rattle.std.specs.Result.{IsErrAnd}
 use Rattle.ec_slave.specs.State.{SlaveState}
-use Rattle.ec_table.specs.Reading.{table_of}
 use Rattle.ec_wire.specs.Wires.{IsOpened, SocketState, WireState, silent}
 use Rattle.ec_wire.specs.Segments.{HasServed, WasCutOff}
 use Rattle.ec_wire.proofs.Serving.{all_treated_by}
 use Rattle.ec_console.specs.declared.refusal.Refusal.{Refusal}
 use Rattle.ec_console.specs.declared.refusal.Refusal.TheVariants as refusal
-use Rattle.ec_console.specs.Given.{Given, GivesText, IsLinkRefusal, IsTableRefusal, RefusesTable}
 use Rattle.ec_console.specs.Printing.{IsPrinted, IsTold, OutputState, Shows}
 use Rattle.ec_table.specs.Contents.{Contents}
-use Rattle.ec_link.specs.Faults.{Fails as LinkFails, compile_fault}
-use Rattle.ec_link.proofs.FacesShown.{faces}
-use Rattle.ec_segment.specs.declared.form.SlaveForm.{SlaveForm}
-use Rattle.ec_segment.specs.declared.form.SlaveForm.TheVariants.{Full, Plain}
-use Rattle.ec_segment.specs.Serving.{GivesSlaves, HasSlaves, RunsCardSegment, RunsSegment, ServesOnCard, ServesOnPort, ServesSegment, StatesSlaves, any_inputs, listening_line, served_line, shown_in}
-
--- ---- slaves
-
-pub if_states : {E : Type 0} (r : Result (List SlaveState) E) (form : SlaveForm) (text : List ℕ) (t u : Contents) → table_of text ≡ Ok t → u ≡ shown_in form t → IfOk r (HasSlaves u) → IfOk r (StatesSlaves form text)
-if_states (Ok slaves) form text t u read shown h = (t, read, subst (λ (x : Contents). HasSlaves x slaves) shown h)
-if_states (Err e) form text t u read shown h = tt
-
--- a table shown in full is refused as the table is
-shown_fault : (form : SlaveForm) (t : Contents) → compile_fault (shown_in form t) ≡ compile_fault t
-shown_fault Full t = faces.fault t
-shown_fault Plain t = refl
-
-same_refusal : (text : List ℕ) (t u : Contents) (x : Refusal) → table_of text ≡ Ok t → compile_fault u ≡ compile_fault t → IsLinkRefusal u x → IsTableRefusal text x
-same_refusal text t u refusal.Memory read e h = tt
-same_refusal text t u (refusal.Link error) read e h = (t, read, subst (LinkFails error) e h)
-same_refusal text t u (refusal.Frame x) read e h = absurd h
-same_refusal text t u (refusal.Table x) read e h = absurd h
-same_refusal text t u (refusal.Start x) read e h = absurd h
-same_refusal text t u (refusal.Run x) read e h = absurd h
-same_refusal text t u refusal.Socket read e h = absurd h
-same_refusal text t u (refusal.Script x) read e h = absurd h
-same_refusal text t u refusal.BadHex read e h = absurd h
-same_refusal text t u refusal.Output read e h = absurd h
-same_refusal text t u refusal.Input read e h = absurd h
-same_refusal text t u (refusal.Unmet n) read e h = absurd h
-
-pub if_shown_refused : {T : Type 0} (r : Result T Refusal) (form : SlaveForm) (text : List ℕ) (t u : Contents) → table_of text ≡ Ok t → u ≡ shown_in form t → IfErr r (IsLinkRefusal u)
-    → IfErr r (IsTableRefusal text)
-if_shown_refused (Ok x) form text t u read shown h = tt
-if_shown_refused (Err x) form text t u read shown h = same_refusal text t u x read (ap compile_fault shown ∙ shown_fault form t) h
-
-pub if_gives : {E : Type 0} (r : Result (List SlaveState) E) (form : SlaveForm) (given : Given) (text : List ℕ) → GivesText given text → IfOk r (StatesSlaves form text) → IfOk r (GivesSlaves form given)
-if_gives (Ok slaves) form given text gives h = (text, gives, h)
-if_gives (Err e) form given text gives h = tt
+use Rattle.ec_segment.specs.Serving.{ServesMachine, ServesOnCard, ServesOnPort, ServesSegment, any_inputs, listening_line, served_line}
 
 -- ---- what is printed
 
@@ -125,10 +85,10 @@ serves-any (Err (refusal.Unmet n)) frames shows first last before after old new 
 
 -- ---- the whole
 
-pub segment_refused : (r : Result Unit Refusal) (x : Refusal) (frames port : ℕ) (form : SlaveForm) (file : Option (List ℕ)) (given : Given) (old quiet : OutputState) → IsErrAnd r (λ e. e ≡ x)
-    → RefusesTable given x → RunsSegment frames port form file given old old quiet quiet r
-segment_refused (Ok done) x frames port form file given old quiet is h = absurd is
-segment_refused (Err e) x frames port form file given old quiet is h = inr (e, refl, subst (RefusesTable given) (sym is) h, refl, refl)
+pub no_slaves : (r : Result Unit Refusal) (descriptor : Option ℕ) (frames port : ℕ) (t : Contents) (old quiet : OutputState) → IsErrAnd r (λ e. e ≡ refusal.Memory)
+    → ServesMachine descriptor frames port t old old quiet quiet r
+no_slaves (Ok done) descriptor frames port t old quiet is = absurd is
+no_slaves (Err e) descriptor frames port t old quiet is = inr (ap (λ (x : Refusal). Err x) is, refl, refl)
 
 -- there is no such socket, and nothing was told
 pub port_unbound : (r : Result Unit Refusal) (frames port : ℕ) (first : List SlaveState) (old quiet told : OutputState) → IsErrAnd r (λ e. e ≡ refusal.Socket) → told ≡ quiet
@@ -149,11 +109,6 @@ port_served r frames port opened closed old new quiet told shows first last sock
 })
 
 -- the same on a card
-pub card_segment_refused : (r : Result Unit Refusal) (x : Refusal) (frames : ℕ) (form : SlaveForm) (file : Option (List ℕ)) (given : Given) (old : OutputState) → IsErrAnd r (λ e. e ≡ x)
-    → RefusesTable given x → RunsCardSegment frames form file given old old r
-card_segment_refused (Ok done) x frames form file given old is h = absurd is
-card_segment_refused (Err e) x frames form file given old is h = inr (e, refl, subst (RefusesTable given) (sym is) h, refl)
-
 pub card_unbound : (r : Result Unit Refusal) (frames : ℕ) (first : List SlaveState) (old : OutputState) → IsErrAnd r (λ e. e ≡ refusal.Socket) → ServesOnCard frames first old old r
 card_unbound (Ok done) frames first old is = absurd is
 card_unbound (Err e) frames first old is = inr (ap (λ (x : Refusal). Err x) is, refl)

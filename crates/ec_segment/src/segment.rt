@@ -1,27 +1,22 @@
-//! `ecat segment`: the slaves of a link table, on a socket or a card.
-ghost use Rattle.std.specs.Prelude.{◌≡◌, [], IfErr, IfOk, Result, is_some, option_map};
-ghost use Rattle.ec_console.specs.Explaining.{IsLeft};
+//! `ecat segment`: the slaves of a machine, on a socket or a card.
+ghost use Rattle.std.specs.Prelude.{◌≡◌, [], IfErr, IfOk, is_some};
 ghost use Rattle.ec_console.specs.Printing.{IsTold, Shows};
 ghost use Rattle.ec_wire.specs.Taps.{Tells};
 ghost use Rattle.ec_wire.specs.Wires.{IsOpened};
-ghost use Rattle.ec_console.specs.Capturing.{finished, is_complete};
-ghost use Rattle.ec_console.specs.declared.refusal.Refusal.{Refusal as RefusalValue};
-ghost use Rattle.ec_segment.specs.Serving.{RunsCardSegment, RunsSegment, ServesOnCard, ServesOnPort, ServesSegment, listening_line, served_line};
-ghost use Rattle.ec_console.specs.Given.{given_by};
+ghost use Rattle.ec_segment.specs.Serving.{ServesMachine, ServesOn, ServesOnCard, ServesOnPort, ServesSegment, listening_line, served_line};
 
-use crate::form::SlaveForm;
-use crate::machine::slaves_of_input;
 use arrayvec::ArrayString;
+use ec_bringup::slaves_of_machine;
 use ec_card::{CardWire, Sender};
-use ec_console::{
-    Capture, Explanation, InputStream, OutputStream, Refusal, close_capture, open_capture,
-    print_text,
-};
+use ec_console::{Capture, OutputStream, Refusal, print_text};
+use ec_link::Machine;
 use ec_ring::Ring;
 use ec_text::push_number;
-use ec_wire::{App, CapturedWire, Patience, Served, Side, SocketFault, UdpWire, Wire, serve_counted};
+use ec_wire::{
+    App, CapturedWire, Patience, Served, Side, SocketFault, UdpWire, Wire, serve_counted,
+};
 use std::fs::Files;
-use std::io::{Read, Write};
+use std::io::Write;
 use std::net::Net;
 use std::time::Clock;
 
@@ -54,93 +49,41 @@ pub fn print_served_segment<W: Wire, O: Write + Drop>(
     }
 }
 
-/// Serves `frames` payloads on a port of 127.0.0.1, with the slaves of the table that the input states, in a form. Their application is
-/// `app`. Once it listens, it prints the port on `faults`. At every end after that, it prints how many frames it answered, and how many
-/// other payloads came. If no payload comes for `idle` seconds, it ends as by a fault of the socket; with 0 it waits without
-/// end. If a file is named, what the segment receives and sends goes into a capture, at the interface `segment`. A refusal of the table
-/// is explained in `behind`, if that is wanted.
+/// Where a segment waits for payloads, how many it serves, and how long it waits for one.
+#[derive(Clone, Copy, Debug, PartialEq, Eq, Drop)]
+pub struct Endpoint {
+    pub frames: u32,
+    /// The port of 127.0.0.1.
+    pub port: u16,
+    /// The descriptor of a card's raw socket; it replaces the port.
+    pub descriptor: Option<u16>,
+    /// How long it waits, in seconds; 0 is without end.
+    pub idle: u32,
+}
+
+/// Serves payloads on a port or a card, with the slaves of a machine, just switched on. Their application is `app`. Once it listens on
+/// a port, it prints that on `faults`. Ethernet frames that a card sends have bit 1 of the source set. Once the wire is open, it prints
+/// at every end how many frames it answered, and how many other payloads came. If no payload comes for `idle` seconds, it ends as by a
+/// fault of the socket. What the segment receives and sends goes into an open capture, if there is one.
 ///
 /// # Errors
 ///
-/// The refusal of the input or of its table. `Refusal::Output` or `Memory` if the file couldn't be opened, before it listens.
-/// `Refusal::Socket` if there is no such socket, and the errors of [`print_served_segment`]. `Refusal::Output` if all payloads were
-/// served and the capture isn't whole.
-pub fn print_segment<
-    H: AllocGlobal + Net + Files + Clock,
-    R: Read + Drop,
-    W: Write + Drop,
-    F: Write + Drop,
->(
+/// `Refusal::Memory` if there is no memory for the slaves, `Refusal::Socket` if there is no such socket, and the errors of
+/// [`print_served_segment`].
+pub fn run_segment<H: AllocGlobal + Net + Files + Clock, W: Write + Drop, F: Write + Drop>(
     rt: &H,
-    frames: u32,
-    port: u16,
-    form: SlaveForm,
-    idle: u32,
-    file: Option<&str>,
-    input: &mut InputStream<R>,
+    machine: &Machine,
+    endpoint: Endpoint,
+    capture: &mut Capture<H::File>,
     output: &mut OutputStream<W>,
     faults: &mut OutputStream<F>,
     app: &mut dyn App,
-    behind: &mut Explanation,
 ) -> Result<(), Refusal>
-    ensures runs { RunsSegment frames port form (option_map (λ x. x.now) file.entry) (given_by R.remaining input.old input.new)
-        output.old output.new faults.old faults.new result }
-    ensures explains { IsLeft behind.old behind.new }
+    ensures serves { ServesMachine endpoint.descriptor endpoint.frames endpoint.port machine.now output.old output.new faults.old faults.new result }
+    ensures kept { is_some capture.new ≡ is_some capture.old }
 {
-    let mut slaves = slaves_of_input(rt.alloc(), input, form, behind)?;
-    let mut capture = open_capture(rt, file, "segment")?;
-    port_captured(
-        rt,
-        &mut slaves,
-        app,
-        frames,
-        port,
-        idle,
-        &mut capture,
-        output,
-        faults,
-    )
-}
-
-/// Serves `frames` payloads on a card, with the slaves of the table that the input states, in a form. Their application is `app`.
-/// `descriptor` is that of the card's raw socket. Sent Ethernet frames have bit 1 of the source set. Once the wire is open, it prints at
-/// every end how many frames it answered, and how many other payloads came. If no Ethernet frame comes for `idle` seconds, it ends
-/// as by a fault of the socket; with 0 it waits without end. If a file is named, what the segment receives and sends goes into a
-/// capture, at the interface `segment`. A refusal of the table is explained in `behind`, if that is wanted.
-///
-/// # Errors
-///
-/// The refusal of the input or of its table. `Refusal::Output` or `Memory` if the file couldn't be opened, before anything is
-/// received. `Refusal::Socket` if the descriptor isn't that of a socket, and the errors of [`print_served_segment`].
-/// `Refusal::Output` if all payloads were served and the capture isn't whole.
-pub fn print_card_segment<H: AllocGlobal + Files + Clock, R: Read + Drop, W: Write + Drop>(
-    rt: &H,
-    frames: u32,
-    descriptor: u16,
-    form: SlaveForm,
-    idle: u32,
-    file: Option<&str>,
-    input: &mut InputStream<R>,
-    output: &mut OutputStream<W>,
-    app: &mut dyn App,
-    behind: &mut Explanation,
-) -> Result<(), Refusal>
-    ensures runs { RunsCardSegment frames form (option_map (λ x. x.now) file.entry) (given_by R.remaining input.old input.new)
-        output.old output.new result }
-    ensures explains { IsLeft behind.old behind.new }
-{
-    let mut slaves = slaves_of_input(rt.alloc(), input, form, behind)?;
-    let mut capture = open_capture(rt, file, "segment")?;
-    card_captured(
-        rt,
-        &mut slaves,
-        app,
-        frames,
-        descriptor,
-        idle,
-        &mut capture,
-        output,
-    )
+    let mut slaves = slaves_of_machine(rt.alloc(), machine)?;
+    serve(rt, &mut slaves, app, endpoint, capture, output, faults)
 }
 
 /// Prints how many payloads were answered, and how many weren't.
@@ -202,45 +145,58 @@ fn listening(port: u16) -> ArrayString<LINE_SIZE>
     line
 }
 
-/// Serves payloads on a port as [`print_segment`] does, and notes them in an open capture, if there is one. If it returns `Ok`, the
-/// capture is whole: all of it is written and handed on.
-fn port_captured<H: AllocGlobal + Net + Files + Clock, W: Write + Drop, F: Write + Drop>(
+/// Serves payloads on a port or a card as [`run_segment`] does.
+fn serve<H: AllocGlobal + Net + Files + Clock, W: Write + Drop, F: Write + Drop>(
     rt: &H,
     slaves: &mut Ring,
     app: &mut dyn App,
-    frames: u32,
-    port: u16,
-    idle: u32,
+    endpoint: Endpoint,
     capture: &mut Capture<H::File>,
     output: &mut OutputStream<W>,
     faults: &mut OutputStream<F>,
 ) -> Result<(), Refusal>
-    ensures serves { (ended : Result Unit RefusalValue)
-        × ServesOnPort frames port slaves.old output.old output.new faults.old faults.new ended
-        × (result ≡ finished (is_complete capture.new) ended) }
+    ensures serves { ServesOn endpoint.descriptor endpoint.frames endpoint.port slaves.old output.old output.new faults.old faults.new result }
     ensures kept { is_some capture.new ≡ is_some capture.old }
 {
-    let ended = serve_port(rt, slaves, app, frames, port, idle, capture, output, faults);
-    close_capture(ended, capture)
+    match endpoint.descriptor {
+        None => serve_port(rt, slaves, app, endpoint, capture, output, faults),
+        Some(descriptor) => serve_card(rt, slaves, app, endpoint, descriptor, capture, output),
+    }
 }
 
-/// Serves payloads on a port as [`print_segment`] does, and notes them in an open capture, if there is one.
+/// Serves payloads on a port as [`run_segment`] does, and notes them in an open capture, if there is one.
 fn serve_port<H: AllocGlobal + Net + Files + Clock, W: Write + Drop, F: Write + Drop>(
     rt: &H,
     slaves: &mut Ring,
     app: &mut dyn App,
-    frames: u32,
-    port: u16,
-    idle: u32,
+    endpoint: Endpoint,
     capture: &mut Capture<H::File>,
     output: &mut OutputStream<W>,
     faults: &mut OutputStream<F>,
 ) -> Result<(), Refusal>
-    ensures serves { ServesOnPort frames port slaves.old output.old output.new faults.old faults.new result }
+    ensures serves { ServesOnPort endpoint.frames endpoint.port slaves.old output.old output.new faults.old faults.new result }
     ensures kept { is_some capture.new ≡ is_some capture.old }
 {
-    let wire = listen(rt, port, idle, faults)?;
-    serve_tapped(rt, slaves, app, wire, frames, capture, output)
+    let wire = listen(rt, endpoint.port, endpoint.idle, faults)?;
+    serve_tapped(rt, slaves, app, wire, endpoint.frames, capture, output)
+}
+
+/// Serves payloads on a card as [`run_segment`] does, and notes them in an open capture, if there is one.
+fn serve_card<H: AllocGlobal + Files + Clock, W: Write + Drop>(
+    rt: &H,
+    slaves: &mut Ring,
+    app: &mut dyn App,
+    endpoint: Endpoint,
+    descriptor: u16,
+    capture: &mut Capture<H::File>,
+    output: &mut OutputStream<W>,
+) -> Result<(), Refusal>
+    ensures serves { ServesOnCard endpoint.frames slaves.old output.old output.new result }
+    ensures kept { is_some capture.new ≡ is_some capture.old }
+{
+    let patience = Patience::of_seconds(endpoint.idle);
+    let wire = CardWire::of_descriptor(i32::from(descriptor), Sender::Segment, patience)?;
+    serve_tapped(rt, slaves, app, wire, endpoint.frames, capture, output)
 }
 
 /// Serves payloads on a wire that has carried nothing yet, as [`print_served_segment`] does, and notes them in an open capture, if
@@ -274,44 +230,4 @@ fn serve_tapped<H: AllocGlobal + Files + Clock, W: Wire + Drop, O: Write + Drop>
             ended
         }
     }
-}
-
-/// Serves payloads on a card as [`print_card_segment`] does, and notes them in an open capture, if there is one. If it returns `Ok`,
-/// the capture is whole: all of it is written and handed on.
-fn card_captured<H: AllocGlobal + Files + Clock, W: Write + Drop>(
-    rt: &H,
-    slaves: &mut Ring,
-    app: &mut dyn App,
-    frames: u32,
-    descriptor: u16,
-    idle: u32,
-    capture: &mut Capture<H::File>,
-    output: &mut OutputStream<W>,
-) -> Result<(), Refusal>
-    ensures serves { (ended : Result Unit RefusalValue)
-        × ServesOnCard frames slaves.old output.old output.new ended
-        × (result ≡ finished (is_complete capture.new) ended) }
-    ensures kept { is_some capture.new ≡ is_some capture.old }
-{
-    let ended = serve_card(rt, slaves, app, frames, descriptor, idle, capture, output);
-    close_capture(ended, capture)
-}
-
-/// Serves payloads on a card as [`print_card_segment`] does, and notes them in an open capture, if there is one.
-fn serve_card<H: AllocGlobal + Files + Clock, W: Write + Drop>(
-    rt: &H,
-    slaves: &mut Ring,
-    app: &mut dyn App,
-    frames: u32,
-    descriptor: u16,
-    idle: u32,
-    capture: &mut Capture<H::File>,
-    output: &mut OutputStream<W>,
-) -> Result<(), Refusal>
-    ensures serves { ServesOnCard frames slaves.old output.old output.new result }
-    ensures kept { is_some capture.new ≡ is_some capture.old }
-{
-    let patience = Patience::of_seconds(idle);
-    let wire = CardWire::of_descriptor(i32::from(descriptor), Sender::Segment, patience)?;
-    serve_tapped(rt, slaves, app, wire, frames, capture, output)
 }

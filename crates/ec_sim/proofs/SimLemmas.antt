@@ -1,15 +1,13 @@
 -- Lines that print one after another, and how a simulation ends.
-use Rattle.std.proofs.Common.{◌≡◌, ◌∙◌, inl, inr, ℕ, zero, suc, ◌+◌, ◌-◌, ◌^◌, ◌<◌, ◌≤◌, ◌==◌, List, [], ◌∷◌, ◌++◌, length, get_or, take, drop, min, replicate, Bool, true, false, refl, sym, ap, subst, append_assoc, append-nil, arith, if◌then◌else◌, Result, Ok, Err, IfErr, IfOk, OnErr}
+use Rattle.std.proofs.Common.{◌≡◌, ◌∙◌, inl, inr, ℕ, zero, suc, ◌+◌, ◌-◌, ◌^◌, ◌<◌, ◌≤◌, ◌==◌, List, [], ◌∷◌, ◌++◌, length, get_or, take, drop, min, replicate, Bool, true, false, refl, sym, ap, subst, append_assoc, append-nil, arith, if◌then◌else◌, Result, Ok, Err, IfErr, OnErr}
 use Rattle.std.specs.Result.{IsErrAnd}
 use Rattle.std.proofs.lemmas.Bool.Decides.{nat_tests}
-use Rattle.std.proofs.lemmas.List.{drop_all, replicate-append-replicate, take-append-drop, take_all, take_more}
+use Rattle.std.proofs.lemmas.List.{drop_all, replicate-append-replicate, take-append-drop, take_more}
 use Rattle.ec_table.specs.Contents.{Contents}
-use Rattle.ec_link.specs.Machine.{StatesMachine}
 use Rattle.ec_world.specs.Whole.{IsOfMachine}
 use Rattle.ec_world.specs.World.{WorldState}
 use Rattle.ec_script.specs.declared.line.Line.{Line}
 use Rattle.ec_script.specs.declared.said.LineOutput.{LineOutput}
-use Rattle.ec_script.specs.Halves.{Splits}
 use Rattle.ec_script.specs.Scripts.{repeated}
 use Rattle.ec_script.specs.Texts.{output_text}
 use Rattle.ec_script.specs.Work.{is_unmet}
@@ -20,11 +18,9 @@ use Rattle.ec_console.specs.declared.refusal.Refusal.{Refusal}
 use Rattle.ec_console.specs.declared.refusal.Refusal.TheVariants as refusal
 use Rattle.ec_console.specs.declared.refusal.Refusal.TheVariants.{Memory, Unmet}
 use Rattle.ec_console.specs.Printing.{IsPartPrinted, IsPrinted, OutputState}
-use Rattle.ec_sim.specs.Stages.{IsBadScript, IsLineText, RunsScript}
-use Rattle.ec_console.specs.Given.{IsTableRefusal}
-use Rattle.ec_sim.specs.Simulating.{IsHalfRefusal, IsLate, IsSimRefusal, IsSimulation, PrintsAll, PrintsLines, PrintsPart, PrintsSome, RunsLines, RunsText, Says, SaysLine, unmet_of}
+use Rattle.ec_sim.specs.Stages.{IsLineText}
+use Rattle.ec_sim.specs.Simulating.{IsLate, PrintsAll, PrintsLines, PrintsPart, PrintsSome, RunsLines, Says, SaysLine, unmet_of}
 use Rattle.ec_console.specs.Unmet.{counted, ended_by}
-use Rattle.ec_console.specs.Capturing.{IsUnopened}
 use Rattle.ec_console.proofs.PrintLemmas.{texts}
 
 -- ---- a line and why it says `no`
@@ -233,11 +229,6 @@ all_said reasons t w lines i now count old new h le =
 
 -- ---- how a run ends
 
--- a text that is refused, also where a call passes the refusal on
-pub sim_refused : (r : Result Unit Refusal) (text : List ℕ) (known : OutputState) (refusal : Refusal) (reasons : Reasons) (captured : Bool) → IsErrAnd r (λ e. e ≡ refusal) → IsSimRefusal text refusal → RunsText reasons captured text known known r
-sim_refused (Ok done) text known refusal reasons captured is h = absurd is
-sim_refused (Err e) text known refusal reasons captured is h = inl (subst (IsSimRefusal text) (sym is) h, refl)
-
 -- lines that run to their end, by what was expected
 counted_none : (count unmet : ℕ) → count ≡ counted unmet → count ≡ 0 → unmet ≡ 0
 counted_none count unmet is none = omega arith
@@ -245,152 +236,36 @@ counted_none count unmet is none = omega arith
 counted_some : (count unmet : ℕ) → count ≡ counted unmet → (count == 0) ≡ false → 0 < unmet
 counted_some count unmet is some = let more : 0 < count = grind (arith, nat_tests) in omega arith
 
-ran : (b : Bool) (old new : OutputState) (reasons : Reasons) (captured : Bool) (t : Contents) (w : WorldState) (lines : List Line) (count unmet : ℕ) → (count == 0) ≡ b → IsOfMachine t w → count ≡ counted unmet → PrintsLines reasons t w lines unmet old new
-    → RunsLines reasons captured t lines old new (if b then Ok tt else Err (Unmet count))
-ran true old new reasons captured t w lines count unmet is begins counts all =
+ran : (b : Bool) (old new : OutputState) (reasons : Reasons) (t : Contents) (w : WorldState) (lines : List Line) (count unmet : ℕ) → (count == 0) ≡ b → IsOfMachine t w → count ≡ counted unmet → PrintsLines reasons t w lines unmet old new
+    → RunsLines reasons t lines old new (if b then Ok tt else Err (Unmet count))
+ran true old new reasons t w lines count unmet is begins counts all =
     let none : unmet ≡ 0 = counted_none count unmet counts (grind (arith, nat_tests)) in
     (w, begins, subst (λ (n : ℕ). PrintsLines reasons t w lines n old new) none all)
-ran false old new reasons captured t w lines count unmet is begins counts all = inr (inr (unmet, counted_some count unmet counts is, ap Unmet counts, (w, begins, all)))
+ran false old new reasons t w lines count unmet is begins counts all = inr (inr (unmet, counted_some count unmet counts is, ap Unmet counts, (w, begins, all)))
 
-pub lines_ran : (r : Result Unit Refusal) (old new : OutputState) (reasons : Reasons) (captured : Bool) (t u : Contents) (w : WorldState) (lines : List Line) (count : ℕ) → u ≡ t → r ≡ ended_by count → IsOfMachine t w
-    → (unmet : ℕ) × (count ≡ counted unmet) × PrintsLines reasons u w lines unmet old new → RunsLines reasons captured t lines old new r
-lines_ran r old new reasons captured t u w lines count same is begins (unmet, counts, all) =
+pub lines_ran : (r : Result Unit Refusal) (old new : OutputState) (reasons : Reasons) (t u : Contents) (w : WorldState) (lines : List Line) (count : ℕ) → u ≡ t → r ≡ ended_by count → IsOfMachine t w
+    → (unmet : ℕ) × (count ≡ counted unmet) × PrintsLines reasons u w lines unmet old new → RunsLines reasons t lines old new r
+lines_ran r old new reasons t u w lines count same is begins (unmet, counts, all) =
     let of_it : PrintsLines reasons t w lines unmet old new = subst (λ (x : Contents). PrintsLines reasons x w lines unmet old new) same all in
-    subst (RunsLines reasons captured t lines old new) (sym is) (ran (count == 0) old new reasons captured t w lines count unmet refl begins counts of_it)
+    subst (RunsLines reasons t lines old new) (sym is) (ran (count == 0) old new reasons t w lines count unmet refl begins counts of_it)
 
 -- and lines that are cut short
-pub lines_cut : {T : Type 0} (r : Result Unit Refusal) (printed : Result T Refusal) (e : Refusal) (old new : OutputState) (reasons : Reasons) (captured : Bool) (t u : Contents) (w : WorldState) (lines : List Line) → u ≡ t → IsOfMachine t w
-    → printed ≡ Err e → OnErr printed (PrintsSome reasons u w lines old new) → IfErr printed (IsLate captured new) → IsErrAnd r (λ x. x ≡ e) → RunsLines reasons captured t lines old new r
-lines_cut (Ok done) printed e old new reasons captured t u w lines table begins is some late same = absurd same
-lines_cut {T} (Err x) printed e old new reasons captured t u w lines table begins is some late same =
+pub lines_cut : {T : Type 0} (r : Result Unit Refusal) (printed : Result T Refusal) (e : Refusal) (old new : OutputState) (reasons : Reasons) (t u : Contents) (w : WorldState) (lines : List Line) → u ≡ t → IsOfMachine t w
+    → printed ≡ Err e → OnErr printed (PrintsSome reasons u w lines old new) → IfErr printed (IsLate new) → IsErrAnd r (λ x. x ≡ e) → RunsLines reasons t lines old new r
+lines_cut (Ok done) printed e old new reasons t u w lines table begins is some late same = absurd same
+lines_cut {T} (Err x) printed e old new reasons t u w lines table begins is some late same =
     let of_table : PrintsSome reasons u w lines old new = subst (λ (p : Result T Refusal). OnErr p (PrintsSome reasons u w lines old new)) is some in
     let part : PrintsSome reasons t w lines old new = subst (λ (x : Contents). PrintsSome reasons x w lines old new) table of_table in
-    let is_late : IsLate captured new e = subst (λ (p : Result T Refusal). IfErr p (IsLate captured new)) is late in
-    inr (inl (subst (IsLate captured new) (sym same) is_late, w, begins, part))
+    let is_late : IsLate new e = subst (λ (p : Result T Refusal). IfErr p (IsLate new)) is late in
+    inr (inl (subst (IsLate new) (sym same) is_late, w, begins, part))
 
 -- no memory for their world
-pub none_run : (r : Result Unit Refusal) (known : OutputState) (reasons : Reasons) (captured : Bool) (t : Contents) (lines : List Line) → IsErrAnd r (λ e. e ≡ Memory) → RunsLines reasons captured t lines known known r
-none_run (Ok done) known reasons captured t lines is = absurd is
-none_run (Err e) known reasons captured t lines is = inl (is, refl)
+pub none_run : (r : Result Unit Refusal) (known : OutputState) (reasons : Reasons) (t : Contents) (lines : List Line) → IsErrAnd r (λ e. e ≡ Memory) → RunsLines reasons t lines known known r
+none_run (Ok done) known reasons t lines is = absurd is
+none_run (Err e) known reasons t lines is = inl (is, refl)
 
--- and what that makes of their text
-pub simulated : (r : Result Unit Refusal) (text : List ℕ) (old new : OutputState) (reasons : Reasons) (captured : Bool) (t : Contents) (lines : List Line) → IsSimulation text t lines
-    → RunsLines reasons captured t lines old new r → RunsText reasons captured text old new r
-simulated (Ok done) text old new reasons captured t lines is (w, begins, all) = record { t = t; lines = lines; world = w; simulation = is; begins = begins; printed = all }
-simulated (Err e) text old new reasons captured t lines is (inl (memory, same)) = inl (subst (IsSimRefusal text) (sym memory) (is.table, is.script, is.split, tt), same)
-simulated (Err e) text old new reasons captured t lines is (inr (inl (late, w, begins, some))) =
-    inr (inl (late, record { t = t; lines = lines; world = w; simulation = is; begins = begins; printed = some }))
-simulated (Err e) text old new reasons captured t lines is (inr (inr (unmet, some, is_unmet, (w, begins, all)))) =
-    inr (inr (unmet, some, is_unmet, record { t = t; lines = lines; world = w; simulation = is; begins = begins; printed = all }))
+-- ---- what ends one
 
--- a script that is bad is the fault of its text
-half_of_script : (table script : List ℕ) (t : Contents) (x : Refusal) → StatesMachine table t → IsBadScript t script x → IsHalfRefusal table script x
-half_of_script table script t Memory states is = tt
-half_of_script table script t (refusal.Script e) states is = (t, states, is)
-half_of_script table script t (refusal.Frame e) states is = absurd is
-half_of_script table script t (refusal.Table e) states is = absurd is
-half_of_script table script t (refusal.Link e) states is = absurd is
-half_of_script table script t (refusal.Start e) states is = absurd is
-half_of_script table script t (refusal.Run e) states is = absurd is
-half_of_script table script t refusal.Socket states is = absurd is
-half_of_script table script t refusal.BadHex states is = absurd is
-half_of_script table script t refusal.Output states is = absurd is
-half_of_script table script t refusal.Input states is = absurd is
-half_of_script table script t (refusal.Unmet n) states is = absurd is
-
--- and so is a fault of the table that it states
-pub half_of_table : (table script : List ℕ) (x : Refusal) → IsTableRefusal table x → IsHalfRefusal table script x
-half_of_table table script Memory is = is
-half_of_table table script (refusal.Table e) is = is
-half_of_table table script (refusal.Link e) is = is
-half_of_table table script (refusal.Frame e) is = absurd is
-half_of_table table script (refusal.Start e) is = absurd is
-half_of_table table script (refusal.Run e) is = absurd is
-half_of_table table script refusal.Socket is = absurd is
-half_of_table table script (refusal.Script e) is = absurd is
-half_of_table table script refusal.BadHex is = absurd is
-half_of_table table script refusal.Output is = absurd is
-half_of_table table script refusal.Input is = absurd is
-half_of_table table script (refusal.Unmet n) is = absurd is
-
-script_refused : (r : Result Unit Refusal) (text : List ℕ) (old new : OutputState) (x : Refusal) (reasons : Reasons) (captured : Bool) → r ≡ Err x → new ≡ old → IsSimRefusal text x → RunsText reasons captured text old new r
-script_refused r text old new x reasons captured ended same is = subst (RunsText reasons captured text old new) (sym ended) (inl (is, same))
-
-pub script_run : (r : Result Unit Refusal) (text table script : List ℕ) (reasons : Reasons) (captured : Bool) (t : Contents) (old new : OutputState) → Splits text table script → StatesMachine table t
-    → RunsScript reasons captured t script old new r → RunsText reasons captured text old new r
-script_run r text table script reasons captured t old new split states (inl (lines, read, runs)) =
-    simulated r text old new reasons captured t lines (record { table = table; script = script; split = split; states = states; read = read }) runs
-script_run r text table script reasons captured t old new split states (inr (x, ended, is, same)) =
-    script_refused r text old new x reasons captured ended same (table, script, split, half_of_script table script t x states is)
-
-pub on_err : {P : Type 0} (r : Result Unit Refusal) → P → OnErr r P
-on_err (Ok done) p = tt
-on_err (Err e) p = p
-
--- ---- a capture
-
--- before its file is open nothing is printed
-pub none_some : (reasons : Reasons) (t : Contents) (w : WorldState) (lines : List Line) (old : OutputState) → PrintsSome reasons t w lines old old
-none_some reasons t w lines old = part_none reasons t w (repeated lines) old
-
--- all that is printed is a first part of it
-pub all_part : (reasons : Reasons) (t : Contents) (w last : WorldState) (lines : List Line) (unmet : ℕ) (old new : OutputState) → PrintsAll reasons t w lines last unmet old new → PrintsPart reasons t w lines old new
-all_part reasons t w last lines unmet old new h = record {
-  count = length lines;
-  last = last;
-  printed = h.printed;
-  unmet = unmet;
-  says = subst (λ (ls : List Line). Says reasons t w ls last h.printed unmet) (sym (take_all (length lines) lines (omega arith))) h.says;
-  appends = texts.whole old new h.printed h.appends;
-}
-
-pub lines_some : (reasons : Reasons) (t : Contents) (w : WorldState) (lines : List Line) (unmet : ℕ) (old new : OutputState) → PrintsLines reasons t w lines unmet old new → PrintsSome reasons t w lines old new
-lines_some reasons t w lines unmet old new h = all_part reasons t w h.0 (repeated lines) unmet old new h.1
-
-pub counted_some_lines : (r : Result ℕ Refusal) (reasons : Reasons) (t : Contents) (w : WorldState) (lines : List Line) (old new : OutputState)
-    → IfOk r (λ count. (unmet : ℕ) × (count ≡ counted unmet) × PrintsLines reasons t w lines unmet old new) → IfOk r (λ count. PrintsSome reasons t w lines old new)
-counted_some_lines (Ok count) reasons t w lines old new (unmet, is, all) = lines_some reasons t w lines unmet old new all
-counted_some_lines (Err e) reasons t w lines old new all = tt
-
--- a capture that can't be opened cuts a script short
-pub unopened_late : (output : OutputState) (x : Refusal) → IsUnopened x → IsLate true output x
-unopened_late output x (inl is) = subst (IsLate true output) (sym is) (inr refl)
-unopened_late output x (inr is) = subst (IsLate true output) (sym is) tt
-
--- what ends a run without one ends a run with one
-pub late_captured : {T : Type 0} (captured : Bool) (r : Result T Refusal) (output : OutputState) → IfErr r (IsLate false output) → IfErr r (IsLate captured output)
-late_captured captured (Ok x) output late = tt
-late_captured captured (Err Memory) output late = tt
-late_captured captured (Err refusal.Output) output (inl refused) = inl refused
-late_captured captured (Err refusal.Output) output (inr none) = let bad : false ≡ true = none in cc
-late_captured captured (Err (refusal.Frame e)) output late = absurd late
-late_captured captured (Err (refusal.Table e)) output late = absurd late
-late_captured captured (Err (refusal.Link e)) output late = absurd late
-late_captured captured (Err (refusal.Start e)) output late = absurd late
-late_captured captured (Err (refusal.Run e)) output late = absurd late
-late_captured captured (Err refusal.Socket) output late = absurd late
-late_captured captured (Err (refusal.Script e)) output late = absurd late
-late_captured captured (Err refusal.BadHex) output late = absurd late
-late_captured captured (Err refusal.Input) output late = absurd late
-late_captured captured (Err (refusal.Unmet n)) output late = absurd late
-
--- and what ends one whose capture may be cut ends one with a capture
-pub cut_late : {T : Type 0} (captured : Bool) (r : Result T Refusal) (output : OutputState) → IfErr r (IsLate captured output) → IfErr r (IsLate true output)
-cut_late captured (Ok x) output late = tt
-cut_late captured (Err Memory) output late = tt
-cut_late captured (Err refusal.Output) output (inl refused) = inl refused
-cut_late captured (Err refusal.Output) output (inr cut) = inr refl
-cut_late captured (Err (refusal.Frame e)) output late = absurd late
-cut_late captured (Err (refusal.Table e)) output late = absurd late
-cut_late captured (Err (refusal.Link e)) output late = absurd late
-cut_late captured (Err (refusal.Start e)) output late = absurd late
-cut_late captured (Err (refusal.Run e)) output late = absurd late
-cut_late captured (Err refusal.Socket) output late = absurd late
-cut_late captured (Err (refusal.Script e)) output late = absurd late
-cut_late captured (Err refusal.BadHex) output late = absurd late
-cut_late captured (Err refusal.Input) output late = absurd late
-cut_late captured (Err (refusal.Unmet n)) output late = absurd late
-
--- a refused write ends one
-pub refused_late : (output : OutputState) (x : Refusal) → output.is_refused ≡ true → x ≡ refusal.Output → IsLate false output x
-refused_late output x refused is = subst (IsLate false output) (sym is) (inl refused)
+-- a refused write
+pub refused_late : (output : OutputState) (x : Refusal) → output.is_refused ≡ true → x ≡ refusal.Output → IsLate output x
+refused_late output x refused is = subst (IsLate output) (sym is) refused

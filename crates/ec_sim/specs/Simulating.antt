@@ -1,24 +1,19 @@
 -- What `ecat sim` prints and returns (this project's profile).
-use Rattle.std.specs.Prelude.{◌≡◌, ◌⊎◌, ℕ, ◌+◌, List, [], ◌∷◌, ◌++◌, take, if◌then◌else◌, Bool, Result, Ok, Err}
+use Rattle.std.specs.Prelude.{◌≡◌, ◌⊎◌, ℕ, ◌+◌, List, [], ◌∷◌, ◌++◌, take, if◌then◌else◌, true, Result, Ok, Err}
 use Rattle.ec_table.specs.Contents.{Contents}
-use Rattle.ec_link.specs.Machine.{StatesMachine}
 use Rattle.ec_world.specs.Whole.{IsOfMachine}
 use Rattle.ec_world.specs.World.{WorldState}
-use Rattle.ec_script.specs.declared.error.ScriptError.{ScriptError}
 use Rattle.ec_script.specs.declared.line.Line.{Line}
 use Rattle.ec_script.specs.declared.said.LineOutput.{LineOutput}
 use Rattle.ec_script.specs.Events.{RunsLine}
-use Rattle.ec_script.specs.Halves.{Splits}
-use Rattle.ec_script.specs.Scripts.{Fails as ScriptFails, repeated, script_of}
+use Rattle.ec_script.specs.Scripts.{repeated}
 use Rattle.ec_script.specs.Texts.{output_text}
 use Rattle.ec_script.specs.Work.{Does, is_done, is_unmet}
 use Rattle.ec_why.specs.declared.wanted.Reasons.{Reasons}
 use Rattle.ec_why.specs.Reasons.{IsWhy}
 use Rattle.ec_console.specs.declared.refusal.Refusal.{Refusal}
-use Rattle.ec_console.specs.declared.refusal.Refusal.TheVariants.{Memory, Output, Script}
-use Rattle.ec_console.specs.Given.{Given, GivesText, IsInputRefusal, IsTableRefusal}
+use Rattle.ec_console.specs.declared.refusal.Refusal.TheVariants.{Memory, Output}
 use Rattle.ec_console.specs.Printing.{IsPartPrinted, IsPrinted, OutputState}
-use Rattle.ec_console.specs.Capturing.{IsUnwritten}
 use Rattle.ec_console.specs.Unmet.{EndsUnmet}
 
 -- ---- lines
@@ -67,63 +62,20 @@ PrintsLines reasons t w lines unmet old new = (last : WorldState) × PrintsAll r
 abbrev pub PrintsSome : Reasons → Contents → WorldState → List Line → (old new : OutputState) → Type 0
 PrintsSome reasons t w lines old new = PrintsPart reasons t w (repeated lines) old new
 
--- the refusals of a script that runs, by whether there is a capture and what the output is; memory may run out at any time
-abbrev pub IsLate : (captured : Bool) → OutputState → Refusal → Type 0
-IsLate captured output Memory = Unit {0}
-IsLate captured output Output = IsUnwritten captured output
-IsLate captured output _ = ⊥
+-- what can end a script that runs, by what the output is then; memory may run out at any time
+abbrev pub IsLate : OutputState → Refusal → Type 0
+IsLate output Memory = Unit {0}
+IsLate output Output = output.is_refused ≡ true
+IsLate output _ = ⊥
 
 -- ---- the whole
 
--- a text states a machine, and a script
-pub record IsSimulation (text : List ℕ) (t : Contents) (lines : List Line) : Type 0 where
-  pub table : List ℕ
-  pub script : List ℕ
-  pub split : Splits text table script
-  pub states : StatesMachine table t
-  pub read : script_of t script ≡ Ok lines
-
--- The lines run over slaves of the table that are switched on, and their texts are printed. What they expect is so; or it isn't, and
--- the refusal says how often. Or a script that runs is cut short, and what it printed until then stays. Or memory is refused
--- before the first line.
-abbrev pub RunsLines : Reasons → (captured : Bool) → Contents → List Line → (old new : OutputState) → Result Unit Refusal → Type 0
-RunsLines reasons captured t lines old new (Ok done) = (w : WorldState) × IsOfMachine t w × PrintsLines reasons t w lines 0 old new
-RunsLines reasons captured t lines old new (Err refusal) =
+-- the lines run over slaves of the table that are switched on, and what they say is printed, where what they expect is so; or
+-- it isn't, so many times; or a script that runs is cut short, and what it said until then is printed; or memory is refused
+-- before the first line
+abbrev pub RunsLines : Reasons → Contents → List Line → (old new : OutputState) → Result Unit Refusal → Type 0
+RunsLines reasons t lines old new (Ok done) = (w : WorldState) × IsOfMachine t w × PrintsLines reasons t w lines 0 old new
+RunsLines reasons t lines old new (Err refusal) =
     ((refusal ≡ Memory) × (new ≡ old))
-    ⊎ ((IsLate captured new refusal × (w : WorldState) × IsOfMachine t w × PrintsSome reasons t w lines old new)
+    ⊎ ((IsLate new refusal × (w : WorldState) × IsOfMachine t w × PrintsSome reasons t w lines old new)
     ⊎ EndsUnmet refusal (λ unmet. (w : WorldState) × IsOfMachine t w × PrintsLines reasons t w lines unmet old new))
-
--- the first fault of the table, or of its plan, or the first bad line of the script, in this order
-abbrev pub IsScriptRefusal : List ℕ → List ℕ → ScriptError → Type 0
-IsScriptRefusal table script error = (t : Contents) × StatesMachine table t × ScriptFails error (script_of t script)
-
-abbrev pub IsHalfRefusal : List ℕ → List ℕ → Refusal → Type 0
-IsHalfRefusal table script (Script error) = IsScriptRefusal table script error
-IsHalfRefusal table script refusal = IsTableRefusal table refusal
-
-abbrev pub IsSimRefusal : List ℕ → Refusal → Type 0
-IsSimRefusal text refusal = (table : List ℕ) × (script : List ℕ) × Splits text table script × IsHalfRefusal table script refusal
-
--- the run of a text's script is printed, as `Printed` says
-pub record Simulates (text : List ℕ) (Printed : Contents → WorldState → List Line → Type 0) : Type 0 where
-  pub t : Contents
-  pub lines : List Line
-  pub world : WorldState
-  pub simulation : IsSimulation text t lines
-  pub begins : IsOfMachine t world
-  pub printed : Printed t world lines
-
--- How it ends, by whether there is a capture and what the output is before and after. All is printed, and what is expected is so; or it
--- isn't, and the refusal says how often. Or nothing is printed, since the text is refused. Or a script that runs is cut short, and what
--- it printed until then stays.
-abbrev pub RunsText : Reasons → (captured : Bool) → List ℕ → (old new : OutputState) → Result Unit Refusal → Type 0
-RunsText reasons captured text old new (Ok done) = Simulates text (λ t w lines. PrintsLines reasons t w lines 0 old new)
-RunsText reasons captured text old new (Err refusal) =
-    (IsSimRefusal text refusal × (new ≡ old))
-    ⊎ ((IsLate captured new refusal × Simulates text (λ t w lines. PrintsSome reasons t w lines old new))
-    ⊎ EndsUnmet refusal (λ unmet. Simulates text (λ t w lines. PrintsLines reasons t w lines unmet old new)))
-
--- the script that the input gives, as in `RunsText`; or the input is refused
-abbrev pub RunsSim : Reasons → (captured : Bool) → Given → (old new : OutputState) → Result Unit Refusal → Type 0
-RunsSim reasons captured given old new ended =
-    ((text : List ℕ) × GivesText given text × RunsText reasons captured text old new ended) ⊎ ((refusal : Refusal) × (ended ≡ Err refusal) × IsInputRefusal given refusal × (new ≡ old))

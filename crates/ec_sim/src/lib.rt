@@ -4,4 +4,4 @@
 pub mod laws;
 mod sim;
 
-pub use crate::sim::{print_captured, print_line, print_noted, print_sim};
+pub use crate::sim::{print_line, print_noted, run_script};

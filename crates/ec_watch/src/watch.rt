@@ -54,6 +54,13 @@ impl<W: Write + Drop> Watch<W> {
     {
         &self.capture
     }
+
+    /// The capture itself, in which all frames so far are noted.
+    pub fn into_capture(self) -> Recorder<W>
+        ensures { result ≡ self.capture }
+    {
+        self.capture
+    }
 }
 
 impl<W: Write + Drop> Watcher for Watch<W> {

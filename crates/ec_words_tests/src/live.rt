@@ -4,8 +4,10 @@ mod askers;
 mod drivers;
 
 use crate::streams::Sink;
-use ec_console::{Explanation, InputStream, OutputStream, Refusal};
-use ec_live::print_live;
+use ec_console::{
+    Capture, InputStream, OutputStream, Refusal, SlaveForm, Source, read_source, read_stated,
+};
+use ec_live::run_live;
 use ec_why::Reasons;
 use std::fs::Files;
 use std::io::Read;
@@ -17,8 +19,17 @@ fn run<H: AllocGlobal + Files, R: Read + Drop>(
     input: &mut InputStream<R>,
     output: &mut OutputStream<Sink<'_>>,
 ) -> Result<(), Refusal> {
-    let mut behind = Explanation::new(rt.alloc(), false);
-    print_live(rt, Reasons::Untold, None, input, output, &mut behind)
+    let text = read_source(rt.alloc(), Source::Lines, input)?;
+    let stated = read_stated(rt.alloc(), Source::Lines, SlaveForm::Plain, text.as_str())?;
+    let mut capture: Capture<H::File> = None;
+    run_live(
+        rt.alloc(),
+        &stated.machine,
+        Reasons::Untold,
+        &mut capture,
+        input,
+        output,
+    )
 }
 
 /// Compares how a run ended, and what it printed.

@@ -2,13 +2,16 @@
 //! `ec_commands` over the arguments, the streams and the memory of the system.
 #![tactic(auto)]
 
-use ec_commands::{InputStream, OutputStream, run_program};
+use ec_commands::{Console, InputStream, OutputStream, run_program};
 use std::env;
 use std::process::ExitCode;
 
 fn main(rt: HostRuntime) -> ExitCode {
-    let mut input = InputStream::new(rt.stdin());
-    let mut output = OutputStream::new(rt.stdout());
-    let mut faults = OutputStream::new(rt.stderr());
-    ExitCode::from(run_program(&rt, env::args(&rt), &mut input, &mut output, &mut faults))
+    let mut console = Console::new(
+        rt.alloc(),
+        InputStream::new(rt.stdin()),
+        OutputStream::new(rt.stdout()),
+        OutputStream::new(rt.stderr()),
+    );
+    ExitCode::from(run_program(&rt, env::args(&rt), &mut console))
 }

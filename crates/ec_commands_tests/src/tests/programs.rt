@@ -1,8 +1,8 @@
 //! The program on arguments that a system gives.
 
-use crate::tests::streams::{Sink, sink_of, source_of};
-use crate::tests::{Run, RunStreams, expect_ended};
-use ec_commands::{InputStream, OutputStream, run_program};
+use crate::tests::streams::{Sink, Source, sink_of, source_of};
+use crate::tests::{Run, expect_ended, streams_of};
+use ec_commands::{Console, InputStream, OutputStream, run_program};
 use std::env;
 use std::env::{Env, FillError};
 use std::fs::Files;
@@ -41,25 +41,22 @@ impl Env for Called<'_> {
 fn run_called<H: AllocGlobal + Net + Files + Clock>(
     rt: &H,
     args: &[&[u8]],
-    output: &mut OutputStream<Sink>,
-    faults: &mut OutputStream<Sink>,
+    console: &mut Console<Source<'_>, Sink, Sink>,
 ) -> u8 {
     let system = (Called { args }, rt.alloc());
-    let mut input = InputStream::new(source_of(""));
-    run_program(rt, env::args(&system), &mut input, output, faults)
+    run_program(rt, env::args(&system), console)
 }
 
 /// Runs the program on these arguments, and compares how it ends.
 fn expect_program<H: AllocGlobal + Net + Files + Clock + Abort>(rt: &H, args: &[&[u8]], run: &Run) {
-    let mut output = OutputStream::new(sink_of(rt.alloc(), u32::MAX, false));
-    let mut faults = OutputStream::new(sink_of(rt.alloc(), u32::MAX, false));
-    let status = run_called(rt, args, &mut output, &mut faults);
-    let streams = RunStreams {
-        is_unread: false,
-        output,
-        faults,
-    };
-    expect_ended(rt, run, run.5, status, streams);
+    let mut console = Console::new(
+        rt.alloc(),
+        InputStream::new(source_of("")),
+        OutputStream::new(sink_of(rt.alloc(), u32::MAX, false)),
+        OutputStream::new(sink_of(rt.alloc(), u32::MAX, false)),
+    );
+    let status = run_called(rt, args, &mut console);
+    expect_ended(rt, run, run.5, status, streams_of(console));
 }
 
 /// What is told of an argument that isn't text.

@@ -1,10 +1,12 @@
 //! Start-ups and cycles that fail, and what is told of them. What a run of `ecat` tells of tables, of lines of a script and of what
 //! they expect stands as cases in `tools/cases/data/`.
 use crate::explain::machine::MACHINE;
+use ec_console::{Refusal, remarks_text};
 use ec_cycle::CycleError;
 use ec_device::Device;
-use ec_explain::{Cause, explanation};
+use ec_script::ScriptError;
 use ec_start::StartError;
+use ec_wire::RunError;
 use std::process::Abort;
 
 /// Each phrase stands in what is told. There is a `;` between phrases.
@@ -14,14 +16,14 @@ fn expect_phrases(rt: &impl Abort, told: &str, wanted: &str) {
     }
 }
 
-/// What is told of a text for a cause.
-fn told_of(rt: &(impl AllocGlobal + Abort), text: &str, cause: Cause) -> String {
-    explanation(rt.alloc(), text, cause).expect(rt, "memory")
+/// What explains a refusal on a text.
+fn told_of(rt: &(impl AllocGlobal + Abort), text: &str, refusal: Refusal) -> String {
+    remarks_text(rt.alloc(), text, 0, &refusal).expect(rt, "memory")
 }
 
-/// Compares what is told of the machine for a cause.
-fn expect_cause(rt: &(impl AllocGlobal + Abort), cause: Cause, wanted: &str) {
-    let told = told_of(rt, MACHINE, cause);
+/// Compares what explains a refusal of the machine.
+fn expect_refusal(rt: &(impl AllocGlobal + Abort), refusal: Refusal, wanted: &str) {
+    let told = told_of(rt, MACHINE, refusal);
     expect_phrases(rt, told.as_str(), wanted);
 }
 
@@ -165,7 +167,7 @@ const ERRORS: [(StartError, &str); 20] = [
 #[test]
 fn start_ups(rt: HostRuntime) {
     for (error, wanted) in &ERRORS {
-        expect_cause(&rt, Cause::Start(*error), wanted);
+        expect_refusal(&rt, Refusal::Start(*error), wanted);
     }
 }
 
@@ -194,8 +196,8 @@ const STEPS: [(usize, &str); 14] = [
 
 /// Compares what is told of a step whose counter was wrong, and which was too slow.
 fn expect_step(rt: &(impl AllocGlobal + Abort), step: usize, wanted: &str) {
-    expect_cause(rt, Cause::Start(StartError::Counter { step }), wanted);
-    expect_cause(rt, Cause::Start(StartError::TooSlow { step }), wanted);
+    expect_refusal(rt, Refusal::Start(StartError::Counter { step }), wanted);
+    expect_refusal(rt, Refusal::Start(StartError::TooSlow { step }), wanted);
 }
 
 #[test]
@@ -205,29 +207,41 @@ fn steps(rt: HostRuntime) {
     }
 }
 
-/// A phrase doesn't stand in what is told of a text for a cause.
-fn expect_untold(rt: &(impl AllocGlobal + Abort), text: &str, cause: Cause, phrase: &str) {
-    let told = told_of(rt, text, cause);
+/// A phrase doesn't stand in what explains a refusal on a text.
+fn expect_untold(rt: &(impl AllocGlobal + Abort), text: &str, refusal: Refusal, phrase: &str) {
+    let told = told_of(rt, text, refusal);
     assert!(rt; !told.as_str().contains(phrase), "{}", told.as_str());
 }
 
 /// Cycles that can't be, and a line that the script doesn't have, and what is told of them.
-const CAUSES: [(Cause, &str); 6] = [
-    (Cause::Cycle(CycleError::NotReady), "ready"),
-    (Cause::Cycle(CycleError::Open), "open already"),
-    (Cause::Cycle(CycleError::NotOpen), "No cycle is open"),
-    (Cause::Cycle(CycleError::NumbersSpent), "2^64"),
-    (Cause::Wire, "socket;nothing of that cycle"),
+const REFUSALS: [(Refusal, &str); 6] = [
     (
-        Cause::Script { from: 0, line: 99 },
+        Refusal::Run(RunError::Refused(CycleError::NotReady)),
+        "ready",
+    ),
+    (
+        Refusal::Run(RunError::Refused(CycleError::Open)),
+        "open already",
+    ),
+    (
+        Refusal::Run(RunError::Refused(CycleError::NotOpen)),
+        "No cycle is open",
+    ),
+    (
+        Refusal::Run(RunError::Refused(CycleError::NumbersSpent)),
+        "2^64",
+    ),
+    (Refusal::Run(RunError::Wire), "socket;nothing of that cycle"),
+    (
+        Refusal::Script(ScriptError::BadScript(99)),
         "line 99 of the script isn't found",
     ),
 ];
 
 #[test]
 fn cycles_and_a_line_past_the_last(rt: HostRuntime) {
-    for (cause, wanted) in &CAUSES {
-        expect_cause(&rt, *cause, wanted);
+    for (refusal, wanted) in &REFUSALS {
+        expect_refusal(&rt, *refusal, wanted);
     }
 }
 
@@ -245,10 +259,10 @@ const OTHER_TEXTS: [&str; 7] = [
 // Nothing is told of a step of texts that have no such machine, nor of one past its last.
 #[test]
 fn steps_that_are_none(rt: HostRuntime) {
-    let cause = Cause::Start(StartError::Counter { step: 17 });
+    let refusal = Refusal::Start(StartError::Counter { step: 17 });
     for text in &OTHER_TEXTS {
-        expect_untold(&rt, text, cause, "step 17");
+        expect_untold(&rt, text, refusal, "step 17");
     }
-    let past = Cause::Start(StartError::TooSlow { step: 109 });
+    let past = Refusal::Start(StartError::TooSlow { step: 109 });
     expect_untold(&rt, MACHINE, past, "step");
 }

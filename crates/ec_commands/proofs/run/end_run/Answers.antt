@@ -5,7 +5,7 @@ use Rattle.ec_commands.proofs.run.end_run.Goals as goal
 
 pub returns-in-Ok-clause-alone : goal.returns-in-Ok-clause-alone
 returns-in-Ok-clause-alone g c = subst
-    (λ read. EndsAlone read c.args.input.now c.run_request-ended.new.input c.args.app.now (c.args.app.now.0, c.run_request-ended.new.app)) (sym c.in-Ok.is) c.run_request-ended.ensures.alone
+    (λ read. EndsAlone read c.args.console.now.input c.run_request-ended.new.console.input c.args.app.now (c.args.app.now.0, c.run_request-ended.new.app)) (sym c.in-Ok.is) c.run_request-ended.ensures.alone
 
 pub returns-in-Ok-clause-status : goal.returns-in-Ok-clause-status
 returns-in-Ok-clause-status g c = tells_with_known _ _ _ _ c.explained_status.ensures

@@ -6,4 +6,4 @@ returns-in_err-wire-clause-serves g c = card_unbound _ _ _ _ c.from_residual.ens
 
 pub returns-clause-serves : goal.returns-clause-serves
 returns-clause-serves g c =
-    card_served c.serve_tapped.result c.args.frames _ _ _ _ _ c.args.slaves.now c.serve_tapped.new.slaves c.in_ok-wire.ensures c.serve_tapped.ensures.serves.1
+    card_served c.serve_tapped.result c.args.endpoint.frames _ _ _ _ _ c.args.slaves.now c.serve_tapped.new.slaves c.in_ok-wire.ensures c.serve_tapped.ensures.serves.1
