@@ -35,13 +35,14 @@ def free_port():
 
 
 class Segment:
-    """A segment of the three slaves that is started, and says on standard error where it listens."""
+    """A segment of the three slaves, or of another table, that is started, and says on standard error where it listens."""
 
-    def __init__(self, program, *words, frames=1000000):
+    def __init__(self, program, *words, frames=1000000, table=TABLE, **how):
         self.port = free_port()
         words = ["segment", "--frames", str(frames), "--port", str(self.port), *words]
-        self.process = subprocess.Popen([program, *words], stdin=subprocess.PIPE, stdout=subprocess.PIPE, stderr=subprocess.PIPE, text=True)
-        self.process.stdin.write(TABLE)
+        pipes = dict.fromkeys(("stdin", "stdout", "stderr"), subprocess.PIPE)
+        self.process = subprocess.Popen([program, *words], text=True, **pipes, **how)
+        self.process.stdin.write(table)
         self.process.stdin.close()
         self.process.stdin = None
         self.told = self.process.stderr.readline()
@@ -98,11 +99,11 @@ class Proxy:
                     self.outer.sendto(datagram, master)
 
 
-def start_master(program, to, *words):
-    """A master of the three slaves with its table. The lines are written to its input."""
+def start_master(program, to, *words, table=TABLE):
+    """A master of the three slaves, or of another table, with its table. The lines are written to its input."""
     words = ["master", "--to", to, *words]
     process = subprocess.Popen([program, *words], stdin=subprocess.PIPE, stdout=subprocess.PIPE, stderr=subprocess.PIPE, text=True)
-    process.stdin.write(TABLE + "%%\n")
+    process.stdin.write(table + "%%\n")
     process.stdin.flush()
     return process
 

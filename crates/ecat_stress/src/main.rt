@@ -1,25 +1,21 @@
-//! Trials of the libraries that no contract replaces: refused memory, hostile payloads, long runs, frames as text.
+//! Trials of the libraries that no contract replaces: refused memory, and long runs.
 //!
-//!     ecat_stress                                   the gate's share of each
+//!     ecat_stress                                   the gate's share of the first two
 //!     ecat_stress memory [FUNCTION]                 the functions that take memory
-//!     ecat_stress peer [SEED [ROUNDS [PORT]]]       a hostile peer
 //!     ecat_stress runs [SEED [TABLES [EVENTS]]]     worlds under events at random
-//!     ecat_stress frames [SEED [PAYLOADS]]          payloads as text and back
 //!     ecat_stress tables [SEED [TABLES]]            tables and scripts, and what the calls make of them
 //!
 //! Each prints its figures. The status is 0 if all was as it must be, else 1.
 #![tactic(auto)]
 
 mod args;
-mod frames;
 mod memory;
-mod peer;
 mod runs;
 mod tables;
 
+use std::alloc::Global;
 use std::env::Env;
 use std::io::Write;
-use std::net::Net;
 use std::process::ExitCode;
 use std::{env, io};
 
@@ -29,30 +25,22 @@ fn given_args<H: Env + AllocGlobal>(rt: &H) -> io::Result<Vec<String>> {
     Ok(given.collect(rt.alloc())?)
 }
 
-/// The gate's share of each trial.
-fn run_shares<H: AllocGlobal + Net, W: Write>(rt: &H, output: &mut W) -> io::Result<bool> {
-    let memory = memory::run(rt.alloc(), None, output)?;
-    let peer = peer::run_share(rt, output)?;
-    let runs = runs::run_share(rt.alloc(), output)?;
-    let frames = frames::run_share(rt.alloc(), output)?;
-    Ok(memory && peer && runs && frames)
+/// The gate's share of each trial that has one.
+fn run_shares<W: Write>(alloc: Global, output: &mut W) -> io::Result<bool> {
+    let memory = memory::run(alloc, None, output)?;
+    let runs = runs::run_share(alloc, output)?;
+    Ok(memory && runs)
 }
 
 /// The trial of a word, with the arguments from the word on.
-fn run_trial<H: AllocGlobal + Net, W: Write>(
-    rt: &H,
-    args: &[String],
-    output: &mut W,
-) -> io::Result<bool> {
+fn run_trial<W: Write>(alloc: Global, args: &[String], output: &mut W) -> io::Result<bool> {
     let Some(word) = args.first() else {
-        return run_shares(rt, output);
+        return run_shares(alloc, output);
     };
     match word.as_str() {
-        "memory" => memory::run(rt.alloc(), args.get(1).map(String::as_str), output),
-        "peer" => peer::run(rt, args, output),
-        "runs" => runs::run(rt.alloc(), args, output),
-        "frames" => frames::run(rt.alloc(), args, output),
-        "tables" => tables::run(rt.alloc(), args, output),
+        "memory" => memory::run(alloc, args.get(1).map(String::as_str), output),
+        "runs" => runs::run(alloc, args, output),
+        "tables" => tables::run(alloc, args, output),
         _ => {
             writeln!(output, "no such trial")?;
             Ok(false)
@@ -63,7 +51,7 @@ fn run_trial<H: AllocGlobal + Net, W: Write>(
 fn main(rt: HostRuntime) -> io::Result<ExitCode> {
     let mut output = rt.stdout();
     let is_right = match given_args(&rt) {
-        Ok(args) => run_trial(&rt, args.get(1..).unwrap_or(&[]), &mut output)?,
+        Ok(args) => run_trial(rt.alloc(), args.get(1..).unwrap_or(&[]), &mut output)?,
         Err(_) => {
             writeln!(output, "prepared 1")?;
             true
