@@ -2,6 +2,7 @@
 
 ghost use Rattle.std.specs.Prelude.{◌≡◌, ◌++◌, ℕ, List, IfOk, IfErr, OnOk, OnErr, codes, false, is_some, not, option_map, true};
 ghost use Rattle.std.specs.Fmt.{decimal};
+ghost use Rattle.ec_lines.specs.Inputs.{bytes_left};
 ghost use Rattle.ec_text.specs.PlanText.{newline};
 ghost use Rattle.ec_live.specs.Living.{IsLiveLate, LivesOut, LivesPart, RunsLive, RunsLiveTable, SaysPart, SaysReading};
 ghost use Rattle.ec_console.specs.Explaining.{IsLeft};
@@ -103,9 +104,9 @@ fn print_live_watched<H: AllocGlobal + Files, R: Read + Drop, W: Write + Drop>(
     output: &mut OutputStream<W>,
 ) -> Result<u64, Refusal>
     ensures all { IfOk result (λ count. (unmet : ℕ) × (count ≡ counted unmet)
-        × LivesOut reasons table.now world.old (R.remaining input.old.stream) unmet
+        × LivesOut reasons table.now world.old (bytes_left R.remaining input.old) unmet
         output.old output.new) }
-    ensures part { OnErr result (LivesPart reasons table.now world.old (R.remaining input.old.stream)
+    ensures part { OnErr result (LivesPart reasons table.now world.old (bytes_left R.remaining input.old)
         output.old output.new) }
     ensures late { IfErr result (IsLiveLate (is_some (option_map (λ x. x.now) file.entry)) input.new.is_refused output.new) }
 {
@@ -136,9 +137,9 @@ fn print_live_captured<F: Write + Drop, R: Read + Drop, W: Write + Drop>(
     output: &mut OutputStream<W>,
 ) -> Result<u64, Refusal>
     ensures all { IfOk result (λ count. (unmet : ℕ) × (count ≡ counted unmet)
-        × LivesOut reasons table.now world.old (R.remaining input.old.stream) unmet
+        × LivesOut reasons table.now world.old (bytes_left R.remaining input.old) unmet
         output.old output.new) }
-    ensures part { OnErr result (LivesPart reasons table.now world.old (R.remaining input.old.stream)
+    ensures part { OnErr result (LivesPart reasons table.now world.old (bytes_left R.remaining input.old)
         output.old output.new) }
     ensures late { IfErr result (IsLiveLate (not watch.new.capture.is_whole) input.new.is_refused output.new) }
     ensures whole { OnOk result (watch.new.capture.is_whole ≡ true) }
@@ -160,9 +161,9 @@ fn print_live_lines<S: Watcher, R: Read + Drop, W: Write + Drop>(
     output: &mut OutputStream<W>,
 ) -> Result<u64, Refusal>
     ensures all { IfOk result (λ count. (unmet : ℕ) × (count ≡ counted unmet)
-        × LivesOut reasons table.now world.old (R.remaining input.old.stream) unmet
+        × LivesOut reasons table.now world.old (bytes_left R.remaining input.old) unmet
         output.old output.new) }
-    ensures part { OnErr result (LivesPart reasons table.now world.old (R.remaining input.old.stream)
+    ensures part { OnErr result (LivesPart reasons table.now world.old (bytes_left R.remaining input.old)
         output.old output.new) }
     ensures late { IfErr result (IsLiveLate false input.new.is_refused output.new) }
 {

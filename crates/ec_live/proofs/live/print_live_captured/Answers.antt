@@ -1,4 +1,5 @@
 use Rattle.std.proofs.Common.{◌≡◌, ap, inr, ℕ, not}
+use Rattle.ec_lines.specs.Inputs.{bytes_left}
 use Rattle.ec_console.proofs.CaptureLemmas.{finished_err, finished_late, finished_ok, finished_whole}
 use Rattle.ec_console.specs.Unmet.{counted}
 use Rattle.ec_live.specs.Living.{IsLiveLate, LivesOut, LivesPart}
@@ -7,14 +8,14 @@ use Rattle.ec_live.proofs.live.print_live_captured.Goals as goal
 
 pub returns-clause-all : goal.returns-clause-all
 returns-clause-all g c =
-    finished_ok (λ count. (unmet : ℕ) × (count ≡ counted unmet) × LivesOut c.args.reasons c.args.table.now c.args.world.now (g.R.Read.remaining c.args.input.now.stream) unmet c.args.output.now c.print_live_lines-ended.new.output)
+    finished_ok (λ count. (unmet : ℕ) × (count ≡ counted unmet) × LivesOut c.args.reasons c.args.table.now c.args.world.now (bytes_left g.R.Read.remaining c.args.input.now) unmet c.args.output.now c.print_live_lines-ended.new.output)
     c.print_live_lines-ended.new.watcher.capture.is_whole c.print_live_lines-ended.result c.finish_recording.result (rw c.capture.ensures at c.finish_recording.ensures) c.print_live_lines-ended.ensures.all
 
 pub returns-clause-part : goal.returns-clause-part
 returns-clause-part g c =
-    finished_err (LivesPart c.args.reasons c.args.table.now c.args.world.now (g.R.Read.remaining c.args.input.now.stream) c.args.output.now c.print_live_lines-ended.new.output)
+    finished_err (LivesPart c.args.reasons c.args.table.now c.args.world.now (bytes_left g.R.Read.remaining c.args.input.now) c.args.output.now c.print_live_lines-ended.new.output)
     c.print_live_lines-ended.new.watcher.capture.is_whole c.print_live_lines-ended.result c.finish_recording.result (rw c.capture.ensures at c.finish_recording.ensures) c.print_live_lines-ended.ensures.part
-    (counted_out_part c.print_live_lines-ended.result c.args.reasons c.args.table.now c.args.world.now (g.R.Read.remaining c.args.input.now.stream) c.args.output.now c.print_live_lines-ended.new.output c.print_live_lines-ended.ensures.all)
+    (counted_out_part c.print_live_lines-ended.result c.args.reasons c.args.table.now c.args.world.now (bytes_left g.R.Read.remaining c.args.input.now) c.args.output.now c.print_live_lines-ended.new.output c.print_live_lines-ended.ensures.all)
 
 pub returns-clause-late : goal.returns-clause-late
 returns-clause-late g c =
