@@ -1,7 +1,6 @@
 //! Lines that an input gives, each taken as it comes, and the text in front of a line `%%`.
 #![tactic(auto)]
 
-mod block;
 mod error;
 mod input;
 mod lines;

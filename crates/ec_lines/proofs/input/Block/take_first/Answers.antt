@@ -1,7 +1,7 @@
 use Rattle.std.proofs.Common.{◌++◌, ◌∙◌, List, ℕ, ap, take}
 use Rattle.std.proofs.lemmas.List.{take_min}
 use Rattle.ec_lines.proofs.BlockLemmas.{front_is}
-use Rattle.ec_lines.proofs.block.Block.take_first.Goals as goal
+use Rattle.ec_lines.proofs.input.Block.take_first.Goals as goal
 
 pub returns-clause-bytes : goal.returns-clause-bytes
 returns-clause-bytes c =

@@ -1,7 +1,7 @@
 use Rattle.std.proofs.Common.{◌++◌, ◌∙◌, List, ℕ, ap, take}
 use Rattle.std.proofs.lemmas.List.{take_min}
 use Rattle.ec_lines.proofs.BlockLemmas.{front_is}
-use Rattle.ec_lines.proofs.block.keep.Goals as goal
+use Rattle.ec_lines.proofs.input.keep.Goals as goal
 
 pub returns : goal.returns
 returns c =
