@@ -72,11 +72,11 @@ newline_bound xs place h = omega (arith, (position-Some (λ b. b == 10) xs place
 pub newline_ends : (xs : List ℕ) (place : ℕ) → Some place ≡ position (λ b. b == 10) xs → IsPart true (take (place + 1) xs)
 newline_ends xs place h =
     let found = position-Some (λ b. b == 10) xs place 0 (sym h) in
-    let ten : get_or xs place 0 ≡ 10 = eqb-true (get_or xs place 0) 10 found.1.0 in (
+    let ten : get_or xs place 0 ≡ 10 = eqb-true (get_or xs place 0) 10 found.1 in (
       take place xs,
       (λ k d lt.
           let below : k < place = omega (arith, lt, length-take place xs) in
-          let other : (get_or xs k d == 10) ≡ false = (position-Some (λ b. b == 10) xs place d (sym h)).1.1 k below in
+          let other : (get_or xs k d == 10) ≡ false = (position-Some (λ b. b == 10) xs place d (sym h)).2 k below in
           subst (λ (b : ℕ). b ≢ 10) (sym (get_or-take place xs k d below)) (λ is. false≢true (sym other ∙ eq-eqb (get_or xs k d) 10 is))),
       take_more xs place 0 found.0 ∙ ap (λ b. take place xs ++ (b ∷ [])) ten,
     )

@@ -1,5 +1,5 @@
 -- Lines that are taken from an input, one after another.
-use Rattle.std.proofs.Common.{◌≡◌, ◌≢◌, ◌∙◌, ◌⊎◌, inl, inr, ℕ, zero, suc, ◌<◌, All, List, [], ◌∷◌, ◌++◌, length, take, true, false, Option, None, Some, refl, sym, ap, subst, append_assoc, append-nil, arith, Result, Ok, Err, OnErr}
+use Rattle.std.proofs.Common.{◌≡◌, ◌≢◌, ◌∙◌, ◌⊎◌, inl, inr, ℕ, zero, suc, ◌<◌, All, List, [], ◌∷◌, ◌++◌, length, take, Bool, true, false, Option, None, Some, refl, sym, ap, subst, append_assoc, append-nil, arith, Result, Ok, Err, OnErr}
 use Rattle.std.specs.Io.KnownBytes.{Consumes, IsAtEnd, Keeps}
 use Rattle.std.proofs.lemmas.List.Elements.{All-append, All-nil, All-cons}
 use Rattle.ec_lines.specs.Kept.{TakesKept, TakesMore}
@@ -37,12 +37,14 @@ take_none : (n : ℕ) → take {A = ℕ} n [] ≡ []
 take_none zero = refl
 take_none (suc n) = refl
 
-pub none_so_far : (old : Option (List ℕ)) (most : ℕ) → IsSoFar old old most []
-none_so_far old most = record { front = []; unended = All-nil (λ b. b ≢ 10); taken = consumes_none old; keeps = sym (take_none most) }
+pub none_so_far : (old : Option (List ℕ)) (most : ℕ) (kept : List ℕ) → kept ≡ [] → IsSoFar old old most kept
+none_so_far old most kept none = record { front = []; unended = All-nil (λ b. b ≢ 10); taken = consumes_none old; keeps = none ∙ sym (take_none most) }
 
 -- more bytes of it are taken
-pub more_taken : (old mid new : Option (List ℕ)) (most : ℕ) (kept more : List ℕ) → IsSoFar old mid most kept → TakesMore mid new most kept more false → IsSoFar old new most more
-more_taken old mid new most kept more h m = record {
+pub more_taken : (old mid new : Option (List ℕ)) (most : ℕ) (kept more : List ℕ) (is_ended : Bool) → is_ended ≡ false → IsSoFar old mid most kept → TakesMore mid new most kept more is_ended
+    → IsSoFar old new most more
+more_taken old mid new most kept more true not h m = let bad : true ≡ false = not in cc
+more_taken old mid new most kept more false not h m = record {
   front = h.front ++ m.part;
   unended = All-append (λ b. b ≢ 10) h.front m.part h.unended m.is_part;
   taken = consumes_more old mid new h.front m.part h.taken m.taken;
@@ -50,14 +52,16 @@ more_taken old mid new most kept more h m = record {
 }
 
 -- up to its end
-pub line_ends : (old mid new : Option (List ℕ)) (most : ℕ) (kept more : List ℕ) → IsSoFar old mid most kept → TakesMore mid new most kept more true → TakesKept old new most more
-line_ends old mid new most kept more h m = (
+pub line_ends : (old mid new : Option (List ℕ)) (most : ℕ) (kept more : List ℕ) (is_ended : Bool) → is_ended ≡ true → IsSoFar old mid most kept → TakesMore mid new most kept more is_ended
+    → TakesKept old new most more
+line_ends old mid new most kept more false ended h m = let bad : false ≡ true = ended in cc
+line_ends old mid new most kept more true ended h m = (
   h.front ++ m.part,
   record {
     front = h.front ++ m.is_part.0;
-    unended = All-append (λ b. b ≢ 10) h.front m.is_part.0 h.unended m.is_part.1.0;
+    unended = All-append (λ b. b ≢ 10) h.front m.is_part.0 h.unended m.is_part.1;
     taken = consumes_more old mid new h.front m.part h.taken m.taken;
-    ends = inl (ap (λ l. h.front ++ l) m.is_part.1.1 ∙ sym (append_assoc h.front m.is_part.0 (10 ∷ [])));
+    ends = inl (ap (λ l. h.front ++ l) m.is_part.2 ∙ sym (append_assoc h.front m.is_part.0 (10 ∷ [])));
   },
   m.kept ∙ keeps_more most h.front kept m.part h.keeps,
 )

@@ -59,7 +59,8 @@ impl<R: Read + Drop> InputStream<R> {
         ensures count { IfOk result (λ count. length bytes.new.items ≡ length bytes.old.items + count) }
         ensures retried { IfErr result (λ error. error_kind error ≢ ErrorKind.Interrupted) }
         ensures refused { self.new.is_refused ≡ self.old.is_refused || is_read_refused result }
-        ensures counted { self.new.reads ≤ one_more self.old.reads }
+        ensures counted { OnOk result (self.new.reads ≡ one_more self.old.reads) }
+        ensures few { OnErr result (self.new.reads ≤ self.old.reads + 1) }
     {
         let count = self.ahead.take_first(most, bytes)?;
         let read = read_first(&mut self.stream, most - count as u64, bytes);

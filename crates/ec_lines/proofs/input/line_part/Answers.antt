@@ -2,8 +2,8 @@ use Rattle.std.proofs.Common.{arith}
 use Rattle.ec_lines.proofs.BlockLemmas.{all_part, newline_bound, newline_ends}
 use Rattle.ec_lines.proofs.input.line_part.Goals as goal
 
-pub overflow_add-result-0-in-Some : goal.overflow_add-result-0-in-Some
-overflow_add-result-0-in-Some c = omega (arith, newline_bound c.args.bytes.now c.in-Some.place c.in-Some.ensures)
+pub overflow_add-result : goal.overflow_add-result
+overflow_add-result c = omega (arith, newline_bound c.args.bytes.now c.in-Some.place c.in-Some.ensures)
 
 pub returns-in-Some-clause-bound : goal.returns-in-Some-clause-bound
 returns-in-Some-clause-bound c = newline_bound c.args.bytes.now c.in-Some.place c.in-Some.ensures
