@@ -1,7 +1,7 @@
 -- What the input gives, and the refusals of the input and of the link table on it (this project's profile).
 use Rattle.std.specs.Prelude.{◌≡◌, ◌⊎◌, ℕ, ◌<◌, ◌^◌, List, length, Option, Ok, IfSome, Bool, true}
 use Rattle.std.specs.Str.{IsUtf8}
-use Rattle.ec_lines.specs.Inputs.{InputState}
+use Rattle.ec_lines.specs.Inputs.{InputState, bytes_left}
 use Rattle.ec_lines.specs.declared.error.LinesError.{LinesError}
 use Rattle.ec_lines.specs.declared.error.LinesError.TheVariants as lines
 use Rattle.ec_table.specs.Contents.{Contents}
@@ -19,7 +19,7 @@ pub record Given : Type 0 where
 
 -- what a run has of an input, by what its reader gives, and what the input is before and after
 abbrev pub given_by : {R : Type 0} → (remaining : R → Option (List ℕ)) → (old new : InputState R) → Given
-given_by remaining old new = record { bytes = remaining old.stream; is_refused = new.is_refused }
+given_by remaining old new = record { bytes = bytes_left remaining old; is_refused = new.is_refused }
 
 -- the text is all that an input gives, if that is known
 abbrev pub GivesText : Given → List ℕ → Type 0

@@ -1,6 +1,7 @@
 //! Reading a whole text, up to a limit.
 ghost use Rattle.std.specs.Prelude.{◌≡◌, ◌≤◌, ◌^◌, ◌+◌, IfErr, IfOk, IfSome, OnOk, length, take};
 ghost use Rattle.std.specs.String.{string_bytes};
+ghost use Rattle.ec_lines.specs.Inputs.{bytes_left};
 ghost use Rattle.ec_console.specs.Given.{GivesText, IsInputRefusal, IsNoInput, IsReadRefusal, given_by};
 
 use crate::Refusal;
@@ -41,7 +42,7 @@ fn text_of(bytes: Vec<u8>) -> Result<String, Refusal>
 /// The bytes of `input`, up to one more than an input may have. An interrupted read is made again.
 fn read_bytes<R: Read + Drop>(alloc: Global, input: &mut InputStream<R>) -> Result<Vec<u8>, Refusal>
     ensures known { IfOk result (λ bytes.
-        IfSome (R.remaining input.old.stream) (λ all. bytes.items ≡ take (2 ^ 20 + 1) all)) }
+        IfSome (bytes_left R.remaining input.old) (λ all. bytes.items ≡ take (2 ^ 20 + 1) all)) }
     ensures refused { IfErr result (IsReadRefusal input.new.is_refused) }
     ensures kept { OnOk result (input.new.is_refused ≡ input.old.is_refused) }
 {

@@ -1,5 +1,6 @@
 //! What the text of a command states: a machine, and the lines of its script.
 ghost use Rattle.std.specs.Prelude.{◌≡◌, [], IfErr, IfOk, Ok, string_bytes};
+ghost use Rattle.ec_lines.specs.Inputs.{bytes_left};
 ghost use Rattle.ec_lines.specs.Taking.{TakesText};
 ghost use Rattle.ec_script.specs.Scripts.{script_of};
 ghost use Rattle.ec_console.specs.Given.{IsTableRefusal, given_by};
@@ -43,7 +44,7 @@ pub fn read_source<R: Read + Drop>(
     source: Source,
     input: &mut InputStream<R>,
 ) -> Result<String, Refusal>
-    ensures taken { IfOk result (λ text. TakesSource source (R.remaining input.old.stream) (string_bytes text) (R.remaining input.new.stream)) }
+    ensures taken { IfOk result (λ text. TakesSource source (bytes_left R.remaining input.old) (string_bytes text) (bytes_left R.remaining input.new)) }
     ensures refused { IfErr result (RefusesSource source (given_by R.remaining input.old input.new)) }
 {
     match source {
@@ -55,7 +56,7 @@ pub fn read_source<R: Read + Drop>(
 
 /// The text before a line `%%`.
 fn read_front<R: Read + Drop>(alloc: Global, input: &mut InputStream<R>) -> Result<String, Refusal>
-    ensures taken { IfOk result (λ text. TakesText (R.remaining input.old.stream) (R.remaining input.new.stream) (string_bytes text)) }
+    ensures taken { IfOk result (λ text. TakesText (bytes_left R.remaining input.old) (bytes_left R.remaining input.new) (string_bytes text)) }
     ensures refused { IfErr result (RefusesSource Source.Lines (given_by R.remaining input.old input.new)) }
 {
     let text = take_text(alloc, input)?;

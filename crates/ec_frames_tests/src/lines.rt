@@ -1,6 +1,7 @@
-//! What is taken of an input that is interrupted or fails, what is wrong with a text, and what is left behind it. What lines and
-//! texts are otherwise is shown by cases of `ecat sim --live` (`tools/cases/data/lives.cases`).
+//! What is taken of an input that comes in pieces, is interrupted or fails, what is wrong with a text, what is left behind it, and
+//! how often the input is read. Cases of `ecat sim --live` (`tools/cases/data/lives.cases`) show what lines and texts are otherwise.
 use ec_lines::{InputStream, LinesError, MAX_BYTES, NextLine, take_line, take_text};
+use std::cell::Cell;
 use std::io;
 use std::io::{ErrorKind, Read};
 use std::process::Abort;
@@ -23,15 +24,19 @@ fn words_of(taken: &Result<NextLine, LinesError>) -> &str {
 }
 
 /// Takes a line, and compares it.
-fn expect_line(rt: &(impl AllocGlobal + Abort), input: &mut InputStream<Halting<'_>>, line: &str) {
+fn expect_line<H: AllocGlobal + Abort, R: Read + Drop>(
+    rt: &H,
+    input: &mut InputStream<R>,
+    line: &str,
+) {
     let taken = take_line(rt.alloc(), input);
     assert_eq!(rt; words_of(&taken), line);
 }
 
 /// Takes lines, and compares each.
-fn expect_lines(
-    rt: &(impl AllocGlobal + Abort),
-    input: &mut InputStream<Halting<'_>>,
+fn expect_lines<H: AllocGlobal + Abort, R: Read + Drop>(
+    rt: &H,
+    input: &mut InputStream<R>,
     lines: &[&str],
 ) {
     for line in lines {
@@ -60,6 +65,19 @@ fn expect_text<H: AllocGlobal + Abort, R: Read + Drop>(
 ) {
     let taken = take_text(rt.alloc(), input);
     assert_eq!(rt; text_of(&taken), text);
+}
+
+/// Reads the first bytes that an input has left, and compares them.
+fn expect_first<H: AllocGlobal + Abort, R: Read + Drop>(
+    rt: &H,
+    input: &mut InputStream<R>,
+    most: u64,
+    bytes: &[u8],
+) {
+    let mut first = Vec::new(rt.alloc());
+    let read = input.read_first(most, &mut first);
+    assert!(rt; read.is_ok());
+    assert_eq!(rt; first.as_slice(), bytes);
 }
 
 /// A reader that gives a byte at a time, and behind each an interruption; and a refusal at the end, if it has one.
@@ -144,7 +162,7 @@ const TAKEN: [Taken; 3] = [
 fn expect_taken(rt: &(impl AllocGlobal + Abort), row: &Taken) {
     let mut input = InputStream::new(row.0);
     expect_text(rt, &mut input, row.1);
-    assert_eq!(rt; input.into_stream(), row.2);
+    expect_first(rt, &mut input, u64::MAX, row.2);
 }
 
 #[test]
@@ -169,6 +187,145 @@ fn takes_no_longer_texts(rt: HostRuntime) -> Result<(), Fail> {
         &mut InputStream::new(lines.as_bytes()),
         Err(LinesError::TooLong),
     );
+    Ok(())
+}
+
+/// A reader that gives its bytes in pieces of at most so many, and counts how often it is read. If it halts, it is interrupted before
+/// each piece.
+#[derive(Drop)]
+struct Pieces<'a> {
+    bytes: &'a [u8],
+    size: usize,
+    halts: bool,
+    is_halted: bool,
+    reads: &'a Cell<usize>,
+}
+
+impl<'a> Read for Pieces<'a> {
+    fn read(&mut self, buffer: &mut [u8]) -> io::Result<usize> {
+        self.reads.set(self.reads.get().saturating_add(1));
+        self.is_halted = self.halts && !self.is_halted;
+        if self.is_halted {
+            return Err(io::Error::from(ErrorKind::Interrupted));
+        }
+        let count = self.bytes.len().min(self.size).min(buffer.len());
+        buffer[..count].copy_from_slice(&self.bytes[..count]);
+        self.bytes = &self.bytes[count..];
+        Ok(count)
+    }
+}
+
+/// An input that is never interrupted.
+fn pieces_of<'a>(
+    bytes: &'a [u8],
+    size: usize,
+    reads: &'a Cell<usize>,
+) -> InputStream<Pieces<'a>> {
+    InputStream::new(Pieces {
+        bytes,
+        size,
+        halts: false,
+        is_halted: false,
+        reads,
+    })
+}
+
+/// Lines with each end, without text, and without an end; and what they are.
+const LINES: &[u8] = b"a\n\nbc\r\n\xff\nmore than seven\n%%\nd";
+
+const WORDS: [&str; 8] = [
+    "a",
+    "",
+    "bc",
+    "(no text)",
+    "more than seven",
+    "%%",
+    "d",
+    END,
+];
+
+/// Takes the lines from pieces of at most so many bytes, interrupted or not.
+fn expect_pieces(rt: &(impl AllocGlobal + Abort), size: usize, halts: bool) {
+    let reads = Cell::new(0);
+    let mut input = InputStream::new(Pieces {
+        bytes: LINES,
+        size,
+        halts,
+        is_halted: false,
+        reads: &reads,
+    });
+    expect_lines(rt, &mut input, &WORDS);
+    expect_line(rt, &mut input, END);
+}
+
+/// In whatever pieces lines come, they are the same.
+#[test]
+fn pieces_make_no_difference(rt: HostRuntime) {
+    for size in &[1, 2, 3, 7, usize::MAX] {
+        expect_pieces(&rt, *size, false);
+        expect_pieces(&rt, *size, true);
+    }
+}
+
+/// A line is there as soon as its end came, and with it those in the same piece. The end of the input is asked for again.
+#[test]
+fn reads_no_more_than_it_needs(rt: HostRuntime) {
+    let reads = Cell::new(0);
+    let mut input = pieces_of(b"a\nb\nc", usize::MAX, &reads);
+    expect_line(&rt, &mut input, "a");
+    expect_line(&rt, &mut input, "b");
+    assert_eq!(rt; reads.get(), 1);
+    expect_line(&rt, &mut input, "c");
+    assert_eq!(rt; reads.get(), 2);
+    expect_line(&rt, &mut input, END);
+    assert_eq!(rt; reads.get(), 3);
+}
+
+/// Lines behind a text, in the piece that ends it.
+#[test]
+fn takes_lines_behind_a_text(rt: HostRuntime) {
+    let reads = Cell::new(0);
+    let mut input = pieces_of(b"version = 2\n%%\nbegin\nstop\n", usize::MAX, &reads);
+    expect_text(&rt, &mut input, Ok("version = 2\n"));
+    expect_lines(&rt, &mut input, &["begin", "stop"]);
+    assert_eq!(rt; reads.get(), 1);
+    expect_line(&rt, &mut input, END);
+}
+
+/// What is ahead is read first: a part of it, all with more behind it, and the rest.
+#[test]
+fn reads_what_is_ahead_first(rt: HostRuntime) {
+    let reads = Cell::new(0);
+    let mut input = pieces_of(b"a\nbcdef", 5, &reads);
+    expect_line(&rt, &mut input, "a");
+    expect_first(&rt, &mut input, 1, b"b");
+    expect_first(&rt, &mut input, 3, b"cde");
+    expect_first(&rt, &mut input, u64::MAX, b"f");
+    expect_line(&rt, &mut input, END);
+}
+
+/// 100,000 lines of 13 bytes are 158 blocks of 8192 bytes, and a part of one; the last read finds the end.
+#[test]
+fn reads_by_blocks(rt: HostRuntime) -> Result<(), Fail> {
+    let lines = "expect ready\n".repeat(rt.alloc(), 100_000)?;
+    let reads = Cell::new(0);
+    let mut input = pieces_of(lines.as_bytes(), usize::MAX, &reads);
+    for _ in 0..100_000 {
+        expect_line(&rt, &mut input, "expect ready");
+    }
+    expect_line(&rt, &mut input, END);
+    assert_eq!(rt; reads.get(), 160);
+    Ok(())
+}
+
+/// A line of as many bytes as a line may have, over many blocks, and one of a byte more; and the line behind it.
+#[test]
+fn takes_long_lines(rt: HostRuntime) -> Result<(), Fail> {
+    let line = "a".repeat(rt.alloc(), MAX_BYTES)?;
+    let lines = format!(in rt.alloc(); "{line}\n{line}a\nb\n")?;
+    let reads = Cell::new(0);
+    let mut input = pieces_of(lines.as_bytes(), usize::MAX, &reads);
+    expect_lines(&rt, &mut input, &[line.as_str(), "(no text)", "b", END]);
     Ok(())
 }
 

@@ -1,3 +1,5 @@
+-- bytes that are read ahead, and lines in them
+pub mod BlockLemmas
 -- lines that are taken from an input, one after another
 pub mod TakeLemmas
 -- what is kept of a line tells what the line is

@@ -1,10 +1,10 @@
 -- Lines that are taken from an input, one after another.
-use Rattle.std.proofs.Common.{◌≡◌, ◌≢◌, ◌∙◌, ◌⊎◌, inl, inr, ℕ, zero, suc, ◌<◌, All, List, [], ◌∷◌, ◌++◌, length, take, nat_lt, Bool, true, false, Option, None, Some, refl, sym, ap, subst, append_assoc, append-nil, arith, if◌then◌else◌, get_or, ◌≤◌, Result, Ok, Err, OnErr}
+use Rattle.std.proofs.Common.{◌≡◌, ◌≢◌, ◌∙◌, ◌⊎◌, inl, inr, ℕ, zero, suc, ◌<◌, All, List, [], ◌∷◌, ◌++◌, length, take, Bool, true, false, Option, None, Some, refl, sym, ap, subst, append_assoc, append-nil, arith, Result, Ok, Err, OnErr}
 use Rattle.std.specs.Io.KnownBytes.{Consumes, IsAtEnd, Keeps}
-use Rattle.std.proofs.lemmas.Bool.Decides.{nat_tests}
-use Rattle.std.proofs.lemmas.List.Elements.{All-nil, All-cons}
-use Rattle.ec_lines.specs.Kept.{TakesKept, kept_more}
+use Rattle.std.proofs.lemmas.List.Elements.{All-append, All-nil, All-cons}
+use Rattle.ec_lines.specs.Kept.{TakesKept, TakesMore}
 use Rattle.ec_lines.specs.Taking.{TakesLine, TakesLines, TakesPart, TakesUndivided, TakesText, is_divider, joined}
+use Rattle.ec_lines.proofs.BlockLemmas.{keeps_more}
 
 -- ---- bytes of an input
 
@@ -24,7 +24,7 @@ consumes_kept (Some xs) None new a first kept = absurd first
 consumes_kept (Some xs) (Some ys) None a first kept = absurd kept
 consumes_kept (Some xs) (Some ys) (Some zs) a first kept = first ∙ ap (λ s. a ++ s) (sym kept)
 
--- ---- a line, byte by byte
+-- ---- a line, part by part
 
 -- the bytes of a line that were taken, none of which ends it, and those that are kept
 pub record IsSoFar (old now : Option (List ℕ)) (most : ℕ) (kept : List ℕ) : Type 0 where
@@ -37,70 +37,45 @@ take_none : (n : ℕ) → take {A = ℕ} n [] ≡ []
 take_none zero = refl
 take_none (suc n) = refl
 
-pub none_so_far : (old : Option (List ℕ)) (most : ℕ) → IsSoFar old old most []
-none_so_far old most = record { front = []; unended = All-nil (λ b. b ≢ 10); taken = consumes_none old; keeps = sym (take_none most) }
+pub none_so_far : (old : Option (List ℕ)) (most : ℕ) (kept : List ℕ) → kept ≡ [] → IsSoFar old old most kept
+none_so_far old most kept none = record { front = []; unended = All-nil (λ b. b ≢ 10); taken = consumes_none old; keeps = none ∙ sym (take_none most) }
 
-take_push : (most : ℕ) (front : List ℕ) (b : ℕ) → take most (front ++ (b ∷ [])) ≡ (if nat_lt (length (take most front)) most then take most front ++ (b ∷ []) else take most front)
-take_push zero [] b = refl
-take_push zero (x ∷ xs) b = refl
-take_push (suc n) [] b = let some : nat_lt 0 (suc n) ≡ true = grind (arith, nat_tests) in rw some (ap (λ ys. b ∷ ys) (take_none n))
-take_push (suc n) (x ∷ xs) b = ap (λ ys. x ∷ ys) (take_push n xs b) ∙ push (nat_lt (length (take n xs)) n) refl
-  where
-    push : (c : Bool) → nat_lt (length (take n xs)) n ≡ c
-        → x ∷ (if c then take n xs ++ (b ∷ []) else take n xs) ≡ (if nat_lt (suc (length (take n xs))) (suc n) then x ∷ (take n xs ++ (b ∷ [])) else x ∷ take n xs)
-    push true is = let more : nat_lt (suc (length (take n xs))) (suc n) ≡ true = grind (arith, nat_tests) in rw more refl
-    push false is = let more : nat_lt (suc (length (take n xs))) (suc n) ≡ false = grind (arith, nat_tests) in rw more refl
-
-keeps_more : (most : ℕ) (front kept : List ℕ) (b : ℕ) → kept ≡ take most front → kept_more most kept b ≡ take most (front ++ (b ∷ []))
-keeps_more most front kept b is = ap (λ ks. kept_more most ks b) is ∙ sym (take_push most front b)
-
-all_push : (xs : List ℕ) (b : ℕ) → All (λ x. x ≢ 10) xs → b ≢ 10 → All (λ x. x ≢ 10) (xs ++ (b ∷ []))
-all_push [] b h other = All-cons (λ x. x ≢ 10) b [] other (All-nil (λ x. x ≢ 10))
-all_push (x ∷ xs) b h other = All-cons (λ x. x ≢ 10) x (xs ++ (b ∷ [])) (h 0 x (omega arith)) (all_push xs b (λ k d lt. h (suc k) d (omega arith)) other)
-
-pub one_more : (old mid new : Option (List ℕ)) (most : ℕ) (kept more : List ℕ) (b : ℕ) → IsSoFar old mid most kept → Consumes mid new (b ∷ []) → b ≢ 10 → more ≡ kept_more most kept b
+-- more bytes of it are taken
+pub more_taken : (old mid new : Option (List ℕ)) (most : ℕ) (kept more : List ℕ) (is_ended : Bool) → is_ended ≡ false → IsSoFar old mid most kept → TakesMore mid new most kept more is_ended
     → IsSoFar old new most more
-one_more old mid new most kept more b h taken other is = record {
-  front = h.front ++ (b ∷ []);
-  unended = all_push h.front b h.unended other;
-  taken = consumes_more old mid new h.front (b ∷ []) h.taken taken;
-  keeps = is ∙ keeps_more most h.front kept b h.keeps;
+more_taken old mid new most kept more true not h m = let bad : true ≡ false = not in cc
+more_taken old mid new most kept more false not h m = record {
+  front = h.front ++ m.part;
+  unended = All-append (λ b. b ≢ 10) h.front m.part h.unended m.is_part;
+  taken = consumes_more old mid new h.front m.part h.taken m.taken;
+  keeps = m.kept ∙ keeps_more most h.front kept m.part h.keeps;
 }
 
-pub interrupted : (old mid new : Option (List ℕ)) (most : ℕ) (kept : List ℕ) → IsSoFar old mid most kept → Keeps mid new → IsSoFar old new most kept
-interrupted old mid new most kept h same = record { front = h.front; unended = h.unended; taken = consumes_kept old mid new h.front h.taken same; keeps = h.keeps }
+-- up to its end
+pub line_ends : (old mid new : Option (List ℕ)) (most : ℕ) (kept more : List ℕ) (is_ended : Bool) → is_ended ≡ true → IsSoFar old mid most kept → TakesMore mid new most kept more is_ended
+    → TakesKept old new most more
+line_ends old mid new most kept more false ended h m = let bad : false ≡ true = ended in cc
+line_ends old mid new most kept more true ended h m = (
+  h.front ++ m.part,
+  record {
+    front = h.front ++ m.is_part.0;
+    unended = All-append (λ b. b ≢ 10) h.front m.is_part.0 h.unended m.is_part.1;
+    taken = consumes_more old mid new h.front m.part h.taken m.taken;
+    ends = inl (ap (λ l. h.front ++ l) m.is_part.2 ∙ sym (append_assoc h.front m.is_part.0 (10 ∷ [])));
+  },
+  m.kept ∙ keeps_more most h.front kept m.part h.keeps,
+)
 
-pub part_so_far : (old new : Option (List ℕ)) (most : ℕ) (kept : List ℕ) → IsSoFar old new most kept → TakesPart old new
-part_so_far old new most kept h = (h.front, h.taken)
+pub still_so_far : (old mid new : Option (List ℕ)) (most : ℕ) (kept : List ℕ) → IsSoFar old mid most kept → Keeps mid new → IsSoFar old new most kept
+still_so_far old mid new most kept h same = record { front = h.front; unended = h.unended; taken = consumes_kept old mid new h.front h.taken same; keeps = h.keeps }
 
 pub part_refused : (old mid new : Option (List ℕ)) (most : ℕ) (kept : List ℕ) → IsSoFar old mid most kept → Keeps mid new → TakesPart old new
 part_refused old mid new most kept h same = (h.front, consumes_kept old mid new h.front h.taken same)
 
-pub part_more : (old mid new : Option (List ℕ)) (most : ℕ) (kept : List ℕ) (b : ℕ) → IsSoFar old mid most kept → Consumes mid new (b ∷ []) → TakesPart old new
-part_more old mid new most kept b h taken = (h.front ++ (b ∷ []), consumes_more old mid new h.front (b ∷ []) h.taken taken)
-
-pub line_ends : (old mid new : Option (List ℕ)) (most : ℕ) (kept more : List ℕ) (b : ℕ) → IsSoFar old mid most kept → Consumes mid new (b ∷ []) → b ≡ 10 → more ≡ kept_more most kept b
-    → TakesKept old new most more
-line_ends old mid new most kept more b h taken ten is = (
-  h.front ++ (b ∷ []),
-  record {
-    front = h.front;
-    unended = h.unended;
-    taken = consumes_more old mid new h.front (b ∷ []) h.taken taken;
-    ends = inl (ap (λ c. h.front ++ (c ∷ [])) ten);
-  },
-  is ∙ keeps_more most h.front kept b h.keeps,
-)
-
-pub input_ends : (old mid new : Option (List ℕ)) (most : ℕ) (kept : List ℕ) → IsSoFar old mid most kept → Consumes mid new [] → IsAtEnd new → TakesKept old new most kept
-input_ends old mid new most kept h taken none = (
+pub input_ends : (old mid new : Option (List ℕ)) (most : ℕ) (kept : List ℕ) → IsSoFar old mid most kept → Keeps mid new → IsAtEnd new → TakesKept old new most kept
+input_ends old mid new most kept h same none = (
   h.front,
-  record {
-    front = h.front;
-    unended = h.unended;
-    taken = subst (Consumes old new) (append-nil h.front) (consumes_more old mid new h.front [] h.taken taken);
-    ends = inr (refl, none);
-  },
+  record { front = h.front; unended = h.unended; taken = consumes_kept old mid new h.front h.taken same; ends = inr (refl, none) },
   h.keeps,
 )
 
@@ -149,18 +124,6 @@ text_ends old mid new text line h next stops = record { mid = mid; taken = h; la
 
 pub text_part : (old new : Option (List ℕ)) (text : List ℕ) → TakesText old new text → TakesPart old new
 text_part old new text h = part_then old h.mid new text h.taken (h.last, h.end.taken)
-
--- ---- what a read of one byte gives
-
-take_one : (n : ℕ) (buf : List ℕ) → length buf ≡ 1 → n ≢ 0 → n ≤ length buf → take n buf ≡ get_or buf 0 0 ∷ []
-take_one n [] long some within = absurd (omega arith)
-take_one n (b ∷ (x ∷ xs)) long some within = absurd (omega arith)
-take_one zero (b ∷ []) long some within = absurd (some refl)
-take_one (suc zero) (b ∷ []) long some within = refl
-take_one (suc (suc n)) (b ∷ []) long some within = absurd (omega arith)
-
-pub byte_taken : (old new : Option (List ℕ)) (n : ℕ) (buf : List ℕ) → length buf ≡ 1 → n ≢ 0 → n ≤ length buf → Consumes old new (take n buf) → Consumes old new (get_or buf 0 0 ∷ [])
-byte_taken old new n buf long some within taken = subst (Consumes old new) (take_one n buf long some within) taken
 
 pub on_err : {T E P : Type 0} (r : Result T E) → P → OnErr r P
 on_err (Ok x) p = tt

@@ -182,6 +182,10 @@ lines_more old mid new text kept more r h taken is none more_is short =
     let fits : length kept < 1048579 = omega (arith, ap length more_is, length-append text kept) in
     subst (TakesUndivided old new) (sym more_is) (undivided_more old mid new text kept h (whole_taken mid new 1048579 kept taken fits) parts.0 parts.1)
 
+-- so a text grows with each line, and has room for only so many
+pub text_grows : (text kept more : List ℕ) (r : Bool) → r ≡ is_last kept → r ≡ false → more ≡ text ++ kept → length more ≤ 2 ^ 20 → 2 ^ 20 - length more < 2 ^ 20 - length text
+text_grows text kept more r is none more_is short = omega (arith, (not_last kept r is none).0, ap length more_is, length-append text kept)
+
 -- a line of which not all is kept ends no text either
 line_divides_not : (kept line : List ℕ) → kept ≡ take 1048579 line → is_divider kept ≡ false → is_divider line ≡ false
 line_divides_not kept line is none = of (is_divider line) refl

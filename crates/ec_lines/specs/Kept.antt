@@ -1,5 +1,6 @@
 -- What private code keeps of a line that may be very long. You don't need it to read what is taken.
-use Rattle.std.specs.Prelude.{◌≡◌, ℕ, ◌<◌, ◌^◌, ◌==◌, ◌||◌, Bool, true, List, [], ◌∷◌, ◌++◌, length, nat_lt, take, Option, if◌then◌else◌}
+use Rattle.std.specs.Prelude.{◌≡◌, ◌≢◌, ℕ, ◌-◌, ◌<◌, ◌^◌, ◌==◌, ◌||◌, All, Bool, true, false, List, [], ◌∷◌, ◌++◌, length, take, Option}
+use Rattle.std.specs.Io.KnownBytes.{Consumes}
 use Rattle.ec_lines.specs.declared.error.LinesError.{LinesError}
 use Rattle.ec_lines.specs.declared.error.LinesError.TheVariants.{Memory, Unread, TooLong}
 use Rattle.ec_lines.specs.Taking.{TakesLine, TakesPart, TakesUndivided, is_divider}
@@ -8,9 +9,30 @@ use Rattle.ec_lines.specs.Taking.{TakesLine, TakesPart, TakesUndivided, is_divid
 abbrev pub TakesKept : Option (List ℕ) → Option (List ℕ) → ℕ → List ℕ → Type 0
 TakesKept old new most kept = (line : List ℕ) × TakesLine old new line × (kept ≡ take most line)
 
--- what is kept after one byte more
-abbrev pub kept_more : ℕ → List ℕ → ℕ → List ℕ
-kept_more most kept b = if nat_lt (length kept) most then kept ++ (b ∷ []) else kept
+-- what is kept with more bytes of the line
+abbrev pub kept_more : ℕ → List ℕ → List ℕ → List ℕ
+kept_more most kept part = kept ++ take (most - length kept) part
+
+-- bytes of a line, the last of which is the newline that ends it; or of which none is a newline
+abbrev pub IsPart : (is_ended : Bool) → List ℕ → Type 0
+IsPart true part = (front : List ℕ) × All (λ b. b ≢ 10) front × (part ≡ front ++ (10 ∷ []))
+IsPart false part = All (λ b. b ≢ 10) part
+
+-- Bytes of a line are taken from those that were read ahead: from all of them, unless the line ends before. Of the line the first
+-- bytes are kept, at most so many.
+pub record TakesAhead (old new : List ℕ) (most : ℕ) (before after : List ℕ) (is_ended : Bool) : Type 0 where
+  pub part : List ℕ
+  pub taken : old ≡ part ++ new
+  pub whole : is_ended ≡ false → new ≡ []
+  pub is_part : IsPart is_ended part
+  pub kept : after ≡ kept_more most before part
+
+-- the same of the bytes that an input has left
+pub record TakesMore (old new : Option (List ℕ)) (most : ℕ) (before after : List ℕ) (is_ended : Bool) : Type 0 where
+  pub part : List ℕ
+  pub taken : Consumes old new part
+  pub is_part : IsPart is_ended part
+  pub kept : after ≡ kept_more most before part
 
 -- the last line that is taken of a text
 abbrev pub is_last : List ℕ → Bool

@@ -1,18 +1,23 @@
-//! An input that keeps whether a read of it was refused.
-ghost use Rattle.std.specs.Prelude.{◌≡◌, ◌≢◌, ◌||◌, ◌+◌, ◌++◌, IfErr, IfOk, IfSome, OnOk, false, length, true, take};
-ghost use Rattle.std.specs.Io.KnownBytes.{ReadConsumes};
-ghost use Rattle.std.specs.Io.{ReadsAtMost};
+//! An input that is read by blocks, and keeps whether a read of it was refused.
+ghost use Rattle.std.specs.Prelude.{◌≡◌, ◌≢◌, ◌≤◌, ◌==◌, ◌||◌, ◌+◌, ◌++◌, [], IfErr, IfOk, IfSome, OnErr, OnOk, drop, false, length, min, position, true, take};
+ghost use Rattle.std.specs.Io.KnownBytes.{Consumes, IsAtEnd, Keeps};
 ghost use Rattle.std.specs.IoError.{error_kind};
-ghost use Rattle.ec_lines.specs.Inputs.{IsSpent, is_read_refused, one_more};
+ghost use Rattle.ec_lines.specs.Inputs.{IsSpent, bytes_left, is_read_refused, one_more};
+ghost use Rattle.ec_lines.specs.Kept.{IsPart, TakesAhead, TakesMore, kept_more};
 
-use std::io::{ErrorKind, Read, Result};
+use std::alloc::AllocError;
+use std::io::{self, ErrorKind, Read};
 use std::marker::Model;
 
-/// An input for reading, which keeps whether a read of it was ever refused. A read is refused if it gives an error, unless it was
-/// interrupted or memory ran out. No other value has that. So a contract can promise that an input isn't refused unless a read of it
-/// was, or 2^64 - 1 reads gave no end.
+/// The most bytes that one read gives.
+const MAX_BLOCK: usize = 8192;
+
+/// An input that is read by blocks. What a read gives behind a line waits here for the next call. It keeps whether a read of it was
+/// ever refused. A read is refused if it gives an error, unless it was interrupted or memory ran out. No other value has that. So a
+/// contract can promise that an input isn't refused unless a read of it was, or 2^64 - 1 reads gave no end.
 #[derive(Drop)]
 pub struct InputStream<R: Read + Drop> {
+    ahead: Block,
     stream: R,
     is_refused: bool,
     reads: u64,
@@ -23,26 +28,20 @@ impl<R: Read + Drop> Model for InputStream<R> {
 
     ghost Value = { InputState R };
 
-    ghost view = { λ s. record { stream = s.stream; is_refused = s.is_refused; reads = s.reads } };
+    ghost view = { λ s. record { ahead = s.ahead; stream = s.stream; is_refused = s.is_refused; reads = s.reads } };
 }
 
 impl<R: Read + Drop> InputStream<R> {
-    /// An input of which no read was refused yet.
+    /// An input from a stream. Nothing is read yet.
     pub fn new(stream: R) -> InputStream<R>
-        ensures { result ≡ record { stream = stream; is_refused = false; reads = 0 } }
+        ensures { result ≡ record { ahead = []; stream = stream; is_refused = false; reads = 0 } }
     {
         InputStream {
+            ahead: Block::new(),
             stream,
             is_refused: false,
             reads: 0,
         }
-    }
-
-    /// The stream itself, which still has the bytes that weren't read.
-    pub fn into_stream(self) -> R
-        ensures { result ≡ self.stream }
-    {
-        self.stream
     }
 
     /// Whether a read was ever refused, or the input was given up.
@@ -52,37 +51,67 @@ impl<R: Read + Drop> InputStream<R> {
         self.is_refused
     }
 
-    /// Reads bytes from the stream, and returns what its `read` returns: how many bytes, or its error.
-    pub fn read(&mut self, buffer: &mut [u8]) -> Result<usize>
-        ensures bound { ReadsAtMost result buffer.new }
-        ensures bytes { ReadConsumes (R.remaining self.old.stream) (R.remaining self.new.stream) result buffer.new }
-        ensures refused { self.new.is_refused ≡ self.old.is_refused || is_read_refused result }
-        ensures counted { self.new.reads ≡ one_more self.old.reads }
-    {
-        let read = self.stream.read(buffer);
-        self.reads = self.reads.saturating_add(1);
-        self.is_refused = self.is_refused || is_read_refused(&read);
-        read
-    }
-
-    /// Appends `most` bytes of the stream to `bytes`, or all that are left if they are fewer. Returns how many bytes it appended, or the
-    /// stream's error. An interrupted read is made again.
-    pub fn read_first(&mut self, most: u64, bytes: &mut Vec<u8>) -> Result<usize>
-        ensures bytes { OnOk result (IfSome (R.remaining self.old.stream) (λ all. bytes.new.items ≡ bytes.old.items ++ take most all)) }
+    /// Reads `most` bytes, or all that are left if these are fewer, and appends them to `bytes`. Bytes that were read ahead come first.
+    /// Returns how many bytes were read, or the stream's error. An interrupted read is made again.
+    pub fn read_first(&mut self, most: u64, bytes: &mut Vec<u8>) -> io::Result<usize>
+        ensures bytes { OnOk result (IfSome (bytes_left R.remaining self.old) (λ all. bytes.new.items ≡ bytes.old.items ++ take most all)) }
         ensures count { IfOk result (λ count. length bytes.new.items ≡ length bytes.old.items + count) }
         ensures retried { IfErr result (λ error. error_kind error ≢ ErrorKind.Interrupted) }
         ensures refused { self.new.is_refused ≡ self.old.is_refused || is_read_refused result }
+        ensures counted { OnOk result (self.new.reads ≡ one_more self.old.reads) }
+        ensures few { OnErr result (self.new.reads ≤ self.old.reads + 1) }
+    {
+        let count = self.ahead.take_first(most, bytes)?;
+        let read = read_first(&mut self.stream, most - count as u64, bytes);
+        self.reads = self.reads.saturating_add(1);
+        self.is_refused = self.is_refused || is_read_refused(&read);
+        match read {
+            Ok(more) => Ok(count + more),
+            Err(error) => Err(error),
+        }
+    }
+
+    /// Reads the stream once. The bytes that came are ahead then. Returns how many they are.
+    ///
+    /// # Errors
+    ///
+    /// The stream's error; then nothing is ahead.
+    pub(crate) fn read_ahead(&mut self) -> io::Result<usize>
+        requires { self.old.ahead ≡ [] }
+        ensures count { IfOk result (λ count. length self.new.ahead ≡ count) }
+        ensures left { Keeps (bytes_left R.remaining self.old) (bytes_left R.remaining self.new) }
+        ensures end { IfOk result (λ count. count ≡ 0 → IsAtEnd (bytes_left R.remaining self.new)) }
+        ensures none { OnErr result (self.new.ahead ≡ []) }
+        ensures refused { self.new.is_refused ≡ self.old.is_refused || is_read_refused result }
         ensures counted { self.new.reads ≡ one_more self.old.reads }
     {
-        let read = read_first(&mut self.stream, most, bytes);
+        let read = self.ahead.fill(&mut self.stream);
         self.reads = self.reads.saturating_add(1);
         self.is_refused = self.is_refused || is_read_refused(&read);
         read
     }
 
-    /// Counts the input as refused, since 2^64 - 1 reads gave no end.
+    /// Takes bytes of a line from those ahead, up to its newline, or all. Of the line the first bytes are kept, at most `most`.
+    /// Returns whether the newline is taken.
+    ///
+    /// # Errors
+    ///
+    /// `AllocError`; then nothing is taken.
+    pub(crate) fn take_ahead(&mut self, most: usize, line: &mut Vec<u8>) -> Result<bool, AllocError>
+        ensures taken { IfOk result (TakesMore (bytes_left R.remaining self.old) (bytes_left R.remaining self.new) most
+            line.old.items line.new.items) }
+        ensures whole { IfOk result (λ is_ended. is_ended ≡ false → self.new.ahead ≡ []) }
+        ensures left { OnErr result (Keeps (bytes_left R.remaining self.old) (bytes_left R.remaining self.new)) }
+        ensures refused { self.new.is_refused ≡ self.old.is_refused }
+        ensures counted { self.new.reads ≡ self.old.reads }
+    {
+        self.ahead.take_part(most, line)
+    }
+
+    /// Gives up an input that was read 2^64 - 1 times and gave no end. It then counts as refused.
     pub(crate) fn give_up(&mut self)
         requires { IsSpent self.old.reads }
+        ensures ahead { self.new.ahead ≡ self.old.ahead }
         ensures stream { self.new.stream ≡ self.old.stream }
         ensures reads { self.new.reads ≡ self.old.reads }
         ensures refused { self.new.is_refused ≡ true }
@@ -91,8 +120,135 @@ impl<R: Read + Drop> InputStream<R> {
     }
 }
 
+/// Bytes that were read and are not yet taken.
+#[derive(Drop)]
+struct Block {
+    room: [u8; MAX_BLOCK],
+    start: usize,
+    end: usize,
+}
+
+impl Model for Block {
+    ghost use Rattle.std.specs.Prelude.{◌≤◌, ℕ, List, slice_range};
+
+    ghost Value = { List ℕ };
+
+    ghost view = { λ b. slice_range b.room b.start b.end };
+
+    ghost invariant = { λ b. (b.start ≤ b.end) × (b.end ≤ 8192) };
+}
+
+impl Block {
+    /// No bytes.
+    fn new() -> Block
+        ensures { result ≡ [] }
+    {
+        Block {
+            room: [0; MAX_BLOCK],
+            start: 0,
+            end: 0,
+        }
+    }
+
+    /// The bytes.
+    fn as_slice(&self) -> &[u8]
+        ensures { result.now ≡ self.now }
+    {
+        &self.room[self.start..self.end]
+    }
+
+    /// Takes bytes off the front.
+    fn consume(&mut self, count: usize)
+        requires { count ≤ length self.old }
+        ensures { self.new ≡ drop count self.old }
+    {
+        self.start += count;
+    }
+
+    /// Reads a stream once, in place of the bytes: returns how many came, which are at most `MAX_BLOCK`. A read waits for no more
+    /// than what is there.
+    ///
+    /// # Errors
+    ///
+    /// The stream's. No byte is there then.
+    fn fill<R: Read>(&mut self, stream: &mut R) -> io::Result<usize>
+        ensures count { IfOk result (λ count. length self.new ≡ count) }
+        ensures bytes { OnOk result (Consumes (R.remaining stream.old) (R.remaining stream.new) self.new) }
+        ensures end { IfOk result (λ count. count ≡ 0 → IsAtEnd (R.remaining stream.new)) }
+        ensures none { OnErr result ((self.new ≡ []) × Keeps (R.remaining stream.old) (R.remaining stream.new)) }
+    {
+        self.start = 0;
+        self.end = 0;
+        let count = stream.read(&mut self.room)?;
+        self.end = count;
+        Ok(count)
+    }
+
+    /// Takes the first bytes off the front, at most `most`, and puts them behind others. Returns how many they are.
+    ///
+    /// # Errors
+    ///
+    /// `AllocError`; then nothing is taken.
+    fn take_first(&mut self, most: u64, bytes: &mut Vec<u8>) -> Result<usize, AllocError>
+        ensures bytes { OnOk result (bytes.new.items ≡ bytes.old.items ++ take most self.old) }
+        ensures count { IfOk result (λ count. count ≡ min most (length self.old)) }
+        ensures left { OnErr result (self.new ≡ self.old) }
+    {
+        let ahead = self.as_slice();
+        let count = (most as usize).min(ahead.len());
+        bytes.extend_from_slice(&ahead[..count])?;
+        self.consume(count);
+        Ok(count)
+    }
+
+    /// Takes bytes of a line off the front, up to its newline, or all. Of the line the first bytes are kept, at most `most`. Returns
+    /// whether the newline is taken.
+    ///
+    /// # Errors
+    ///
+    /// `AllocError`; then nothing is taken.
+    fn take_part(&mut self, most: usize, line: &mut Vec<u8>) -> Result<bool, AllocError>
+        ensures taken { IfOk result (TakesAhead self.old self.new most line.old.items line.new.items) }
+        ensures left { OnErr result (self.new ≡ self.old) }
+    {
+        let ahead = self.as_slice();
+        let (count, is_ended) = line_part(ahead);
+        keep(line, most, &ahead[..count])?;
+        self.consume(count);
+        Ok(is_ended)
+    }
+}
+
+/// How many of the bytes are of the line that they begin, with its newline; and whether that is among them.
+fn line_part(bytes: &[u8]) -> (usize, bool)
+    ensures bound { result.0 ≤ length bytes.now }
+    ensures whole { result.1 ≡ false → result.0 ≡ length bytes.now }
+    ensures is_part { IsPart result.1 (take result.0 bytes.now) }
+{
+    match newline_in(bytes) {
+        Some(place) => (place + 1, true),
+        None => (bytes.len(), false),
+    }
+}
+
+/// The place of the first newline.
+fn newline_in(bytes: &[u8]) -> Option<usize>
+    ensures { result ≡ position (λ b. b == 10) bytes.now }
+{
+    bytes.iter().position(|byte| *byte == b'\n')
+}
+
+/// Keeps more bytes of a line, of which `most` are kept at most.
+fn keep(line: &mut Vec<u8>, most: usize, part: &[u8]) -> Result<(), AllocError>
+    ensures { OnOk result (line.new.items ≡ kept_more most line.old.items part.now) }
+{
+    let room = most.saturating_sub(line.len());
+    line.extend_from_slice(&part[..room.min(part.len())])?;
+    Ok(())
+}
+
 /// Appends `most` bytes of a stream to `bytes`, or all that are left if they are fewer. Returns how many bytes it appended.
-fn read_first<R: Read>(stream: &mut R, most: u64, bytes: &mut Vec<u8>) -> Result<usize>
+fn read_first<R: Read>(stream: &mut R, most: u64, bytes: &mut Vec<u8>) -> io::Result<usize>
     ensures bytes { OnOk result (IfSome (R.remaining stream.old) (λ all. bytes.new.items ≡ bytes.old.items ++ take most all)) }
     ensures count { IfOk result (λ count. length bytes.new.items ≡ length bytes.old.items + count) }
     ensures retried { IfErr result (λ error. error_kind error ≢ ErrorKind.Interrupted) }
@@ -101,7 +257,7 @@ fn read_first<R: Read>(stream: &mut R, most: u64, bytes: &mut Vec<u8>) -> Result
 }
 
 /// Whether the result of a read is a refusal: an error, but no interruption and no want of memory.
-fn is_read_refused(read: &Result<usize>) -> bool
+fn is_read_refused(read: &io::Result<usize>) -> bool
     ensures { result ≡ is_read_refused read.now }
 {
     match read {

@@ -1,8 +1,8 @@
 //! Lines, each up to its end, and the text before a line `%%`.
 ghost use Rattle.std.specs.Prelude.{◌≡◌, ◌≤◌, ◌^◌, ◌++◌, List, ℕ, IfErr, IfOk, OnErr, OnOk, length, string_bytes};
 ghost use Rattle.std.specs.Str.{IsUtf8};
-ghost use Rattle.ec_lines.specs.Inputs.{one_more};
-ghost use Rattle.ec_lines.specs.Kept.{IsAddFault, RefusesLines, TakesKept, is_last, kept_more};
+ghost use Rattle.ec_lines.specs.Inputs.{bytes_left};
+ghost use Rattle.ec_lines.specs.Kept.{IsAddFault, RefusesLines, TakesKept, is_last};
 ghost use Rattle.ec_lines.specs.Taking.{IsReadFault, IsTaken, RefusesText, TakesPart, TakesLine, TakesText, is_divider, without_end};
 
 use crate::LinesError;
@@ -38,10 +38,10 @@ pub fn take_line<R: Read + Drop>(
     input: &mut InputStream<R>,
 ) -> Result<NextLine, LinesError>
     ensures taken { IfOk result (λ taken. (line : List ℕ)
-        × TakesLine (R.remaining input.old.stream) (R.remaining input.new.stream) line × IsTaken line taken) }
+        × TakesLine (bytes_left R.remaining input.old) (bytes_left R.remaining input.new) line × IsTaken line taken) }
     ensures refused { IfErr result (IsReadFault input.new.is_refused) }
     ensures kept { OnOk result (input.new.is_refused ≡ input.old.is_refused) }
-    ensures left { OnErr result (TakesPart (R.remaining input.old.stream) (R.remaining input.new.stream)) }
+    ensures left { OnErr result (TakesPart (bytes_left R.remaining input.old) (bytes_left R.remaining input.new)) }
 {
     let line = take_bytes(alloc, input, MAX_KEPT)?;
     Ok(taken_of(alloc, &line)?)
@@ -59,9 +59,9 @@ pub fn take_text<R: Read + Drop>(
     input: &mut InputStream<R>,
 ) -> Result<String, LinesError>
     ensures taken { IfOk result (λ text.
-        TakesText (R.remaining input.old.stream) (R.remaining input.new.stream) (string_bytes text)) }
+        TakesText (bytes_left R.remaining input.old) (bytes_left R.remaining input.new) (string_bytes text)) }
     ensures short { IfOk result (λ text. length (string_bytes text) ≤ 2 ^ 20) }
-    ensures refused { IfErr result (RefusesText input.new.is_refused (R.remaining input.old.stream) (R.remaining input.new.stream)) }
+    ensures refused { IfErr result (RefusesText input.new.is_refused (bytes_left R.remaining input.old) (bytes_left R.remaining input.new)) }
     ensures kept { OnOk result (input.new.is_refused ≡ input.old.is_refused) }
 {
     let bytes = take_lines(alloc, input)?;
@@ -95,28 +95,28 @@ fn without_end(line: &[u8]) -> &[u8]
     }
 }
 
-/// Takes bytes of an input up to the end of a line, or all that are left. Returns the first `most` of them. An interrupted read is
-/// made again.
+/// Takes bytes of an input up to the end of a line, or all that are left. Returns the first of them, at most `most`. The stream is
+/// read, a block at a time, if no end of a line is ahead. An interrupted read is made again.
 fn take_bytes<R: Read + Drop>(
     alloc: Global,
     input: &mut InputStream<R>,
     most: usize,
 ) -> Result<Vec<u8>, LinesError>
     ensures taken { IfOk result (λ kept.
-        TakesKept (R.remaining input.old.stream) (R.remaining input.new.stream) most kept.items) }
+        TakesKept (bytes_left R.remaining input.old) (bytes_left R.remaining input.new) most kept.items) }
     ensures refused { IfErr result (IsReadFault input.new.is_refused) }
     ensures kept { OnOk result (input.new.is_refused ≡ input.old.is_refused) }
-    ensures left { OnErr result (TakesPart (R.remaining input.old.stream) (R.remaining input.new.stream)) }
-    ensures counted { one_more input.old.reads ≤ input.new.reads }
+    ensures left { OnErr result (TakesPart (bytes_left R.remaining input.old) (bytes_left R.remaining input.new)) }
 {
     let mut line = Vec::new(alloc);
-    let mut byte = [0];
+    if input.take_ahead(most, &mut line)? {
+        return Ok(line);
+    }
     for _ in 0..u64::MAX {
-        match input.read(&mut byte) {
+        match input.read_ahead() {
             Ok(0) => return Ok(line),
             Ok(_) => {
-                keep(&mut line, most, byte[0])?;
-                if byte[0] == b'\n' {
+                if input.take_ahead(most, &mut line)? {
                     return Ok(line);
                 }
             }
@@ -126,16 +126,6 @@ fn take_bytes<R: Read + Drop>(
     }
     input.give_up();
     Err(LinesError::Unread)
-}
-
-/// Appends a byte to a line, unless `most` bytes are kept already.
-fn keep(line: &mut Vec<u8>, most: usize, byte: u8) -> Result<(), AllocError>
-    ensures { OnOk result (line.new.items ≡ kept_more most line.old.items byte) }
-{
-    if line.len() < most {
-        line.push(byte)?;
-    }
-    Ok(())
 }
 
 /// The text that these bytes are, or `NoText` if they aren't UTF-8.
@@ -153,21 +143,19 @@ fn take_lines<R: Read + Drop>(
     input: &mut InputStream<R>,
 ) -> Result<Vec<u8>, LinesError>
     ensures taken { IfOk result (λ text.
-        TakesText (R.remaining input.old.stream) (R.remaining input.new.stream) text.items) }
+        TakesText (bytes_left R.remaining input.old) (bytes_left R.remaining input.new) text.items) }
     ensures short { IfOk result (λ text. length text.items ≤ 2 ^ 20) }
-    ensures refused { IfErr result (RefusesLines input.new.is_refused (R.remaining input.old.stream) (R.remaining input.new.stream)) }
+    ensures refused { IfErr result (RefusesLines input.new.is_refused (bytes_left R.remaining input.old) (bytes_left R.remaining input.new)) }
     ensures kept { OnOk result (input.new.is_refused ≡ input.old.is_refused) }
 {
     let mut text = Vec::new(alloc);
-    for _ in 0..u64::MAX {
+    loop {
         let line = take_bytes(alloc, input, MAX_KEPT)?;
         if is_last(&line) {
             return Ok(text);
         }
         add_line(&mut text, &line)?;
     }
-    input.give_up();
-    Err(LinesError::Unread)
 }
 
 /// Adds a line to a text. `TooLong` if the text then has more than 2^20 bytes.

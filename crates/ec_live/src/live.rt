@@ -2,6 +2,7 @@
 
 ghost use Rattle.std.specs.Prelude.{◌≡◌, ◌++◌, ℕ, List, IfOk, IfErr, OnOk, OnErr, codes, is_some};
 ghost use Rattle.std.specs.Fmt.{decimal};
+ghost use Rattle.ec_lines.specs.Inputs.{bytes_left};
 ghost use Rattle.ec_text.specs.PlanText.{newline};
 ghost use Rattle.ec_live.specs.Living.{IsLiveLate, LivesOut, LivesPart, RunsLive, SaysPart, SaysReading};
 ghost use Rattle.ec_console.specs.Given.{given_by};
@@ -65,9 +66,9 @@ fn print_watched<F: Write + Drop, R: Read + Drop, W: Write + Drop>(
     output: &mut OutputStream<W>,
 ) -> Result<u64, Refusal>
     ensures all { IfOk result (λ count. (unmet : ℕ) × (count ≡ counted unmet)
-        × LivesOut reasons table.now world.old (R.remaining input.old.stream) unmet
+        × LivesOut reasons table.now world.old (bytes_left R.remaining input.old) unmet
         output.old output.new) }
-    ensures part { OnErr result (LivesPart reasons table.now world.old (R.remaining input.old.stream)
+    ensures part { OnErr result (LivesPart reasons table.now world.old (bytes_left R.remaining input.old)
         output.old output.new) }
     ensures late { IfErr result (IsLiveLate input.new.is_refused output.new) }
     ensures kept { is_some capture.new ≡ is_some capture.old }
@@ -96,9 +97,9 @@ fn print_live_lines<S: Watcher, R: Read + Drop, W: Write + Drop>(
     output: &mut OutputStream<W>,
 ) -> Result<u64, Refusal>
     ensures all { IfOk result (λ count. (unmet : ℕ) × (count ≡ counted unmet)
-        × LivesOut reasons table.now world.old (R.remaining input.old.stream) unmet
+        × LivesOut reasons table.now world.old (bytes_left R.remaining input.old) unmet
         output.old output.new) }
-    ensures part { OnErr result (LivesPart reasons table.now world.old (R.remaining input.old.stream)
+    ensures part { OnErr result (LivesPart reasons table.now world.old (bytes_left R.remaining input.old)
         output.old output.new) }
     ensures late { IfErr result (IsLiveLate input.new.is_refused output.new) }
 {

@@ -1,5 +1,6 @@
 //! The lines of an input, each done and printed as it comes.
 ghost use Rattle.std.specs.Prelude.{◌≡◌, ◌∷◌, [], ℕ, IfErr, IfOk, OnErr, Option, false, if◌then◌else◌, replicate};
+ghost use Rattle.ec_lines.specs.Inputs.{bytes_left};
 ghost use Rattle.ec_console.specs.Given.{IsReadRefusal};
 ghost use Rattle.ec_console.specs.Unmet.{counted};
 ghost use Rattle.ec_master.specs.Held.{IsNext};
@@ -67,10 +68,10 @@ pub fn print_lines<W: Wire, R: Read + Drop, O: Write + Drop>(
 ) -> Result<u64, Refusal>
     ensures all { IfOk result (λ count. (unmet : ℕ) × (count ≡ counted unmet)
         × ObeysAll reasons table.now (record { control = control.old; wire = W.state wire.old })
-        (record { control = control.new; wire = W.state wire.new }) unmet (R.remaining input.old.stream)
+        (record { control = control.new; wire = W.state wire.new }) unmet (bytes_left R.remaining input.old)
         output.old output.new) }
     ensures part { OnErr result (ObeysSome reasons table.now (record { control = control.old; wire = W.state wire.old })
-        (R.remaining input.old.stream) output.old output.new) }
+        (bytes_left R.remaining input.old) output.old output.new) }
     ensures late { IfErr result (IsLate input.new.is_refused output.new) }
 {
     let mut unmet: u64 = 0;
@@ -140,7 +141,7 @@ fn next_task<R: Read + Drop>(
     number: usize,
     input: &mut InputStream<R>,
 ) -> Result<Option<Option<Task>>, Refusal>
-    ensures next { IfOk result (IsNext table.now number (R.remaining input.old.stream) (R.remaining input.new.stream)) }
+    ensures next { IfOk result (IsNext table.now number (bytes_left R.remaining input.old) (bytes_left R.remaining input.new)) }
     ensures late { IfErr result (IsReadRefusal input.new.is_refused) }
 {
     match take_line(alloc, input)? {

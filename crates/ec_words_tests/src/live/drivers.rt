@@ -2,7 +2,7 @@
 
 use crate::live::{expect_ended, run};
 use crate::streams::{Source, nothing_handed_on, sink_of, source_of};
-use ec_console::{InputStream, OutputStream, Refusal};
+use ec_console::{InputStream, OutputStream, Refusal, read_text};
 use std::fs::Files;
 use std::process::Abort;
 
@@ -13,9 +13,14 @@ const LINES: &[u8] = b"%%\nbegin\nready\nready\n# now\nexpect failed\nstop\ncycl
 const ANSWERS: &str =
     "no 1\nready\nno 3\nunmet 5\nbad 6\nreport taken missing 0 counters 0 al 0000\n";
 
-/// Compares what wasn't read.
-fn expect_unread(rt: &impl Abort, input: InputStream<Source<'_>>, wanted: &str) {
-    assert_eq!(rt; input.into_stream().text, wanted.as_bytes());
+/// Compares what wasn't taken.
+fn expect_left(
+    rt: &(impl AllocGlobal + Abort),
+    input: &mut InputStream<Source<'_>>,
+    wanted: &str,
+) {
+    let left = read_text(rt.alloc(), input).expect(rt, "text");
+    assert_eq!(rt; left.as_str(), wanted);
 }
 
 /// How many writes are taken, how the run then ends, and what was answered.
@@ -59,7 +64,7 @@ fn ends_where_answers_are_stuck(rt: HostRuntime) {
     let ended = run(&rt, &mut input, &mut output);
     let wanted = (Err(Refusal::Output), "no 1\nready\nno 3\n");
     expect_ended(&rt, ended, output, wanted);
-    expect_unread(&rt, input, "# now\nexpect failed\nstop\ncycle\n");
+    expect_left(&rt, &mut input, "# now\nexpect failed\nstop\ncycle\n");
 }
 
 /// Nothing is lost where answers are taken byte by byte, with an interruption before each.
