@@ -1,53 +1,53 @@
 //! Words for people: names that someone may have meant, lists and numbers of things. Each value prints
 //! itself, and allocates nothing for that.
 use crate::text::printed;
-use std::alloc::{AllocError, Global};
 use std::fmt;
-use strsim::osa_distance;
-
-/// Words that were made, or the error that there was no memory for them; the call that adds them notes it.
-pub type Words = Result<String, AllocError>;
-
-/// Words with more bytes than this are near no name.
-const MAX_WORD: usize = 64;
 
 /// How many characters of a text are printed at most.
 const SHOWN: usize = 40;
 
-/// The first of the names that are nearest to a word, if it is near. It is near if no more edits are needed than
-/// a third of the word's bytes, or than one. `AllocError` if memory ran out.
-pub fn nearest<'n>(
-    alloc: Global,
-    word: &str,
-    names: &[&'n str],
-) -> Result<Option<&'n str>, AllocError> {
-    if word.len() > MAX_WORD {
-        return Ok(None);
-    }
-    let mut least = (word.len() / 3).max(1);
-    let mut found = None;
-    for name in names {
-        let edits = osa_distance(alloc, word, name)?;
-        if edits < least || (edits == least && found.is_none()) {
-            least = edits;
-            found = Some(*name);
-        }
-    }
-    Ok(found)
-}
-
 /// Whether a word is among names.
 pub fn is_among(word: &str, names: &[&str]) -> bool {
-    names.iter().any(|name| *name == word)
+    for name in names {
+        if *name == word {
+            return true;
+        }
+    }
+    false
 }
 
-/// A name that may have been meant. It is printed as a question behind a semicolon; without a name, as nothing.
+/// The name that may have been meant by a word, among those that were compared: the first of the nearest, if it is near. It is near if
+/// no more edits are needed than a third of the word's bytes, or than one. It is printed as a question behind a semicolon; without a
+/// name, as nothing.
 #[derive(Clone, Copy, Drop)]
-pub struct Meant<'n>(pub Option<&'n str>);
+pub struct Meant<'n> {
+    /// The edits that it needs; without a name, the most that are near.
+    edits: usize,
+    name: Option<&'n str>,
+}
+
+impl<'n> Meant<'n> {
+    /// No name yet.
+    pub fn by(word: &str) -> Meant<'n> {
+        Meant {
+            edits: (word.len() / 3).max(1),
+            name: None,
+        }
+    }
+
+    /// The nearer of it and a name that needs this many edits.
+    pub(crate) fn or(self, edits: usize, name: &'n str) -> Meant<'n> {
+        if edits < self.edits || (edits == self.edits && self.name.is_none()) {
+            let name = Some(name);
+            return Meant { edits, name };
+        }
+        self
+    }
+}
 
 impl fmt::Display for Meant<'_> {
     fn fmt<W: fmt::Write>(&self, f: &mut fmt::Formatter<W>) -> fmt::Result {
-        match self.0 {
+        match self.name {
             Some(name) => write!(f, "; did you mean `{name}`?"),
             None => Ok(()),
         }

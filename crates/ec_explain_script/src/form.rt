@@ -24,7 +24,7 @@ pub enum WordKind {
 
 /// How lines are written, for people: a word in small letters stands for itself, and one in capitals for something else. A
 /// form that begins with two words of its own stands before one that begins with only the first of them.
-static FORMS: [&str; 23] = [
+pub static FORMS: [&str; 23] = [
     "start",
     "set NAME VALUE",
     "begin",
@@ -78,15 +78,6 @@ pub fn form_of(line: Line<'_>, is_variable: bool) -> Option<&'static str> {
     None
 }
 
-/// The first words of the forms.
-pub fn verbs() -> [&'static str; FORMS.len()] {
-    let mut verbs = [""; FORMS.len()];
-    for (place, form) in FORMS.iter().enumerate() {
-        verbs[place] = first_word(form);
-    }
-    verbs
-}
-
 /// Whether a line begins as a form does.
 fn begins(line: Line<'_>, form: &str) -> bool {
     for (place, part) in form.split(' ').enumerate() {
@@ -101,7 +92,7 @@ fn begins(line: Line<'_>, form: &str) -> bool {
 }
 
 /// The first word of a form.
-fn first_word(form: &'static str) -> &'static str {
+pub fn first_word(form: &'static str) -> &'static str {
     match form.split_once(' ') {
         Some((first, _)) => first,
         None => form,
