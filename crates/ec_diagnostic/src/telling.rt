@@ -103,7 +103,7 @@ impl<'a> Telling<'a> {
     /// Adds a remark on the end of a way, marks a part there, and names the element that it is in. If a part of
     /// the way isn't found, it marks the last that is found; if none is, the remark says so.
     pub fn at<D: Display + Drop>(&mut self, way: &[PathStep<'_>], part: MarkedPart, words: D) {
-        match self.enter(way, part) {
+        match self.find(way, part) {
             Some(span) => self.at_span(span, words),
             None => self.note(format_args!(
                 "{words} (where that stands in the text isn't found)"
@@ -141,7 +141,7 @@ impl<'a> Telling<'a> {
     }
 
     /// The bytes to mark at the end of a way, after the element is named that they are in; `None` if nothing of the way is found.
-    fn enter(&mut self, way: &[PathStep<'_>], part: MarkedPart) -> Option<Span> {
+    fn find(&mut self, way: &[PathStep<'_>], part: MarkedPart) -> Option<Span> {
         let found = self.outline.find(way);
         if found.steps == 0 {
             return None;
