@@ -105,9 +105,7 @@ impl<'a> Telling<'a> {
     pub fn at<D: Display + Drop>(&mut self, way: &[PathStep<'_>], part: MarkedPart, words: D) {
         match self.find(way, part) {
             Some(span) => self.at_span(span, words),
-            None => self.note(format_args!(
-                "{words} (where that stands in the text isn't found)"
-            )),
+            None => self.note(format_args!("{words} (where that stands in the text isn't found)")),
         }
     }
 
@@ -164,10 +162,7 @@ impl<'a> Telling<'a> {
         let is_elsewhere = spot_of(self.text, begin).line != spot_of(self.text, start).line;
         if found.steps == 2 && is_elsewhere && self.element != Some(begin) {
             self.element = Some(begin);
-            self.at_span(
-                found.key,
-                format_args!("{section} {element} begins here"),
-            );
+            self.at_span(found.key, format_args!("{section} {element} begins here"));
         }
     }
 

@@ -43,11 +43,7 @@ fn earlier_giving<'t>(table: &'t Table, at: &LinkAt<'_>) -> Option<LinkAt<'t>> {
 /// Adds a remark on what a link gives.
 fn tell_given(telling: &mut Telling<'_>, at: &LinkAt<'_>, too: &str) {
     let place = at.place;
-    at_bits(
-        telling,
-        place,
-        format_args!("link {place} gives {at}{too}"),
-    );
+    at_bits(telling, place, format_args!("link {place} gives {at}{too}"));
 }
 
 /// Adds remarks on a link with bits past its entry or its variable.
@@ -142,7 +138,9 @@ fn tell_unassigned(telling: &mut Telling<'_>, at: &LinkAt<'_>, number: u16) {
         "link",
         at.place,
         "index",
-        format_args!("{slave} doesn't assign PDO 0x{number:04X} of its type {kind}, which has {entry}"),
+        format_args!(
+            "{slave} doesn't assign PDO 0x{number:04X} of its type {kind}, which has {entry}"
+        ),
     );
     let key = assignment_key(at.variable.direction);
     telling.advise(format_args!("add 0x{number:04X} to `{key}` of {slave}"));

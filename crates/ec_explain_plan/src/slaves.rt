@@ -11,7 +11,8 @@ use ec_table::{Direction, Table};
 const MAX_BITS: usize = 2048;
 
 /// What to do about a device whose outputs lie in its output register.
-const LEAVE_OUT: &str = "leave the device out: a link table can't describe one whose outputs lie at 0x0F00, its output \
+const LEAVE_OUT: &str =
+    "leave the device out: a link table can't describe one whose outputs lie at 0x0F00, its output \
     register; with another address the master becomes ready, and nothing is switched";
 
 /// Adds remarks on a fault of the slave at a place.
@@ -36,7 +37,9 @@ fn tell_outside_ram(telling: &mut Telling<'_>, at: &SlaveAt<'_>) {
     telling.at_row(
         "slave",
         at.place,
-        format_args!("in {at} an area of its type {kind} is not within 0x{RAM_START:04X} to 0x{last:04X}"),
+        format_args!(
+            "in {at} an area of its type {kind} is not within 0x{RAM_START:04X} to 0x{last:04X}"
+        ),
     );
     tell_area(telling, at.row.type_place, area);
     advise_start(telling, at, area);

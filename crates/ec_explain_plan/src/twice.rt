@@ -72,7 +72,9 @@ fn tell_assigned(telling: &mut Telling<'_>, at: &SlaveAt<'_>, first: &Seat, seco
             telling,
             at.place,
             first.direction,
-            format_args!("{at} assigns PDOs 0x{one:04X} and 0x{two:04X} of type {kind}, and both have {name}"),
+            format_args!(
+                "{at} assigns PDOs 0x{one:04X} and 0x{two:04X} of type {kind}, and both have {name}"
+            ),
         );
     }
 }

@@ -75,7 +75,8 @@ fn tell_unknown(
             tell_no_variable(telling, table, word);
             true
         }
-        WordKind::Slave if !has_digits(word.text, Base::Decimal) && !names_slave(table, word.text) => {
+        WordKind::Slave
+            if !has_digits(word.text, Base::Decimal) && !names_slave(table, word.text) => {
             tell_no_slave(telling, table, word);
             true
         }

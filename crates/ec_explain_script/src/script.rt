@@ -10,9 +10,7 @@ use ec_table::{Table, read_table};
 pub fn tell_bad_line(telling: &mut Telling<'_>, text: &str, from: usize, line: usize) {
     match line_start(text.as_bytes(), from, line) {
         Some(start) => tell_in_text(telling, table_before(text, from), line_at(text, start)),
-        None => telling.note(format_args!(
-            "line {line} of the script isn't found in the text"
-        )),
+        None => telling.note(format_args!("line {line} of the script isn't found in the text")),
     }
 }
 
@@ -124,9 +122,7 @@ fn tell_form(telling: &mut Telling<'_>, line: Line<'_>, form: &str) {
         line.span(),
         format_args!("this line isn't written as `{form}`"),
     );
-    telling.advise(format_args!(
-        "write it as `{form}`, with single blanks between the words"
-    ));
+    telling.advise(format_args!("write it as `{form}`, with single blanks between the words"));
 }
 
 /// Adds remarks on a line whose first word begins no form.

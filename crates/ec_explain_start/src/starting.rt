@@ -266,7 +266,9 @@ fn tell_count(telling: &mut Telling<'_>, table: &Table, seen: usize, fault: Star
         telling.at_row(
             "slave",
             seen,
-            format_args!("{fault}: {at} is the first that is missing, if those before it are there"),
+            format_args!(
+                "{fault}: {at} is the first that is missing, if those before it are there"
+            ),
         );
         return telling.advise("see whether that slave is switched on and its cable plugged in");
     }

@@ -109,11 +109,7 @@ impl<'s> Mark<'s> {
     }
 
     /// Checks a list of as many numbers as there are ranges.
-    fn hold_numbers(
-        &mut self,
-        value: &'s Value,
-        ranges: &[(u32, u32)],
-    ) -> Result<(), Misfit<'s>> {
+    fn hold_numbers(&mut self, value: &'s Value, ranges: &[(u32, u32)]) -> Result<(), Misfit<'s>> {
         let items = listed(value, "a list of numbers")?;
         if items.len() != ranges.len() {
             return Err(Misfit::Length(items.len(), ranges.len()));
@@ -191,8 +187,7 @@ impl<'s> Mark<'s> {
         self.hold_numbers(value, &ENTRY)?;
         match listed(value, "an entry")? {
             [index, subindex, ..]
-                if index.as_integer() == Some(0) && subindex.as_integer() != Some(0) =>
-            {
+                if index.as_integer() == Some(0) && subindex.as_integer() != Some(0) => {
                 Err(Misfit::NamedGap)
             }
             _ => Ok(()),
@@ -217,9 +212,7 @@ impl<'s> Mark<'s> {
 impl fmt::Display for Misfit<'_> {
     fn fmt<W: fmt::Write>(&self, f: &mut fmt::Formatter<W>) -> fmt::Result {
         match *self {
-            Misfit::Other(kind, wanted) => {
-                write!(f, "{kind} stands where {wanted} is wanted")
-            }
+            Misfit::Other(kind, wanted) => { write!(f, "{kind} stands where {wanted} is wanted") }
             Misfit::EmptyName => f.write_str("a name has 1 character at least"),
             Misfit::OddName(odd) => {
                 write!(f, "`{odd}` is no letter of A to Z, no digit and no `_`")

@@ -116,9 +116,7 @@ fn tell_unknown_key(telling: &mut Telling<'_>, element: Element<'_>, key: &str) 
             format_args!("`{shown}` is no key of a {word}{near}"),
         ),
     }
-    telling.advise(format_args!(
-        "leave it out or correct it; a {word} has the keys {all}"
-    ));
+    telling.advise(format_args!("leave it out or correct it; a {word} has the keys {all}"));
 }
 
 /// The key of a section's elements that may have been meant.
@@ -205,9 +203,7 @@ fn tell_no_list(telling: &mut Telling<'_>, section: &'static str, is_table: bool
         MarkedPart::Key,
         format_args!("a section is a list of tables{alone}"),
     );
-    telling.advise(format_args!(
-        "write `[[{section}]]` above each table of the section"
-    ));
+    telling.advise(format_args!("write `[[{section}]]` above each table of the section"));
 }
 
 /// Adds remarks on the first element of a section that is no table; returns whether there is one.
@@ -345,10 +341,7 @@ fn tell_twice_under(telling: &mut Telling<'_>, element: Element<'_>, key: &'stat
         return false;
     };
     let list = element.under(key, MarkedPart::Key);
-    list.item(first).say(
-        telling,
-        format_args!("PDO 0x{index:04X} stands here first"),
-    );
+    list.item(first).say(telling, format_args!("PDO 0x{index:04X} stands here first"));
     list.item(second).say(
         telling,
         format_args!("PDO 0x{index:04X} stands in `{key}` once more"),
@@ -391,9 +384,7 @@ fn tell_unknown_name(
         telling,
         format_args!("no {section} has the name `{shown}`{near}"),
     );
-    telling.advise(format_args!(
-        "correct the name, or add a {section} of that name"
-    ));
+    telling.advise(format_args!("correct the name, or add a {section} of that name"));
     true
 }
 

@@ -8,10 +8,7 @@ use std::fmt;
 
 impl Scene<'_, '_> {
     /// Writes why the frames of the last cycle that was begun don't come back.
-    pub fn write_held<W: fmt::Write>(
-        &self,
-        f: &mut fmt::Formatter<W>,
-    ) -> fmt::Result {
+    pub fn write_held<W: fmt::Write>(&self, f: &mut fmt::Formatter<W>) -> fmt::Result {
         self.write_no_pass(f, self.newest_slot())
     }
 
@@ -53,20 +50,20 @@ impl Scene<'_, '_> {
     }
 
     /// Writes why a frame doesn't pass its next slave.
-    fn write_no_pass<W: fmt::Write>(
-        &self,
-        f: &mut fmt::Formatter<W>,
-        slot: usize,
-    ) -> fmt::Result {
+    fn write_no_pass<W: fmt::Write>(&self, f: &mut fmt::Formatter<W>, slot: usize) -> fmt::Result {
         let Some(frame) = self.world.progress(slot) else {
             return self.write_no_frame(f, slot);
         };
         if frame.passed >= self.world.slaves() {
-            return write!(f, "the frame in slot {slot} has passed every slave: `return {slot}` brings it back"
+            return write!(
+                f,
+                "the frame in slot {slot} has passed every slave: `return {slot}` brings it back"
             );
         }
         match self.slot_before(&frame) {
-            Some(other) => write!(f, "the older frame in slot {other} is in its way: frames don't overtake; `lose {other}` takes it away"
+            Some(other) => write!(
+                f,
+                "the older frame in slot {other} is in its way: frames don't overtake; `lose {other}` takes it away"
             ),
             None => write!(f, "the frame in slot {slot} can't go on"),
         }
@@ -83,10 +80,7 @@ impl Scene<'_, '_> {
     }
 
     /// Writes why no cycle is begun.
-    fn write_no_begin<W: fmt::Write>(
-        &self,
-        f: &mut fmt::Formatter<W>,
-    ) -> fmt::Result {
+    fn write_no_begin<W: fmt::Write>(&self, f: &mut fmt::Formatter<W>) -> fmt::Result {
         let world = self.world;
         if !world.is_ready() {
             return f.write_str("the start-up isn't ready: `ready` brings the slaves up");
@@ -102,15 +96,15 @@ impl Scene<'_, '_> {
         match self.free_slots() {
             0 => write!(f, "a cycle sends {frames}, and no slot is free: {held}"),
             1 => write!(f, "a cycle sends {frames}, and 1 slot is free: {held}"),
-            free => write!(f, "a cycle sends {frames}, and {free} slots are free: {held}"),
+            free => write!(
+                f,
+                "a cycle sends {frames}, and {free} slots are free: {held}"
+            ),
         }
     }
 
     /// Writes why the start-up sends no frame.
-    fn write_no_start<W: fmt::Write>(
-        &self,
-        f: &mut fmt::Formatter<W>,
-    ) -> fmt::Result {
+    fn write_no_start<W: fmt::Write>(&self, f: &mut fmt::Formatter<W>) -> fmt::Result {
         let words = if self.world.is_ready() {
             "the start-up is ready: the slaves are in OP, or were"
         } else if self.free_slots() < self.world.slots() {
@@ -161,19 +155,26 @@ impl Scene<'_, '_> {
         let Firmware { state, is_running } = Firmware::of(self.world, slave);
         let (what, count) = self.bytes_of(slave, direction);
         if !is_running {
-            return write!(f, "`{name}` is in {state}: its application has {what} in SAFEOP and OP"
+            return write!(
+                f,
+                "`{name}` is in {state}: its application has {what} in SAFEOP and OP"
             );
         }
         match count {
             0 => write!(f, "`{name}` has no {what}"),
             count if place >= count => {
                 let last = count.saturating_sub(1);
-                write!(f, "`{name}` has no byte {place} of {what}: the last is byte {last}")
+                write!(
+                    f,
+                    "`{name}` has no byte {place} of {what}: the last is byte {last}"
+                )
             }
             _ if direction == Direction::Out && self.has_locked_outputs(slave) => {
                 self.write_locked(f, name)
             }
-            _ => write!(f, "byte {place} is out of turn: the {what} of `{name}` go from byte 0 on, one after another"
+            _ => write!(
+                f,
+                "byte {place} is out of turn: the {what} of `{name}` go from byte 0 on, one after another"
             ),
         }
     }
@@ -189,7 +190,9 @@ impl Scene<'_, '_> {
         } else {
             "with which a start-up begins"
         };
-        write!(f, "the outputs of `{name}` are locked since its fault: INIT alone opens them, {way_out}"
+        write!(
+            f,
+            "the outputs of `{name}` are locked since its fault: INIT alone opens them, {way_out}"
         )
     }
 
@@ -217,7 +220,10 @@ impl Scene<'_, '_> {
         match (frame.passed, self.world.slaves()) {
             (_, 1) => write!(f, "the frame in slot {slot} hasn't passed the slave"),
             (passed, slaves) => {
-                write!(f, "the frame in slot {slot} has passed {passed} of {slaves} slaves")
+                write!(
+                    f,
+                    "the frame in slot {slot} has passed {passed} of {slaves} slaves"
+                )
             }
         }
     }
