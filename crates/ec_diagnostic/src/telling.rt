@@ -4,7 +4,7 @@ ghost use Rattle.std.specs.Prelude.{◌≡◌, IfOk};
 use crate::outline::{Outline, PathStep};
 use crate::remark::Remarks;
 use crate::spot::{Span, spot_of};
-use crate::words::Meant;
+use crate::words::Nearest;
 use std::alloc::{AllocError, Global};
 use std::fmt::Display;
 use strsim::osa_distance;
@@ -78,8 +78,8 @@ impl<'a> Telling<'a> {
         self.is_short = true;
     }
 
-    /// The nearer to a word of what it may have meant so far and a name.
-    pub fn nearer<'n>(&mut self, near: Meant<'n>, word: &str, name: &'n str) -> Meant<'n> {
+    /// The nearer to a word of the nearest name so far and the name at a place.
+    pub fn nearer(&mut self, near: Nearest, word: &str, place: usize, name: &str) -> Nearest {
         if word.len() > MAX_WORD {
             return near;
         }
@@ -87,7 +87,7 @@ impl<'a> Telling<'a> {
             self.fall_short();
             return near;
         };
-        near.or(edits, name)
+        near.or(place, edits)
     }
 
     /// Adds a remark that has no place.
@@ -167,17 +167,17 @@ impl<'a> Telling<'a> {
     }
 
     /// Adds a remark on a row of a list of the document, and marks it.
-    pub fn at_row<D: Display + Drop>(&mut self, list: &'static str, place: usize, words: D) {
+    pub fn at_row<D: Display + Drop>(&mut self, list: &str, place: usize, words: D) {
         let way = [PathStep::Key(list), PathStep::Item(place)];
         self.at(&way, MarkedPart::Key, words);
     }
 
     /// Adds a remark on what stands under a key of such a row, and marks that.
-    pub fn at_key<D: Display + Drop>(
+    pub fn at_key<'k, D: Display + Drop>(
         &mut self,
-        list: &'static str,
+        list: &'k str,
         place: usize,
-        key: &'static str,
+        key: &'k str,
         words: D,
     ) {
         let way = [

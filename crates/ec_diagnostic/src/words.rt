@@ -16,38 +16,42 @@ pub fn is_among(word: &str, names: &[&str]) -> bool {
     false
 }
 
-/// The name that may have been meant by a word, among those that were compared: the first of the nearest, if it is near. It is near if
-/// no more edits are needed than a third of the word's bytes, or than one. It is printed as a question behind a semicolon; without a
-/// name, as nothing.
+/// The first of the names that are nearest to a word, by its place among those that were compared. A name is near if no more edits are
+/// needed than a third of the word's bytes, or than one.
 #[derive(Clone, Copy, Drop)]
-pub struct Meant<'n> {
+pub struct Nearest {
     /// The edits that it needs; without a name, the most that are near.
     edits: usize,
-    name: Option<&'n str>,
+    /// Its place, if a name is near.
+    pub place: Option<usize>,
 }
 
-impl<'n> Meant<'n> {
-    /// No name yet.
-    pub fn by(word: &str) -> Meant<'n> {
-        Meant {
+impl Nearest {
+    /// None of the names yet.
+    pub fn to(word: &str) -> Nearest {
+        Nearest {
             edits: (word.len() / 3).max(1),
-            name: None,
+            place: None,
         }
     }
 
-    /// The nearer of it and a name that needs this many edits.
-    pub(crate) fn or(self, edits: usize, name: &'n str) -> Meant<'n> {
-        if edits < self.edits || (edits == self.edits && self.name.is_none()) {
-            let name = Some(name);
-            return Meant { edits, name };
+    /// The nearer of it and the name at a place, which needs this many edits.
+    pub(crate) fn or(self, place: usize, edits: usize) -> Nearest {
+        if edits < self.edits || (edits == self.edits && self.place.is_none()) {
+            let place = Some(place);
+            return Nearest { edits, place };
         }
         self
     }
 }
 
+/// A name that may have been meant. It is printed as a question behind a semicolon; without a name, as nothing.
+#[derive(Clone, Copy, Drop)]
+pub struct Meant<'n>(pub Option<&'n str>);
+
 impl fmt::Display for Meant<'_> {
     fn fmt<W: fmt::Write>(&self, f: &mut fmt::Formatter<W>) -> fmt::Result {
-        match self.name {
+        match self.0 {
             Some(name) => write!(f, "; did you mean `{name}`?"),
             None => Ok(()),
         }

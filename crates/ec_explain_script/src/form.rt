@@ -1,5 +1,6 @@
 //! How the lines of a script are written.
 use crate::word::Line;
+use ec_diagnostic::{Nearest, Telling};
 
 /// What a word of a line stands for.
 #[derive(Clone, Copy, PartialEq, Eq)]
@@ -24,7 +25,7 @@ pub enum WordKind {
 
 /// How lines are written, for people: a word in small letters stands for itself, and one in capitals for something else. A
 /// form that begins with two words of its own stands before one that begins with only the first of them.
-pub static FORMS: [&str; 23] = [
+static FORMS: [&str; 23] = [
     "start",
     "set NAME VALUE",
     "begin",
@@ -91,8 +92,17 @@ fn begins(line: Line<'_>, form: &str) -> bool {
     true
 }
 
+/// The first word of a form that may have been meant.
+pub fn verb_near(telling: &mut Telling<'_>, word: &str) -> Option<&'static str> {
+    let mut near = Nearest::to(word);
+    for (place, form) in FORMS.iter().enumerate() {
+        near = telling.nearer(near, word, place, first_word(form));
+    }
+    Some(first_word(FORMS.get(near.place?)?))
+}
+
 /// The first word of a form.
-pub fn first_word(form: &'static str) -> &'static str {
+fn first_word(form: &'static str) -> &'static str {
     match form.split_once(' ') {
         Some((first, _)) => first,
         None => form,

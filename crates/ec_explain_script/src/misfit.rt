@@ -1,7 +1,7 @@
 //! Why a word can't stand for what a line needs in its place.
 use crate::form::WordKind;
 use crate::word::Word;
-use ec_diagnostic::{Meant, Printable, Telling, is_among};
+use ec_diagnostic::{Meant, Nearest, Printable, Telling, is_among};
 use ec_table::Table;
 
 /// The digits in which a number is written.
@@ -86,10 +86,10 @@ fn tell_unknown(
 
 /// Adds remarks on a word that is the name of no variable.
 fn tell_no_variable(telling: &mut Telling<'_>, table: &Table, word: Word<'_>) {
-    let (shown, mut near) = (Printable(word.text), Meant::by(word.text));
-    for row in table.variables() {
-        near = telling.nearer(near, word.text, row.name.as_str());
-    }
+    let (shown, near) = (
+        Printable(word.text),
+        Meant(variable_near(telling, table, word.text)),
+    );
     telling.at_span(
         word.span(),
         format_args!("no variable has the name `{shown}`{near}"),
@@ -97,17 +97,35 @@ fn tell_no_variable(telling: &mut Telling<'_>, table: &Table, word: Word<'_>) {
     telling.advise("correct the name, or add a variable of that name to the table");
 }
 
+/// The name of a variable that may have been meant.
+fn variable_near<'t>(telling: &mut Telling<'_>, table: &'t Table, word: &str) -> Option<&'t str> {
+    let (rows, mut near) = (table.variables(), Nearest::to(word));
+    for (place, row) in rows.iter().enumerate() {
+        near = telling.nearer(near, word, place, row.name.as_str());
+    }
+    Some(rows.get(near.place?)?.name.as_str())
+}
+
 /// Adds remarks on a word that is the name of no slave.
 fn tell_no_slave(telling: &mut Telling<'_>, table: &Table, word: Word<'_>) {
-    let (shown, mut near) = (Printable(word.text), Meant::by(word.text));
-    for row in table.slaves() {
-        near = telling.nearer(near, word.text, row.name.as_str());
-    }
+    let (shown, near) = (
+        Printable(word.text),
+        Meant(slave_near(telling, table, word.text)),
+    );
     telling.at_span(
         word.span(),
         format_args!("no slave has the name `{shown}`{near}"),
     );
     telling.advise("correct the name, add a slave of that name to the table, or write its number");
+}
+
+/// The name of a slave that may have been meant.
+fn slave_near<'t>(telling: &mut Telling<'_>, table: &'t Table, word: &str) -> Option<&'t str> {
+    let (rows, mut near) = (table.slaves(), Nearest::to(word));
+    for (place, row) in rows.iter().enumerate() {
+        near = telling.nearer(near, word, place, row.name.as_str());
+    }
+    Some(rows.get(near.place?)?.name.as_str())
 }
 
 /// What 64 bits hold, and what to do, if 64 bits don't hold the number that a word writes. `None` for a byte and a number of times,

@@ -1,5 +1,5 @@
 //! Which line of a script stands for nothing: refusal 39; and that what lines expect doesn't hold: 45.
-use crate::form::{FORMS, WordKind, first_word, form_of};
+use crate::form::{WordKind, form_of, verb_near};
 use crate::misfit::{SEE_HELP, names_variable, tell_misfit};
 use crate::word::{Line, Word, without_comment};
 use ec_diagnostic::{Meant, Printable, Span, Telling};
@@ -130,11 +130,7 @@ fn tell_unknown_verb(telling: &mut Telling<'_>, line: Line<'_>) {
     let Some(word) = line.word(0) else {
         return;
     };
-    let mut near = Meant::by(word.text);
-    for form in &FORMS {
-        near = telling.nearer(near, word.text, first_word(*form));
-    }
-    let shown = Printable(word.text);
+    let (shown, near) = (Printable(word.text), Meant(verb_near(telling, word.text)));
     telling.at_span(
         word.span(),
         format_args!("no line of a script begins with `{shown}`{near}"),

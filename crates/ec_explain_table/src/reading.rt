@@ -2,7 +2,7 @@
 use crate::misfit::{Mark, Misfit, PDO_KEYS};
 use crate::numbers::Numbers;
 use crate::rule::{Lacking, Named, Rule, Taken, is_key, keys_of, word_of};
-use ec_diagnostic::{MarkedPart, Meant, PathStep, Printable, Span, Telling};
+use ec_diagnostic::{MarkedPart, Meant, Nearest, PathStep, Printable, Span, Telling};
 use ec_table::{Fault, Place, Section};
 use toml::{Table, Value};
 
@@ -107,7 +107,7 @@ fn tell_bad_key(telling: &mut Telling<'_>, element: Element<'_>) {
 fn tell_unknown_key(telling: &mut Telling<'_>, element: Element<'_>, key: &str) {
     let section = element.place.section;
     let (word, shown, all) = (word_of(section), Printable(key), Named(keys_of(section)));
-    let near = meant_key(telling, key, section);
+    let near = Meant(meant_key(telling, key, section));
     let mark = Mark::under(element.place, key, MarkedPart::Key);
     match section {
         Section::Top => mark.say(telling, format_args!("`{shown}` is no section{near}")),
@@ -120,12 +120,12 @@ fn tell_unknown_key(telling: &mut Telling<'_>, element: Element<'_>, key: &str) 
 }
 
 /// The key of a section's elements that may have been meant.
-fn meant_key(telling: &mut Telling<'_>, key: &str, section: Section) -> Meant<'static> {
-    let mut near = Meant::by(key);
-    for (name, _, _) in keys_of(section) {
-        near = telling.nearer(near, key, *name);
+fn meant_key(telling: &mut Telling<'_>, key: &str, section: Section) -> Option<&'static str> {
+    let (keys, mut near) = (keys_of(section), Nearest::to(key));
+    for (place, (name, _, _)) in keys.iter().enumerate() {
+        near = telling.nearer(near, key, place, name);
     }
-    near
+    Some(keys.get(near.place?)?.0)
 }
 
 /// Adds remarks on a sync unit in a table that isn't of version 2.
@@ -248,21 +248,21 @@ fn tell_misfit_under<'d>(
     let Err(misfit) = mark.hold(value, rule) else {
         return false;
     };
-    let near = meant_in_pdo(telling, misfit);
+    let near = Meant(meant_in_pdo(telling, misfit));
     mark.say(telling, format_args!("{misfit}{near}"));
     true
 }
 
 /// The key of a PDO that may have been meant by one that it doesn't have.
-fn meant_in_pdo(telling: &mut Telling<'_>, misfit: Misfit<'_>) -> Meant<'static> {
+fn meant_in_pdo(telling: &mut Telling<'_>, misfit: Misfit<'_>) -> Option<&'static str> {
     let Misfit::NoKey(key) = misfit else {
-        return Meant::by("");
+        return None;
     };
-    let mut near = Meant::by(key);
-    for name in &PDO_KEYS {
-        near = telling.nearer(near, key, *name);
+    let mut near = Nearest::to(key);
+    for (place, name) in PDO_KEYS.iter().enumerate() {
+        near = telling.nearer(near, key, place, name);
     }
-    near
+    PDO_KEYS.get(near.place?).copied()
 }
 
 /// Adds remarks on a slave that assigns PDOs of its own choice, though its type has no mailbox.
@@ -378,7 +378,7 @@ fn tell_unknown_name(
     if place_before(elements, elements.len(), name).is_some() {
         return false;
     }
-    let (shown, near) = (Printable(name), meant_name(telling, name, elements));
+    let (shown, near) = (Printable(name), Meant(meant_name(telling, name, elements)));
     let mark = element.under(key, MarkedPart::Value);
     mark.say(
         telling,
@@ -389,14 +389,14 @@ fn tell_unknown_name(
 }
 
 /// The name of an element that may have been meant.
-fn meant_name<'v>(telling: &mut Telling<'_>, word: &str, elements: &'v [Value]) -> Meant<'v> {
-    let mut near = Meant::by(word);
-    for element in elements {
+fn meant_name<'v>(telling: &mut Telling<'_>, word: &str, elements: &'v [Value]) -> Option<&'v str> {
+    let mut near = Nearest::to(word);
+    for (place, element) in elements.iter().enumerate() {
         if let Some(name) = text_under(element, "name") {
-            near = telling.nearer(near, word, name);
+            near = telling.nearer(near, word, place, name);
         }
     }
-    near
+    text_under(elements.get(near.place?)?, "name")
 }
 
 /// Adds remarks on a PDO that a slave assigns and its type doesn't have; returns whether there is one.
