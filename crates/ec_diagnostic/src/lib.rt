@@ -19,4 +19,4 @@ pub use crate::remark::{Remark, Remarks};
 pub use crate::spot::{Span, Spot, spot_of};
 pub use crate::telling::{MarkedPart, Telling};
 pub use crate::text::{printed, without_mark};
-pub use crate::words::{Counted, Meant, Printable, Words, comma, is_among, nearest};
+pub use crate::words::{Counted, Meant, Nearest, Printable, comma, is_among};

@@ -50,8 +50,7 @@ struct Statement<'a> {
 impl<'a> Statement<'a> {
     /// The statement of some tokens; `first` is the place of the first of them.
     fn new(alloc: Global, first: usize, tokens: &[Token<'a>]) -> Result<Statement<'a>, AllocError> {
-        let opening = tokens.iter().take_while(|it| it.kind == TokenKind::Open);
-        let (span, brackets) = (span_over(tokens), opening.count());
+        let (span, brackets) = (span_over(tokens), brackets_before(tokens));
         let mut name = Vec::new(alloc);
         for token in tokens {
             match token.kind {
@@ -117,8 +116,10 @@ impl<'a> Outline<'a> {
     fn next(&self, node: Node, step: PathStep<'_>) -> Option<(Span, Node)> {
         match (node, step) {
             (Node::Table(header), PathStep::Key(key)) => {
-                let pair = self.in_pairs(header, key.as_bytes());
-                pair.or_else(|| self.in_headers(header, key.as_bytes()))
+                match self.in_pairs(header, key.as_bytes()) {
+                    None => self.in_headers(header, key.as_bytes()),
+                    pair => pair,
+                }
             }
             (Node::Headers(first), PathStep::Item(item)) => self.in_item_headers(first, item),
             (Node::Value(first), _) => self.in_value(first, step),
@@ -128,14 +129,15 @@ impl<'a> Outline<'a> {
 
     /// What stands under a key among the pairs right behind a header.
     fn in_pairs(&self, header: usize, key: &[u8]) -> Option<(Span, Node)> {
-        let behind = self.statements.get(header.saturating_add(1)..)?;
-        let pair = behind
-            .iter()
-            .find(|it| it.is_header() || it.name.first() == Some(&key))?;
-        if pair.is_header() {
-            return None;
+        for pair in self.statements.get(header.saturating_add(1)..)? {
+            if pair.is_header() {
+                return None;
+            }
+            if pair.name.first() == Some(&key) {
+                return self.value_behind(pair.first);
+            }
         }
-        self.value_behind(pair.first)
+        None
     }
 
     /// What stands under a key of the table behind a header, by a header of its own.
@@ -218,22 +220,32 @@ impl<'a> Outline<'a> {
 
     /// The bytes of the key whose token is at the place `key`, and the value behind it.
     fn value_behind(&self, key: usize) -> Option<(Span, Node)> {
-        let behind = self.tokens.get(key..)?;
-        let equals = behind.iter().position(|it| it.kind == TokenKind::Equals)?;
-        let value = key.saturating_add(equals).saturating_add(1);
-        Some((behind.first()?.span, Node::Value(value)))
+        let span = self.tokens.get(key)?.span;
+        for place in key..self.tokens.len() {
+            if self.tokens[place].kind == TokenKind::Equals {
+                return Some((span, Node::Value(place.saturating_add(1))));
+            }
+        }
+        None
     }
 
     /// The bytes of the value whose first token is `first`. The next comma, line end or bracket that isn't in
     /// the value ends it.
     fn value_bytes(&self, first: usize) -> Span {
         let behind = self.tokens.get(first..).unwrap_or(&[]);
-        let depth = behind.first().map_or(0, |it| it.depth);
-        let end = behind.iter().position(|it| match it.kind {
-            TokenKind::Comma | TokenKind::LineEnd => it.depth <= depth,
-            _ => it.depth < depth,
-        });
-        span_over(behind.get(..end.unwrap_or(behind.len())).unwrap_or(&[]))
+        let [begin, ..] = behind else {
+            return Span::default();
+        };
+        for (end, token) in behind.iter().enumerate() {
+            let is_end = match token.kind {
+                TokenKind::Comma | TokenKind::LineEnd => token.depth <= begin.depth,
+                _ => token.depth < begin.depth,
+            };
+            if is_end {
+                return span_over(&behind[..end]);
+            }
+        }
+        span_over(behind)
     }
 }
 
@@ -262,6 +274,16 @@ fn push_statements<'a>(
         first = first.saturating_add(run.len()).saturating_add(1);
     }
     Ok(())
+}
+
+/// How many brackets are opened before all other tokens.
+fn brackets_before(tokens: &[Token<'_>]) -> usize {
+    for (place, token) in tokens.iter().enumerate() {
+        if token.kind != TokenKind::Open {
+            return place;
+        }
+    }
+    tokens.len()
 }
 
 /// The bytes from the first token to the last.

@@ -106,8 +106,10 @@ impl<'a> Remarks<'a> {
 
 /// How many characters a span of a text has, 1 at least.
 fn width_of(text: &str, span: Span) -> usize {
-    let marked = text.get(span.start..span.end);
-    marked.map_or(1, |marked| marked.chars().count().max(1))
+    match text.get(span.start..span.end) {
+        Some(marked) => marked.chars().count().max(1),
+        None => 1,
+    }
 }
 
 /// Adds a remark that has a place.

@@ -4,8 +4,13 @@ ghost use Rattle.std.specs.Prelude.{◌≡◌, IfOk};
 use crate::outline::{Outline, PathStep};
 use crate::remark::Remarks;
 use crate::spot::{Span, spot_of};
-use crate::words::{Meant, Words, nearest};
+use crate::words::Nearest;
 use std::alloc::{AllocError, Global};
+use std::fmt::Display;
+use strsim::osa_distance;
+
+/// Words with more bytes than this are near no name.
+const MAX_WORD: usize = 64;
 
 /// Which bytes at the end of a way are marked.
 #[derive(Clone, Copy, PartialEq, Eq)]
@@ -23,8 +28,9 @@ struct Saying {
     words: String,
 }
 
-/// A text with its outline, and the remarks on it so far. If memory runs out for a remark, that is noted. Then
-/// `into_remarks` returns the error: so callers go on, and have no early exit at each remark.
+/// A text with its outline, and the remarks on it so far. The words of a remark are any value that prints them, such as
+/// `format_args!(..)`. If memory runs out for them, that is noted, and `into_remarks` returns the error: so callers have no early exit
+/// at each remark.
 #[derive(Drop)]
 pub struct Telling<'a> {
     /// The allocator of all remarks.
@@ -72,73 +78,39 @@ impl<'a> Telling<'a> {
         self.is_short = true;
     }
 
-    /// What was made for a remark; `None` if there was no memory for it, which is noted.
-    pub fn made<T: Drop>(&mut self, made: Result<T, AllocError>) -> Option<T> {
-        if made.is_err() {
-            self.fall_short();
+    /// The nearer to a word of the nearest name so far and the name at a place.
+    pub fn nearer(&mut self, near: Nearest, word: &str, place: usize, name: &str) -> Nearest {
+        if word.len() > MAX_WORD {
+            return near;
         }
-        made.ok()
-    }
-
-    /// The name that a word may have meant.
-    pub fn meant<'n>(&mut self, word: &str, names: &[&'n str]) -> Meant<'n> {
-        let alloc = self.alloc;
-        Meant(self.made(nearest(alloc, word, names)).flatten())
+        let Ok(edits) = osa_distance(self.alloc, word, name) else {
+            self.fall_short();
+            return near;
+        };
+        near.or(place, edits)
     }
 
     /// Adds a remark that has no place.
-    pub fn note(&mut self, words: Words) {
+    pub fn note<D: Display + Drop>(&mut self, words: D) {
         self.say(None, words);
     }
 
-    /// Adds a remark that has no place, with a copy of these words.
-    pub fn note_plain(&mut self, words: &str) {
-        let alloc = self.alloc;
-        self.note(String::from_str(alloc, words));
-    }
-
     /// Adds a remark on what to do.
-    pub fn advise(&mut self, what: &str) {
-        let alloc = self.alloc;
-        self.note(format!(in alloc; "To do: {what}."));
-    }
-
-    /// Adds a remark on what to do, in words that were made for it.
-    pub fn advise_in(&mut self, words: Words) {
-        match words {
-            Ok(words) => self.advise(words.as_str()),
-            Err(_) => self.fall_short(),
-        }
+    pub fn advise<D: Display + Drop>(&mut self, what: D) {
+        self.say(None, format_args!("To do: {what}."));
     }
 
     /// Adds a remark on the end of a way, marks a part there, and names the element that it is in. If a part of
     /// the way isn't found, it marks the last that is found; if none is, the remark says so.
-    pub fn at(&mut self, way: &[PathStep<'_>], part: MarkedPart, words: Words) {
-        let found = self.outline.find(way);
-        if found.steps == 0 {
-            return self.note_lost(words);
-        }
-        let span = match part {
-            MarkedPart::Value if found.steps == way.len() => found.value,
-            _ => found.key,
-        };
-        self.say_element(way, span.start);
-        self.at_span(span, words);
-    }
-
-    /// Adds a remark on what isn't found, and says so.
-    fn note_lost(&mut self, words: Words) {
-        let alloc = self.alloc;
-        match words {
-            Ok(words) => self.note(format!(in alloc;
-                "{words} (where that stands in the text isn't found)"
-            )),
-            Err(_) => self.fall_short(),
+    pub fn at<D: Display + Drop>(&mut self, way: &[PathStep<'_>], part: MarkedPart, words: D) {
+        match self.find(way, part) {
+            Some(span) => self.at_span(span, words),
+            None => self.note(format_args!("{words} (where that stands in the text isn't found)")),
         }
     }
 
     /// Adds a remark on some bytes of the text, and marks them.
-    pub fn at_span(&mut self, span: Span, words: Words) {
+    pub fn at_span<D: Display + Drop>(&mut self, span: Span, words: D) {
         self.say(Some(span), words);
     }
 
@@ -147,16 +119,37 @@ impl<'a> Telling<'a> {
         self.outline.find(way).steps == way.len()
     }
 
-    fn say(&mut self, span: Option<Span>, words: Words) {
+    /// Adds a remark on some bytes, or on none. All words are made here.
+    fn say<D: Display + Drop>(&mut self, span: Option<Span>, words: D) {
+        let words = String::format(self.alloc, words);
         if self.keep(span, words).is_err() {
-            self.fall_short();
+            self.is_short = true;
         }
     }
 
-    fn keep(&mut self, span: Option<Span>, words: Words) -> Result<(), AllocError> {
+    /// Adds a remark with words that were made for it. `AllocError` if memory ran out, for them or for the remark.
+    fn keep(
+        &mut self,
+        span: Option<Span>,
+        words: Result<String, AllocError>,
+    ) -> Result<(), AllocError> {
         let words = words?;
         self.sayings.push(Saying { span, words })?;
         Ok(())
+    }
+
+    /// The bytes to mark at the end of a way, after the element is named that they are in; `None` if nothing of the way is found.
+    fn find(&mut self, way: &[PathStep<'_>], part: MarkedPart) -> Option<Span> {
+        let found = self.outline.find(way);
+        if found.steps == 0 {
+            return None;
+        }
+        let span = match part {
+            MarkedPart::Value if found.steps == way.len() => found.value,
+            _ => found.key,
+        };
+        self.say_element(way, span.start);
+        Some(span)
     }
 
     /// Adds a remark on the element that a way goes through, if it begins in another line than the way ends in.
@@ -169,24 +162,24 @@ impl<'a> Telling<'a> {
         let is_elsewhere = spot_of(self.text, begin).line != spot_of(self.text, start).line;
         if found.steps == 2 && is_elsewhere && self.element != Some(begin) {
             self.element = Some(begin);
-            self.say_begin(found.key, section, *element);
+            self.at_span(found.key, format_args!("{section} {element} begins here"));
         }
     }
 
-    /// Adds a remark that an element begins at a key.
-    fn say_begin(&mut self, key: Span, section: &str, element: usize) {
-        let alloc = self.alloc;
-        self.at_span(key, format!(in alloc; "{section} {element} begins here"));
-    }
-
     /// Adds a remark on a row of a list of the document, and marks it.
-    pub fn at_row(&mut self, list: &'static str, place: usize, words: Words) {
+    pub fn at_row<D: Display + Drop>(&mut self, list: &str, place: usize, words: D) {
         let way = [PathStep::Key(list), PathStep::Item(place)];
         self.at(&way, MarkedPart::Key, words);
     }
 
     /// Adds a remark on what stands under a key of such a row, and marks that.
-    pub fn at_key(&mut self, list: &'static str, place: usize, key: &'static str, words: Words) {
+    pub fn at_key<'k, D: Display + Drop>(
+        &mut self,
+        list: &'k str,
+        place: usize,
+        key: &'k str,
+        words: D,
+    ) {
         let way = [
             PathStep::Key(list),
             PathStep::Item(place),

@@ -100,8 +100,12 @@ fn token_at(bytes: &[u8], first: u8) -> (Option<TokenKind>, usize) {
 
 /// How many bytes stand before the first byte that is one of `ends`.
 fn length_before(bytes: &[u8], ends: &[u8]) -> usize {
-    let found = bytes.iter().position(|byte| ends.contains(byte));
-    found.unwrap_or(bytes.len())
+    for (place, byte) in bytes.iter().enumerate() {
+        if ends.contains(byte) {
+            return place;
+        }
+    }
+    bytes.len()
 }
 
 /// How many bytes the text in quotes has that bytes begin with. Behind three quotes it goes over lines, and

@@ -1,44 +1,48 @@
 //! Words for people: names that someone may have meant, lists and numbers of things. Each value prints
 //! itself, and allocates nothing for that.
 use crate::text::printed;
-use std::alloc::{AllocError, Global};
 use std::fmt;
-use strsim::osa_distance;
-
-/// Words that were made, or the error that there was no memory for them; the call that adds them notes it.
-pub type Words = Result<String, AllocError>;
-
-/// Words with more bytes than this are near no name.
-const MAX_WORD: usize = 64;
 
 /// How many characters of a text are printed at most.
 const SHOWN: usize = 40;
 
-/// The first of the names that are nearest to a word, if it is near. It is near if no more edits are needed than
-/// a third of the word's bytes, or than one. `AllocError` if memory ran out.
-pub fn nearest<'n>(
-    alloc: Global,
-    word: &str,
-    names: &[&'n str],
-) -> Result<Option<&'n str>, AllocError> {
-    if word.len() > MAX_WORD {
-        return Ok(None);
-    }
-    let mut least = (word.len() / 3).max(1);
-    let mut found = None;
-    for name in names {
-        let edits = osa_distance(alloc, word, name)?;
-        if edits < least || (edits == least && found.is_none()) {
-            least = edits;
-            found = Some(*name);
-        }
-    }
-    Ok(found)
-}
-
 /// Whether a word is among names.
 pub fn is_among(word: &str, names: &[&str]) -> bool {
-    names.iter().any(|name| *name == word)
+    for name in names {
+        if *name == word {
+            return true;
+        }
+    }
+    false
+}
+
+/// The first of the names that are nearest to a word, by its place among those that were compared. A name is near if no more edits are
+/// needed than a third of the word's bytes, or than one.
+#[derive(Clone, Copy, Drop)]
+pub struct Nearest {
+    /// The edits that it needs; without a name, the most that are near.
+    edits: usize,
+    /// Its place, if a name is near.
+    pub place: Option<usize>,
+}
+
+impl Nearest {
+    /// None of the names yet.
+    pub fn to(word: &str) -> Nearest {
+        Nearest {
+            edits: (word.len() / 3).max(1),
+            place: None,
+        }
+    }
+
+    /// The nearer of it and the name at a place, which needs this many edits.
+    pub(crate) fn or(self, place: usize, edits: usize) -> Nearest {
+        if edits < self.edits || (edits == self.edits && self.place.is_none()) {
+            let place = Some(place);
+            return Nearest { edits, place };
+        }
+        self
+    }
 }
 
 /// A name that may have been meant. It is printed as a question behind a semicolon; without a name, as nothing.

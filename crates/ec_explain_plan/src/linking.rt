@@ -5,6 +5,12 @@ use ec_diagnostic::Telling;
 use ec_link::LinkFault;
 use ec_table::{SlaveRow, Table};
 
+/// How many slaves a plan has at most.
+const MAX_SLAVES: usize = 64;
+
+/// How many frames a plan has at most.
+const MAX_PARTS: usize = 32;
+
 /// Adds remarks on why a table, with this first fault, has no plan.
 pub fn tell_link_fault(telling: &mut Telling<'_>, table: &Table, fault: LinkFault) {
     match fault {
@@ -27,9 +33,12 @@ fn tell_split(telling: &mut Telling<'_>, table: &Table, variable: usize) {
     let Some(row) = table.variables().get(variable) else {
         return;
     };
-    let (alloc, name) = (telling.alloc, row.name.as_str());
-    let words = format!(in alloc; "input variable {name} has links from two sync units");
-    telling.at_row("variable", variable, words);
+    let name = row.name.as_str();
+    telling.at_row(
+        "variable",
+        variable,
+        format_args!("input variable {name} has links from two sync units"),
+    );
     tell_units(telling, table, variable);
     telling.advise("make two variables of it, or give the slaves one `unit`");
 }
@@ -53,26 +62,29 @@ fn tell_units(telling: &mut Telling<'_>, table: &Table, variable: usize) {
 
 /// Adds a remark on the slave that a link joins a variable to.
 fn tell_joined(telling: &mut Telling<'_>, link: usize, slave: &SlaveRow) {
-    let (alloc, name, unit) = (telling.alloc, slave.name.as_str(), slave.unit);
-    let words = format!(in alloc; "link {link} joins it to slave {name} of unit {unit}");
-    telling.at_key("link", link, "slave", words);
+    let (name, unit) = (slave.name.as_str(), slave.unit);
+    telling.at_key(
+        "link",
+        link,
+        "slave",
+        format_args!("link {link} joins it to slave {name} of unit {unit}"),
+    );
 }
 
 /// Adds remarks on too many parts.
 fn tell_too_many_parts(telling: &mut Telling<'_>, slaves: &[SlaveRow], count: usize) {
-    let alloc = telling.alloc;
-    let (units, past) = units_among(slaves, 32);
+    let (units, past) = units_among(slaves, MAX_PARTS);
     match past {
         Some(place) => telling.at_key(
             "slave",
             place,
             "unit",
-            format!(in alloc;
-                "{units} sync units, each of which has a frame of its own, and 32 frames are the most: this is the first one more"
+            format_args!(
+                "{units} sync units, each of which has a frame of its own, and {MAX_PARTS} frames are the most: this is the first one more"
             ),
         ),
-        None => telling.note(format!(in alloc;
-            "{count} frames for {units} sync units, and 32 are the most: a frame takes slaves of one unit, as many as fit"
+        None => telling.note(format_args!(
+            "{count} frames for {units} sync units, and {MAX_PARTS} are the most: a frame takes slaves of one unit, as many as fit"
         )),
     }
     telling.advise("put slaves into fewer sync units, by their key `unit`");
@@ -104,10 +116,10 @@ fn has_unit_before(slaves: &[SlaveRow], place: usize, unit: u8) -> bool {
 
 /// Adds remarks on too many slaves.
 fn tell_too_many_slaves(telling: &mut Telling<'_>, count: usize) {
-    let alloc = telling.alloc;
-    let words = format!(in alloc;
-        "{count} slaves, and 64 are the most: this is the first one more"
+    telling.at_row(
+        "slave",
+        MAX_SLAVES,
+        format_args!("{count} slaves, and {MAX_SLAVES} are the most: this is the first one more"),
     );
-    telling.at_row("slave", 64, words);
     telling.advise("make two tables, each for a segment of its own");
 }

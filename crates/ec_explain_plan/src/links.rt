@@ -1,9 +1,10 @@
 //! Why a link is none of a plan: refusals 16 to 19.
 use crate::entries::{EntryNames, has_entry};
 use crate::places::{LinkAt, assignment_key, word_of};
-use ec_diagnostic::{Counted, PathStep, Telling, Words};
+use ec_diagnostic::{Counted, PathStep, Telling};
 use ec_link::LinkFault;
 use ec_table::{Direction, Table};
+use std::fmt::Display;
 
 /// Adds remarks on a fault of the link at a place.
 pub fn tell_of_link(telling: &mut Telling<'_>, table: &Table, fault: LinkFault, link: usize) {
@@ -41,12 +42,8 @@ fn earlier_giving<'t>(table: &'t Table, at: &LinkAt<'_>) -> Option<LinkAt<'t>> {
 
 /// Adds a remark on what a link gives.
 fn tell_given(telling: &mut Telling<'_>, at: &LinkAt<'_>, too: &str) {
-    let (alloc, place) = (telling.alloc, at.place);
-    at_bits(
-        telling,
-        place,
-        format!(in alloc; "link {place} gives {at}{too}"),
-    );
+    let place = at.place;
+    at_bits(telling, place, format_args!("link {place} gives {at}{too}"));
 }
 
 /// Adds remarks on a link with bits past its entry or its variable.
@@ -62,33 +59,36 @@ fn tell_outside(telling: &mut Telling<'_>, at: &LinkAt<'_>) {
 
 /// Adds a remark on a link with bits past its entry, which has `bits` bits.
 fn tell_past_entry(telling: &mut Telling<'_>, at: &LinkAt<'_>, bits: u8) {
-    let alloc = telling.alloc;
     let (linked, entry, slave) = (at.entry_bits(), at.entry(), at.slave);
     let (are, has) = (linked.verb(), Counted(usize::from(bits), "bit"));
-    let words = format!(in alloc; "{linked} of {entry} of {slave} {are} linked, and it has {has}");
-    at_bits(telling, at.place, words);
+    at_bits(
+        telling,
+        at.place,
+        format_args!("{linked} of {entry} of {slave} {are} linked, and it has {has}"),
+    );
 }
 
 /// Adds a remark on a link with bits past its variable.
 fn tell_past_variable(telling: &mut Telling<'_>, at: &LinkAt<'_>) {
-    let alloc = telling.alloc;
     let (linked, variable) = (at.variable_bits(), at.variable.name.as_str());
     let (are, has) = (linked.verb(), Counted(usize::from(at.variable.bits), "bit"));
-    let words = format!(in alloc; "{linked} of variable {variable} {are} linked, and it has {has}");
-    at_bits(telling, at.place, words);
+    at_bits(
+        telling,
+        at.place,
+        format_args!("{linked} of variable {variable} {are} linked, and it has {has}"),
+    );
 }
 
 /// Adds a remark on how many bits a link may have, whose entry has `entry_bits` bits.
 fn advise_fewer_bits(telling: &mut Telling<'_>, at: &LinkAt<'_>, entry_bits: u8) {
-    let alloc = telling.alloc;
     let (variable, variable_bits) = (at.variable.name.as_str(), at.variable.bits);
-    telling.advise_in(format!(in alloc;
+    telling.advise(format_args!(
         "link fewer bits: bits = [first of the variable, first of the entry, how many]; variable {variable} has {variable_bits}, the entry {entry_bits}"
     ));
 }
 
 /// Adds a remark on the bits of a link, and marks `bits`, or `var` if the link has no `bits`.
-fn at_bits(telling: &mut Telling<'_>, link: usize, words: Words) {
+fn at_bits<D: Display + Drop>(telling: &mut Telling<'_>, link: usize, words: D) {
     let way = [
         PathStep::Key("link"),
         PathStep::Item(link),
@@ -111,49 +111,61 @@ fn tell_no_entry(telling: &mut Telling<'_>, at: &LinkAt<'_>) {
 
 /// Adds a remark on a link to an entry that the type lacks. It lists the entries with its index, or all if there are none.
 fn tell_missing(telling: &mut Telling<'_>, at: &LinkAt<'_>) {
-    let alloc = telling.alloc;
     let (entry, slave, direction) = (at.entry(), at.slave, at.variable.direction);
     let (index, word) = (entry.0, word_of(direction));
     let same = EntryNames::new(slave, direction, Some(index));
     if same.count() > 0 {
-        let words = format!(in alloc;
-            "{slave} has no {word} {entry}; of 0x{index:04X} it has {same}"
+        return telling.at_key(
+            "link",
+            at.place,
+            "sub",
+            format_args!("{slave} has no {word} {entry}; of 0x{index:04X} it has {same}"),
         );
-        telling.at_key("link", at.place, "sub", words);
-    } else {
-        let all = EntryNames::new(slave, direction, None);
-        let words = format!(in alloc; "{slave} has no {word} {entry}; its {word}s are {all}");
-        telling.at_key("link", at.place, "index", words);
     }
+    let all = EntryNames::new(slave, direction, None);
+    telling.at_key(
+        "link",
+        at.place,
+        "index",
+        format_args!("{slave} has no {word} {entry}; its {word}s are {all}"),
+    );
 }
 
 /// Adds remarks on a PDO of the type that has a link's entry and isn't assigned.
 fn tell_unassigned(telling: &mut Telling<'_>, at: &LinkAt<'_>, number: u16) {
-    let alloc = telling.alloc;
     let (entry, slave, kind) = (at.entry(), at.slave, at.slave.kind.name.as_str());
-    let words = format!(in alloc;
-        "{slave} doesn't assign PDO 0x{number:04X} of its type {kind}, which has {entry}"
+    telling.at_key(
+        "link",
+        at.place,
+        "index",
+        format_args!(
+            "{slave} doesn't assign PDO 0x{number:04X} of its type {kind}, which has {entry}"
+        ),
     );
-    telling.at_key("link", at.place, "index", words);
     let key = assignment_key(at.variable.direction);
-    telling.advise_in(format!(in alloc; "add 0x{number:04X} to `{key}` of {slave}"));
+    telling.advise(format_args!("add 0x{number:04X} to `{key}` of {slave}"));
 }
 
 /// Adds remarks on a link to an entry of the other direction.
 fn tell_wrong_direction(telling: &mut Telling<'_>, at: &LinkAt<'_>) {
-    let alloc = telling.alloc;
     let (variable, entry, slave) = (at.variable.name.as_str(), at.entry(), at.slave);
     let (here, there, key) = match at.variable.direction {
         Direction::Out => ("output", "input", "in"),
         Direction::In => ("input", "output", "out"),
     };
-    let words = format!(in alloc;
-        "{entry} is an {there} of {slave}, and variable {variable} an {here}"
+    telling.at_key(
+        "link",
+        at.place,
+        "index",
+        format_args!("{entry} is an {there} of {slave}, and variable {variable} an {here}"),
     );
-    telling.at_key("link", at.place, "index", words);
-    let words = format!(in alloc; "variable {variable} is made an {here} here");
-    telling.at_key("variable", at.row.variable, "dir", words);
-    telling.advise_in(format!(in alloc;
+    telling.at_key(
+        "variable",
+        at.row.variable,
+        "dir",
+        format_args!("variable {variable} is made an {here} here"),
+    );
+    telling.advise(format_args!(
         "link a variable with dir = \"{key}\", or an {here} entry of the slave"
     ));
 }

@@ -7,6 +7,9 @@ use ec_link::LinkFault;
 use ec_regs::registers::{RAM_END, RAM_START};
 use ec_table::{Direction, Table};
 
+/// How many bits of a direction a slave has at most.
+const MAX_BITS: usize = 2048;
+
 /// What to do about a device whose outputs lie in its output register.
 const LEAVE_OUT: &str =
     "leave the device out: a link table can't describe one whose outputs lie at 0x0F00, its output \
@@ -30,12 +33,14 @@ fn tell_outside_ram(telling: &mut Telling<'_>, at: &SlaveAt<'_>) {
     let Some(area) = first_outside(at) else {
         return;
     };
-    let alloc = telling.alloc;
     let (kind, last) = (at.kind.name.as_str(), RAM_END - 1);
-    let words = format!(in alloc;
-        "in {at} an area of its type {kind} is not within 0x{RAM_START:04X} to 0x{last:04X}"
+    telling.at_row(
+        "slave",
+        at.place,
+        format_args!(
+            "in {at} an area of its type {kind} is not within 0x{RAM_START:04X} to 0x{last:04X}"
+        ),
     );
-    telling.at_row("slave", at.place, words);
     tell_area(telling, at.row.type_place, area);
     advise_start(telling, at, area);
 }
@@ -45,9 +50,12 @@ fn tell_overlap(telling: &mut Telling<'_>, at: &SlaveAt<'_>) {
     let Some((one, other)) = first_met(at) else {
         return;
     };
-    let (alloc, kind) = (telling.alloc, at.kind.name.as_str());
-    let words = format!(in alloc; "in {at} two areas of its type {kind} share addresses");
-    telling.at_row("slave", at.place, words);
+    let kind = at.kind.name.as_str();
+    telling.at_row(
+        "slave",
+        at.place,
+        format_args!("in {at} two areas of its type {kind} share addresses"),
+    );
     tell_area(telling, at.row.type_place, one);
     tell_area(telling, at.row.type_place, other);
     advise_start(telling, at, other);
@@ -58,24 +66,22 @@ fn advise_start(telling: &mut Telling<'_>, at: &SlaveAt<'_>, moved: Area) {
     if moved.is_output_register() {
         return telling.advise(LEAVE_OUT);
     }
-    let (alloc, content) = (telling.alloc, moved.content);
-    telling.advise_in(match first_free(at, &moved) {
-        Some(start) => format!(in alloc;
+    let content = moved.content;
+    match first_free(at, &moved) {
+        Some(start) => telling.advise(format_args!(
             "let the area of the {content} begin elsewhere: 0x{start:04X} is the first address where it meets no other"
-        ),
-        None => format!(in alloc;
+        )),
+        None => telling.advise(format_args!(
             "make the areas smaller: where the others are, no place in the RAM is long enough for the {content}"
-        ),
-    });
+        )),
+    }
 }
 
 /// Adds a remark on an area, and marks where it begins.
 fn tell_area(telling: &mut Telling<'_>, kind: usize, area: Area) {
-    let alloc = telling.alloc;
-    let words = format!(in alloc; "{area}");
     let (key, item) = area.content.key();
     match item {
-        None => telling.at_key("type", kind, key, words),
+        None => telling.at_key("type", kind, key, area),
         Some(item) => {
             let way = [
                 PathStep::Key("type"),
@@ -83,7 +89,7 @@ fn tell_area(telling: &mut Telling<'_>, kind: usize, area: Area) {
                 PathStep::Key(key),
                 PathStep::Item(item),
             ];
-            telling.at(&way, MarkedPart::Value, words);
+            telling.at(&way, MarkedPart::Value, area);
         }
     }
 }
@@ -92,7 +98,7 @@ fn tell_area(telling: &mut Telling<'_>, kind: usize, area: Area) {
 fn tell_too_many_bits(telling: &mut Telling<'_>, at: &SlaveAt<'_>) {
     for direction in &[Direction::Out, Direction::In] {
         let bits = at.bits(*direction);
-        if bits > 2048 {
+        if bits > MAX_BITS {
             return tell_bits(telling, at, *direction, bits);
         }
     }
@@ -100,16 +106,17 @@ fn tell_too_many_bits(telling: &mut Telling<'_>, at: &SlaveAt<'_>) {
 
 /// Adds remarks on a slave that has this many bits in a direction.
 fn tell_bits(telling: &mut Telling<'_>, at: &SlaveAt<'_>, direction: Direction, bits: usize) {
-    let (alloc, word) = (telling.alloc, word_of(direction));
-    let words = format!(in alloc;
-        "{at} has {bits} {word} bits, gaps with them, and 2048 are the most"
+    let word = word_of(direction);
+    telling.at_row(
+        "slave",
+        at.place,
+        format_args!("{at} has {bits} {word} bits, gaps with them, and {MAX_BITS} are the most"),
     );
-    telling.at_row("slave", at.place, words);
     let (kind, key) = (at.kind.name.as_str(), assignment_key(direction));
-    telling.advise_in(match at.kind.mailbox {
-        Some(_) => format!(in alloc; "assign fewer PDOs of its type by `{key}`"),
-        None => format!(in alloc;
+    match at.kind.mailbox {
+        Some(_) => telling.advise(format_args!("assign fewer PDOs of its type by `{key}`")),
+        None => telling.advise(format_args!(
             "leave PDOs or entries of type {kind} out: it has no mailbox, so all its PDOs are assigned"
-        ),
-    });
+        )),
+    }
 }

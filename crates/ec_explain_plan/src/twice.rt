@@ -2,8 +2,9 @@
 use crate::entries::EntryName;
 use crate::places::{SlaveAt, assignment_key, pdos_key};
 use ec_device::Pdo;
-use ec_diagnostic::{MarkedPart, PathStep, Telling, Words};
+use ec_diagnostic::{MarkedPart, PathStep, Telling};
 use ec_table::Direction;
+use std::fmt::Display;
 
 /// Where an entry stands in a type: the direction, place and index of its PDO, its place in that, and its name.
 #[derive(Clone, Copy)]
@@ -41,52 +42,46 @@ fn tell_seats(telling: &mut Telling<'_>, at: &SlaveAt<'_>, first: &Seat, second:
 
 /// Adds a remark on what to do: a slave may assign one of two PDOs alone, if its type has a mailbox.
 fn advise_on(telling: &mut Telling<'_>, at: &SlaveAt<'_>, first: &Seat, second: &Seat) {
-    let (one, two) = (first.index, second.index);
-    if one == two {
-        advise_one(telling, one);
-    } else {
-        advise_two(telling, at, assignment_key(first.direction), one, two);
-    }
-}
-
-/// Adds a remark on what to do about a PDO that has an entry twice.
-fn advise_one(telling: &mut Telling<'_>, one: u16) {
-    let alloc = telling.alloc;
-    telling.advise_in(format!(in alloc;
-        "leave one of the two entries out of PDO 0x{one:04X}, or correct its index or subindex"
-    ));
-}
-
-/// Adds a remark on what to do about two PDOs that both have an entry.
-fn advise_two(telling: &mut Telling<'_>, at: &SlaveAt<'_>, key: &str, one: u16, two: u16) {
-    let alloc = telling.alloc;
-    telling.advise_in(match at.kind.mailbox {
-        Some(_) => format!(in alloc;
+    let (one, two, key) = (first.index, second.index, assignment_key(first.direction));
+    match at.kind.mailbox {
+        _ if one == two => telling.advise(format_args!(
+            "leave one of the two entries out of PDO 0x{one:04X}, or correct its index or subindex"
+        )),
+        Some(_) => telling.advise(format_args!(
             "assign one of the PDOs alone: `{key} = [0x{one:04X}]`, with the others that it needs; without `{key}` all PDOs of the type are assigned"
-        ),
-        None => format!(in alloc;
+        )),
+        None => telling.advise(format_args!(
             "leave the entry out of PDO 0x{one:04X} or 0x{two:04X}, or correct its index or subindex: a type without a mailbox has all its PDOs assigned"
-        ),
-    });
+        )),
+    }
 }
 
 /// Adds a remark on what a slave assigns: one PDO that has an entry twice, or two PDOs that both have it.
 fn tell_assigned(telling: &mut Telling<'_>, at: &SlaveAt<'_>, first: &Seat, second: &Seat) {
-    let (alloc, kind, name) = (telling.alloc, at.kind.name.as_str(), first.name);
+    let (kind, name) = (at.kind.name.as_str(), first.name);
     let (one, two) = (first.index, second.index);
-    let words = if one == two {
-        format!(in alloc; "{at} assigns PDO 0x{one:04X} of type {kind}, which has {name} twice")
+    if one == two {
+        at_assigned(
+            telling,
+            at.place,
+            first.direction,
+            format_args!("{at} assigns PDO 0x{one:04X} of type {kind}, which has {name} twice"),
+        );
     } else {
-        format!(in alloc;
-            "{at} assigns PDOs 0x{one:04X} and 0x{two:04X} of type {kind}, and both have {name}"
-        )
-    };
-    at_assigned(telling, at.place, first.direction, words);
+        at_assigned(
+            telling,
+            at.place,
+            first.direction,
+            format_args!(
+                "{at} assigns PDOs 0x{one:04X} and 0x{two:04X} of type {kind}, and both have {name}"
+            ),
+        );
+    }
 }
 
 /// Adds a remark on an entry of a type, and marks it.
 fn at_entry(telling: &mut Telling<'_>, kind: usize, seat: &Seat) {
-    let (alloc, name, index) = (telling.alloc, seat.name, seat.index);
+    let (name, index) = (seat.name, seat.index);
     let way = [
         PathStep::Key("type"),
         PathStep::Item(kind),
@@ -98,12 +93,17 @@ fn at_entry(telling: &mut Telling<'_>, kind: usize, seat: &Seat) {
     telling.at(
         &way,
         MarkedPart::Value,
-        format!(in alloc; "{name} in PDO 0x{index:04X}"),
+        format_args!("{name} in PDO 0x{index:04X}"),
     );
 }
 
 /// Adds a remark on what a slave assigns in a direction, and marks that, or the slave if that isn't written.
-fn at_assigned(telling: &mut Telling<'_>, slave: usize, direction: Direction, words: Words) {
+fn at_assigned<D: Display + Drop>(
+    telling: &mut Telling<'_>,
+    slave: usize,
+    direction: Direction,
+    words: D,
+) {
     let key = assignment_key(direction);
     let way = [
         PathStep::Key("slave"),

@@ -1,5 +1,6 @@
 //! How the lines of a script are written.
 use crate::word::Line;
+use ec_diagnostic::{Nearest, Telling};
 
 /// What a word of a line stands for.
 #[derive(Clone, Copy, PartialEq, Eq)]
@@ -78,15 +79,6 @@ pub fn form_of(line: Line<'_>, is_variable: bool) -> Option<&'static str> {
     None
 }
 
-/// The first words of the forms.
-pub fn verbs() -> [&'static str; FORMS.len()] {
-    let mut verbs = [""; FORMS.len()];
-    for (place, form) in FORMS.iter().enumerate() {
-        verbs[place] = first_word(form);
-    }
-    verbs
-}
-
 /// Whether a line begins as a form does.
 fn begins(line: Line<'_>, form: &str) -> bool {
     for (place, part) in form.split(' ').enumerate() {
@@ -98,6 +90,15 @@ fn begins(line: Line<'_>, form: &str) -> bool {
         }
     }
     true
+}
+
+/// The first word of a form that may have been meant.
+pub fn verb_near(telling: &mut Telling<'_>, word: &str) -> Option<&'static str> {
+    let mut near = Nearest::to(word);
+    for (place, form) in FORMS.iter().enumerate() {
+        near = telling.nearer(near, word, place, first_word(form));
+    }
+    Some(first_word(FORMS.get(near.place?)?))
 }
 
 /// The first word of a form.

@@ -1,9 +1,8 @@
 //! Why a word can't stand for what a line needs in its place.
 use crate::form::WordKind;
 use crate::word::Word;
-use ec_diagnostic::{Printable, Telling, is_among};
+use ec_diagnostic::{Meant, Nearest, Printable, Telling, is_among};
 use ec_table::Table;
-use std::alloc::{AllocError, Global};
 
 /// The digits in which a number is written.
 #[derive(Clone, Copy)]
@@ -21,6 +20,16 @@ pub const SEE_HELP: &str = "correct it; `ecat sim --help` lists the lines that a
 /// Whether a variable of a table has this name.
 pub fn names_variable(table: &Table, name: &str) -> bool {
     for row in table.variables() {
+        if row.name.as_str() == name {
+            return true;
+        }
+    }
+    false
+}
+
+/// Whether a slave of a table has this name.
+fn names_slave(table: &Table, name: &str) -> bool {
+    for row in table.slaves() {
         if row.name.as_str() == name {
             return true;
         }
@@ -46,8 +55,8 @@ pub fn tell_misfit(
 
 /// Adds remarks on a word that isn't of its kind.
 fn tell_fault(telling: &mut Telling<'_>, word: Word<'_>, fault: &str, advice: &str) {
-    let (alloc, shown) = (telling.alloc, Printable(word.text));
-    telling.at_span(word.span(), format!(in alloc; "`{shown}` {fault}"));
+    let shown = Printable(word.text);
+    telling.at_span(word.span(), format_args!("`{shown}` {fault}"));
     telling.advise(advice);
 }
 
@@ -61,76 +70,62 @@ fn tell_unknown(
     let Some(table) = table else {
         return false;
     };
-    let alloc = telling.alloc;
     match kind {
-        WordKind::Variable => {
-            let advice = "correct the name, or add a variable of that name to the table";
-            tell_unnamed(
-                telling,
-                "variable",
-                variables_of(alloc, table),
-                word,
-                advice,
-            )
+        WordKind::Variable if !names_variable(table, word.text) => {
+            tell_no_variable(telling, table, word);
+            true
         }
-        WordKind::Slave if !has_digits(word.text, Base::Decimal) => {
-            let advice =
-                "correct the name, add a slave of that name to the table, or write its number";
-            tell_unnamed(telling, "slave", slaves_of(alloc, table), word, advice)
+        WordKind::Slave
+            if !has_digits(word.text, Base::Decimal) && !names_slave(table, word.text) => {
+            tell_no_slave(telling, table, word);
+            true
         }
         _ => false,
     }
 }
 
-/// Adds remarks on a word that isn't among the names that were made. Returns whether it isn't, or memory ran out for the names.
-fn tell_unnamed(
-    telling: &mut Telling<'_>,
-    thing: &str,
-    names: Result<Vec<&str>, AllocError>,
-    word: Word<'_>,
-    advice: &str,
-) -> bool {
-    match telling.made(names) {
-        Some(names) => tell_not_among(telling, thing, names.as_slice(), word, advice),
-        None => true,
-    }
+/// Adds remarks on a word that is the name of no variable.
+fn tell_no_variable(telling: &mut Telling<'_>, table: &Table, word: Word<'_>) {
+    let (shown, near) = (
+        Printable(word.text),
+        Meant(variable_near(telling, table, word.text)),
+    );
+    telling.at_span(
+        word.span(),
+        format_args!("no variable has the name `{shown}`{near}"),
+    );
+    telling.advise("correct the name, or add a variable of that name to the table");
 }
 
-/// Adds remarks on a word that isn't among the names of things; returns whether it isn't.
-fn tell_not_among(
-    telling: &mut Telling<'_>,
-    thing: &str,
-    names: &[&str],
-    word: Word<'_>,
-    advice: &str,
-) -> bool {
-    let is_none = !is_among(word.text, names);
-    if is_none {
-        let (alloc, shown) = (telling.alloc, Printable(word.text));
-        let near = telling.meant(word.text, names);
-        let words = format!(in alloc; "no {thing} has the name `{shown}`{near}");
-        telling.at_span(word.span(), words);
-        telling.advise(advice);
+/// The name of a variable that may have been meant.
+fn variable_near<'t>(telling: &mut Telling<'_>, table: &'t Table, word: &str) -> Option<&'t str> {
+    let (rows, mut near) = (table.variables(), Nearest::to(word));
+    for (place, row) in rows.iter().enumerate() {
+        near = telling.nearer(near, word, place, row.name.as_str());
     }
-    is_none
+    Some(rows.get(near.place?)?.name.as_str())
 }
 
-/// The names of a table's variables. `AllocError` if memory ran out.
-fn variables_of<'t>(alloc: Global, table: &'t Table) -> Result<Vec<&'t str>, AllocError> {
-    let mut names = Vec::new(alloc);
-    for row in table.variables() {
-        names.push(row.name.as_str())?;
-    }
-    Ok(names)
+/// Adds remarks on a word that is the name of no slave.
+fn tell_no_slave(telling: &mut Telling<'_>, table: &Table, word: Word<'_>) {
+    let (shown, near) = (
+        Printable(word.text),
+        Meant(slave_near(telling, table, word.text)),
+    );
+    telling.at_span(
+        word.span(),
+        format_args!("no slave has the name `{shown}`{near}"),
+    );
+    telling.advise("correct the name, add a slave of that name to the table, or write its number");
 }
 
-/// The names of a table's slaves. `AllocError` if memory ran out.
-fn slaves_of<'t>(alloc: Global, table: &'t Table) -> Result<Vec<&'t str>, AllocError> {
-    let mut names = Vec::new(alloc);
-    for row in table.slaves() {
-        names.push(row.name.as_str())?;
+/// The name of a slave that may have been meant.
+fn slave_near<'t>(telling: &mut Telling<'_>, table: &'t Table, word: &str) -> Option<&'t str> {
+    let (rows, mut near) = (table.slaves(), Nearest::to(word));
+    for (place, row) in rows.iter().enumerate() {
+        near = telling.nearer(near, word, place, row.name.as_str());
     }
-    Ok(names)
+    Some(rows.get(near.place?)?.name.as_str())
 }
 
 /// What 64 bits hold, and what to do, if 64 bits don't hold the number that a word writes. `None` for a byte and a number of times,

@@ -1,29 +1,25 @@
 //! Which line of a script stands for nothing: refusal 39; and that what lines expect doesn't hold: 45.
-use crate::form::{WordKind, form_of, verbs};
+use crate::form::{WordKind, form_of, verb_near};
 use crate::misfit::{SEE_HELP, names_variable, tell_misfit};
 use crate::word::{Line, Word, without_comment};
-use ec_diagnostic::{Printable, Span, Telling};
+use ec_diagnostic::{Meant, Printable, Span, Telling};
 use ec_table::{Table, read_table};
 
 /// Adds remarks on line `line`, counted from 1, of the script that begins at the byte `from` of a text. They say which word of
 /// it is at fault, and how it is written.
 pub fn tell_bad_line(telling: &mut Telling<'_>, text: &str, from: usize, line: usize) {
-    let alloc = telling.alloc;
     match line_start(text.as_bytes(), from, line) {
         Some(start) => tell_in_text(telling, table_before(text, from), line_at(text, start)),
-        None => telling.note(format!(in alloc;
-            "line {line} of the script isn't found in the text"
-        )),
+        None => telling.note(format_args!("line {line} of the script isn't found in the text")),
     }
 }
 
 /// Adds remarks that what lines expect doesn't hold, this many times.
 pub fn tell_unmet(telling: &mut Telling<'_>, count: u64) {
-    let alloc = telling.alloc;
     let what = "what a line expects wasn't so; each `unmet` names its line";
     match count {
-        1 => telling.note_plain(what),
-        _ => telling.note(format!(in alloc; "{count} times {what}")),
+        1 => telling.note(what),
+        _ => telling.note(format_args!("{count} times {what}")),
     }
     telling.advise("see what these lines expect, or what the lines before them do");
 }
@@ -83,8 +79,7 @@ fn tell_repeat_again(telling: &mut Telling<'_>, word: Word<'_>) {
 
 /// Adds remarks on what is wrong at some bytes, and on what to do.
 fn tell_plain(telling: &mut Telling<'_>, span: Span, wrong: &str, advice: &str) {
-    let alloc = telling.alloc;
-    telling.at_span(span, String::from_str(alloc, wrong));
+    telling.at_span(span, wrong);
     telling.advise(advice);
 }
 
@@ -123,14 +118,11 @@ fn tell_by_form(telling: &mut Telling<'_>, table: Option<&Table>, line: Line<'_>
 
 /// Adds remarks on a line that has too few words, or one too many, and on its form.
 fn tell_form(telling: &mut Telling<'_>, line: Line<'_>, form: &str) {
-    let alloc = telling.alloc;
     telling.at_span(
         line.span(),
-        format!(in alloc; "this line isn't written as `{form}`"),
+        format_args!("this line isn't written as `{form}`"),
     );
-    telling.advise_in(format!(in alloc;
-        "write it as `{form}`, with single blanks between the words"
-    ));
+    telling.advise(format_args!("write it as `{form}`, with single blanks between the words"));
 }
 
 /// Adds remarks on a line whose first word begins no form.
@@ -138,10 +130,11 @@ fn tell_unknown_verb(telling: &mut Telling<'_>, line: Line<'_>) {
     let Some(word) = line.word(0) else {
         return;
     };
-    let (alloc, shown) = (telling.alloc, Printable(word.text));
-    let near = telling.meant(word.text, &verbs());
-    let words = format!(in alloc; "no line of a script begins with `{shown}`{near}");
-    telling.at_span(word.span(), words);
+    let (shown, near) = (Printable(word.text), Meant(verb_near(telling, word.text)));
+    telling.at_span(
+        word.span(),
+        format_args!("no line of a script begins with `{shown}`{near}"),
+    );
     telling.advise(SEE_HELP);
 }
 

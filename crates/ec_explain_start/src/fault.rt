@@ -142,8 +142,10 @@ impl fmt::Display for StartFault<'_> {
 impl fmt::Display for SlaveAt<'_> {
     fn fmt<W: fmt::Write>(&self, f: &mut fmt::Formatter<W>) -> fmt::Result {
         let SlaveAt { table, place } = *self;
-        let row = table.slaves().get(place);
-        let name = row.map_or("", |row| row.name.as_str());
+        let name = match table.slaves().get(place) {
+            Some(row) => row.name.as_str(),
+            None => "",
+        };
         write!(f, "slave {place} {name}")
     }
 }

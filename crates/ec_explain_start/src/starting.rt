@@ -121,7 +121,7 @@ impl fmt::Display for Mapped<'_> {
 
 /// Adds a remark that has no place, and what to do.
 fn tell_plain(telling: &mut Telling<'_>, (words, advice): (&str, &str)) {
-    telling.note_plain(words);
+    telling.note(words);
     telling.advise(advice);
 }
 
@@ -133,8 +133,7 @@ fn tell_of_slave(telling: &mut Telling<'_>, slave: usize, fault: StartFault<'_>,
 
 /// Adds a remark on what a start-up failed by at a slave.
 fn at_slave(telling: &mut Telling<'_>, slave: usize, fault: StartFault<'_>) {
-    let alloc = telling.alloc;
-    telling.at_row("slave", slave, format!(in alloc; "{fault}"));
+    telling.at_row("slave", slave, fault);
 }
 
 /// Adds remarks on an object of a slave's mapping, with its index and subindex, that has another value than in its type.
@@ -145,7 +144,6 @@ fn tell_mapping(
     seen: u32,
     fault: StartFault<'_>,
 ) {
-    let alloc = telling.alloc;
     let (index, subindex) = object;
     at_slave(telling, at.place, fault);
     at_pdo(telling, at, index, subindex);
@@ -153,14 +151,13 @@ fn tell_mapping(
         return telling.advise("give the PDO of the type the entries that the device has");
     }
     let (object, sub, bits) = (seen / 65536, seen / 256 % 256, seen % 256);
-    telling.advise_in(format!(in alloc;
+    telling.advise(format_args!(
         "correct the PDO of the type: what the device has is the entry [0x{object:04X}, {sub}, {bits}]"
     ));
 }
 
 /// Adds a remark on what the PDO of a slave's type has at a subindex, and marks the PDO.
 fn at_pdo(telling: &mut Telling<'_>, at: SlaveAt<'_>, index: u16, subindex: u8) {
-    let alloc = telling.alloc;
     let Some((place, kind)) = at.kind() else {
         return;
     };
@@ -185,7 +182,7 @@ fn at_pdo(telling: &mut Telling<'_>, at: SlaveAt<'_>, index: u16, subindex: u8) 
             telling.at(
                 &way,
                 MarkedPart::Key,
-                format!(in alloc; "its type {name} has {wanted} there"),
+                format_args!("its type {name} has {wanted} there"),
             );
         }
     }
@@ -218,19 +215,17 @@ fn fault_of_step<'t>(
 
 /// Adds a remark on a step, and marks the slave that it is for; adds none on a step that the plan doesn't have.
 fn at_step(telling: &mut Telling<'_>, fault: StartFault<'_>) {
-    let alloc = telling.alloc;
     let Some(found) = fault.step() else {
         return;
     };
     match found.slave {
         Some(slave) => at_slave(telling, slave, fault),
-        None => telling.note(format!(in alloc; "{fault}")),
+        None => telling.note(fault),
     }
 }
 
 /// Adds remarks on a slave that is another device.
 fn tell_identity(telling: &mut Telling<'_>, at: SlaveAt<'_>, seen: Device, fault: StartFault<'_>) {
-    let alloc = telling.alloc;
     at_slave(telling, at.place, fault);
     if let Some((place, kind)) = at.kind() {
         let (name, wanted) = (kind.name.as_str(), Shown(kind.device));
@@ -238,13 +233,13 @@ fn tell_identity(telling: &mut Telling<'_>, at: SlaveAt<'_>, seen: Device, fault
             "type",
             place,
             "name",
-            format!(in alloc; "its type {name} says {wanted}"),
+            format_args!("its type {name} says {wanted}"),
         );
     }
     match type_of(at.table, seen) {
         Some(kind) => {
             let name = kind.name.as_str();
-            telling.advise_in(format!(in alloc;
+            telling.advise(format_args!(
                 "what it shows is the type {name} of the table: put the slaves into the order in which a frame passes them"
             ));
         }
@@ -266,18 +261,17 @@ fn type_of(table: &Table, device: Device) -> Option<&TypeRow> {
 
 /// Adds remarks on too few or too many slaves.
 fn tell_count(telling: &mut Telling<'_>, table: &Table, seen: usize, fault: StartFault<'_>) {
-    let alloc = telling.alloc;
     if seen < table.slaves().len() {
         let at = SlaveAt::new(table, seen);
         telling.at_row(
             "slave",
             seen,
-            format!(in alloc;
+            format_args!(
                 "{fault}: {at} is the first that is missing, if those before it are there"
             ),
         );
         return telling.advise("see whether that slave is switched on and its cable plugged in");
     }
-    telling.note(format!(in alloc; "{fault}"));
+    telling.note(fault);
     telling.advise("add the other slaves to the table, in the order in which a frame passes them");
 }

@@ -20,8 +20,12 @@ impl<'v> Numbers<'v> {
 
     /// Whether both are the same numbers in the same order.
     pub fn is_same(self, others: Numbers<'_>) -> bool {
+        for (number, other) in self.items.iter().zip(others.items) {
+            if number_of(number) != number_of(other) {
+                return false;
+            }
+        }
         self.items.len() == others.items.len()
-            && (0..self.items.len()).all(|place| self.at(place) == others.at(place))
     }
 
     /// The first number that isn't among others, with its place.
@@ -48,13 +52,12 @@ impl<'v> Numbers<'v> {
 
     /// The first place of a number before the place `end`.
     fn place_of(self, number: i64, end: usize) -> Option<usize> {
-        let mut items = self.items.iter().take(end);
-        items.position(|item| number_of(item) == number)
-    }
-
-    /// The number at a place.
-    fn at(self, place: usize) -> Option<i64> {
-        self.items.get(place).map(number_of)
+        for (place, item) in self.items.iter().take(end).enumerate() {
+            if number_of(item) == number {
+                return Some(place);
+            }
+        }
+        None
     }
 }
 

@@ -1,12 +1,9 @@
 //! Why a text is no link table: refusals 11 to 15.
-ghost use Rattle.std.specs.Prelude.{◌≤◌};
-
-use crate::misfit::{Mark, Misfit};
+use crate::misfit::{Mark, Misfit, PDO_KEYS};
 use crate::numbers::Numbers;
-use crate::rule::{Lacking, Named, Rule, Taken, is_key, keys_of, names_of, needs_of, word_of};
-use ec_diagnostic::{MarkedPart, Meant, PathStep, Printable, Span, Telling, Words};
+use crate::rule::{Lacking, Named, Rule, Taken, is_key, keys_of, word_of};
+use ec_diagnostic::{MarkedPart, Meant, Nearest, PathStep, Printable, Span, Telling};
 use ec_table::{Fault, Place, Section};
-use std::alloc::{AllocError, Global};
 use toml::{Table, Value};
 
 /// The keys by which elements name others, and the sections of those.
@@ -45,51 +42,9 @@ impl<'d> Element<'d> {
         self.members.get(key)?.as_str()
     }
 
-    /// How many of the first two steps of a way, section and element, to leave out: both for the document, else none.
-    fn skipped(self) -> usize
-        ensures { result ≤ 2 }
-    {
-        if self.place.section == Section::Top {
-            2
-        } else {
-            0
-        }
-    }
-
-    /// Adds a remark on it, and marks where it begins.
-    fn say(self, telling: &mut Telling<'_>, words: Words) {
-        let way = [
-            PathStep::Key(word_of(self.place.section)),
-            PathStep::Item(self.place.element),
-        ];
-        telling.at(&way[self.skipped()..], MarkedPart::Key, words);
-    }
-
-    /// Adds a remark on what stands under a key of it, and marks a part of that.
-    fn say_under(self, telling: &mut Telling<'_>, key: &str, part: MarkedPart, words: Words) {
-        let way = [
-            PathStep::Key(word_of(self.place.section)),
-            PathStep::Item(self.place.element),
-            PathStep::Key(key),
-        ];
-        telling.at(&way[self.skipped()..], part, words);
-    }
-
-    /// Adds a remark on an item of a list under a key of it, and marks a part of that.
-    fn say_item(
-        self,
-        telling: &mut Telling<'_>,
-        (key, item): (&str, usize),
-        part: MarkedPart,
-        words: Words,
-    ) {
-        let way = [
-            PathStep::Key(word_of(self.place.section)),
-            PathStep::Item(self.place.element),
-            PathStep::Key(key),
-            PathStep::Item(item),
-        ];
-        telling.at(&way[self.skipped()..], part, words);
+    /// A part of what stands under a key of it.
+    fn under(self, key: &'d str, part: MarkedPart) -> Mark<'d> {
+        Mark::under(self.place, key, part)
     }
 }
 
@@ -104,9 +59,8 @@ pub fn tell_fault(telling: &mut Telling<'_>, text: &str, fault: Fault) {
 
 /// Adds remarks on what the reader of TOML reports.
 fn tell_syntax(telling: &mut Telling<'_>, error: &toml::de::Error) {
-    let alloc = telling.alloc;
     let message = error.message();
-    let words = format!(in alloc; "this is no TOML: {message}");
+    let words = format_args!("this is no TOML: {message}");
     match error.span() {
         Some(range) => {
             let (start, end) = (range.start, range.end);
@@ -119,8 +73,10 @@ fn tell_syntax(telling: &mut Telling<'_>, error: &toml::de::Error) {
 
 /// Adds remarks on a fault of a document.
 fn tell_of_document(telling: &mut Telling<'_>, document: &Table, fault: Fault) {
-    let place = fault.place();
-    let Some(element) = place.and_then(|place| Element::at(document, place)) else {
+    let Some(place) = fault.place() else {
+        return;
+    };
+    let Some(element) = Element::at(document, place) else {
         return;
     };
     match fault {
@@ -149,63 +105,58 @@ fn tell_bad_key(telling: &mut Telling<'_>, element: Element<'_>) {
 
 /// Adds remarks on a key that no element of its section has.
 fn tell_unknown_key(telling: &mut Telling<'_>, element: Element<'_>, key: &str) {
-    let (alloc, section) = (telling.alloc, element.place.section);
-    let (word, shown) = (word_of(section), Printable(key));
-    let near = meant_key(telling, key, section);
-    let words = match section {
-        Section::Top => format!(in alloc; "`{shown}` is no section{near}"),
-        _ => format!(in alloc; "`{shown}` is no key of a {word}{near}"),
-    };
-    element.say_under(telling, key, MarkedPart::Key, words);
-    let all = Named(keys_of(section));
-    telling.advise_in(format!(in alloc; "leave it out or correct it; a {word} has the keys {all}"));
+    let section = element.place.section;
+    let (word, shown, all) = (word_of(section), Printable(key), Named(keys_of(section)));
+    let near = Meant(meant_key(telling, key, section));
+    let mark = Mark::under(element.place, key, MarkedPart::Key);
+    match section {
+        Section::Top => mark.say(telling, format_args!("`{shown}` is no section{near}")),
+        _ => mark.say(
+            telling,
+            format_args!("`{shown}` is no key of a {word}{near}"),
+        ),
+    }
+    telling.advise(format_args!("leave it out or correct it; a {word} has the keys {all}"));
 }
 
 /// The key of a section's elements that may have been meant.
-fn meant_key(telling: &mut Telling<'_>, key: &str, section: Section) -> Meant<'static> {
-    let names = names_of(telling.alloc, keys_of(section));
-    match telling.made(names) {
-        Some(names) => telling.meant(key, names.as_slice()),
-        None => Meant(None),
+fn meant_key(telling: &mut Telling<'_>, key: &str, section: Section) -> Option<&'static str> {
+    let (keys, mut near) = (keys_of(section), Nearest::to(key));
+    for (place, (name, _, _)) in keys.iter().enumerate() {
+        near = telling.nearer(near, key, place, name);
     }
+    Some(keys.get(near.place?)?.0)
 }
 
 /// Adds remarks on a sync unit in a table that isn't of version 2.
 fn tell_early_unit(telling: &mut Telling<'_>, element: Element<'_>) {
     let words = "`unit` is a key only where the text begins with `version = 2`";
-    let words = String::from_str(telling.alloc, words);
-    element.say_under(telling, "unit", MarkedPart::Key, words);
+    let mark = element.under("unit", MarkedPart::Key);
+    mark.say(telling, words);
     telling.advise("write `version = 2` above all tables, or leave `unit` out");
 }
 
 /// Whether the document is of version 2.
 fn is_version_2(document: &Table) -> bool {
-    let version = document.get("version");
-    version.and_then(|version| version.as_integer()) == Some(2)
+    match document.get("version") {
+        Some(version) => version.as_integer() == Some(2),
+        None => false,
+    }
 }
 
 /// Adds remarks on the keys that an element lacks.
 fn tell_missing(telling: &mut Telling<'_>, element: Element<'_>) {
-    let needs = needs_of(telling.alloc, keys_of(element.place.section));
-    if let Some(needs) = telling.made(needs) {
-        tell_lacking(telling, element, needs.as_slice());
-    }
-}
-
-/// Adds remarks on those keys that an element must have and lacks.
-fn tell_lacking(telling: &mut Telling<'_>, element: Element<'_>, needs: &[&str]) {
-    let (alloc, place) = (telling.alloc, element.place);
+    let place = element.place;
     let lacks = Lacking {
         members: element.members,
-        names: needs,
+        keys: keys_of(place.section),
     };
-    let (word, number) = (word_of(place.section), place.element);
-    let words = match place.section {
-        Section::Top => format!(in alloc; "the document lacks {lacks}"),
-        _ => format!(in alloc; "{word} {number} lacks {lacks}"),
-    };
-    element.say(telling, words);
-    telling.advise_in(format!(in alloc; "add {lacks}"));
+    let (mark, word, number) = (Mark::of(place), word_of(place.section), place.element);
+    match place.section {
+        Section::Top => mark.say(telling, format_args!("the document lacks {lacks}")),
+        _ => mark.say(telling, format_args!("{word} {number} lacks {lacks}")),
+    }
+    telling.advise(format_args!("add {lacks}"));
 }
 
 /// Adds remarks on a value that isn't what its key takes.
@@ -242,37 +193,41 @@ fn tell_bad_section(telling: &mut Telling<'_>, document: &Table, section: &'stat
 
 /// Adds remarks on a section that is no list, but may be a table.
 fn tell_no_list(telling: &mut Telling<'_>, section: &'static str, is_table: bool) {
-    let alloc = telling.alloc;
     let alone = if is_table {
         ", and this is one table alone"
     } else {
         ""
     };
-    let words = format!(in alloc; "a section is a list of tables{alone}");
-    telling.at(&[PathStep::Key(section)], MarkedPart::Key, words);
-    telling.advise_in(format!(in alloc; "write `[[{section}]]` above each table of the section"));
+    telling.at(
+        &[PathStep::Key(section)],
+        MarkedPart::Key,
+        format_args!("a section is a list of tables{alone}"),
+    );
+    telling.advise(format_args!("write `[[{section}]]` above each table of the section"));
 }
 
 /// Adds remarks on the first element of a section that is no table; returns whether there is one.
 fn tell_no_table(telling: &mut Telling<'_>, section: &'static str, elements: &[Value]) -> bool {
-    let alloc = telling.alloc;
-    let Some(place) = elements.iter().position(|element| !element.is_table()) else {
-        return false;
-    };
-    let words = format!(in alloc; "{section} {place} is no table");
-    let way = [PathStep::Key(section), PathStep::Item(place)];
-    telling.at(&way, MarkedPart::Value, words);
-    telling.advise("write a table in its place, as `{ name = .. }`");
-    true
+    for (place, element) in elements.iter().enumerate() {
+        if !element.is_table() {
+            telling.at(
+                &[PathStep::Key(section), PathStep::Item(place)],
+                MarkedPart::Value,
+                format_args!("{section} {place} is no table"),
+            );
+            telling.advise("write a table in its place, as `{ name = .. }`");
+            return true;
+        }
+    }
+    false
 }
 
 /// Adds remarks on a value of an element that isn't what its key takes; returns whether there is one.
 fn tell_misfit(telling: &mut Telling<'_>, element: Element<'_>) -> bool {
-    let alloc = telling.alloc;
     for (key, rule, _) in keys_of(element.place.section) {
         if tell_misfit_under(telling, element, *key, *rule) {
             let taken = Taken(*rule);
-            telling.advise_in(format!(in alloc; "give `{key}` what it takes: {taken}"));
+            telling.advise(format_args!("give `{key}` what it takes: {taken}"));
             return true;
         }
     }
@@ -289,14 +244,25 @@ fn tell_misfit_under<'d>(
     let Some(value) = element.members.get(key) else {
         return false;
     };
-    let mut mark = Mark::under(telling.alloc, element.place, key);
-    match mark.hold(value, rule) {
-        Ok(()) => false,
-        Err(Misfit(words)) => {
-            telling.at(mark.way(), mark.part, words);
-            true
-        }
+    let mut mark = element.under(key, MarkedPart::Value);
+    let Err(misfit) = mark.hold(value, rule) else {
+        return false;
+    };
+    let near = Meant(meant_in_pdo(telling, misfit));
+    mark.say(telling, format_args!("{misfit}{near}"));
+    true
+}
+
+/// The key of a PDO that may have been meant by one that it doesn't have.
+fn meant_in_pdo(telling: &mut Telling<'_>, misfit: Misfit<'_>) -> Option<&'static str> {
+    let Misfit::NoKey(key) = misfit else {
+        return None;
+    };
+    let mut near = Nearest::to(key);
+    for (place, name) in PDO_KEYS.iter().enumerate() {
+        near = telling.nearer(near, key, place, name);
     }
+    PDO_KEYS.get(near.place?).copied()
 }
 
 /// Adds remarks on a slave that assigns PDOs of its own choice, though its type has no mailbox.
@@ -308,10 +274,13 @@ fn tell_fixed(telling: &mut Telling<'_>, element: Element<'_>) {
         let known = indices_under(element.document, kind, list);
         let written = element.members.get(key);
         if written.is_some() && !Numbers::under(written).is_same(known) {
-            let words = format!(in (telling.alloc);
-                "type {kind} has no mailbox, so its slaves assign all its PDOs, in the order of its `{list}`: {known}"
+            let mark = element.under(key, MarkedPart::Key);
+            mark.say(
+                telling,
+                format_args!(
+                    "type {kind} has no mailbox, so its slaves assign all its PDOs, in the order of its `{list}`: {known}"
+                ),
             );
-            element.say_under(telling, key, MarkedPart::Key, words);
         }
     }
     telling.advise("leave `out` and `in` out, or give the type a `mailbox`");
@@ -331,40 +300,52 @@ fn tell_twice(telling: &mut Telling<'_>, element: Element<'_>) {
 
 /// Adds remarks on a name that an earlier element has; returns whether one has it.
 fn tell_taken_name(telling: &mut Telling<'_>, element: Element<'_>) -> bool {
-    let (alloc, word) = (telling.alloc, word_of(element.place.section));
+    let (word, second) = (word_of(element.place.section), element.place.element);
     let Some(name) = element.text("name") else {
         return false;
     };
-    let second = element.place.element;
     let Some(first) = place_before(elements_of(element.document, word), second, name) else {
         return false;
     };
     let shown = Printable(name);
-    let words = format!(in alloc; "{word} {first} has the name `{shown}`");
-    telling.at_key(word, first, "name", words);
-    let words = format!(in alloc; "{word} {second} has the name `{shown}` too");
-    telling.at_key(word, second, "name", words);
+    telling.at_key(
+        word,
+        first,
+        "name",
+        format_args!("{word} {first} has the name `{shown}`"),
+    );
+    telling.at_key(
+        word,
+        second,
+        "name",
+        format_args!("{word} {second} has the name `{shown}` too"),
+    );
     telling.advise("change one of the names, and the references to it");
     true
 }
 
 /// The place of the first element with this name before a place.
 fn place_before(elements: &[Value], place: usize, name: &str) -> Option<usize> {
-    let mut earlier = elements.iter().take(place);
-    earlier.position(|it| text_under(it, "name") == Some(name))
+    for (earlier, element) in elements.iter().take(place).enumerate() {
+        if text_under(element, "name") == Some(name) {
+            return Some(earlier);
+        }
+    }
+    None
 }
 
 /// Adds remarks on an index that stands twice under a key; returns whether one does.
 fn tell_twice_under(telling: &mut Telling<'_>, element: Element<'_>, key: &'static str) -> bool {
-    let alloc = telling.alloc;
     let numbers = Numbers::under(element.members.get(key));
     let Some((first, second, index)) = numbers.twice() else {
         return false;
     };
-    let words = format!(in alloc; "PDO 0x{index:04X} stands here first");
-    element.say_item(telling, (key, first), MarkedPart::Key, words);
-    let words = format!(in alloc; "PDO 0x{index:04X} stands in `{key}` once more");
-    element.say_item(telling, (key, second), MarkedPart::Key, words);
+    let list = element.under(key, MarkedPart::Key);
+    list.item(first).say(telling, format_args!("PDO 0x{index:04X} stands here first"));
+    list.item(second).say(
+        telling,
+        format_args!("PDO 0x{index:04X} stands in `{key}` once more"),
+    );
     telling.advise("leave one of them out, or correct its index");
     true
 }
@@ -387,10 +368,9 @@ fn tell_unknown(telling: &mut Telling<'_>, element: Element<'_>) {
 fn tell_unknown_name(
     telling: &mut Telling<'_>,
     element: Element<'_>,
-    key: &str,
+    key: &'static str,
     section: &str,
 ) -> bool {
-    let alloc = telling.alloc;
     let Some(name) = element.text(key) else {
         return false;
     };
@@ -398,30 +378,34 @@ fn tell_unknown_name(
     if place_before(elements, elements.len(), name).is_some() {
         return false;
     }
-    let (shown, near) = (Printable(name), meant_name(telling, name, elements));
-    let words = format!(in alloc; "no {section} has the name `{shown}`{near}");
-    element.say_under(telling, key, MarkedPart::Value, words);
-    telling.advise_in(format!(in alloc; "correct the name, or add a {section} of that name"));
+    let (shown, near) = (Printable(name), Meant(meant_name(telling, name, elements)));
+    let mark = element.under(key, MarkedPart::Value);
+    mark.say(
+        telling,
+        format_args!("no {section} has the name `{shown}`{near}"),
+    );
+    telling.advise(format_args!("correct the name, or add a {section} of that name"));
     true
 }
 
 /// The name of an element that may have been meant.
-fn meant_name<'v>(telling: &mut Telling<'_>, name: &str, elements: &'v [Value]) -> Meant<'v> {
-    let names = names_in(telling.alloc, elements);
-    match telling.made(names) {
-        Some(names) => telling.meant(name, names.as_slice()),
-        None => Meant(None),
+fn meant_name<'v>(telling: &mut Telling<'_>, word: &str, elements: &'v [Value]) -> Option<&'v str> {
+    let mut near = Nearest::to(word);
+    for (place, element) in elements.iter().enumerate() {
+        if let Some(name) = text_under(element, "name") {
+            near = telling.nearer(near, word, place, name);
+        }
     }
+    text_under(elements.get(near.place?)?, "name")
 }
 
 /// Adds remarks on a PDO that a slave assigns and its type doesn't have; returns whether there is one.
 fn tell_unknown_pdo(
     telling: &mut Telling<'_>,
     element: Element<'_>,
-    key: &str,
+    key: &'static str,
     list: &str,
 ) -> bool {
-    let alloc = telling.alloc;
     let Some(kind) = element.text("type") else {
         return false;
     };
@@ -430,28 +414,23 @@ fn tell_unknown_pdo(
     let Some((item, index)) = numbers.first_not_in(known) else {
         return false;
     };
-    let words = format!(in alloc;
-        "type {kind} has no PDO 0x{index:04X} in `{list}`; it has {known}"
+    let mark = element.under(key, MarkedPart::Value).item(item);
+    mark.say(
+        telling,
+        format_args!("type {kind} has no PDO 0x{index:04X} in `{list}`; it has {known}"),
     );
-    element.say_item(telling, (key, item), MarkedPart::Value, words);
     telling.advise("correct the index, or add the PDO to the type");
     true
 }
 
 /// The indices of the PDOs in a list of the type with this name; none if there is no such type.
 fn indices_under<'d>(document: &'d Table, kind: &str, list: &str) -> Numbers<'d> {
-    let mut types = elements_of(document, "type").iter();
-    let found = types.find(|it| text_under(it, "name") == Some(kind));
-    Numbers::under(found.and_then(|it| it.get(list)))
-}
-
-/// The names of those elements of a section that have one. `AllocError` if memory ran out.
-fn names_in<'v>(alloc: Global, elements: &'v [Value]) -> Result<Vec<&'v str>, AllocError> {
-    let mut names = Vec::new(alloc);
-    for name in elements.iter().filter_map(|it| text_under(it, "name")) {
-        names.push(name)?;
+    for row in elements_of(document, "type") {
+        if text_under(row, "name") == Some(kind) {
+            return Numbers::under(row.get(list));
+        }
     }
-    Ok(names)
+    Numbers::under(None)
 }
 
 /// The text under a key of an element.
@@ -466,8 +445,8 @@ fn elements_of<'v>(document: &'v Table, section: &str) -> &'v [Value] {
 
 /// The items of a list; none if there is no list.
 pub fn items_of(list: Option<&Value>) -> &[Value] {
-    match list.and_then(|list| list.as_array()) {
-        Some(items) => items.as_slice(),
-        None => &[],
+    match list {
+        Some(Value::Array(items)) => items.as_slice(),
+        _ => &[],
     }
 }

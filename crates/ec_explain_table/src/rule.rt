@@ -2,7 +2,6 @@
 use ec_device::{FIRST_INPUT_INDEX, FIRST_OUTPUT_INDEX, MAX_PDOS, PDO_INDICES};
 use ec_diagnostic::comma;
 use ec_table::Section;
-use std::alloc::{AllocError, Global};
 use std::fmt;
 use toml::Table;
 
@@ -104,27 +103,12 @@ pub fn keys_of(section: Section) -> &'static [Key] {
 
 /// Whether a word is the name of one of these keys.
 pub fn is_key(word: &str, keys: &[Key]) -> bool {
-    keys.iter().any(|(name, _, _)| *name == word)
-}
-
-/// The names of keys. `AllocError` if memory ran out.
-pub fn names_of(alloc: Global, keys: &[Key]) -> Result<Vec<&'static str>, AllocError> {
-    let mut names = Vec::new(alloc);
     for (name, _, _) in keys {
-        names.push(*name)?;
-    }
-    Ok(names)
-}
-
-/// The names of those keys that an element must have. `AllocError` if memory ran out.
-pub fn needs_of(alloc: Global, keys: &[Key]) -> Result<Vec<&'static str>, AllocError> {
-    let mut names = Vec::new(alloc);
-    for (name, _, is_needed) in keys {
-        if *is_needed {
-            names.push(*name)?;
+        if *name == word {
+            return true;
         }
     }
-    Ok(names)
+    false
 }
 
 /// Keys, printed as a list of their names.
@@ -141,29 +125,40 @@ impl fmt::Display for Named<'_> {
     }
 }
 
-/// Those of some names that a table lacks, printed as a list.
+/// Those of some keys that a table must have and lacks, printed as a list of their names.
 #[derive(Clone, Copy, Drop)]
 pub struct Lacking<'t> {
     /// The table.
     pub members: &'t Table,
-    /// The names.
-    pub names: &'t [&'t str],
+    /// The keys.
+    pub keys: &'t [Key],
 }
 
 impl Lacking<'_> {
-    /// Whether the table lacks a name.
-    fn has(&self, name: &str) -> bool {
-        self.members.get(name).is_none()
+    /// Whether the table lacks a key that it must have.
+    fn has(&self, (name, _, is_needed): Key) -> bool {
+        is_needed && self.members.get(name).is_none()
+    }
+
+    /// How many there are.
+    fn count(&self) -> usize {
+        let mut count = 0_usize;
+        for key in self.keys {
+            count = count.saturating_add(usize::from(self.has(*key)));
+        }
+        count
     }
 }
 
 impl fmt::Display for Lacking<'_> {
     fn fmt<W: fmt::Write>(&self, f: &mut fmt::Formatter<W>) -> fmt::Result {
-        let count = self.names.iter().filter(|name| self.has(name)).count();
-        let lacks = self.names.iter().filter(|name| self.has(name));
-        for (place, name) in lacks.enumerate() {
-            let before = comma(place, count);
-            write!(f, "{before}{name}")?;
+        let (count, mut place) = (self.count(), 0_usize);
+        for key in self.keys {
+            if self.has(*key) {
+                let (before, name) = (comma(place, count), key.0);
+                write!(f, "{before}{name}")?;
+                place = place.saturating_add(1);
+            }
         }
         Ok(())
     }

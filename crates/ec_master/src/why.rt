@@ -7,12 +7,12 @@ use crate::answer::{Answer, answer_text};
 use crate::control::Control;
 use crate::order::{Order, Task};
 use ec_console::Refusal;
-use ec_diagnostic::{Printable, Words, reason_line};
+use ec_diagnostic::{Printable, reason_line};
 use ec_explain_start::StartFault;
 use ec_script::is_failed;
 use ec_start::StartError;
 use ec_table::{Direction, Table};
-use ec_why::{Reasons, misfit_words};
+use ec_why::{Misfit, Reasons};
 use std::alloc::{AllocError, Global};
 use std::fmt;
 
@@ -33,53 +33,75 @@ pub(crate) fn told_text(
     if !is_reasoned(reasons, control, answer) {
         return Ok(text);
     }
-    let words = order_words(alloc, table, control, task.order)?;
+    let order = task.order;
+    let why = Why {
+        table,
+        control,
+        order,
+    };
+    let words = format!(in alloc; "{why}")?;
     text.push_str(reason_line(alloc, words.as_str())?.as_str())?;
     Ok(text)
 }
 
-/// Why an order can't be done, or its start-up has failed; empty for every other order.
-fn order_words(alloc: Global, table: &Table, control: &Control<'_>, order: Order) -> Words {
-    match order {
-        Order::Ready => start_words(alloc, table, control),
-        Order::Cycle => cycle_words(alloc, table, control),
-        Order::Set(variable, _) | Order::Never(variable) => set_words(alloc, table, variable),
-        Order::Report => format!(in alloc; "no cycle has ended with a report yet"),
-        Order::Bad | Order::Expect(_) | Order::Show => Ok(String::new(alloc)),
+/// Why an order can't be done, or its start-up has failed. It is printed in words, and as nothing for every other order.
+#[derive(Clone, Copy)]
+struct Why<'c, 'p> {
+    table: &'c Table,
+    control: &'c Control<'p>,
+    order: Order,
+}
+
+impl Why<'_, '_> {
+    /// Writes why a variable isn't set.
+    fn write_unset<W: fmt::Write>(
+        &self,
+        f: &mut fmt::Formatter<W>,
+        variable: usize,
+    ) -> fmt::Result {
+        let table = self.table;
+        match table.variables().get(variable) {
+            Some(row) if row.direction == Direction::In => {
+                let name = Printable(row.name.as_str());
+                write!(f, "`{name}` comes from slaves: the master doesn't set it")
+            }
+            _ => f.write(Misfit { table, variable }),
+        }
+    }
+
+    /// Writes why no cycle is run.
+    fn write_no_cycle<W: fmt::Write>(&self, f: &mut fmt::Formatter<W>) -> fmt::Result {
+        match self.control.outcome() {
+            None => f.write_str("there was no start-up: `ready` brings the slaves up"),
+            Some(Ok(())) => f.write_str("there is no number left for its frames"),
+            Some(Err(error)) => {
+                let failed = Failed::new(self.table, self.control, error);
+                write!(
+                    f,
+                    "the last start-up failed, {failed}; `ready` makes one more"
+                )
+            }
+        }
+    }
+
+    /// Writes what the last start-up failed by, and nothing if it hasn't failed.
+    fn write_failed<W: fmt::Write>(&self, f: &mut fmt::Formatter<W>) -> fmt::Result {
+        match self.control.outcome() {
+            Some(Err(error)) => f.write(Failed::new(self.table, self.control, error)),
+            _ => Ok(()),
+        }
     }
 }
 
-/// Why a variable isn't set.
-fn set_words(alloc: Global, table: &Table, variable: usize) -> Words {
-    match table.variables().get(variable) {
-        Some(row) if row.direction == Direction::In => {
-            let name = Printable(row.name.as_str());
-            format!(in alloc; "`{name}` comes from slaves: the master doesn't set it")
+impl fmt::Display for Why<'_, '_> {
+    fn fmt<W: fmt::Write>(&self, f: &mut fmt::Formatter<W>) -> fmt::Result {
+        match self.order {
+            Order::Ready => self.write_failed(f),
+            Order::Cycle => self.write_no_cycle(f),
+            Order::Set(variable, _) | Order::Never(variable) => self.write_unset(f, variable),
+            Order::Report => f.write_str("no cycle has ended with a report yet"),
+            Order::Bad | Order::Expect(_) | Order::Show => Ok(()),
         }
-        _ => misfit_words(alloc, table, variable),
-    }
-}
-
-/// Why no cycle is run.
-fn cycle_words(alloc: Global, table: &Table, control: &Control<'_>) -> Words {
-    match control.outcome() {
-        None => format!(in alloc; "there was no start-up: `ready` brings the slaves up"),
-        Some(Ok(())) => format!(in alloc; "there is no number left for its frames"),
-        Some(Err(error)) => {
-            let failed = Failed::new(table, control, error);
-            format!(in alloc; "the last start-up failed, {failed}; `ready` makes one more")
-        }
-    }
-}
-
-/// What the last start-up failed by; empty if it hasn't failed.
-fn start_words(alloc: Global, table: &Table, control: &Control<'_>) -> Words {
-    match control.outcome() {
-        Some(Err(error)) => {
-            let failed = Failed::new(table, control, error);
-            format!(in alloc; "{failed}")
-        }
-        _ => Ok(String::new(alloc)),
     }
 }
 

@@ -1,14 +1,15 @@
 //! Why an event can't be made, in the world as it is.
 use crate::reasons::has_cycle;
 use crate::scene::{Firmware, Scene};
-use ec_diagnostic::{Counted, Printable, Words};
+use ec_diagnostic::{Counted, Printable};
 use ec_table::Direction;
 use ec_world::{Event, Progress};
+use std::fmt;
 
 impl Scene<'_, '_> {
-    /// Why the frames of the last cycle that was begun don't come back.
-    pub fn frame_words(&self) -> Words {
-        self.why_no_pass(self.newest_slot())
+    /// Writes why the frames of the last cycle that was begun don't come back.
+    pub fn write_held<W: fmt::Write>(&self, f: &mut fmt::Formatter<W>) -> fmt::Result {
+        self.write_no_pass(f, self.newest_slot())
     }
 
     /// The first slot with a frame of the highest number, which is the last cycle's; the first slot if no slot has a frame.
@@ -25,42 +26,46 @@ impl Scene<'_, '_> {
         found
     }
 
-    /// Why an event can't be made in this world. If it can be made, the words mean nothing.
-    pub fn event_words(&self, event: Event) -> Words {
+    /// Writes why an event can't be made in this world. If it can be made, the words mean nothing.
+    pub fn write_event<W: fmt::Write>(
+        &self,
+        f: &mut fmt::Formatter<W>,
+        event: Event,
+    ) -> fmt::Result {
         match event {
-            Event::StartNext => self.why_no_start(),
-            Event::Set(variable, _) => self.not_written(variable, Direction::Out),
-            Event::Begin => self.why_no_begin(),
-            Event::Pass(slot) => self.why_no_pass(slot),
-            Event::Lose(slot) => self.no_frame(slot),
-            Event::Return(slot) => self.why_no_return(slot),
+            Event::StartNext => self.write_no_start(f),
+            Event::Set(variable, _) => self.write_unset(f, variable, Direction::Out),
+            Event::Begin => self.write_no_begin(f),
+            Event::Pass(slot) => self.write_no_pass(f, slot),
+            Event::Lose(slot) => self.write_no_frame(f, slot),
+            Event::Return(slot) => self.write_no_return(f, slot),
             Event::Close => {
-                let words = "no cycle is open, and no frame of the start-up is awaited";
-                String::from_str(self.alloc, words)
+                f.write_str("no cycle is open, and no frame of the start-up is awaited")
             }
-            Event::Serve(slave) | Event::Reset(slave) => self.no_slave(slave),
-            Event::AppPut(slave, place, _) => self.why_no_byte(slave, place, Direction::In),
-            Event::AppGet(slave, place) => self.why_no_byte(slave, place, Direction::Out),
-            Event::Fault(slave) => self.why_no_fault(slave),
+            Event::Serve(slave) | Event::Reset(slave) => self.write_no_slave(f, slave),
+            Event::AppPut(slave, place, _) => self.write_no_byte(f, slave, place, Direction::In),
+            Event::AppGet(slave, place) => self.write_no_byte(f, slave, place, Direction::Out),
+            Event::Fault(slave) => self.write_no_fault(f, slave),
         }
     }
 
-    /// Why a frame doesn't pass its next slave.
-    fn why_no_pass(&self, slot: usize) -> Words {
-        let alloc = self.alloc;
+    /// Writes why a frame doesn't pass its next slave.
+    fn write_no_pass<W: fmt::Write>(&self, f: &mut fmt::Formatter<W>, slot: usize) -> fmt::Result {
         let Some(frame) = self.world.progress(slot) else {
-            return self.no_frame(slot);
+            return self.write_no_frame(f, slot);
         };
         if frame.passed >= self.world.slaves() {
-            return format!(in alloc;
+            return write!(
+                f,
                 "the frame in slot {slot} has passed every slave: `return {slot}` brings it back"
             );
         }
         match self.slot_before(&frame) {
-            Some(other) => format!(in alloc;
+            Some(other) => write!(
+                f,
                 "the older frame in slot {other} is in its way: frames don't overtake; `lose {other}` takes it away"
             ),
-            None => format!(in alloc; "the frame in slot {slot} can't go on"),
+            None => write!(f, "the frame in slot {slot} can't go on"),
         }
     }
 
@@ -74,29 +79,32 @@ impl Scene<'_, '_> {
         None
     }
 
-    /// Why no cycle is begun.
-    fn why_no_begin(&self) -> Words {
-        let (alloc, world) = (self.alloc, self.world);
+    /// Writes why no cycle is begun.
+    fn write_no_begin<W: fmt::Write>(&self, f: &mut fmt::Formatter<W>) -> fmt::Result {
+        let world = self.world;
         if !world.is_ready() {
-            return format!(in alloc; "the start-up isn't ready: `ready` brings the slaves up");
+            return f.write_str("the start-up isn't ready: `ready` brings the slaves up");
         }
         if has_cycle(world) {
-            return format!(in alloc; "a cycle is open: `close` ends it");
+            return f.write_str("a cycle is open: `close` ends it");
         }
         if self.free_slots() >= world.parts() {
-            return format!(in alloc; "there is no number left for its frames");
+            return f.write_str("there is no number left for its frames");
         }
         let frames = Counted(world.parts(), "frame");
         let held = "frames of earlier cycles are on their way";
         match self.free_slots() {
-            0 => format!(in alloc; "a cycle sends {frames}, and no slot is free: {held}"),
-            1 => format!(in alloc; "a cycle sends {frames}, and 1 slot is free: {held}"),
-            free => format!(in alloc; "a cycle sends {frames}, and {free} slots are free: {held}"),
+            0 => write!(f, "a cycle sends {frames}, and no slot is free: {held}"),
+            1 => write!(f, "a cycle sends {frames}, and 1 slot is free: {held}"),
+            free => write!(
+                f,
+                "a cycle sends {frames}, and {free} slots are free: {held}"
+            ),
         }
     }
 
-    /// Why the start-up sends no frame.
-    fn why_no_start(&self) -> Words {
+    /// Writes why the start-up sends no frame.
+    fn write_no_start<W: fmt::Write>(&self, f: &mut fmt::Formatter<W>) -> fmt::Result {
         let words = if self.world.is_ready() {
             "the start-up is ready: the slaves are in OP, or were"
         } else if self.free_slots() < self.world.slots() {
@@ -104,7 +112,7 @@ impl Scene<'_, '_> {
         } else {
             "the answer to the frame that was sent last is awaited: `close` gives the start-up up"
         };
-        String::from_str(self.alloc, words)
+        f.write_str(words)
     }
 
     /// How many slots have no frame.
@@ -118,53 +126,72 @@ impl Scene<'_, '_> {
         free
     }
 
-    /// Why the application of a slave doesn't fail.
-    fn why_no_fault(&self, slave: usize) -> Words {
+    /// Writes why the application of a slave doesn't fail.
+    fn write_no_fault<W: fmt::Write>(
+        &self,
+        f: &mut fmt::Formatter<W>,
+        slave: usize,
+    ) -> fmt::Result {
         if !self.has_slave(slave) {
-            return self.no_slave(slave);
+            return self.write_no_slave(f, slave);
         }
         let name = self.slave_name(slave);
         let state = Firmware::of(self.world, slave).state;
-        format!(in self.alloc; "`{name}` is in {state}: an application fails in OP")
+        write!(f, "`{name}` is in {state}: an application fails in OP")
     }
 
-    /// Why an application doesn't write a byte of its inputs, or read one of its outputs.
-    fn why_no_byte(&self, slave: usize, place: usize, direction: Direction) -> Words {
-        let alloc = self.alloc;
+    /// Writes why an application doesn't write a byte of its inputs, or read one of its outputs.
+    fn write_no_byte<W: fmt::Write>(
+        &self,
+        f: &mut fmt::Formatter<W>,
+        slave: usize,
+        place: usize,
+        direction: Direction,
+    ) -> fmt::Result {
         if !self.has_slave(slave) {
-            return self.no_slave(slave);
+            return self.write_no_slave(f, slave);
         }
         let name = self.slave_name(slave);
         let Firmware { state, is_running } = Firmware::of(self.world, slave);
         let (what, count) = self.bytes_of(slave, direction);
         if !is_running {
-            return format!(in alloc;
+            return write!(
+                f,
                 "`{name}` is in {state}: its application has {what} in SAFEOP and OP"
             );
         }
         match count {
-            0 => format!(in alloc; "`{name}` has no {what}"),
+            0 => write!(f, "`{name}` has no {what}"),
             count if place >= count => {
                 let last = count.saturating_sub(1);
-                format!(in alloc; "`{name}` has no byte {place} of {what}: the last is byte {last}")
+                write!(
+                    f,
+                    "`{name}` has no byte {place} of {what}: the last is byte {last}"
+                )
             }
             _ if direction == Direction::Out && self.has_locked_outputs(slave) => {
-                self.why_locked(name)
+                self.write_locked(f, name)
             }
-            _ => format!(in alloc;
+            _ => write!(
+                f,
                 "byte {place} is out of turn: the {what} of `{name}` go from byte 0 on, one after another"
             ),
         }
     }
 
-    /// Why an application doesn't read outputs that are locked.
-    fn why_locked(&self, name: Printable<'_>) -> Words {
+    /// Writes why an application doesn't read outputs that are locked.
+    fn write_locked<W: fmt::Write>(
+        &self,
+        f: &mut fmt::Formatter<W>,
+        name: Printable<'_>,
+    ) -> fmt::Result {
         let way_out = if self.world.is_ready() {
             "and no start-up follows one that is ready"
         } else {
             "with which a start-up begins"
         };
-        format!(in self.alloc;
+        write!(
+            f,
             "the outputs of `{name}` are locked since its fault: INIT alone opens them, {way_out}"
         )
     }
@@ -181,16 +208,22 @@ impl Scene<'_, '_> {
         }
     }
 
-    /// Why a frame doesn't come back.
-    fn why_no_return(&self, slot: usize) -> Words {
-        let alloc = self.alloc;
+    /// Writes why a frame doesn't come back.
+    fn write_no_return<W: fmt::Write>(
+        &self,
+        f: &mut fmt::Formatter<W>,
+        slot: usize,
+    ) -> fmt::Result {
         let Some(frame) = self.world.progress(slot) else {
-            return self.no_frame(slot);
+            return self.write_no_frame(f, slot);
         };
         match (frame.passed, self.world.slaves()) {
-            (_, 1) => format!(in alloc; "the frame in slot {slot} hasn't passed the slave"),
+            (_, 1) => write!(f, "the frame in slot {slot} hasn't passed the slave"),
             (passed, slaves) => {
-                format!(in alloc; "the frame in slot {slot} has passed {passed} of {slaves} slaves")
+                write!(
+                    f,
+                    "the frame in slot {slot} has passed {passed} of {slaves} slaves"
+                )
             }
         }
     }

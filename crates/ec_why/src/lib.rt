@@ -7,5 +7,5 @@ mod scene;
 mod wanted;
 
 pub use crate::reasons::{has_cycle, reason_text};
-pub use crate::scene::misfit_words;
+pub use crate::scene::Misfit;
 pub use crate::wanted::Reasons;

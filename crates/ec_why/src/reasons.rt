@@ -3,13 +3,14 @@ ghost use Rattle.std.specs.Prelude.{◌≡◌, IfOk, is_some, string_bytes};
 ghost use Rattle.ec_diagnostic.specs.Reason.{IsReason};
 ghost use Rattle.ec_world.specs.Watching.{sent_of};
 
-use crate::scene::{Firmware, Scene, greatest, misfit_words};
-use ec_diagnostic::{Words, reason_line};
+use crate::scene::{Firmware, Misfit, Scene, greatest};
+use ec_diagnostic::reason_line;
 use ec_link::{Link, Variable};
 use ec_script::LineAction;
 use ec_table::{Direction, Table};
 use ec_world::{Event, World};
 use std::alloc::{AllocError, Global};
+use std::fmt;
 
 /// Whether a cycle is open.
 pub fn has_cycle(world: &World<'_>) -> bool
@@ -34,36 +35,45 @@ pub fn reason_text(
 ) -> Result<String, AllocError>
     ensures { IfOk result (λ text. IsReason (string_bytes text)) }
 {
-    let scene = Scene {
-        alloc,
-        table,
-        world,
+    let why = Why {
+        scene: Scene { table, world },
+        act,
+        had_cycle,
     };
-    let words = act_words(&scene, act, had_cycle)?;
+    let words = format!(in alloc; "{why}")?;
     reason_line(alloc, words.as_str())
 }
 
-/// Why an act ended at an event that can't be made, in the world that it left. There are no words if there is nothing to say.
-fn act_words(scene: &Scene<'_, '_>, act: LineAction, had_cycle: bool) -> Words {
-    match act {
-        LineAction::One(event) => scene.event_words(event),
-        LineAction::Input(variable, value) => input_words(scene, variable, value),
-        LineAction::Never(variable) => misfit_words(scene.alloc, scene.table, variable),
-        LineAction::Ready => scene.event_words(Event::StartNext),
-        // a whole cycle wasn't begun, or a frame of it is held up
-        LineAction::Cycle if had_cycle || !has_cycle(scene.world) => scene.event_words(
-            Event::Begin,
-        ),
-        LineAction::Cycle => scene.frame_words(),
-        LineAction::Expect(_) | LineAction::Show => Ok(String::new(scene.alloc)),
-    }
+/// Why an act ended at an event that can't be made, in the world that it left. It is printed in words, or as nothing if there is
+/// nothing to say.
+#[derive(Clone, Copy)]
+struct Why<'w, 'p> {
+    scene: Scene<'w, 'p>,
+    act: LineAction,
+    had_cycle: bool,
 }
 
-/// Why the plant can't set a variable of the inputs to a value.
-fn input_words(scene: &Scene<'_, '_>, variable: usize, value: u64) -> Words {
-    match still_slave(scene.world, variable, value) {
-        Some(slave) => scene.event_words(Event::AppPut(slave, 0, 0)),
-        None => scene.not_written(variable, Direction::In),
+impl fmt::Display for Why<'_, '_> {
+    fn fmt<W: fmt::Write>(&self, f: &mut fmt::Formatter<W>) -> fmt::Result {
+        let scene = self.scene;
+        match self.act {
+            LineAction::One(event) => scene.write_event(f, event),
+            LineAction::Input(variable, value) => match still_slave(scene.world, variable, value) {
+                Some(slave) => scene.write_event(f, Event::AppPut(slave, 0, 0)),
+                None => scene.write_unset(f, variable, Direction::In),
+            },
+            LineAction::Never(variable) => f.write(Misfit {
+                table: scene.table,
+                variable,
+            }),
+            LineAction::Ready => scene.write_event(f, Event::StartNext),
+            // a whole cycle wasn't begun, or a frame of it is held up
+            LineAction::Cycle if self.had_cycle || !has_cycle(scene.world) => {
+                scene.write_event(f, Event::Begin)
+            }
+            LineAction::Cycle => scene.write_held(f),
+            LineAction::Expect(_) | LineAction::Show => Ok(()),
+        }
     }
 }
 

@@ -1,8 +1,8 @@
 //! Words for people about a world: its slaves, variables and slots by name, and those that don't exist.
-use ec_diagnostic::{Counted, Printable, Words};
-use ec_table::{Direction, Table, VariableRow};
+use ec_diagnostic::{Counted, Printable};
+use ec_table::{Direction, Table};
 use ec_world::World;
-use std::alloc::Global;
+use std::fmt;
 
 /// The register of the AL status (ETG.1000.4), whose low four bits are the state.
 const AL_STATUS: u16 = 0x0130;
@@ -13,8 +13,6 @@ const OUTPUTS_LOCK: u16 = 0x0817;
 /// A world, and the table that has its names.
 #[derive(Clone, Copy)]
 pub struct Scene<'w, 'p> {
-    /// Where memory comes from.
-    pub alloc: Global,
     pub table: &'w Table,
     pub world: &'w World<'p>,
 }
@@ -60,69 +58,99 @@ impl Scene<'_, '_> {
         }
     }
 
-    /// The words for a slave that doesn't exist.
-    pub fn no_slave(&self, slave: usize) -> Words {
-        let alloc = self.alloc;
+    /// Writes that a slave doesn't exist.
+    pub fn write_no_slave<W: fmt::Write>(
+        &self,
+        f: &mut fmt::Formatter<W>,
+        slave: usize,
+    ) -> fmt::Result {
         match self.table.slaves().len() {
-            0 => format!(in alloc; "there is no slave {slave}: the table has none"),
-            1 => format!(in alloc; "there is no slave {slave}: the table has one, slave 0"),
+            0 => write!(f, "there is no slave {slave}: the table has none"),
+            1 => write!(f, "there is no slave {slave}: the table has one, slave 0"),
             count => {
                 let last = count.saturating_sub(1);
-                format!(in alloc; "there is no slave {slave}: the table has slaves 0 to {last}")
+                write!(
+                    f,
+                    "there is no slave {slave}: the table has slaves 0 to {last}"
+                )
             }
         }
     }
 
-    /// The words for a slot that has no frame, or doesn't exist.
-    pub fn no_frame(&self, slot: usize) -> Words {
-        let alloc = self.alloc;
+    /// Writes that a slot has no frame, or doesn't exist.
+    pub fn write_no_frame<W: fmt::Write>(
+        &self,
+        f: &mut fmt::Formatter<W>,
+        slot: usize,
+    ) -> fmt::Result {
         if slot < self.world.slots() {
-            return format!(in alloc; "slot {slot} is empty: no frame is on its way there");
+            return write!(f, "slot {slot} is empty: no frame is on its way there");
         }
         let last = self.world.slots().saturating_sub(1);
-        format!(in alloc; "there is no slot {slot}: frames are on their way in slots 0 to {last}")
+        write!(
+            f,
+            "there is no slot {slot}: frames are on their way in slots 0 to {last}"
+        )
     }
 
-    /// Why an act that writes variables of direction `wanted` doesn't set a variable.
-    pub fn not_written(&self, variable: usize, wanted: Direction) -> Words {
-        let alloc = self.alloc;
-        let Some(row) = self.table.variables().get(variable) else {
-            return misfit_words(alloc, self.table, variable);
+    /// Writes why an act that writes variables of direction `wanted` doesn't set a variable.
+    pub fn write_unset<W: fmt::Write>(
+        &self,
+        f: &mut fmt::Formatter<W>,
+        variable: usize,
+        wanted: Direction,
+    ) -> fmt::Result {
+        let table = self.table;
+        let Some(row) = table.variables().get(variable) else {
+            return f.write(Misfit { table, variable });
         };
         let name = Printable(row.name.as_str());
         match (row.direction, wanted) {
             (Direction::In, Direction::Out) => {
-                format!(in alloc; "`{name}` comes from slaves: `in {name} VALUE` writes it there")
+                write!(
+                    f,
+                    "`{name}` comes from slaves: `in {name} VALUE` writes it there"
+                )
             }
             (Direction::Out, Direction::In) => {
-                format!(in alloc; "`{name}` goes to slaves: `set {name} VALUE` sets it")
+                write!(f, "`{name}` goes to slaves: `set {name} VALUE` sets it")
             }
-            _ => misfit(alloc, row),
+            _ => f.write(Misfit { table, variable }),
         }
     }
 }
 
-/// The words for a value that a variable has too few bits for, also for a number of more than 64 bits.
-pub fn misfit_words(alloc: Global, table: &Table, variable: usize) -> Words {
-    match table.variables().get(variable) {
-        None => format!(in alloc; "the table has no variable {variable}"),
-        Some(row) => misfit(alloc, row),
+/// A variable that has too few bits for a value, also for a number of more than 64 bits. It is printed as the reason why it isn't set.
+/// The least value is that of a two's complement of its bits.
+#[derive(Clone, Copy)]
+pub struct Misfit<'t> {
+    pub table: &'t Table,
+    pub variable: usize,
+}
+
+impl fmt::Display for Misfit<'_> {
+    fn fmt<W: fmt::Write>(&self, f: &mut fmt::Formatter<W>) -> fmt::Result {
+        let Misfit { table, variable } = *self;
+        let Some(row) = table.variables().get(variable) else {
+            return write!(f, "the table has no variable {variable}");
+        };
+        let name = Printable(row.name.as_str());
+        let bits = Counted(usize::from(row.bits), "bit");
+        let power = 1_u64.checked_shl(u32::from(row.bits.saturating_sub(1)));
+        let (least, most) = (power.unwrap_or(0), greatest(row.bits));
+        write!(
+            f,
+            "`{name}` has {bits}, and its values go from -{least} to {most}"
+        )
     }
 }
 
 /// The greatest value of `bits` bits.
 pub fn greatest(bits: u8) -> u64 {
-    let power = 1_u64.checked_shl(u32::from(bits));
-    power.map_or(u64::MAX, |power| power.saturating_sub(1))
-}
-
-/// The words for a value that a variable has too few bits for. The least value is that of a two's complement of its bits.
-fn misfit(alloc: Global, row: &VariableRow) -> Words {
-    let name = Printable(row.name.as_str());
-    let bits = Counted(usize::from(row.bits), "bit");
-    let power = 1_u64.checked_shl(u32::from(row.bits.saturating_sub(1)));
-    let (least, most) = (power.unwrap_or(0), greatest(row.bits));
-    format!(in alloc; "`{name}` has {bits}, and its values go from -{least} to {most}")
+    match 1_u64.checked_shl(u32::from(bits)) {
+        Some(power) => power.saturating_sub(1),
+        None => u64::MAX,
+    }
 }
 
 /// A byte of the registers of a slave; 0 if there is none.
