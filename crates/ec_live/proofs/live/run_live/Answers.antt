@@ -4,7 +4,7 @@ use Rattle.ec_live.proofs.live.run_live.Goals as goal
 
 pub returns-in_err-unmet-clause-runs : goal.returns-in_err-unmet-clause-runs
 returns-in_err-unmet-clause-runs g c =
-    lives_cut _ c.print_watched.result _ _ _ _ c.args.machine.now c.table-table.result.now _ c.table-table.ensures.value c.in_ok-world.ensures c.in_err-unmet.was c.print_watched.ensures.part
+    lives_cut _ c.print_watched.result _ _ _ _ _ c.args.machine.now c.table-table.result.now _ c.table-table.ensures.value c.in_ok-world.ensures c.in_err-unmet.was c.print_watched.ensures.part
     c.print_watched.ensures.late c.from_residual-in_err-unmet.ensures.1
 
 pub returns-clause-runs : goal.returns-clause-runs
