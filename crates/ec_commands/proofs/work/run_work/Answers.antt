@@ -1,4 +1,5 @@
 use Rattle.std.proofs.Common.{ℕ, List, inl, inr, refl, sym, subst}
+use Rattle.ec_lines.specs.Inputs.{bytes_left}
 use Rattle.ec_console.specs.declared.stated.Source.{Source}
 use Rattle.ec_console.specs.Given.{given_by}
 use Rattle.ec_console.specs.Stating.{RefusesSource, TakesSource}
@@ -12,8 +13,8 @@ returns-in_err-text-clause-runs g c =
 
 pub returns-clause-runs : goal.returns-clause-runs
 returns-clause-runs g c =
-    let given = g.R.Read.remaining c.args.console.now.input.stream in
-    let rest = g.R.Read.remaining c.read_source.new.input.stream in
+    let given = bytes_left g.R.Read.remaining c.args.console.now.input in
+    let rest = bytes_left g.R.Read.remaining c.read_source.new.input in
     inl (
       c.as_str.result.now,
       rest,
