@@ -216,11 +216,7 @@ impl<'a> Read for Pieces<'a> {
 }
 
 /// An input that is never interrupted.
-fn pieces_of<'a>(
-    bytes: &'a [u8],
-    size: usize,
-    reads: &'a Cell<usize>,
-) -> InputStream<Pieces<'a>> {
+fn pieces_of<'a>(bytes: &'a [u8], size: usize, reads: &'a Cell<usize>) -> InputStream<Pieces<'a>> {
     InputStream::new(Pieces {
         bytes,
         size,

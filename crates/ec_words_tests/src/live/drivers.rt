@@ -14,11 +14,7 @@ const ANSWERS: &str =
     "no 1\nready\nno 3\nunmet 5\nbad 6\nreport taken missing 0 counters 0 al 0000\n";
 
 /// Compares what wasn't taken.
-fn expect_left(
-    rt: &(impl AllocGlobal + Abort),
-    input: &mut InputStream<Source<'_>>,
-    wanted: &str,
-) {
+fn expect_left(rt: &(impl AllocGlobal + Abort), input: &mut InputStream<Source<'_>>, wanted: &str) {
     let left = read_text(rt.alloc(), input).expect(rt, "text");
     assert_eq!(rt; left.as_str(), wanted);
 }
