@@ -7,6 +7,10 @@ use Rattle.ec_console.specs.declared.refusal.Refusal.{Refusal}
 use Rattle.ec_console.specs.Refusals.{number_of, status_of}
 use Rattle.ec_console.specs.declared.refusal.Refusal.TheVariants.{Memory}
 use Rattle.ec_console.specs.Given.{Given}
+use Rattle.ec_console.specs.Stating.{RefusesStated, States}
+use Rattle.ec_console.specs.declared.form.SlaveForm.{SlaveForm}
+use Rattle.ec_console.specs.declared.stated.Source.{Source}
+use Rattle.ec_script.specs.declared.line.Line.{Line}
 use Rattle.ec_console.specs.Printing.{OutputState}
 use Rattle.ec_wire.specs.Wires.{LoopbackState, Traffic}
 use Rattle.ec_table.specs.Contents.{Contents}
@@ -77,3 +81,10 @@ left_alone (work.Live reasons) x = refl
 left_alone (work.Cycles cycles) x = tt
 left_alone (work.Segment form endpoint) x = tt
 left_alone (work.Master reasons way) x = refl
+
+-- what is read is a source and a form of some work
+pub refused_as : (s source : Source) (f form : SlaveForm) (text : List ℕ) (x : Refusal) → s ≡ source → f ≡ form → RefusesStated s f text x → RefusesStated source form text x
+refused_as s source f form text x same like h = subst (λ (y : Source). RefusesStated y form text x) same (subst (λ (y : SlaveForm). RefusesStated s y text x) like h)
+
+pub stated_as : (s source : Source) (f form : SlaveForm) (text : List ℕ) (t : Contents) (lines : List Line) → s ≡ source → f ≡ form → States s f text t lines → States source form text t lines
+stated_as s source f form text t lines same like h = subst (λ (y : Source). States y form text t lines) same (subst (λ (y : SlaveForm). States s y text t lines) like h)
