@@ -20,6 +20,8 @@ TOOLS = pathlib.Path(__file__).resolve().parent.parent
 sys.path.append(str(TOOLS / "masters"))
 from bus import Bus, Stumble, fmmu_of, sdo  # noqa: E402
 from bus import Slave as Seen  # noqa: E402
+from masters import Slave as SoemSlave  # noqa: E402
+from masters import soem  # noqa: E402
 
 COUNT = 0
 
@@ -431,6 +433,19 @@ def check_outputs_first() -> None:
     seen.set(0x0120, b"\x08\0")
     plant.pass_time(9.1)
     expect("OP is refused", seen.read(0x0130, 6), bytes.fromhex("140000001b00"))
+
+
+def check_soem() -> None:
+    """SOEM's start-up as tools/masters retells it, which knows no link table, brings devices up by what their SII and their objects say."""
+    SoemSlave.polls = Patient.polls
+    kinds = [models.Quick, models.EL3104, models.EL4002, models.EL6001, models.TwoFmmus, models.SiiOfPdi, models.SiiFailed, models.SiiByEight,
+             models.ReadsSii, models.Unsized, models.LateSdo, models.BigMailbox, models.NewerRevision]
+    plant = Plant([kind() for kind in kinds])
+    slaves, _ = soem(Direct(plant), 0)
+    for kind, slave, device in zip(kinds, slaves, plant.devices):
+        bits = {2 + way: sum(pdo.bits for pdo in device.assigned(way)) for way in (0, 1)}
+        expect(f"bits of {kind.__name__}", (slave.name, {2: 0, 3: 0} | slave.bits), (kind.__name__, bits))
+        expect(f"state of {kind.__name__}", device.looks()["state"], "OP")
 
 
 def check_models() -> int:

@@ -1,8 +1,9 @@
 """A segment of devices: frames pass them in their order, time goes on, and what is wrong can be looked at from outside.
 
-Time is the plant's own, so that a trial doesn't depend on how fast this machine is. A frame takes FRAME_TIME, as over a card. A silence
-between two frames counts if it was longer than SILENCE, and up to LONGEST: a master that polls at once, however slowly its program runs,
-takes FRAME_TIME a poll, and one that rests 10 ms takes 10 ms. Longer silences are those that a trial asks for, by `pass_time`.
+Time is the plant's own, so that a trial doesn't depend on how fast or how busy this machine is. A frame takes FRAME_TIME, as over a card.
+A silence between frames counts if it was longer than SILENCE, and so were the RESTS before it: a master that polls at once takes
+FRAME_TIME a poll, however slowly its program runs, and one that rests 10 ms takes 10 ms. Longer silences are those that a trial asks for,
+by `pass_time`.
 """
 from __future__ import annotations
 
@@ -12,7 +13,7 @@ from coe import INPUTS_ASSIGNED, OUTPUTS_ASSIGNED, Coe
 from esc import DL_STATUS, FRMW, Map
 from slave import OP, Slave, bytes_of
 
-FRAME_TIME, SILENCE, LONGEST = 20e-6, 0.008, 0.012
+FRAME_TIME, SILENCE, LONGEST, RESTS = 20e-6, 0.008, 0.012, 5
 HEADER, OVERHEAD = 2, 12
 # registers that a start-up may write: station addresses, AL control, owner, command and address of the SII, FMMUs, sync managers, and in
 # a table for hardware as many of the last two as a controller may have
@@ -64,7 +65,7 @@ class Plant:
     """Devices in a row, just switched on."""
 
     def __init__(self, devices: list[Slave]) -> None:
-        self.devices, self.now, self.frames, self.others = devices, 0.0, 0, 0
+        self.devices, self.now, self.frames, self.others, self.silences = devices, 0.0, 0, 0, 0
         for place, device in enumerate(devices):
             # DL status: the PDI runs; a link with communication at port 0, and at port 1 if another follows [ESC 0x0110]
             device.esc.put_word(DL_STATUS, 0x5A31 if place + 1 < len(devices) else 0x5611)
@@ -86,7 +87,8 @@ class Plant:
             self.others += 1
             return None
         self.frames += 1
-        self.tick(min(silence, LONGEST) if silence > SILENCE else FRAME_TIME)
+        self.silences = self.silences + 1 if silence > SILENCE else 0
+        self.tick(min(silence, LONGEST) if self.silences > RESTS else FRAME_TIME)
         for device in self.devices:
             for one in found:
                 one.first, counted = device.esc.visit(one.command, one.first, one.address, one.data)

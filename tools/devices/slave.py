@@ -131,14 +131,14 @@ class Slave:
         return (self.out_area, self.outputs), (self.in_area, self.inputs)
 
     def manager_rows(self) -> tuple[tuple[int, int, int, int, int], ...]:
-        """The rows of the SII's category of sync managers."""
+        """The rows of the SII's category of sync managers. With a mailbox both areas are there, also one without a byte [SOEM]."""
         rows = {}
         if self.mailbox:
             first, size, second, room = self.mailbox
             rows = {0: (first, size, 0x26, 1, eeprom.MAILBOX_OUT), 1: (second, room, 0x22, 1, eeprom.MAILBOX_IN)}
         for (area, pdos), use in zip(self.directions(), (eeprom.PROCESS_OUT, eeprom.PROCESS_IN)):
-            if pdos:
-                rows[area.number] = area.start, bytes_of(sum(pdo.bits for pdo in pdos)), area.control, 1, use
+            if pdos or self.mailbox:
+                rows[area.number] = area.start, bytes_of(sum(pdo.bits for pdo in pdos)), area.control, int(bool(pdos)), use
         return tuple(rows.get(number, (0, 0, 0, 0, eeprom.UNUSED)) for number in range(max(rows, default=-1) + 1))
 
     # ---- how it was left
