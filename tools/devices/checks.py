@@ -437,10 +437,11 @@ def check_outputs_first() -> None:
 
 def check_soem() -> None:
     """SOEM's start-up as tools/masters retells it, which knows no link table, brings devices up by what their SII and their objects say."""
-    SoemSlave.polls = Patient.polls
+    SoemSlave.polls = 1000
     kinds = [models.Quick, models.EL3104, models.EL4002, models.EL6001, models.TwoFmmus, models.SiiOfPdi, models.SiiFailed, models.SiiByEight,
              models.ReadsSii, models.Unsized, models.LateSdo, models.BigMailbox, models.NewerRevision]
     plant = Plant([kind() for kind in kinds])
+    plant.frame_time = 0.001
     slaves, _ = soem(Direct(plant), 0)
     for kind, slave, device in zip(kinds, slaves, plant.devices):
         bits = {2 + way: sum(pdo.bits for pdo in device.assigned(way)) for way in (0, 1)}

@@ -64,6 +64,8 @@ def datagrams_of(payload: bytes) -> list[Datagram] | None:
 class Plant:
     """Devices in a row, just switched on."""
 
+    frame_time = FRAME_TIME
+
     def __init__(self, devices: list[Slave]) -> None:
         self.devices, self.now, self.frames, self.others, self.silences = devices, 0.0, 0, 0, 0
         for place, device in enumerate(devices):
@@ -88,7 +90,7 @@ class Plant:
             return None
         self.frames += 1
         self.silences = self.silences + 1 if silence > SILENCE else 0
-        self.tick(min(silence, LONGEST) if self.silences > RESTS else FRAME_TIME)
+        self.tick(min(silence, LONGEST) if self.silences > RESTS else self.frame_time)
         for device in self.devices:
             for one in found:
                 one.first, counted = device.esc.visit(one.command, one.first, one.address, one.data)
