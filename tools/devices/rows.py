@@ -29,6 +29,8 @@ SEVERAL: dict[str, list[type[Slave]]] = {
     "machine": [models.EK1100, models.EL1008, models.EL2008, models.EL3104, models.EL4002, models.Drive],
     "odd": [models.Quick, models.LeftInOp, models.TwoFmmus, models.NoLrw, models.LeftInSafeop, models.ThreeFmmus, models.SiiByEight, models.LeftInBoot],
     "nibbles": [models.Nibble, models.Nibble],
+    # as many slaves as there may be, each with a mailbox
+    "many": [models.Quick] * 64,
 }
 # the end of each row with a table of today's keys
 EXPECTED: dict[str, str] = {
@@ -69,7 +71,7 @@ EXPECTED: dict[str, str] = {
                   "unmet `expect drivequick_position -300`; drivequick: position 0, wanted -300",
     "DriveByClocks": "29 AlError 0 48",
     "digital": "25 OutsideRam 2", "branches": "25 OutsideRam 1", "machine": "25 OutsideRam 2",
-    "odd": "up",
+    "odd": "up", "many": "up",
 }
 # the end of each row with its table for hardware: NO_KEYS as long as the master doesn't know the keys, but for these rows
 NO_KEYS = "12 BadKey 0 0"
