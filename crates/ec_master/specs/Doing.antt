@@ -1,12 +1,13 @@
 -- What an action does to a master over a wire, and its output (this project's profile). `ec_session` defines a start-up and a cycle over
 -- a wire, and `ec_cycle` how a variable is set.
-use Rattle.std.specs.Prelude.{ℕ, ◌≡◌, slice_get, Bool, true, false, Option, Some, None, Result, Ok, Err}
+use Rattle.std.specs.Prelude.{ℕ, ◌≡◌, slice_get, Bool, true, false, is_none, Option, Some, None, Result, Ok, Err}
 use Rattle.ec_start.specs.Running.{outcome_of}
 use Rattle.ec_cycle.specs.Closing.{ReportState}
 use Rattle.ec_cycle.specs.Master.{holds_value, variable_set}
 use Rattle.ec_wire.specs.declared.error.RunError.{RunError}
+use Rattle.ec_wire.specs.declared.error.RunError.TheVariants.{Refused, Wire}
 use Rattle.ec_session.specs.Sessions.{SessionState}
-use Rattle.ec_session.specs.Running.{Cycles, Starts, can_cycle, with_number_used}
+use Rattle.ec_session.specs.Wired.{Cycles, Starts, run_refusal, with_number_used}
 use Rattle.ec_script.specs.declared.line.LineAction.{LineAction}
 use Rattle.ec_script.specs.declared.line.LineAction.TheVariants.{Set, Never, Expect, Ready, Cycle, Show, Report}
 use Rattle.ec_script.specs.declared.output.LineOutput.{LineOutput}
@@ -31,11 +32,13 @@ pub record StartsUp (s t : MasteredState) (said : LineOutput) : Type 0 where
   pub reasons : t.reasons ≡ s.reasons
   pub is : said ≡ output.Ended
 
--- a cycle is run over the wire; after a fault only its number is used up
+-- the output of a cycle: its report, or that the wire had a fault, or that none could be run
 abbrev pub output_of_run : Result Unit RunError → LineOutput
 output_of_run (Ok done) = output.Report
-output_of_run (Err error) = output.Fault
+output_of_run (Err Wire) = output.Fault
+output_of_run (Err (Refused error)) = output.No
 
+-- a cycle is run over the wire; after a fault of the wire only its number is used up
 pub record RunsCycle (s t : MasteredState) (said : LineOutput) : Type 0 where
   pub result : Result Unit RunError
   pub cycles : Cycles s.session s.wire t.session t.wire result
@@ -63,7 +66,7 @@ Does (Set v x) s t said = Either (holds_value x (slice_get s.session.master.plan
 Does (Never v) s t said = Tells s t output.No said
 Does (Expect e) s t said = Tells s t (output_if (is_met e (view_of s.session))) said
 Does Ready s t said = StartsUp s t said
-Does Cycle s t said = Either (can_cycle s.session) (RunsCycle s t said) (Tells s t output.No said)
+Does Cycle s t said = Either (is_none (run_refusal s.session)) (RunsCycle s t said) (Tells s t output.No said)
 Does Show s t said = Tells s t output.Values said
 Does Report s t said = Tells s t (last_report s.session.report) said
 Does _ s t said = Tells s t output.No said

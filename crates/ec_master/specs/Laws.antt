@@ -1,14 +1,19 @@
--- What reasons change: they are lines between the others, and nothing else changes (this project's profile).
-use Rattle.std.specs.Prelude.{◌≡◌, ℕ, List}
-use Rattle.ec_table.specs.Contents.{Contents}
-use Rattle.ec_why.specs.declared.wanted.Reasons.{Reasons}
-use Rattle.ec_why.specs.declared.wanted.Reasons.TheVariants.{Untold}
-use Rattle.ec_why.specs.Reasons.{Part, with_reasons, without_reasons}
-use Rattle.ec_master.specs.declared.order.Task.{Task}
-use Rattle.ec_master.specs.Saying.{Moment, Says}
+-- What reasons change (this project's profile): they are lines between the others, and nothing else changes.
+use Rattle.std.specs.Prelude.{ℕ, List}
+use Rattle.ec_script.specs.declared.line.Line.{Line}
+use Rattle.ec_console.specs.declared.wanted.Reasons.TheVariants.{Untold}
+use Rattle.ec_console.specs.Reasons.{OnlyAdds}
+use Rattle.ec_master.specs.State.{MasteredState}
+use Rattle.ec_master.specs.Saying.{SaysLine}
 
--- With reasons, tasks leave the master and its wire as without them, are unmet as often, and print the same; the reasons are
--- added.
+-- a master that prints no reasons
+abbrev pub untold : MasteredState → MasteredState
+untold s = record s { reasons = Untold }
+
+-- what a line does to it
+abbrev pub SaysUntold : MasteredState → Line → MasteredState → List ℕ → ℕ → Type 0
+SaysUntold s line t printed unmet = SaysLine (untold s) line (untold t) printed unmet
+
+-- With reasons, lines leave the session and its wire as without them, and are unmet as often. They print the same but for the reasons.
 abbrev pub ReasonsOnlyAdd : Type 0
-ReasonsOnlyAdd = (reasons : Reasons) (t : Contents) (w : Moment) (tasks : List Task) (new : Moment) (printed : List ℕ) (unmet : ℕ) → Says reasons t w tasks new printed unmet
-    → (parts : List Part) × (printed ≡ with_reasons parts) × Says Untold t w tasks new (without_reasons parts) unmet
+ReasonsOnlyAdd = OnlyAdds SaysLine SaysUntold

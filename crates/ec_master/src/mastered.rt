@@ -4,7 +4,7 @@ ghost use Rattle.ec_wire.specs.Taps.{Tells};
 ghost use Rattle.ec_script.specs.declared.line.LineAction.TheVariants.{Cycle, Ready, Set};
 ghost use Rattle.ec_script.specs.Expecting.{is_met};
 ghost use Rattle.ec_script.specs.Outputs.{output_if};
-ghost use Rattle.ec_master.specs.Doing.{Does, last_report, view_of};
+ghost use Rattle.ec_master.specs.Doing.{Does, last_report, output_of_run, view_of};
 ghost use Rattle.ec_master.specs.Mastering.{begun_over};
 
 use crate::saying::{said_text, view_of};
@@ -128,11 +128,7 @@ impl<W: Wire + Drop> Mastered<W> {
     fn run_cycle(&mut self) -> LineOutput
         ensures { Does Cycle self.old self.new result }
     {
-        match self.session.run_cycle(&mut self.wire) {
-            Ok(()) => LineOutput::Report,
-            Err(RunError::Wire) => LineOutput::Fault,
-            Err(RunError::Refused(_)) => LineOutput::No,
-        }
+        output_of_run(self.session.run_cycle(&mut self.wire))
     }
 
     /// Sets an output variable to a value. `No`, and nothing changes, if it is no output or can't hold the value.
@@ -165,6 +161,17 @@ impl<W: Wire + Drop> Mastered<W> {
             None => LineOutput::No,
             Some(_) => LineOutput::Report,
         }
+    }
+}
+
+/// The output of a cycle.
+fn output_of_run(ran: Result<(), RunError>) -> LineOutput
+    ensures { result ≡ output_of_run ran }
+{
+    match ran {
+        Ok(()) => LineOutput::Report,
+        Err(RunError::Wire) => LineOutput::Fault,
+        Err(RunError::Refused(_)) => LineOutput::No,
     }
 }
 

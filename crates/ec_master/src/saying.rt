@@ -1,7 +1,8 @@
 //! What a line prints: the text of its output, and with reasons why it can't be done or has failed.
 ghost use Rattle.std.specs.Prelude.{◌≡◌, IfOk, string_bytes};
 ghost use Rattle.ec_master.specs.Doing.{view_of};
-ghost use Rattle.ec_master.specs.Saying.{IsSaid, is_reasoned};
+ghost use Rattle.ec_master.specs.Saying.{is_reasoned, plain_text};
+ghost use Rattle.ec_master.specs.Stages.{IsLineText, IsReasonedText};
 
 use crate::why::Why;
 use ec_console::Reasons;
@@ -16,7 +17,6 @@ use std::alloc::{AllocError, Global};
 /// # Errors
 ///
 /// `AllocError` if memory ran out.
-#[tactic(auto, using(crate::proofs::Reasoned::said_alone, crate::proofs::Reasoned::said_reasoned))]
 pub(crate) fn said_text(
     alloc: Global,
     session: &Session,
@@ -24,20 +24,42 @@ pub(crate) fn said_text(
     line: &Line,
     output: LineOutput,
 ) -> Result<String, AllocError>
-    ensures { IfOk result (λ text. IsSaid reasons session.now line.now.number output (string_bytes text)) }
+    ensures { IfOk result (λ text. IsLineText reasons session.now line.now.number output (string_bytes text)) }
 {
-    let view = view_of(session);
-    let mut text = output_text(alloc, session.table(), line.number, output, &view)?;
-    if !is_reasoned(reasons, session, output) {
-        return Ok(text);
+    if is_reasoned(reasons, session, output) {
+        reasoned_text(alloc, session, line, output)
+    } else {
+        plain_text(alloc, session, line.number, output)
     }
-    let why = Why {
-        session,
-        action: line.action,
-    };
+}
+
+/// The text of a line's output, and behind it why the line can't be done or has failed.
+fn reasoned_text(
+    alloc: Global,
+    session: &Session,
+    line: &Line,
+    output: LineOutput,
+) -> Result<String, AllocError>
+    ensures { IfOk result (λ text. IsReasonedText session.now line.now.number output (string_bytes text)) }
+{
+    let mut text = plain_text(alloc, session, line.number, output)?;
+    let action = line.action;
+    let why = Why { session, action };
     let words = format!(in alloc; "{why}")?;
     text.push_str(reason_line(alloc, words.as_str())?.as_str())?;
     Ok(text)
+}
+
+/// The text that line `number` prints for its output.
+fn plain_text(
+    alloc: Global,
+    session: &Session,
+    number: usize,
+    output: LineOutput,
+) -> Result<String, AllocError>
+    ensures { IfOk result (λ text. string_bytes text ≡ plain_text session.now number output) }
+{
+    output_text(alloc, session.table(), number, output, &view_of(session))
 }
 
 /// What lines see of a session.
