@@ -4,8 +4,6 @@
 mod command;
 pub mod laws;
 mod mastered;
-mod saying;
-mod taking;
 mod why;
 
 pub use crate::command::{MasterOptions, run_connected, run_mastered};

@@ -1,20 +1,25 @@
-//! A master over a wire, which lines move.
-ghost use Rattle.std.specs.Prelude.{◌≡◌, [], IfOk};
+//! A master over a wire, which lines move: the actions that it takes, what they do to it, and what they print.
+ghost use Rattle.std.specs.Prelude.{◌≡◌, [], IfOk, slice_get, string_bytes};
 ghost use Rattle.ec_wire.specs.Taps.{Tells};
 ghost use Rattle.ec_script.specs.declared.line.LineAction.TheVariants.{Cycle, Ready, Set};
 ghost use Rattle.ec_script.specs.Expecting.{is_met};
 ghost use Rattle.ec_script.specs.Outputs.{output_if};
 ghost use Rattle.ec_master.specs.Doing.{Does, last_report, output_of_run, view_of};
 ghost use Rattle.ec_master.specs.Mastering.{begun_over};
+ghost use Rattle.ec_master.specs.Saying.{is_reasoned, plain_text};
+ghost use Rattle.ec_master.specs.Stages.{IsLineText, IsReasonedText};
+ghost use Rattle.ec_master.specs.Taking.{is_input, is_seen};
 
-use crate::saying::{said_text, view_of};
-use crate::taking::takes_action;
+use crate::why::Why;
 use ec_capture::Recorder;
 use ec_console::{Reasons, Said, Target};
+use ec_diagnostic::reason_line;
 use ec_link::Machine;
-use ec_script::{Expectation, Line, LineAction, LineOutput, is_met};
+use ec_script::{
+    Expectation, Line, LineAction, LineOutput, MasterView, is_failed, is_met, output_text,
+};
 use ec_session::Session;
-use ec_table::Table;
+use ec_table::{Direction, Table};
 use ec_wire::{CapturedWire, RunError, Side, Wire};
 use std::alloc::{AllocError, Global};
 use std::io::Write;
@@ -164,17 +169,6 @@ impl<W: Wire + Drop> Mastered<W> {
     }
 }
 
-/// The output of a cycle.
-fn output_of_run(ran: Result<(), RunError>) -> LineOutput
-    ensures { result ≡ output_of_run ran }
-{
-    match ran {
-        Ok(()) => LineOutput::Report,
-        Err(RunError::Wire) => LineOutput::Fault,
-        Err(RunError::Refused(_)) => LineOutput::No,
-    }
-}
-
 impl<W: Wire + Drop> Target for Mastered<W> {
     ghost use Rattle.ec_master.specs.Saying.{SaysLine};
     ghost use Rattle.ec_master.specs.Taking.{takes_action};
@@ -190,7 +184,27 @@ impl<W: Wire + Drop> Target for Mastered<W> {
     }
 
     fn takes(&self, action: LineAction) -> bool {
-        takes_action(self.session.table(), action)
+        match action {
+            LineAction::Expect(expected) => is_seen(self.session.table(), expected),
+            LineAction::Set(_, _)
+            | LineAction::Never(_)
+            | LineAction::Ready
+            | LineAction::Cycle
+            | LineAction::Show
+            | LineAction::Report => true,
+            LineAction::Start
+            | LineAction::Begin
+            | LineAction::Pass(_)
+            | LineAction::Lose(_)
+            | LineAction::Return(_)
+            | LineAction::Close
+            | LineAction::Serve(_)
+            | LineAction::Put(_, _, _)
+            | LineAction::Get(_, _)
+            | LineAction::Fail(_)
+            | LineAction::Reset(_)
+            | LineAction::Input(_, _) => false,
+        }
     }
 
     fn obey(&mut self, alloc: Global, line: &Line) -> Result<Said, AllocError> {
@@ -200,5 +214,117 @@ impl<W: Wire + Drop> Target for Mastered<W> {
             text,
             is_unmet: output.is_unmet(),
         })
+    }
+}
+
+/// The output of a cycle.
+fn output_of_run(ran: Result<(), RunError>) -> LineOutput
+    ensures { result ≡ output_of_run ran }
+{
+    match ran {
+        Ok(()) => LineOutput::Report,
+        Err(RunError::Wire) => LineOutput::Fault,
+        Err(RunError::Refused(_)) => LineOutput::No,
+    }
+}
+
+/// Whether a master over a wire can see what is expected.
+fn is_seen(table: &Table, expected: Expectation) -> bool
+    ensures { result ≡ is_seen table.now.variables expected }
+{
+    match expected {
+        Expectation::Is(variable, _) | Expectation::Never(variable) => is_input(table, variable),
+        Expectation::State(_, _, _) => false,
+        Expectation::Units(_)
+        | Expectation::Unit(_, _)
+        | Expectation::Ready
+        | Expectation::Failed(_) => true,
+    }
+}
+
+/// Whether the variable at a place is an input.
+fn is_input(table: &Table, place: usize) -> bool
+    ensures { result ≡ is_input (slice_get table.now.variables place) }
+{
+    match table.variables().get(place) {
+        Some(row) => match row.direction {
+            Direction::Out => false,
+            Direction::In => true,
+        },
+        None => false,
+    }
+}
+
+/// The text that a line prints for its output, by the session behind it. With reasons, behind that stands why the line can't be done
+/// or has failed.
+///
+/// # Errors
+///
+/// `AllocError` if memory ran out.
+fn said_text(
+    alloc: Global,
+    session: &Session,
+    reasons: Reasons,
+    line: &Line,
+    output: LineOutput,
+) -> Result<String, AllocError>
+    ensures { IfOk result (λ text. IsLineText reasons session.now line.now.number output (string_bytes text)) }
+{
+    if is_reasoned(reasons, session, output) {
+        reasoned_text(alloc, session, line, output)
+    } else {
+        plain_text(alloc, session, line.number, output)
+    }
+}
+
+/// The text of a line's output, and behind it why the line can't be done or has failed.
+fn reasoned_text(
+    alloc: Global,
+    session: &Session,
+    line: &Line,
+    output: LineOutput,
+) -> Result<String, AllocError>
+    ensures { IfOk result (λ text. IsReasonedText session.now line.now.number output (string_bytes text)) }
+{
+    let mut text = plain_text(alloc, session, line.number, output)?;
+    let action = line.action;
+    let why = Why { session, action };
+    let words = format!(in alloc; "{why}")?;
+    text.push_str(reason_line(alloc, words.as_str())?.as_str())?;
+    Ok(text)
+}
+
+/// The text that line `number` prints for its output.
+fn plain_text(
+    alloc: Global,
+    session: &Session,
+    number: usize,
+    output: LineOutput,
+) -> Result<String, AllocError>
+    ensures { IfOk result (λ text. string_bytes text ≡ plain_text session.now number output) }
+{
+    output_text(alloc, session.table(), number, output, &view_of(session))
+}
+
+/// What lines see of a session.
+fn view_of(session: &Session) -> MasterView<'_, 'static>
+    ensures { result ≡ view_of session.now }
+{
+    MasterView {
+        outcome: session.outcome(),
+        report: session.report(),
+        master: session.master(),
+        byte: None,
+    }
+}
+
+/// Whether a reason stands behind an output.
+fn is_reasoned(reasons: Reasons, session: &Session, output: LineOutput) -> bool
+    ensures { result ≡ is_reasoned reasons session.now output }
+{
+    match (reasons, output) {
+        (Reasons::Told, LineOutput::No) => true,
+        (Reasons::Told, LineOutput::Ended) => is_failed(None, session.outcome()),
+        _ => false,
     }
 }
