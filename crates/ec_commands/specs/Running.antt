@@ -20,7 +20,6 @@ use Rattle.ec_commands.specs.Planning.{RunsPlan, form_of as shown_as}
 use Rattle.ec_console.specs.Given.{Given}
 use Rattle.ec_console.specs.Printing.{IsTold, OutputState, Shows}
 use Rattle.ec_console.specs.Refusals.{line_of, status_of}
-use Rattle.ec_live.specs.Living.{RunsLive}
 use Rattle.ec_table.specs.Contents.{Contents}
 use Rattle.ec_script.specs.declared.line.Line.{Line}
 use Rattle.ec_console.specs.declared.form.SlaveForm.{SlaveForm}
@@ -35,9 +34,9 @@ use Rattle.ec_segment.specs.Serving.{ServesMachine}
 use Rattle.ec_annotate.specs.Annotating.{names_of}
 use Rattle.ec_commands.specs.Remarking.{RunsDecodeWith}
 use Rattle.ec_commands.specs.Translating.{RunsEncode}
-use Rattle.ec_sim.specs.Simulating.{RunsLines}
-use Rattle.ec_why.specs.declared.wanted.Reasons.{Reasons}
-use Rattle.ec_why.specs.Reasons.{reasons_of}
+use Rattle.ec_sim.specs.Simulating.{RunsLines, RunsLive}
+use Rattle.ec_console.specs.declared.wanted.Reasons.{Reasons}
+use Rattle.ec_console.specs.Reasons.{reasons_of}
 use Rattle.ec_wire.specs.Wires.{Traffic, nothing_sent}
 
 -- what the output, or the fault stream, is before and after

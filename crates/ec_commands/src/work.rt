@@ -6,15 +6,13 @@ ghost use Rattle.ec_console.specs.Stating.{RunsStated};
 ghost use Rattle.ec_commands.specs.Running.{IsSilent, LeavesApp, RunsWork, does_of, form_of, source_of};
 
 use ec_console::{
-    Capture, Console, Interfaces, Refusal, SlaveForm, Source, Stated, close_capture, open_capture,
-    read_source, read_stated,
+    Capture, Console, Interfaces, Reasons, Refusal, SlaveForm, Source, Stated, close_capture,
+    open_capture, read_source, read_stated,
 };
-use ec_live::run_live;
 use ec_loop::run_loopback;
 use ec_master::{MasterOptions, run_connected};
 use ec_segment::{Endpoint, run_segment};
-use ec_sim::run_script;
-use ec_why::Reasons;
+use ec_sim::{run_live, run_script};
 use ec_wire::{App, Loopback};
 use std::fs::Files;
 use std::io::{Read, Write};
