@@ -1,3 +1,5 @@
+-- when a cycle can be run
+mod Cycling
 -- what the calls of a session make of a master over a wire
 mod Doing
 -- how a run of lines ends
