@@ -34,9 +34,9 @@ use Rattle.ec_segment.specs.Serving.{ServesMachine}
 use Rattle.ec_annotate.specs.Annotating.{names_of}
 use Rattle.ec_commands.specs.Remarking.{RunsDecodeWith}
 use Rattle.ec_commands.specs.Translating.{RunsEncode}
-use Rattle.ec_sim.specs.Simulating.{RunsLines, RunsLive}
 use Rattle.ec_console.specs.declared.wanted.Reasons.{Reasons}
 use Rattle.ec_console.specs.Reasons.{reasons_of}
+use Rattle.ec_sim.specs.Simulating.{RunsLines, RunsLive}
 use Rattle.ec_wire.specs.Wires.{Traffic, nothing_sent}
 
 -- what the output, or the fault stream, is before and after

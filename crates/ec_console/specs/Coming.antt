@@ -8,19 +8,14 @@ use Rattle.ec_script.specs.declared.line.Line.{Line}
 use Rattle.ec_script.specs.declared.line.LineAction.{LineAction}
 use Rattle.ec_script.specs.declared.read.Reading.{Reading}
 use Rattle.ec_script.specs.declared.read.Reading.TheVariants as reading
-use Rattle.ec_script.specs.Scripts.{reading_of}
+use Rattle.ec_script.specs.Scripts.{reading_of, taken_by}
 use Rattle.ec_console.specs.Printing.{IsPartPrinted, IsPrinted, OutputState}
 use Rattle.ec_console.specs.Saying.{PrintsPart, Says}
 
 -- ---- what a line is
 
--- a line with an action that the target doesn't take is bad
-abbrev pub taken_by : (takes : LineAction → Bool) → Reading → Reading
-taken_by takes reading.Empty = reading.Empty
-taken_by takes reading.Bad = reading.Bad
-taken_by takes (reading.Line line) = if takes line.action then reading.Line line else reading.Bad
-
--- line n, by the actions that a target of a table takes; a line with too many bytes, or that isn't text, is bad
+-- line n, by the actions that a target of a table takes. A line with another action is bad, as is one with too many bytes, or that isn't
+-- text.
 abbrev pub reading_at : (takes : Contents → LineAction → Bool) → Contents → ℕ → List ℕ → Reading
 reading_at takes t n line = if is_text_line line then taken_by (takes t) (reading_of t n (without_end line)) else reading.Bad
 

@@ -1,8 +1,8 @@
 //! Lines that a target obeys, one after another: those of a script, or those of an input as they come.
 ghost use Rattle.std.specs.Prelude.{◌≡◌, ◌∷◌, [], ℕ, List, IfErr, IfOk, OnErr, OnOk, false, replicate};
 ghost use Rattle.ec_lines.specs.Inputs.{bytes_left};
-ghost use Rattle.ec_script.specs.Scripts.{repeated};
-ghost use Rattle.ec_console.specs.Coming.{ComesOut, ComesPart, PartOf, SaysReading, bad_text, reading_at, taken_by};
+ghost use Rattle.ec_script.specs.Scripts.{repeated, taken_by};
+ghost use Rattle.ec_console.specs.Coming.{ComesOut, ComesPart, PartOf, SaysReading, bad_text, reading_at};
 ghost use Rattle.ec_console.specs.Given.{IsReadRefusal};
 ghost use Rattle.ec_console.specs.Printing.{IsPartPrinted, IsPrinted};
 ghost use Rattle.ec_console.specs.Saying.{IsLate, PrintsAll, PrintsPart};

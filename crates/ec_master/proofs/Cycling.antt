@@ -19,7 +19,8 @@ use Rattle.ec_console.specs.Saying.{Says}
 use Rattle.ec_master.specs.State.{MasteredState}
 use Rattle.ec_master.specs.Doing.{Does, Either, RunsCycle, Sets, Tells}
 use Rattle.ec_master.specs.Saying.{SaysLine}
-use Rattle.ec_master.specs.Laws.{CyclesCanRun, can_cycle}
+use Rattle.ec_master.specs.Laws.{CyclesCanRun}
+use Rattle.ec_master.specs.Mastering.{begun_over}
 
 -- no cycle is open, and a master whose last start-up ended Ready can begin one
 record Holds (s : SessionState) : Type 0 where
@@ -105,5 +106,5 @@ free false ready o left none can = refl
 
 pub cycles_can_run : CyclesCanRun
 cycles_can_run reasons t w lines s printed unmet says =
-    let held = holds_said _ lines s printed unmet says (holds_new t) in
+    let held = holds_said (begun_over reasons t w) lines s printed unmet says (holds_new t) in
     free (is_up s.session.startup.phase) s.session.master.is_ready s.session.master.cycle (nat_lt s.session.master.next cycle_limit) held.none_open held.up

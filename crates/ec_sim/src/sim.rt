@@ -154,9 +154,9 @@ fn print_captured<F: Write + Drop, W: Write + Drop>(
             print_lines(alloc, &mut simulation, lines, output)
         }
         Some(recording) => {
-            let mut watched = simulation.watched_by(Watch::new(recording));
-            let ended = print_noted(alloc, &mut watched, lines, output);
-            *capture = Some(watched.into_watcher().into_capture());
+            let mut noted = simulation.watched_by(Watch::new(recording));
+            let ended = print_noted(alloc, &mut noted, lines, output);
+            *capture = Some(noted.into_watcher().into_capture());
             ended
         }
     }

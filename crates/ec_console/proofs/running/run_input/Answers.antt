@@ -15,6 +15,12 @@ pub returns-in_err-reading-clause-part : goal.returns-in_err-reading-clause-part
 returns-in_err-reading-clause-part g c =
     if_err _ (come_stop g.T.Target.says (reading_at g.T.Target.takes (g.T.Target.table c.args.target.now)) c.args.target.now c.loop-place.target _ _ c.loop-place.place c.loop-place.unmet _ _ c.loop-place.invariant.come)
 
+pub returns-in_default-clause-all : goal.returns-in_default-clause-all
+returns-in_default-clause-all g c =
+    come_out g.T.Target.says (reading_at g.T.Target.takes (g.T.Target.table c.args.target.now)) c.args.target.now c.loop-place.target _ _ _ c.loop-place.place c.loop-place.unmet c.in_ok-reading.field-0 _ _ c.loop-place.invariant.come
+    (same_next (reading_at g.T.Target.takes) (g.T.Target.table c.args.target.now) (g.T.Target.table c.loop-place.target) (c.loop-place.place + 1) _ _ c.in_ok-reading.field-0 c.loop-place.invariant.table c.in_ok-reading.ensures.next)
+    c.in_default.not-Some
+
 pub returns-in_err-count-clause-part : goal.returns-in_err-count-clause-part
 returns-in_err-count-clause-part g c =
     if_err _ (come_cut g.T.Target.says (reading_at g.T.Target.takes (g.T.Target.table c.args.target.now)) c.args.target.now c.loop-place.target c.obey_reading.new.target _ _ _ c.loop-place.place c.loop-place.unmet

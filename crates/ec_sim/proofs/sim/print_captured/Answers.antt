@@ -15,10 +15,10 @@ returns-in-None-clause-part g c =
 
 pub returns-in-Some-clause-all : goal.returns-in-Some-clause-all
 returns-in-Some-clause-all g c =
-    all_last _ c.print_noted-ended.result c.watched_by-watched.result c.args.simulation.reasons c.args.simulation.table c.args.simulation.world c.print_noted-ended.new.simulation.world (repeated c.args.lines.now) _ _
-    c.watched_by-watched.ensures c.print_noted-ended.ensures.all
+    all_last _ c.print_noted-ended.result c.watched_by-noted.result c.args.simulation.reasons c.args.simulation.table c.args.simulation.world c.print_noted-ended.new.simulation.world (repeated c.args.lines.now) _ _
+    c.watched_by-noted.ensures c.print_noted-ended.ensures.all
 
 pub returns-in-Some-clause-part : goal.returns-in-Some-clause-part
 returns-in-Some-clause-part g c =
-    part_last _ c.print_noted-ended.result c.watched_by-watched.result c.args.simulation.reasons c.args.simulation.table c.args.simulation.world c.print_noted-ended.new.simulation.world (repeated c.args.lines.now) _ _
-    c.watched_by-watched.ensures c.print_noted-ended.ensures.part
+    part_last _ c.print_noted-ended.result c.watched_by-noted.result c.args.simulation.reasons c.args.simulation.table c.args.simulation.world c.print_noted-ended.new.simulation.world (repeated c.args.lines.now) _ _
+    c.watched_by-noted.ensures c.print_noted-ended.ensures.part
