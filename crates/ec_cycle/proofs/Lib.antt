@@ -30,8 +30,6 @@ pub mod Judging
 pub mod ProcessBits
 -- what goes out in a begun frame
 pub mod Outgoing
--- a master that goes through a call keeps its plan, and so what stood apart from the plan fits it again
-pub mod Owning
 -- what setting a variable does to the values of variables
 pub mod Variables
 -- cyclic frames on their way

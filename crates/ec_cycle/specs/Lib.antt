@@ -16,5 +16,4 @@ pub mod Refusals
 -- Private: these serve private code and its proofs alone.
 pub mod Matching
 pub mod Kept
-pub mod Owned
 pub mod Renewing

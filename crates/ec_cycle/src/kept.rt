@@ -1,5 +1,5 @@
 //! What a master keeps of a part: its frame, and what came back.
-ghost use Rattle.std.specs.Prelude.{◌≡◌, ◌≤◌, ◌<◌, ◌+◌, ◌*◌, ◌^◌, List, Option, Some, None, true, false, is_some, option_map, length, slice_index, if◌then◌else◌};
+ghost use Rattle.std.specs.Prelude.{◌≡◌, ◌≤◌, ◌<◌, ◌+◌, ◌*◌, ◌^◌, [], List, Option, Some, None, true, false, is_some, option_map, length, slice_index, if◌then◌else◌};
 ghost use Rattle.ec_bits.specs.Bits.{bytes_of_bits};
 ghost use Rattle.ec_frame.specs.Building.{bare_payload};
 ghost use Rattle.ec_frame.specs.Datagram.{Datagram};
@@ -14,7 +14,6 @@ ghost use Rattle.ec_cycle.specs.Frames.{sent_datagrams};
 ghost use Rattle.ec_cycle.specs.Kept.{IsMade};
 ghost use Rattle.ec_cycle.specs.Matching.{FirstStand};
 
-use crate::content::Content;
 use crate::counters::Counters;
 use crate::matching::{counter_at, data_at};
 use crate::renewing::renew;
@@ -22,6 +21,9 @@ use crate::run::BitRun;
 use ec_frame::{DatagramSpan, Frame};
 use ec_link::{ExpectedCounters, Plan};
 use std::marker::Model;
+
+/// The most bytes that a part has.
+const MAX_BYTES: usize = 1422;
 
 /// The frame of a part, as it was sent.
 #[derive(Drop)]
@@ -161,6 +163,51 @@ impl Returned {
         ensures { result ≡ word_of_kept self.now }
     {
         if self.is_kept { self.al_word } else { 0 }
+    }
+}
+
+/// The bytes that a part brought back. `replace` touches only as many bytes of `room` as there are.
+#[derive(Drop)]
+struct Content {
+    room: [u8; MAX_BYTES],
+    count: usize,
+}
+
+impl Model for Content {
+    ghost use Rattle.std.specs.Prelude.{◌≤◌, ℕ, List, take};
+
+    ghost Value = { List ℕ };
+
+    ghost view = { λ c. take c.count c.room };
+
+    ghost invariant = { λ c. c.count ≤ 1422 };
+}
+
+impl Content {
+    /// No bytes.
+    fn new() -> Content
+        ensures { result ≡ [] }
+    {
+        Content {
+            room: [0; MAX_BYTES],
+            count: 0,
+        }
+    }
+
+    /// Replaces the bytes.
+    fn replace(&mut self, bytes: &[u8])
+        requires { length bytes.now ≤ 1422 }
+        ensures { self.new ≡ bytes.now }
+    {
+        self.room[..bytes.len()].copy_from_slice(bytes);
+        self.count = bytes.len();
+    }
+
+    /// The bytes.
+    fn as_slice(&self) -> &[u8]
+        ensures { result.now ≡ self.now }
+    {
+        &self.room[..self.count]
     }
 }
 

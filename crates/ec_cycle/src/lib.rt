@@ -4,10 +4,8 @@
 //! This crate knows no wire: [`Master::frame`] lends the frames to send, and [`Master::take`] takes whatever came in.
 #![tactic(auto)]
 
-mod answered;
 mod asking;
 mod building;
-mod content;
 mod counters;
 mod error;
 mod kept;
@@ -19,6 +17,6 @@ mod report;
 mod run;
 
 pub use crate::error::CycleError;
-pub use crate::master::{Master, OwnMaster};
+pub use crate::master::Master;
 pub use crate::report::Report;
 pub use ec_start::Taken;

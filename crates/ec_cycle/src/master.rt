@@ -14,14 +14,14 @@ ghost use Rattle.ec_cycle.specs.Kept.{IsMade};
 ghost use Rattle.ec_cycle.specs.Master.{OpenCycle, MasterState, Begun, IsTaken, IsClosed, new_master, readied, holds_value, value_put, variable_set, value_at, begin_refusal, refused_by, frame_of, missing_of, abandoned};
 ghost use Rattle.ec_cycle.specs.declared.error.CycleError.{CycleError};
 ghost use Rattle.ec_cycle.specs.declared.error.CycleError.TheVariants.{NotOpen};
+ghost use Rattle.ec_start.specs.HeldPlans.{plan_in};
 ghost use Rattle.ec_start.specs.declared.phase.Phase.TheVariants.{Ready};
 ghost use Rattle.ec_start.specs.Running.{is_kept};
 
-use crate::answered::answered;
 use crate::building::build;
 use crate::error::CycleError;
 use crate::kept::{Returned, SentFrame};
-use crate::matching::first_places;
+use crate::matching::{answered, first_places};
 use crate::renewing::fill;
 use crate::report::{Report, missing_of};
 use crate::run::{BitRun, InputRun, runs_by_part, runs_of_inputs};
@@ -29,24 +29,19 @@ use ec_bits::{copy_by_words, read_bits, write_bits};
 use ec_frame::{Frame, check};
 use ec_link::{ExpectedCounters, Plan};
 use ec_listed::Listed;
-use ec_start::{Startup, Taken};
+use ec_start::{HeldPlan, Startup, Taken};
 use ec_table::Direction;
 use std::alloc::{AllocError, Global};
 use std::marker::Model;
 
-mod owned;
-mod rest;
-
-pub use self::owned::OwnMaster;
-
 /// A master of the cyclic frames of a plan. It allocates all its memory when it is made.
 #[derive(Drop)]
 pub struct Master<'p> {
-    pub(crate) plan: &'p Plan,
+    pub(crate) held: HeldPlan<'p>,
     pub(crate) is_ready: bool,
     pub(crate) next: u64,
-    outputs: Vec<u8>,
-    inputs: Vec<u8>,
+    pub(crate) outputs: Vec<u8>,
+    pub(crate) inputs: Vec<u8>,
     // looked up once in the plan
     runs: Listed<Listed<BitRun>>,
     input_runs: Listed<InputRun>,
@@ -62,11 +57,12 @@ impl<'p> Model for Master<'p> {
     ghost use Rattle.std.specs.Prelude.{option_map};
     ghost use Rattle.ec_cycle.specs.Master.{MasterState};
     ghost use Rattle.ec_cycle.specs.Kept.{IsMaster};
+    ghost use Rattle.ec_start.specs.HeldPlans.{plan_in};
 
     ghost Value = { MasterState };
 
     ghost view = { λ m. record {
-      plan = m.plan.now;
+      plan = plan_in m.held;
       is_ready = m.is_ready;
       next = m.next;
       outputs = m.outputs.items;
@@ -74,7 +70,7 @@ impl<'p> Model for Master<'p> {
       cycle = option_map (λ n. record { number = n; frames = m.frames.items; kept = m.kept.items }) m.number;
     } };
 
-    ghost invariant = { λ m. IsMaster m.plan.now m.runs m.input_runs m.expected m.outputs.items m.inputs.items m.frames.items m.kept.items m.number };
+    ghost invariant = { λ m. IsMaster (plan_in m.held) m.runs m.input_runs m.expected m.outputs.items m.inputs.items m.frames.items m.kept.items m.number };
 }
 
 impl<'p> Master<'p> {
@@ -87,21 +83,38 @@ impl<'p> Master<'p> {
         requires { IsUsable plan.now }
         ensures { IfOk result (λ m. m ≡ new_master plan.now) }
     {
+        Master::of(alloc, HeldPlan::Lent(plan))
+    }
+
+    /// As [`new`](Master::new), of a plan that is lent or shared.
+    ///
+    /// # Errors
+    ///
+    /// `AllocError` if memory was refused.
+    pub fn of(alloc: Global, held: HeldPlan<'p>) -> Result<Master<'p>, AllocError>
+        requires { IsUsable (plan_in held) }
+        ensures { IfOk result (λ m. m ≡ new_master (plan_in held.entry)) }
+    {
+        let plan = held.plan();
         let outputs = image_of(alloc, plan.out_bits())?;
+        let inputs = image_of(alloc, plan.in_bits())?;
         let runs = runs_by_part(alloc, plan)?;
+        let input_runs = runs_of_inputs(alloc, plan)?;
+        let expected = counters_of(alloc, plan)?;
         let frames = frames_of(alloc, plan, runs.as_slice(), &outputs)?;
+        let kept = nothing_kept(alloc, plan.parts().len())?;
         Ok(Master {
-            plan,
+            held,
             is_ready: false,
             next: 0,
             outputs,
-            inputs: image_of(alloc, plan.in_bits())?,
+            inputs,
             runs,
-            input_runs: runs_of_inputs(alloc, plan)?,
-            expected: counters_of(alloc, plan)?,
+            input_runs,
+            expected,
             number: None,
             frames,
-            kept: nothing_kept(alloc, plan.parts().len())?,
+            kept,
         })
     }
 
@@ -127,14 +140,14 @@ impl<'p> Master<'p> {
     pub fn is_sound(&self)
         ensures { IsUsable self.now.plan }
     {
-        let _ = &self.plan;
+        let _ = &self.held;
     }
 
     /// Whether there is a variable, it is an output, and it has enough bits for the value: the condition of `set`.
     pub fn can_set(&self, variable: usize, value: u64) -> bool
         ensures { result ≡ holds_value value (slice_get self.now.plan.variables variable) }
     {
-        can_hold(self.plan, variable, value)
+        can_hold(self.held.plan(), variable, value)
     }
 
     /// Sets a variable of the outputs. No other bit changes, and no frame that was made.
@@ -142,7 +155,7 @@ impl<'p> Master<'p> {
         requires { holds_value value (slice_get self.old.plan.variables variable) ≡ true }
         ensures { self.new ≡ variable_set self.old variable value }
     {
-        write_variable(&mut self.outputs, self.plan, variable, value);
+        write_variable(&mut self.outputs, self.held.plan(), variable, value);
     }
 
     /// The value of a variable.
@@ -150,12 +163,20 @@ impl<'p> Master<'p> {
         requires { variable < length self.now.plan.variables }
         ensures { result ≡ value_at self.now (slice_get self.now.plan.variables variable) }
     {
-        let place = self.plan.variables()[variable];
+        let place = self.held.plan().variables()[variable];
         let image = match place.direction {
             Direction::Out => self.outputs.as_slice(),
             Direction::In => self.inputs.as_slice(),
         };
         read_bits(image, place.from, usize::from(place.bits))
+    }
+
+    /// Sets the image of all outputs. `outputs` has as many bytes as the image. No frame that was made changes.
+    pub fn set_outputs(&mut self, outputs: &[u8])
+        requires { length outputs.now ≡ length self.old.outputs }
+        ensures { self.new ≡ record self.old { outputs = outputs.now } }
+    {
+        self.outputs.copy_from_slice(outputs);
     }
 
     /// Begins a cycle: makes one frame for each part, from the outputs as they are. The cycle takes the next number.
@@ -179,7 +200,7 @@ impl<'p> Master<'p> {
         }
         let number = self.next;
         make_frames(
-            self.plan,
+            self.held.plan(),
             self.runs.as_slice(),
             number,
             &self.outputs,
@@ -217,7 +238,7 @@ impl<'p> Master<'p> {
         let Some(part) = answered(payload, count, &spans, frames, self.kept.as_slice()) else {
             return Taken::Foreign;
         };
-        let place = self.plan.parts()[part];
+        let place = self.held.plan().parts()[part];
         self.kept[part].keep(place.split, payload, &spans);
         Taken::Kept
     }
@@ -237,10 +258,11 @@ impl<'p> Master<'p> {
         if self.number.is_none() {
             return Err(CycleError::NotOpen);
         }
-        let taken = judged(self.plan, self.expected.as_slice(), &self.kept);
-        let report = Report::new(self.plan.units(), &taken, &self.kept);
+        let plan = self.held.plan();
+        let taken = judged(plan, self.expected.as_slice(), &self.kept);
+        let report = Report::new(plan.units(), &taken, &self.kept);
         take_inputs(
-            self.plan,
+            plan,
             self.input_runs.as_slice(),
             &taken,
             &self.kept,

@@ -1,11 +1,12 @@
-//! Compares a payload with a frame that was sent, and finds its datagrams.
-ghost use Rattle.std.specs.Prelude.{◌≡◌, ◌<◌, ◌↔◌, [], Bool, List, Option, length, true};
+//! Finds the part whose frame a payload answers: compares the payload with frames that were sent, datagram by datagram.
+ghost use Rattle.std.specs.Prelude.{◌≡◌, ◌<◌, ◌↔◌, [], ℕ, Bool, List, Option, Some, None, get_or, length, true};
 ghost use Rattle.std.specs.Option.{option_map_or};
 ghost use Rattle.ec_frame.specs.Cursor.{IsAhead};
 ghost use Rattle.ec_frame.specs.Datagram.{Datagram, IsDatagram, IsSpelling, spelling};
 ghost use Rattle.ec_frame.specs.Frame.{Payload, IsFrame};
-ghost use Rattle.ec_cycle.specs.Matching.{SameAt, SameFrom, StandsFor, FirstStand, StepsOn, NextAre, Names};
+ghost use Rattle.ec_cycle.specs.Matching.{Answered, SameAt, SameFrom, StandsFor, FirstStand, StepsOn, NextAre, Names};
 
+use crate::kept::{Returned, SentFrame};
 use ec_frame::{DatagramCursor, DatagramSpan, Header, read_counter, read_data};
 
 /// The places of a frame's first four datagrams, in bytes; from 0 to 0 for each that isn't there.
@@ -21,9 +22,35 @@ pub fn first_places(payload: &[u8]) -> [DatagramSpan; 4]
     spans
 }
 
+/// The part whose frame a payload answers, if that part isn't kept yet; none if there is none.
+pub fn answered(
+    payload: &[u8],
+    count: usize,
+    spans: &[DatagramSpan; 4],
+    frames: &[SentFrame],
+    kept: &[Returned],
+) -> Option<usize>
+    requires payload { (p : Payload) × IsFrame payload.now p × FirstStand payload.now spans.now p.datagrams × (count ≡ length p.datagrams) }
+    requires sent { (k : ℕ) → k < length frames.now → (q : Payload) × IsFrame (get_or frames.now k []) q }
+    requires counts { length kept.now ≡ length frames.now }
+    ensures { (p : Payload) → IsFrame payload.now p → FirstStand payload.now spans.now p.datagrams → Answered p.datagrams frames.now kept.now result }
+{
+    let Some(part) = named_part(payload, spans[0]) else {
+        return None;
+    };
+    if part >= frames.len() || kept[part].is_kept() {
+        return None;
+    }
+    if answers(payload, count, frames[part].bytes()) {
+        Some(part)
+    } else {
+        None
+    }
+}
+
 /// Whether a frame of `count` datagrams answers a frame that was sent: as many datagrams, of the same commands, indices and
 /// lengths, the first with the same data, and those behind the second with the same addresses.
-pub fn answers(payload: &[u8], count: usize, sent: &[u8]) -> bool
+fn answers(payload: &[u8], count: usize, sent: &[u8]) -> bool
     requires payload { (p : Payload) × IsFrame payload.now p × (count ≡ length p.datagrams) }
     requires sent { (q : Payload) × IsFrame sent.now q }
     ensures { (p : Payload) (q : Payload) → IsFrame payload.now p → IsFrame sent.now q → (result ≡ true) ↔ SameFrom 0 p.datagrams q.datagrams }
@@ -61,7 +88,7 @@ pub fn counter_at(payload: &[u8], span: DatagramSpan) -> u16
 }
 
 /// The part that a frame's first datagram names; none if its data aren't ten bytes.
-pub fn named_part(payload: &[u8], span: DatagramSpan) -> Option<usize>
+fn named_part(payload: &[u8], span: DatagramSpan) -> Option<usize>
     requires { (o : Option Datagram) × StandsFor payload.now span o }
     ensures named { (o : Option Datagram) → StandsFor payload.now span o → Names o result }
 {

@@ -1,5 +1,5 @@
 -- What a start-up holds beside its value: its place in the script, which isn't stored.
-use Rattle.std.specs.Prelude.{ℕ, ◌<◌, ◌≤◌, ◌≡◌, List, length, drop, slice_get, All, true, false, Some}
+use Rattle.std.specs.Prelude.{ℕ, ◌^◌, ◌<◌, ◌≤◌, ◌≡◌, List, drop, slice_get, All, true, false, Some}
 use Rattle.ec_link.specs.declared.settings.SlavePlan.{SlavePlan}
 use Rattle.ec_start.specs.declared.action.Action.TheVariants.{CountSlaves}
 use Rattle.ec_start.specs.declared.phase.Phase.{Phase}
@@ -23,10 +23,10 @@ pub record IsAtStep (ps : List SlavePlan) (place : ℕ) (s : Step) : Type 0 wher
   pub small : s.cursor.place ≤ place
 
 pub record IsHeld (ps : List SlavePlan) (next place polls : ℕ) (phase : Phase) (s : Step) : Type 0 where
-  pub few : length ps ≤ 64
   pub assigned : All HasFewAssigned ps
   -- each place took a number
   pub numbers : place ≤ next
+  pub fits : next < 2 ^ 64
   pub sent : is_sent phase ≡ true → place < next
   pub polls_left : polls < max_polls
   pub at_step : is_ended phase ≡ false → IsAtStep ps place s

@@ -5,6 +5,7 @@
 mod action;
 mod answer;
 mod error;
+mod held;
 pub mod laws;
 mod phase;
 mod requests;
@@ -14,5 +15,6 @@ mod verdict;
 
 pub use crate::action::{Action, SdoRequest, Transfer};
 pub use crate::error::StartError;
+pub use crate::held::HeldPlan;
 pub use crate::phase::{NextFrame, Phase, Taken};
-pub use crate::startup::{Startup, StartupRest};
+pub use crate::startup::Startup;

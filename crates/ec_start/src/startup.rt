@@ -7,6 +7,7 @@ ghost use Rattle.ec_frame.specs.Building.{bare_payload};
 ghost use Rattle.ec_frame.specs.Frame.{IsFrame};
 ghost use Rattle.ec_start.specs.declared.verdict.Verdict.TheVariants.{Again};
 ghost use Rattle.ec_start.specs.Held.{first_step};
+ghost use Rattle.ec_start.specs.HeldPlans.{plan_in};
 ghost use Rattle.ec_start.specs.declared.phase.NextFrame.TheVariants.{Send};
 ghost use Rattle.ec_start.specs.Actions.{datagram_of, frame_of};
 ghost use Rattle.ec_start.specs.Planned.{HasFewAssigned};
@@ -16,6 +17,7 @@ ghost use Rattle.ec_start.specs.Running.{begun, action_of, has_failed, asked, ne
 use crate::action::{Action, MAX_DATA};
 use crate::answer::answer_in;
 use crate::error::StartError;
+use crate::held::HeldPlan;
 use crate::phase::{NextFrame, Phase, Taken};
 use crate::script::{Cursor, Step, Stretch};
 use crate::verdict::{Verdict, nothing_seen, verdict_on, with_word};
@@ -23,10 +25,6 @@ use ec_device::Device;
 use ec_frame::{Command, Frame, Sent, read_counter, read_data, write_pair};
 use ec_link::{Plan, SlavePlan};
 use std::marker::Model;
-
-mod rest;
-
-pub use self::rest::StartupRest;
 
 /// Enough bytes for the data of each datagram that is no mailbox message.
 const SHORT_DATA: usize = 64;
@@ -41,7 +39,7 @@ const MAX_POLLS: u16 = 1000;
 /// is outstanding until `take` keeps its answer. The start-up ends Ready, with all slaves in OP, or with a failure.
 #[derive(Drop)]
 pub struct Startup<'p> {
-    slaves: &'p [SlavePlan],
+    held: HeldPlan<'p>,
     next: u64,
     place: usize,
     polls: u16,
@@ -54,11 +52,12 @@ pub struct Startup<'p> {
 impl<'p> Model for Startup<'p> {
     ghost use Rattle.ec_start.specs.Running.{StartState};
     ghost use Rattle.ec_start.specs.Held.{IsHeld};
+    ghost use Rattle.ec_start.specs.HeldPlans.{plan_in};
 
     ghost Value = { StartState };
 
     ghost view = { λ s. record {
-      plan = s.slaves.now;
+      plan = (plan_in s.held).slaves;
       next = s.next;
       place = s.place;
       polls = s.polls;
@@ -66,7 +65,7 @@ impl<'p> Model for Startup<'p> {
       phase = s.phase;
     } };
 
-    ghost invariant = { λ s. IsHeld s.slaves.now s.next s.place s.polls s.phase s.step };
+    ghost invariant = { λ s. IsHeld (plan_in s.held).slaves s.next s.place s.polls s.phase s.step };
 }
 
 impl<'p> Startup<'p> {
@@ -80,13 +79,21 @@ impl<'p> Startup<'p> {
     }
 
     /// A start-up of a plan. Its first frame has the number `from_number`. Neither this nor any later call takes memory.
-    #[tactic(auto, unfolding(crate::specs::Running::begun))]
     pub fn new(plan: &'p Plan, from_number: u64) -> Startup<'p>
         requires { All HasFewAssigned plan.now.slaves }
         ensures { result ≡ begun plan.now.slaves from_number }
     {
+        Startup::of(HeldPlan::Lent(plan), from_number)
+    }
+
+    /// As [`new`](Startup::new), of a plan that is lent or shared.
+    #[tactic(auto, unfolding(crate::specs::Running::begun))]
+    pub fn of(plan: HeldPlan<'p>, from_number: u64) -> Startup<'p>
+        requires { All HasFewAssigned (plan_in plan).slaves }
+        ensures { result ≡ begun (plan_in plan.entry).slaves from_number }
+    {
         Startup {
-            slaves: plan.slaves(),
+            held: plan,
             next: from_number,
             place: 0,
             polls: 0,
@@ -168,7 +175,7 @@ impl<'p> Startup<'p> {
         };
         let answer = &payload[span.from..span.to];
         let verdict = verdict_on(
-            self.slaves,
+            self.held.plan().slaves(),
             self.place,
             self.seen,
             &self.step.action,
@@ -190,11 +197,19 @@ impl<'p> Startup<'p> {
     }
 
     /// Begins again after a failure, with the next number.
-    #[tactic(auto, unfolding(crate::specs::Running::begun))]
     pub fn restart(&mut self)
         requires { has_failed self.old.phase ≡ true }
         ensures { self.new ≡ restarted self.old }
     {
+        self.begin_again(self.next);
+    }
+
+    /// Begins again from any phase. The next frame has the number `from_number`; an answer to an earlier frame is no longer awaited.
+    #[tactic(auto, unfolding(crate::specs::Running::begun))]
+    pub fn begin_again(&mut self, from_number: u64)
+        ensures { self.new ≡ begun self.old.plan from_number }
+    {
+        self.next = from_number;
         self.place = 0;
         self.polls = 0;
         self.seen = nothing_seen();
@@ -249,7 +264,7 @@ impl<'p> Startup<'p> {
         self.seen = seen;
         let mut cursor = self.step.cursor;
         cursor.place += 1;
-        match cursor.settle(self.slaves) {
+        match cursor.settle(self.held.plan().slaves()) {
             Some(step) => {
                 self.step = step;
                 self.phase = Phase::Idle;

@@ -3,7 +3,8 @@ use Rattle.std.proofs.Math.ListN.{length-set}
 use Rattle.ec_frame.specs.Building.{bare_payload}
 use Rattle.ec_frame.specs.Frame.{IsFrame}
 use Rattle.ec_link.specs.declared.plan.PartPlan.{PartPlan}
-use Rattle.ec_link.specs.Plan.{part_at, no_part}
+use Rattle.ec_link.specs.Plan.{PlanState, part_at, no_part}
+use Rattle.ec_start.specs.HeldPlans.{plan_in}
 use Rattle.ec_cycle.specs.Frames.{sent_datagrams}
 use Rattle.ec_cycle.specs.Closing.{KeptPart, bytes_at, input_place, kept_by, kept_of}
 use Rattle.ec_cycle.specs.Master.{MasterState, IsTaken}
@@ -18,10 +19,10 @@ pub answered-requires-clause-sent : goal.answered-requires-clause-sent
 answered-requires-clause-sent c = λ k l.
     let n = number_open c.self.inside.number c.is_none.result c.is_none.ensures c.if-is_none.false in
     let way = c.self.invariant.under_way n.0 n.1 in
-    let there : k < length c.self.inside.plan.now.parts = omega (arith, l, ap length c.as_slice-frames.ensures.value, c.self.invariant.frame_count) in
+    let there : k < length (plan_in c.self.inside.held).parts = omega (arith, l, ap length c.as_slice-frames.ensures.value, c.self.invariant.frame_count) in
     let s = way.sent k there in (
-      bare_payload (sent_datagrams c.self.inside.plan.now n.0 k s.0),
-      subst (λ (fs : List (List ℕ)). IsFrame (get_or fs k []) (bare_payload (sent_datagrams c.self.inside.plan.now n.0 k s.0))) (sym c.as_slice-frames.ensures.value) s.1,
+      bare_payload (sent_datagrams (plan_in c.self.inside.held) n.0 k s.0),
+      subst (λ (fs : List (List ℕ)). IsFrame (get_or fs k []) (bare_payload (sent_datagrams (plan_in c.self.inside.held) n.0 k s.0))) (sym c.as_slice-frames.ensures.value) s.1,
     )
 
 pub returns-in_default-answered : goal.returns-in_default-answered
@@ -32,7 +33,7 @@ returns-in_default-answered c =
     let none = subst (λ (fs : List (List ℕ)). Answered p.datagrams fs c.self.inside.kept.items None) c.as_slice-frames.ensures.value
     (subst (λ (ks : List (Option KeptPart)). Answered p.datagrams c.as_slice-frames.result.now ks None) c.as_slice.ensures.value (c.in_default-answered.ensures p h (c.first_places-spans.ensures p h))) in
     subst (λ (m : MasterState). IsTaken m c.args.payload.now false m) c.self.view_is
-    (foreign_state c.self.inside.plan.now c.self.inside.is_ready c.self.inside.next c.self.inside.outputs.items c.self.inside.inputs.items c.self.inside.frames.items c.self.inside.kept.items c.self.inside.number n.0 c.args.payload.now p n.1 h
+    (foreign_state (plan_in c.self.inside.held) c.self.inside.is_ready c.self.inside.next c.self.inside.outputs.items c.self.inside.inputs.items c.self.inside.frames.items c.self.inside.kept.items c.self.inside.number n.0 c.args.payload.now p n.1 h
     (c.self.invariant.under_way n.0 n.1) c.self.invariant.frame_count c.self.invariant.usable.few_parts none)
 
 pub keep-requires : goal.keep-requires
@@ -44,10 +45,11 @@ keep-requires c =
     let a = subst (λ (fs : List (List ℕ)). AnswersPart p.datagrams fs c.self.inside.kept.items c.in-Some.part) c.as_slice-frames.ensures.value
     (subst (λ (ks : List (Option KeptPart)). AnswersPart p.datagrams c.as_slice-frames.result.now ks c.in-Some.part) c.as_slice.ensures.value (c.in-Some.ensures p h stand)) in
     let way = c.self.invariant.under_way n.0 n.1 in
-    let size = answer_size c.self.inside.plan.now n.0 c.in-Some.part p.datagrams (part_answers c.self.inside.plan.now n.0 c.self.inside.frames.items c.self.inside.kept.items c.in-Some.part p.datagrams way c.self.invariant.frame_count a) in
-    let few = few_of c.self.inside.plan.now c.in-Some.part c.self.invariant.usable in
-    let small : length (bytes_at p.datagrams (input_place (part_at c.self.inside.plan.now.parts c.in-Some.part).split)) ≤ 1422 = omega (arith, size, few) in
-    (p.datagrams, stand, subst (λ (ps : List PartPlan). length (bytes_at p.datagrams (input_place (get_or ps c.in-Some.part no_part).split)) ≤ 1422) (sym c.parts.ensures) small)
+    let size = answer_size (plan_in c.self.inside.held) n.0 c.in-Some.part p.datagrams (part_answers (plan_in c.self.inside.held) n.0 c.self.inside.frames.items c.self.inside.kept.items c.in-Some.part p.datagrams way c.self.invariant.frame_count a) in
+    let few = few_of (plan_in c.self.inside.held) c.in-Some.part c.self.invariant.usable in
+    let small : length (bytes_at p.datagrams (input_place (part_at (plan_in c.self.inside.held).parts c.in-Some.part).split)) ≤ 1422 = omega (arith, size, few) in
+    let parts : c.parts.result.now ≡ (plan_in c.self.inside.held).parts = c.parts.ensures ∙ ap (λ (q : PlanState). q.parts) c.plan.ensures in
+    (p.datagrams, stand, subst (λ (ps : List PartPlan). length (bytes_at p.datagrams (input_place (get_or ps c.in-Some.part no_part).split)) ≤ 1422) (sym parts) small)
 
 pub invariant_of-self : goal.invariant_of-self
 invariant_of-self c =
@@ -56,7 +58,8 @@ invariant_of-self c =
     let stand = c.first_places-spans.ensures p h in
     let a = subst (λ (fs : List (List ℕ)). AnswersPart p.datagrams fs c.self.inside.kept.items c.in-Some.part) c.as_slice-frames.ensures.value
     (subst (λ (ks : List (Option KeptPart)). AnswersPart p.datagrams c.as_slice-frames.result.now ks c.in-Some.part) c.as_slice.ensures.value (c.in-Some.ensures p h stand)) in
-    let new : c.keep.new.self ≡ Some (kept_of (part_at c.self.inside.plan.now.parts c.in-Some.part) p.datagrams) = c.keep.ensures p.datagrams stand ∙ ap (λ (ps : List PartPlan). Some (kept_by (get_or ps c.in-Some.part no_part).split p.datagrams)) c.parts.ensures in
+    let parts : c.parts.result.now ≡ (plan_in c.self.inside.held).parts = c.parts.ensures ∙ ap (λ (q : PlanState). q.parts) c.plan.ensures in
+    let new : c.keep.new.self ≡ Some (kept_of (part_at (plan_in c.self.inside.held).parts c.in-Some.part) p.datagrams) = c.keep.ensures p.datagrams stand ∙ ap (λ (ps : List PartPlan). Some (kept_by (get_or ps c.in-Some.part no_part).split p.datagrams)) parts in
     record {
       usable = c.self.invariant.usable;
       linked = c.self.invariant.linked;
@@ -64,8 +67,8 @@ invariant_of-self c =
       frame_count = c.self.invariant.frame_count;
       made = c.self.invariant.made;
       kept_count = length-set c.self.inside.kept.items c.in-Some.part c.keep.new.self ∙ c.self.invariant.kept_count;
-      under_way = λ n e. subst (λ (q : Option KeptPart). IsUnderWay c.self.inside.plan.now n c.self.inside.frames.items (set c.self.inside.kept.items c.in-Some.part q)) (sym new)
-          (kept_on c.self.inside.plan.now n c.self.inside.frames.items c.self.inside.kept.items c.in-Some.part p.datagrams (c.self.invariant.under_way n e) c.self.invariant.frame_count c.self.invariant.kept_count a);
+      under_way = λ n e. subst (λ (q : Option KeptPart). IsUnderWay (plan_in c.self.inside.held) n c.self.inside.frames.items (set c.self.inside.kept.items c.in-Some.part q)) (sym new)
+          (kept_on (plan_in c.self.inside.held) n c.self.inside.frames.items c.self.inside.kept.items c.in-Some.part p.datagrams (c.self.invariant.under_way n e) c.self.invariant.frame_count c.self.invariant.kept_count a);
     }
 
 pub returns : goal.returns
@@ -76,7 +79,8 @@ returns c =
     let stand = c.first_places-spans.ensures p h in
     let a = subst (λ (fs : List (List ℕ)). AnswersPart p.datagrams fs c.self.inside.kept.items c.in-Some.part) c.as_slice-frames.ensures.value
     (subst (λ (ks : List (Option KeptPart)). AnswersPart p.datagrams c.as_slice-frames.result.now ks c.in-Some.part) c.as_slice.ensures.value (c.in-Some.ensures p h stand)) in
-    let new : c.keep.new.self ≡ Some (kept_of (part_at c.self.inside.plan.now.parts c.in-Some.part) p.datagrams) = c.keep.ensures p.datagrams stand ∙ ap (λ (ps : List PartPlan). Some (kept_by (get_or ps c.in-Some.part no_part).split p.datagrams)) c.parts.ensures in
-    subst (λ (m : MasterState). IsTaken m c.args.payload.now true (state_of c.self.inside.plan.now c.self.inside.is_ready c.self.inside.next c.self.inside.outputs.items c.self.inside.inputs.items c.self.inside.frames.items (set c.self.inside.kept.items c.in-Some.part c.keep.new.self) c.self.inside.number)) c.self.view_is
-    (taken_state c.self.inside.plan.now c.self.inside.is_ready c.self.inside.next c.self.inside.outputs.items c.self.inside.inputs.items c.self.inside.frames.items c.self.inside.kept.items c.self.inside.number n.0 c.args.payload.now p c.in-Some.part c.keep.new.self n.1 h
+    let parts : c.parts.result.now ≡ (plan_in c.self.inside.held).parts = c.parts.ensures ∙ ap (λ (q : PlanState). q.parts) c.plan.ensures in
+    let new : c.keep.new.self ≡ Some (kept_of (part_at (plan_in c.self.inside.held).parts c.in-Some.part) p.datagrams) = c.keep.ensures p.datagrams stand ∙ ap (λ (ps : List PartPlan). Some (kept_by (get_or ps c.in-Some.part no_part).split p.datagrams)) parts in
+    subst (λ (m : MasterState). IsTaken m c.args.payload.now true (state_of (plan_in c.self.inside.held) c.self.inside.is_ready c.self.inside.next c.self.inside.outputs.items c.self.inside.inputs.items c.self.inside.frames.items (set c.self.inside.kept.items c.in-Some.part c.keep.new.self) c.self.inside.number)) c.self.view_is
+    (taken_state (plan_in c.self.inside.held) c.self.inside.is_ready c.self.inside.next c.self.inside.outputs.items c.self.inside.inputs.items c.self.inside.frames.items c.self.inside.kept.items c.self.inside.number n.0 c.args.payload.now p c.in-Some.part c.keep.new.self n.1 h
     (c.self.invariant.under_way n.0 n.1) c.self.invariant.frame_count c.self.invariant.usable.few_parts a new)

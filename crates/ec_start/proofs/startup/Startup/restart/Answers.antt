@@ -1,10 +1,6 @@
-use Rattle.std.proofs.Common.{rules}
-use Rattle.ec_start.specs.Running.{begun}
+use Rattle.std.proofs.Common.{◌∙◌, ap}
+use Rattle.ec_start.specs.Running.{StartState, begun}
 use Rattle.ec_start.proofs.startup.Startup.restart.Goals as goal
 
-pub invariant_of-self : goal.invariant_of-self
-invariant_of-self c = search rules
-
 pub returns : goal.returns
-unfolding begun
-returns c = search rules
+returns c = c.begin_again-2.ensures ∙ ap (λ (s : StartState). begun c.args.self.now.plan s.next) c.begin_again.view_is

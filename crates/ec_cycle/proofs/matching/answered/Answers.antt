@@ -2,7 +2,7 @@ use Rattle.std.proofs.Common.{◌<◌, ◌≡◌, ◌∙◌, List, ℕ, [], arit
 use Rattle.std.proofs.lemmas.List.{get_or_default}
 use Rattle.ec_frame.specs.Frame.{IsFrame}
 use Rattle.ec_cycle.proofs.Comparing.{names_one}
-use Rattle.ec_cycle.proofs.answered.answered.Goals as goal
+use Rattle.ec_cycle.proofs.matching.answered.Goals as goal
 
 pub answers-requires-clause-sent : goal.answers-requires-clause-sent
 answers-requires-clause-sent c =
