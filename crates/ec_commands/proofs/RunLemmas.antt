@@ -80,7 +80,7 @@ left_alone (work.Script reasons) x = refl
 left_alone (work.Live reasons) x = refl
 left_alone (work.Cycles cycles) x = tt
 left_alone (work.Segment form endpoint) x = tt
-left_alone (work.Master reasons way) x = refl
+left_alone (work.Master options) x = refl
 
 -- what is read is a source and a form of some work
 pub refused_as : (s source : Source) (f form : SlaveForm) (text : List ℕ) (x : Refusal) → s ≡ source → f ≡ form → RefusesStated s f text x → RefusesStated source form text x

@@ -80,21 +80,21 @@ source_of (work.Script reasons) = takes.Script
 source_of (work.Live reasons) = takes.Lines
 source_of (work.Cycles cycles) = takes.Table
 source_of (work.Segment form endpoint) = takes.Table
-source_of (work.Master reasons way) = takes.Lines
+source_of (work.Master options) = takes.Lines
 
 abbrev pub form_of : Work → SlaveForm
 form_of (work.Script reasons) = Plain
 form_of (work.Live reasons) = Plain
 form_of (work.Cycles cycles) = Plain
 form_of (work.Segment form endpoint) = form
-form_of (work.Master reasons way) = Plain
+form_of (work.Master options) = Plain
 
 abbrev pub does_of : Work → (output told : Stream) → Given → Contents → List Line → Result Unit Refusal → Type 0
 does_of (work.Script reasons) = RunsScript reasons
 does_of (work.Live reasons) = RunsAsTheyCome reasons
 does_of (work.Cycles cycles) = RunsCycles cycles
 does_of (work.Segment form endpoint) = RunsSegment endpoint.descriptor endpoint.frames endpoint.port
-does_of (work.Master reasons way) = RunsMaster reasons
+does_of (work.Master options) = RunsMaster options.reasons
 
 -- the machine that the input states is run, with a capture if its file is named
 abbrev pub RunsWork : Source → SlaveForm → (does : Stream → Stream → Given → Contents → List Line → Result Unit Refusal → Type 0) → (file : Option (List ℕ)) → (given : Given) → (output told : Stream) → Result Unit Refusal → Type 0
@@ -139,7 +139,7 @@ LeavesApp (work.Script reasons) old new = new ≡ old
 LeavesApp (work.Live reasons) old new = new ≡ old
 LeavesApp (work.Cycles cycles) old new = Unit {0}
 LeavesApp (work.Segment form endpoint) old new = Unit {0}
-LeavesApp (work.Master reasons way) old new = new ≡ old
+LeavesApp (work.Master options) old new = new ≡ old
 
 -- what may stand behind the line of a refusal: nothing, unless the refusal is to be explained; then the text is free
 abbrev pub MayTell : Bool → List ℕ → Type 0

@@ -15,7 +15,7 @@ use crate::work::{Work, run_work};
 use ec_annotate::Names;
 use ec_args::{Notice, Request, read_args};
 use ec_console::{Console, Explanation, OutputStream, Reasons, Refusal, SlaveForm, print_text};
-use ec_master::Connection;
+use ec_master::MasterOptions;
 use ec_segment::Endpoint;
 use ec_wire::App;
 use std::convert::AsStr;
@@ -206,13 +206,13 @@ fn run_request<
             capture,
             explained,
         } => {
-            let way = Connection {
+            let options = MasterOptions {
                 to,
                 descriptor,
                 patience,
+                reasons: Reasons::of(explained),
             };
-            let work = Work::Master(Reasons::of(explained), way);
-            run_work(rt, work, capture, console, app)
+            run_work(rt, Work::Master(options), capture, console, app)
         }
     }
 }

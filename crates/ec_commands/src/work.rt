@@ -10,7 +10,7 @@ use ec_console::{
     open_capture, read_source, read_stated,
 };
 use ec_loop::run_loopback;
-use ec_master::{Connection, run_connected};
+use ec_master::{MasterOptions, run_connected};
 use ec_segment::{Endpoint, run_segment};
 use ec_sim::{run_live, run_script};
 use ec_wire::{App, Loopback};
@@ -31,7 +31,7 @@ pub enum Work<'a> {
     /// Its slaves are served, in a form.
     Segment(SlaveForm, Endpoint),
     /// The lines that the input gives move its master.
-    Master(Reasons, Connection<'a>),
+    Master(MasterOptions<'a>),
 }
 
 impl Work<'_> {
@@ -41,7 +41,7 @@ impl Work<'_> {
     {
         match *self {
             Work::Script(_) => Source::Script,
-            Work::Live(_) | Work::Master(_, _) => Source::Lines,
+            Work::Live(_) | Work::Master(_) => Source::Lines,
             Work::Cycles(_) | Work::Segment(_, _) => Source::Table,
         }
     }
@@ -52,9 +52,7 @@ impl Work<'_> {
     {
         match *self {
             Work::Segment(form, _) => form,
-            Work::Script(_) | Work::Live(_) | Work::Cycles(_) | Work::Master(_, _) => {
-                SlaveForm::Plain
-            }
+            Work::Script(_) | Work::Live(_) | Work::Cycles(_) | Work::Master(_) => SlaveForm::Plain,
         }
     }
 
@@ -64,7 +62,7 @@ impl Work<'_> {
             Work::Script(_) | Work::Live(_) => Interfaces::Segment,
             Work::Cycles(_) => Interfaces::One("loop"),
             Work::Segment(_, _) => Interfaces::One("segment"),
-            Work::Master(_, _) => Interfaces::One("master"),
+            Work::Master(_) => Interfaces::One("master"),
         }
     }
 }
@@ -124,7 +122,7 @@ fn run_text<H: AllocGlobal + Net + Files + Clock, R: Read + Drop, W: Write + Dro
 {
     let stated = read_stated(rt.alloc(), work.source(), work.form(), text)?;
     let mut capture = open_capture(rt, file, work.interfaces(), stated.machine.table())?;
-    let ended = run_on(rt, work, &stated, &mut capture, console, app);
+    let ended = run_on(rt, work, stated, &mut capture, console, app);
     close_capture(ended, &capture)
 }
 
@@ -132,25 +130,26 @@ fn run_text<H: AllocGlobal + Net + Files + Clock, R: Read + Drop, W: Write + Dro
 fn run_on<H: AllocGlobal + Net + Files + Clock, R: Read + Drop, W: Write + Drop, F: Write + Drop>(
     rt: &H,
     work: Work<'_>,
-    stated: &Stated,
+    stated: Stated,
     capture: &mut Capture<H::File>,
     console: &mut Console<R, W, F>,
     app: &mut dyn App,
 ) -> Result<(), Refusal>
     ensures runs { does_of work.entry (record { old = console.old.output; new = console.new.output })
         (record { old = console.old.faults; new = console.new.faults }) (given_by R.remaining console.old.input console.new.input)
-        stated.now.machine stated.now.lines result }
+        stated.machine stated.lines result }
     ensures kept { is_some capture.new ≡ is_some capture.old }
     ensures alone { LeavesApp work.entry app.old app.new }
     ensures explanation { console.new.explanation ≡ console.old.explanation }
 {
+    let Stated { machine, lines } = stated;
     match work {
         Work::Script(reasons) => {
             run_script(
                 rt.alloc(),
-                &stated.machine,
+                &machine,
                 reasons,
-                stated.lines.as_slice(),
+                lines.as_slice(),
                 capture,
                 &mut console.output,
             )
@@ -158,7 +157,7 @@ fn run_on<H: AllocGlobal + Net + Files + Clock, R: Read + Drop, W: Write + Drop,
         Work::Live(reasons) => {
             run_live(
                 rt.alloc(),
-                &stated.machine,
+                &machine,
                 reasons,
                 capture,
                 &mut console.input,
@@ -169,7 +168,7 @@ fn run_on<H: AllocGlobal + Net + Files + Clock, R: Read + Drop, W: Write + Drop,
             let mut loopback = Loopback::new(app);
             run_loopback(
                 rt,
-                &stated.machine,
+                &machine,
                 cycles,
                 capture,
                 &mut console.output,
@@ -179,7 +178,7 @@ fn run_on<H: AllocGlobal + Net + Files + Clock, R: Read + Drop, W: Write + Drop,
         Work::Segment(_, endpoint) => {
             run_segment(
                 rt,
-                &stated.machine,
+                &machine,
                 endpoint,
                 capture,
                 &mut console.output,
@@ -187,12 +186,11 @@ fn run_on<H: AllocGlobal + Net + Files + Clock, R: Read + Drop, W: Write + Drop,
                 app,
             )
         }
-        Work::Master(reasons, way) => {
+        Work::Master(options) => {
             run_connected(
                 rt,
-                &stated.machine,
-                reasons,
-                way,
+                machine,
+                options,
                 capture,
                 &mut console.input,
                 &mut console.output,
