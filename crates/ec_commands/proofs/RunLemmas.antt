@@ -1,23 +1,24 @@
 -- The exit statuses that there are, and how a run ends to which arguments were given.
-use Rattle.std.proofs.Common.{◌≡◌, ℕ, List, [], ◌∷◌, ◌==◌, ◌||◌, inl, inr, Bool, true, false, Result, Ok, Err, String, Global, refl, sym, subst, arith}
+use Rattle.std.proofs.Common.{◌≡◌, ◌∙◌, ℕ, List, [], ◌∷◌, ◌==◌, ◌||◌, inl, inr, Bool, true, false, Option, Result, Ok, Err, String, Global, refl, sym, subst, arith}
 use Rattle.std.specs.declared.io.Error.{Error}
 use Rattle.std.specs.declared.vec.IntoIter.{IntoIter}
 use Rattle.std.specs.Prelude.{Contains, if◌then◌else◌}
 use Rattle.ec_console.specs.declared.refusal.Refusal.{Refusal}
 use Rattle.ec_console.specs.Refusals.{number_of, status_of}
 use Rattle.ec_console.specs.declared.refusal.Refusal.TheVariants.{Memory}
-use Rattle.ec_console.specs.Given.{Given}
+use Rattle.ec_console.specs.Given.{Given, given_by}
 use Rattle.ec_console.specs.Stating.{RefusesStated, States}
 use Rattle.ec_console.specs.declared.form.SlaveForm.{SlaveForm}
 use Rattle.ec_console.specs.declared.stated.Source.{Source}
 use Rattle.ec_script.specs.declared.line.Line.{Line}
 use Rattle.ec_console.specs.Printing.{OutputState}
+use Rattle.ec_lines.specs.Inputs.{InputState}
 use Rattle.ec_wire.specs.Wires.{LoopbackState, Traffic}
 use Rattle.ec_table.specs.Contents.{Contents}
 use Rattle.ec_loop.specs.Looping.{LoopsOnSockets}
 use Rattle.ec_commands.specs.declared.work.Work.{Work}
 use Rattle.ec_commands.specs.declared.work.Work.TheVariants as work
-use Rattle.ec_commands.specs.Running.{Ends, EndsAlone, EndsGiven, EndsUnread, LeavesApp, Stream, Tells, TellsWith, given_words}
+use Rattle.ec_commands.specs.Running.{Ends, EndsAlone, EndsGiven, EndsOwning, EndsUnread, LeavesApp, Stream, Tells, TellsWith, given_words, unread}
 use Rattle.ec_args.specs.Requests.{Reads}
 use Rattle.ec_args.specs.declared.request.Notice.{Notice}
 use Rattle.ec_args.specs.declared.request.Request.{Request}
@@ -67,6 +68,25 @@ pub given_lost : {R : Type 0} (given : Result (IntoIter (String Global) Global) 
     → EndsGiven given known input input (record { old = output; new = output }) faults status
 given_lost given words known input output faults status is told =
     subst (λ g. EndsGiven g known input input (record { old = output; new = output }) faults status) (sym is) (inr (refl, refl, told))
+
+-- a run on a console of streams that it owns
+pub owned : {R A : Type 0} (remaining : R → Option (List ℕ)) (words : List (List ℕ)) (stream : R) (first last : InputState R) (output faults before printed after told : OutputState)
+    (app_old app_new : A) (status : ℕ) → first ≡ unread stream → before ≡ output → after ≡ faults
+    → ((read : Result Request Notice) × Reads words read × Ends read (given_by remaining first last) (record { old = before; new = printed }) (record { old = after; new = told }) status
+    × EndsAlone read first last app_old app_new)
+    → (status ≡ 2 → printed ≡ before) → EndsOwning remaining words stream output faults app_old app_new status
+owned {R} remaining words stream first last output faults before printed after told app_old app_new status input out err run none = record {
+  read = run.0;
+  reads = run.1;
+  left = last;
+  printed = printed;
+  told = told;
+  ends = subst (λ (i : InputState R). Ends run.0 (given_by remaining i last) (record { old = output; new = printed }) (record { old = faults; new = told }) status) input
+      (subst (λ (o : OutputState). Ends run.0 (given_by remaining first last) (record { old = o; new = printed }) (record { old = faults; new = told }) status) out
+      (subst (λ (f : OutputState). Ends run.0 (given_by remaining first last) (record { old = before; new = printed }) (record { old = f; new = told }) status) err run.2));
+  alone = subst (λ (i : InputState R). EndsAlone run.0 i last app_old app_new) input run.3;
+  unprinted = λ two. none two ∙ out;
+}
 
 -- cycles of a loopback to whose slaves nothing was sent
 pub from_nothing : {A : Type 0} (cycles : ℕ) (t : Contents) (old new : OutputState) (before after began : LoopbackState A) (r : Result Unit Refusal) → before ≡ began

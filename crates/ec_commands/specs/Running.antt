@@ -17,9 +17,10 @@ use Rattle.ec_console.specs.declared.refusal.Refusal.TheVariants.{Memory}
 use Rattle.ec_loop.specs.Looping.{LoopsOnSockets}
 use Rattle.ec_commands.specs.Passing.{RunsPass}
 use Rattle.ec_commands.specs.Planning.{RunsPlan, form_of as shown_as}
-use Rattle.ec_console.specs.Given.{Given}
+use Rattle.ec_console.specs.Given.{Given, given_by}
 use Rattle.ec_console.specs.Printing.{IsTold, OutputState, Shows}
 use Rattle.ec_console.specs.Refusals.{line_of, status_of}
+use Rattle.ec_lines.specs.Inputs.{InputState}
 use Rattle.ec_live.specs.Living.{RunsLive}
 use Rattle.ec_table.specs.Contents.{Contents}
 use Rattle.ec_script.specs.declared.line.Line.{Line}
@@ -170,6 +171,29 @@ Ends (Err (notice.Usage text)) given output faults status = (status ≡ 2) × (o
 abbrev pub EndsAlone : {R A : Type 0} → Result Request Notice → (input_old input_new : R) → (app_old app_new : A) → Type 0
 EndsAlone (Ok request) input_old input_new app_old app_new = LeavesAlone (command_of request) input_old input_new app_old app_new
 EndsAlone (Err told) input_old input_new app_old app_new = (input_new ≡ input_old) × (app_new ≡ app_old)
+
+-- ---- a run that owns its streams
+
+-- an input of which nothing was read, and an output to which nothing was written
+abbrev pub unread : {R : Type 0} → R → InputState R
+unread stream = record { ahead = []; stream = stream; is_refused = false; reads = 0 }
+
+abbrev pub unwritten : Option (List ℕ) → OutputState
+unwritten holds = record { holds = holds; is_refused = false; is_flushed = true; writes = 0 }
+
+-- How a run ends to which the words were given, by what its streams are at its end: `left`, `printed` and `told`. It drops them, so they are
+-- there for the run alone. `remaining` says what a reader has still to give.
+pub record EndsOwning {R A : Type 0} (remaining : R → Option (List ℕ)) (words : List (List ℕ)) (input : R) (output faults : OutputState) (app_old app_new : A) (status : ℕ) : Type 0 where
+  pub read : Result Request Notice
+  pub reads : Reads words read
+  pub left : InputState R
+  pub printed : OutputState
+  pub told : OutputState
+  pub ends : Ends read (given_by remaining (unread input) left) (record { old = output; new = printed }) (record { old = faults; new = told }) status
+  pub alone : EndsAlone read (unread input) left app_old app_new
+  pub unprinted : status ≡ 2 → printed ≡ output
+
+-- ---- arguments of a system
 
 -- what a command leaves of the input: all of it, if it reads none
 abbrev pub LeavesInput : {R : Type 0} → Command → (old new : R) → Type 0

@@ -14,7 +14,7 @@ pub use crate::pass::{pass_hex, print_pass};
 pub use crate::plan::{PlanForm, print_plan, show_plan};
 pub use crate::program::run_program;
 pub use crate::remarked::{print_payloads, print_remarked};
-pub use crate::run::run_command;
+pub use crate::run::{run_command, run_console};
 pub use crate::translate::{print_decode, print_encode};
 pub use ec_bringup::{bring_up, identities_of};
 pub use ec_console::{

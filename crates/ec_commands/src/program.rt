@@ -4,7 +4,7 @@ ghost use Rattle.std.specs.Vec.Iter.{into_iter_items};
 ghost use Rattle.ec_commands.specs.Running.{EndsGiven, TellsUnread};
 ghost use Rattle.ec_console.specs.Given.{given_by};
 
-use crate::run::run_command;
+use crate::run::run_console;
 use ec_console::{Console, OutputStream, Refusal};
 use ec_wire::Echo;
 use std::alloc::{AllocError, Global};
@@ -18,7 +18,7 @@ use std::time::Clock;
 /// What standard error says if an argument isn't text.
 const NOT_TEXT: &str = "error: an argument of the command line isn't text\n";
 
-/// Runs the program `ecat` on the arguments that `std::env::args` gives, as `run_command` does, and
+/// Runs the program `ecat` on the arguments that `std::env::args` gives, as `run_console` does, and
 /// returns its exit status. Slaves that it simulates show their outputs as their inputs. If an
 /// argument isn't text, the status is 2, as for other arguments that ask for no command.
 pub fn run_program<
@@ -38,7 +38,7 @@ pub fn run_program<
         Err(error) => return tell_unread(&error, &mut console.faults),
     };
     match collected(rt.alloc(), given) {
-        Ok(args) => run_command(rt, args.as_slice(), console, &mut Echo),
+        Ok(args) => run_console(rt, args.as_slice(), console, &mut Echo),
         Err(_) => console.faults.tell_and_end(&Refusal::Memory),
     }
 }

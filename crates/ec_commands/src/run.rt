@@ -4,7 +4,7 @@ ghost use Rattle.ec_args.specs.Requests.{Reads, command_of};
 ghost use Rattle.ec_args.specs.declared.request.Notice.{Notice as NoticeValue};
 ghost use Rattle.ec_args.specs.declared.request.Request.{Request as RequestValue};
 ghost use Rattle.ec_console.specs.Explaining.{IsLeft};
-ghost use Rattle.ec_commands.specs.Running.{Ends, EndsAlone, LeavesAlone, Runs, Tells, TellsWith};
+ghost use Rattle.ec_commands.specs.Running.{Ends, EndsAlone, EndsOwning, LeavesAlone, Runs, Tells, TellsWith, unwritten};
 ghost use Rattle.ec_console.specs.Given.{given_by};
 
 use crate::pass::print_pass;
@@ -14,7 +14,7 @@ use crate::translate::print_encode;
 use crate::work::{Work, run_work};
 use ec_annotate::Names;
 use ec_args::{Notice, Request, read_args};
-use ec_console::{Console, Explanation, OutputStream, Refusal, SlaveForm, print_text};
+use ec_console::{Console, Explanation, InputStream, OutputStream, Refusal, SlaveForm, print_text};
 use ec_master::Connection;
 use ec_segment::Endpoint;
 use ec_why::Reasons;
@@ -25,24 +25,47 @@ use std::io::{Read, Write};
 use std::net::Net;
 use std::time::Clock;
 
-/// Runs the command that the arguments ask for, and returns the exit status. The first argument is the
-/// program's name. The status is 0 if all was done, or help is on the output. It is 2 if the arguments
-/// ask for no command, and 3 after a refusal. It is 4 after a fault of input or output, and 5 if what a
-/// script expects doesn't hold. The console's `faults` gets what failed, with an explanation behind it if
-/// the arguments ask for one. A fault in writing it changes nothing.
+/// Runs the command that the words ask for, and returns the exit status, as [`run_console`] does. The first word is the program's name.
+/// A command that reads a text reads `input`. What it prints goes to `output`, and what failed to `faults`. Simulated slaves take their
+/// inputs from `app`.
 ///
-/// Simulated slaves take their inputs from `app`, and a command that reads a text reads the console's
-/// `input`.
+/// It takes the streams by value and drops them at the end. A `&mut` to a reader or a writer is one too: lend them to look at them
+/// afterwards. [`run_console`] gives the streams back, and its contract says what they then hold.
 pub fn run_command<
     H: AllocGlobal + Net + Files + Clock,
     S: AsStr,
     R: Read + Drop,
     W: Write + Drop,
     F: Write + Drop,
->(rt: &H, args: &[S], console: &mut Console<R, W, F>, app: &mut dyn App) -> u8
-    // What `clap`'s specification finds in the arguments decides how the run ends, and what it
-    // leaves alone.
-    ensures ends { (read : Result RequestValue NoticeValue) × Reads (map S.text args.now) read
+>(rt: &H, words: &[S], input: R, output: W, faults: F, app: &mut dyn App) -> u8
+    ensures ends { EndsOwning R.remaining (map S.text words.now) input (unwritten (W.contents output)) (unwritten (F.contents faults))
+        app.old app.new result }
+    ensures status { Contains (0 ∷ 2 ∷ 3 ∷ 4 ∷ 5 ∷ []) result }
+{
+    let mut console = Console::new(
+        rt.alloc(),
+        InputStream::new(input),
+        OutputStream::new(output),
+        OutputStream::new(faults),
+    );
+    run_console(rt, words, &mut console, app)
+}
+
+/// Runs the command that the words ask for, and returns the exit status. The first word is the program's name. The status is 0 if all was
+/// done, or help is on the output. It is 2 if the words ask for no command, and 3 after a refusal. It is 4 after a fault of input or
+/// output, and 5 if what a script expects doesn't hold. The console's `faults` gets what failed, with an explanation behind it if the
+/// words ask for one. A fault in writing it changes nothing.
+///
+/// Simulated slaves take their inputs from `app`, and a command that reads a text reads the console's `input`.
+pub fn run_console<
+    H: AllocGlobal + Net + Files + Clock,
+    S: AsStr,
+    R: Read + Drop,
+    W: Write + Drop,
+    F: Write + Drop,
+>(rt: &H, words: &[S], console: &mut Console<R, W, F>, app: &mut dyn App) -> u8
+    // What `clap`'s specification finds in the words decides how the run ends, and what it leaves alone.
+    ensures ends { (read : Result RequestValue NoticeValue) × Reads (map S.text words.now) read
         × Ends read (given_by R.remaining console.old.input console.new.input)
         (record { old = console.old.output; new = console.new.output })
         (record { old = console.old.faults; new = console.new.faults }) result
@@ -50,7 +73,7 @@ pub fn run_command<
     ensures status { Contains (0 ∷ 2 ∷ 3 ∷ 4 ∷ 5 ∷ []) result }
     ensures unprinted { result ≡ 2 → console.new.output ≡ console.old.output }
 {
-    end_run(rt, read_args(rt.alloc(), args), console, app)
+    end_run(rt, read_args(rt.alloc(), words), console, app)
 }
 
 /// Ends a run whose arguments were read: runs the command, or prints the notice that stands in its
