@@ -1,5 +1,5 @@
-//! The commands of `ecat`, over any reader and writers, by their arguments. The trait `App` is the application of a
-//! simulated slave; this crate is the program.
+//! The program `ecat` as functions: its commands by their arguments, over any reader and writers, and what they are made of. The crates
+//! below have the same functions and types; this one has them together.
 #![tactic(auto)]
 
 mod pass;
@@ -26,4 +26,4 @@ pub use ec_script::{Line, LineAction, ScriptError, read_script, run_line};
 pub use ec_segment::{Endpoint, print_served_segment, run_segment};
 pub use ec_sim::run_script;
 pub use ec_text::{Refused, header_text, plan_text};
-pub use ec_wire::{App, MemoryWire, UdpWire, bring_up_wire, serve_segment};
+pub use ec_wire::{App, MemoryWire, UdpWire, Wire, bring_up_wire, run_cycle, serve_segment};

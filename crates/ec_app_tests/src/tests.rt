@@ -10,7 +10,7 @@ mod streams;
 
 use self::streams::{Sink, Source, sink_of, source_of};
 use ec_app::{
-    App, Console, InputStream, OutputStream, UdpWire, print_text, read_text, run_command,
+    App, Console, InputStream, OutputStream, UdpWire, print_text, read_text, run_console,
 };
 use ec_test_data::THREE_SLAVES;
 use std::fs::Files;
@@ -150,7 +150,7 @@ fn run_args<H: AllocGlobal + Net + Files + Clock>(
     args: &[&str],
     console: &mut Console<Source<'_>, Sink, Sink>,
 ) -> u8 {
-    run_command(rt, args, console, &mut Idle)
+    run_console(rt, args, console, &mut Idle)
 }
 
 /// A text with a port in it.

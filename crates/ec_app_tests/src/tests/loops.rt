@@ -1,7 +1,7 @@
 //! `ecat loop` over a wire in memory whose calls can fail.
 
-use ec_bringup::slaves_of_machine;
 use ec_app::{OutputStream, Refusal, run_loop};
+use ec_bringup::slaves_of_machine;
 use ec_link::Machine;
 use ec_start::StartError;
 use ec_test_data::THREE_SLAVES;

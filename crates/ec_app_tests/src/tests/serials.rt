@@ -1,8 +1,8 @@
 //! The serial number of a slave, read over a socket from the words of its SII.
 
 use crate::tests::Idle;
-use ec_bringup::slaves_of_machine;
 use ec_app::{OutputStream, UdpWire, print_served_segment};
+use ec_bringup::slaves_of_machine;
 use ec_link::Machine;
 use ec_ring::Ring;
 use std::net::{Ipv4Addr, Net, SocketAddr, UdpSocket};
