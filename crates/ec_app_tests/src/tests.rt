@@ -18,12 +18,16 @@ use std::net::Net;
 use std::process::Abort;
 use std::time::Clock;
 
-/// An application that does nothing.
+/// An application that sets the inputs of slaves that have one byte of them, and leaves all others as they come to it.
 #[derive(Drop)]
-struct Idle;
+struct OneByte;
 
-impl App for Idle {
-    fn step(&mut self, _outputs: &[u8], _inputs: &mut [u8]) {}
+impl App for OneByte {
+    fn step(&mut self, _outputs: &[u8], inputs: &mut [u8]) {
+        if inputs.len() == 1 {
+            inputs[0] = 5;
+        }
+    }
 }
 
 /// A run: what is wrong with its streams, its arguments, its input, its exit status, what it prints, and what it tells. The last two
@@ -112,7 +116,7 @@ fn expect_ended(rt: &impl Abort, run: &Run, told: &str, status: u8, streams: Run
     );
 }
 
-/// Runs the program, with an application that does nothing, and compares how that ends.
+/// Runs the program, with an application of this file, and compares how that ends.
 fn expect_args<H: AllocGlobal + Net + Files + Clock + Abort>(
     rt: &H,
     args: &[&str],
@@ -150,7 +154,7 @@ fn run_args<H: AllocGlobal + Net + Files + Clock>(
     args: &[&str],
     console: &mut Console<Source<'_>, Sink, Sink>,
 ) -> u8 {
-    run_console(rt, args, console, &mut Idle)
+    run_console(rt, args, console, &mut OneByte)
 }
 
 /// A text with a port in it.
@@ -311,19 +315,20 @@ fn segments_on_a_port_that_is_held(rt: HostRuntime) {
     }
 }
 
-/// A loop over sockets to slaves whose application does nothing. That of the program shows their outputs as their inputs.
-const IDLE_LOOP: Run = (
+/// A loop over sockets to slaves whose application isn't that of the program, which shows their outputs as their inputs. The inputs of the
+/// last slave are 0, whatever the application set at the one before.
+const OTHER_LOOP: Run = (
     "nothing",
     "ecat loop --cycles 2",
     THREE_SLAVES,
     0,
-    "ready\nreport taken missing 0 counters 6 al 0008\nreport taken missing 0 counters 6 al 0008\nc 0\nd 0\n",
+    "ready\nreport taken missing 0 counters 6 al 0008\nreport taken missing 0 counters 6 al 0008\nc 5\nd 0\n",
     "",
 );
 
 #[test]
-fn loops_to_slaves_whose_application_does_nothing(rt: HostRuntime) {
-    expect_run(&rt, &IDLE_LOOP, 0);
+fn loops_to_slaves_of_another_application(rt: HostRuntime) {
+    expect_run(&rt, &OTHER_LOOP, 0);
 }
 
 /// Compares what came of a text that was printed or read slowly.

@@ -1,6 +1,6 @@
 //! The serial number of a slave, read over a socket from the words of its SII.
 
-use crate::tests::Idle;
+use crate::tests::OneByte;
 use ec_app::{OutputStream, UdpWire, print_served_segment};
 use ec_bringup::slaves_of_machine;
 use ec_link::Machine;
@@ -59,7 +59,7 @@ fn expect_served(rt: &(impl AllocGlobal + Abort), slaves: &mut Ring, wire: &mut 
 
 /// Serves two frames. What is printed is told by no clause here, so that the comparison behind it carries nothing of it.
 fn serve(slaves: &mut Ring, wire: &mut UdpWire, output: &mut OutputStream<Vec<u8>>) {
-    let _ = print_served_segment(slaves, &mut Idle, wire, 2, output);
+    let _ = print_served_segment(slaves, &mut OneByte, wire, 2, output);
 }
 
 /// Reads the serial number of slaves over a wire.
