@@ -93,9 +93,7 @@ fn value_of(rt: &impl Abort, master: &Master<'_>, variable: usize) -> u64 {
 fn frame_of(rt: &impl Abort, master: &Master<'_>) -> Frame {
     assert!(rt; master.is_open() && 0 < master.parts());
     let mut frame = Frame::new();
-    frame
-        .try_extend_from_slice(master.frame(0))
-        .expect(rt, "room");
+    assert!(rt; frame.try_extend_from_slice(master.frame(0)).is_ok());
     frame
 }
 

@@ -35,8 +35,15 @@ fn plans(rt: HostRuntime) {
     expect_parts(&rt, &plan);
 }
 
+/// Why a text is no table.
+fn refusal_of(rt: &(impl AllocGlobal + Abort), text: &str) -> TableError {
+    match read_table(rt.alloc(), text) {
+        Ok(_) => panic!(rt; "a table"),
+        Err(error) => error,
+    }
+}
+
 #[test]
 fn refused_tables(rt: HostRuntime) {
-    let refused = read_table(rt.alloc(), "[[").expect_err(&rt, "a refusal");
-    assert_eq!(rt; refused, TableError::Refused(Fault::Toml));
+    assert_eq!(rt; refusal_of(&rt, "[["), TableError::Refused(Fault::Toml));
 }
