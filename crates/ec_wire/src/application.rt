@@ -32,7 +32,7 @@ impl App for &mut dyn App {
     }
 }
 
-/// An application that copies its outputs to its inputs, and sets the inputs beyond them to 0.
+/// An application that copies its outputs to its inputs, and leaves the inputs beyond them 0.
 #[derive(Drop)]
 pub struct Echo;
 
@@ -44,7 +44,6 @@ impl App for Echo {
     fn step(&mut self, outputs: &[u8], inputs: &mut [u8]) {
         let shown = outputs.len().min(inputs.len());
         inputs[..shown].copy_from_slice(&outputs[..shown]);
-        inputs[shown..].fill(0);
     }
 }
 
