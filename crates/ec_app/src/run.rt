@@ -15,7 +15,8 @@ use crate::work::{Work, run_work};
 use ec_annotate::Names;
 use ec_args::{Notice, Request, read_args};
 use ec_console::{
-    Console, Explanation, InputStream, OutputStream, Reasons, Refusal, SlaveForm, print_text};
+    Console, Explanation, InputStream, OutputStream, Reasons, Refusal, SlaveForm, print_text,
+};
 use ec_master::MasterOptions;
 use ec_segment::Endpoint;
 use ec_wire::App;
