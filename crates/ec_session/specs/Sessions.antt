@@ -1,36 +1,37 @@
--- A master that owns all it needs. Each of its calls is a call of its start-up or of its master.
+-- A master that owns its machine. Each of its calls by hand is a call of its start-up or of its master.
 use Rattle.std.specs.Prelude.{◌≡◌, ℕ, ◌==◌, Bool, true, false, if◌then◌else◌, List, Option, None, option_and_then, position, slice_get}
 use Rattle.std.specs.Str.{bytes_eq}
 use Rattle.ec_table.specs.Contents.{Contents}
 use Rattle.ec_table.specs.declared.rows.VariableRow.{VariableRow}
+use Rattle.ec_link.specs.Machine.{StatesMachine}
 use Rattle.ec_link.specs.Plan.{plan_of}
 use Rattle.ec_start.specs.declared.phase.Phase.{Phase}
 use Rattle.ec_start.specs.declared.phase.Phase.TheVariants.{Idle, Sent, Ready, Failed}
-use Rattle.ec_frame.specs.Building.{bare_payload}
-use Rattle.ec_frame.specs.Frame.{IsFrame}
-use Rattle.ec_start.specs.Actions.{frame_of}
-use Rattle.ec_start.specs.Running.{StartState, IsStartTaken, action_of, begun, has_failed, restarted}
+use Rattle.ec_start.specs.Running.{StartState, IsStartTaken, begun, has_failed, restarted}
 use Rattle.ec_cycle.specs.Closing.{ReportState}
 use Rattle.ec_cycle.specs.Master.{MasterState, IsTaken, new_master, readied}
+pub use Rattle.ec_wire.specs.BringingUp.{IsNextFrame}
 
-pub record MachineState : Type 0 where
+-- the value of a `Session`
+pub record SessionState : Type 0 where
   pub table : Contents
+  -- the last start-up
   pub startup : StartState
   pub master : MasterState
-  -- the report of the last closed cycle
+  -- the report of the last cycle that had one
   pub report : Option ReportState
 
--- the machine of a table: start-up and master are new
-abbrev pub new_machine : Contents → MachineState
-new_machine t = record { table = t; startup = begun (plan_of t).slaves 0; master = new_master (plan_of t); report = None }
+-- the session of a table: start-up and master are new
+abbrev pub new_session : Contents → SessionState
+new_session t = record { table = t; startup = begun (plan_of t).slaves 0; master = new_master (plan_of t); report = None }
+
+-- the session of the table that a text states
+abbrev pub IsOpened : List ℕ → SessionState → Type 0
+IsOpened text s = (table : Contents) × StatesMachine text table × (s ≡ new_session table)
 
 -- a start-up that failed begins again
 abbrev pub resumed : StartState → StartState
 resumed s = if has_failed s.phase then restarted s else s
-
--- the frame that a start-up sends next
-abbrev pub IsNextFrame : StartState → List ℕ → Type 0
-IsNextFrame s frame = IsFrame frame (bare_payload (frame_of (action_of s) s.next))
 
 -- a start-up has ended Ready
 abbrev pub is_up : Phase → Bool
@@ -44,19 +45,19 @@ abbrev pub ready_with : MasterState → StartState → MasterState
 ready_with m s = if is_up s.phase then readied m s.next else m
 
 -- A payload came. The start-up takes it until the master is ready, and the master takes it then.
-pub record IsStarting (old : MachineState) (payload : List ℕ) (is_kept : Bool) (new : MachineState) : Type 0 where
+pub record IsStarting (old : SessionState) (payload : List ℕ) (is_kept : Bool) (new : SessionState) : Type 0 where
   pub startup : IsStartTaken old.startup payload is_kept new.startup
   pub rest : new ≡ record old { startup = new.startup; master = ready_with old.master new.startup }
 
-pub record IsCyclic (old : MachineState) (payload : List ℕ) (is_kept : Bool) (new : MachineState) : Type 0 where
+pub record IsCyclic (old : SessionState) (payload : List ℕ) (is_kept : Bool) (new : SessionState) : Type 0 where
   pub master : IsTaken old.master payload is_kept new.master
   pub rest : new ≡ record old { master = new.master }
 
-abbrev IsGivenBy : Bool → MachineState → List ℕ → Bool → MachineState → Type 0
+abbrev IsGivenBy : Bool → SessionState → List ℕ → Bool → SessionState → Type 0
 IsGivenBy true old payload is_kept new = IsCyclic old payload is_kept new
 IsGivenBy false old payload is_kept new = IsStarting old payload is_kept new
 
-abbrev pub IsGiven : MachineState → List ℕ → Bool → MachineState → Type 0
+abbrev pub IsGiven : SessionState → List ℕ → Bool → SessionState → Type 0
 IsGiven old payload is_kept new = IsGivenBy old.master.is_ready old payload is_kept new
 
 -- whether a report says that the inputs of a unit were taken, if it has the unit

@@ -1,0 +1,128 @@
+-- What a start-up and a cycle over a wire leave of a session.
+use Rattle.std.proofs.Common.{◌≡◌, ◌∙◌, ℕ, ◌+◌, List, [], ◌∷◌, Bool, true, false, Option, None, Some, Result, Ok, Err, max, refl, sym, ap, subst}
+use Rattle.ec_frame.specs.Frame.{Payload}
+use Rattle.ec_link.specs.declared.settings.SlavePlan.{SlavePlan}
+use Rattle.ec_table.specs.Contents.{Contents}
+use Rattle.ec_start.specs.Running.{StartState, begun}
+use Rattle.ec_cycle.specs.Closing.{ReportState}
+use Rattle.ec_cycle.specs.Master.{MasterState, OpenCycle, IsAnswer, IsTaken, begin_refusal}
+use Rattle.ec_cycle.specs.declared.error.CycleError.{CycleError}
+use Rattle.ec_cycle.specs.declared.error.CycleError.TheVariants.{NotReady, Open}
+use Rattle.ec_wire.specs.declared.error.RunError.{RunError}
+use Rattle.ec_wire.specs.declared.error.RunError.TheVariants.{Refused, Wire}
+use Rattle.ec_wire.specs.Wires.{WireState}
+use Rattle.ec_wire.specs.BringingUp.{IsBroughtUp}
+use Rattle.ec_wire.specs.ComingUp.{ComesUpOver}
+use Rattle.ec_wire.specs.Running.{AreTaken, IsEnded, IsRun}
+use Rattle.ec_session.specs.Held.{IsOfTable}
+use Rattle.ec_session.specs.Laws.{RunsKeepTheRest}
+use Rattle.ec_session.specs.Sessions.{SessionState, is_up, ready_with}
+use Rattle.ec_session.specs.Wired.{Cycles, Starts, run_refusal, start_again, with_number_used, with_run, without_report}
+use Rattle.ec_session.proofs.Plans.{begun_plan}
+
+-- ---- payloads that are taken
+
+-- one changes the cycle alone
+taken_keeps : (old : MasterState) (p : List ℕ) (b : Bool) (new : MasterState) → IsTaken old p b new → new ≡ record old { cycle = new.cycle }
+taken_keeps old p true new t =
+    let a = t.only refl in
+    let kept = (t.kept a.cycle a.part a.frame a.answer).1 in
+    kept ∙ ap (λ (c : Option OpenCycle). record old { cycle = c }) (sym (ap (λ (m : MasterState). m.cycle) kept))
+taken_keeps old p false new t =
+    let none : (c : OpenCycle) (k : ℕ) (y : Payload) → IsAnswer old c p k y → ⊥ = λ c k y a. (let e : false ≡ true = (t.kept c k y a).0 in cc) in
+    let same = (t.foreign none).1 in
+    same ∙ ap (λ (c : Option OpenCycle). record old { cycle = c }) (sym (ap (λ (m : MasterState). m.cycle) same))
+
+-- and so do all
+all_keep : (old : MasterState) (ps : List (List ℕ)) (new : MasterState) → AreTaken old ps new → new ≡ record old { cycle = new.cycle }
+all_keep old [] new same = same ∙ ap (λ (c : Option OpenCycle). record old { cycle = c }) (sym (ap (λ (m : MasterState). m.cycle) same))
+all_keep old (p ∷ ps) new (some, (b, mid, first, rest)) =
+    all_keep mid ps new rest ∙ ap (λ (m : MasterState). record m { cycle = new.cycle }) (taken_keeps old p b mid first)
+
+-- ---- a cycle
+
+ended_keeps : (last : MasterState) (w v : WireState) (r : Result ReportState RunError) (after : MasterState) → IsEnded last w v r after → after ≡ record last { inputs = after.inputs; cycle = None }
+ended_keeps last w v (Ok report) after h =
+    let is = h.1.master in
+    is ∙ ap (λ (xs : List ℕ). record last { inputs = xs; cycle = None }) (sym (ap (λ (m : MasterState). m.inputs) is))
+ended_keeps last w v (Err Wire) after h =
+    let is = h.1 in
+    is ∙ ap (λ (xs : List ℕ). record last { inputs = xs; cycle = None }) (sym (ap (λ (m : MasterState). m.inputs) is))
+ended_keeps last w v (Err (Refused e)) after h = absurd h
+
+pub runs_keep_the_rest : RunsKeepTheRest
+runs_keep_the_rest m w v r after run =
+    ended_keeps run.last w v r after run.ends
+    ∙ (ap (λ (x : MasterState). record x { inputs = after.inputs; cycle = None }) (all_keep run.begun run.exchanged.got run.last run.exchanged.taken)
+    ∙ ap (λ (x : MasterState). record x { inputs = after.inputs; cycle = None }) run.begins.is)
+
+-- after a fault of the wire not even inputs change
+fault_keeps : (m : MasterState) (w v : WireState) (after : MasterState) → m.cycle ≡ None → IsRun m w v (Err Wire) after → after ≡ record m { next = m.next + 1 }
+fault_keeps m w v after none run =
+    run.ends.1
+    ∙ (ap (λ (x : MasterState). record x { cycle = None }) (all_keep run.begun run.exchanged.got run.last run.exchanged.taken)
+    ∙ (ap (λ (x : MasterState). record x { cycle = None }) run.begins.is ∙ ap (λ (c : Option OpenCycle). record m { next = m.next + 1; cycle = c }) (sym none)))
+
+-- a master that can begin a cycle has none open
+none_open : (m : MasterState) → begin_refusal m ≡ None → m.cycle ≡ None
+none_open m free = by m.is_ready m.cycle refl refl
+  where
+    by : (b : Bool) (o : Option OpenCycle) → m.is_ready ≡ b → m.cycle ≡ o → m.cycle ≡ None
+    by true None ready is = is
+    by true (Some c) ready is = let one : begin_refusal m ≡ Some Open = rw (ready, is) refl in absurd (let e : Some Open ≡ None = sym one ∙ free in cc)
+    by false o ready is = let one : begin_refusal m ≡ Some NotReady = rw ready refl in absurd (let e : Some NotReady ≡ None = sym one ∙ free in cc)
+
+-- ---- a cycle, by what `run_cycle` returns
+
+-- the master keeps its plan, whether a cycle is run or not
+pub run_plan : (m after : MasterState) (w v : WireState) (r : Result ReportState RunError) → (begin_refusal m ≡ None → IsRun m w v r after) → ((e : CycleError) → begin_refusal m ≡ Some e → after ≡ m)
+    → after.plan ≡ m.plan
+run_plan m after w v r run same = by (begin_refusal m) refl
+  where
+    by : (o : Option CycleError) → begin_refusal m ≡ o → after.plan ≡ m.plan
+    by None free = ap (λ (x : MasterState). x.plan) (runs_keep_the_rest m w v r after (run free))
+    by (Some e) refused = ap (λ (x : MasterState). x.plan) (same e refused)
+
+-- if the last start-up ended Ready, the master alone can refuse
+pub refusal_up : (s : SessionState) → is_up s.startup.phase ≡ true → run_refusal s ≡ begin_refusal s.master
+refusal_up s up = rw up refl
+
+pub refusal_down : (s : SessionState) → is_up s.startup.phase ≡ false → run_refusal s ≡ Some NotReady
+refusal_down s down = rw down refl
+
+pub cycled : (s t : SessionState) (w v : WireState) (r : Result ReportState RunError) (after : MasterState) (answer : Result Unit RunError) → is_up s.startup.phase ≡ true → (begin_refusal s.master ≡ None → IsRun s.master w v r after)
+    → t ≡ with_run s r after → answer ≡ without_report r → run_refusal s ≡ None → Cycles s w t v answer
+cycled s t w v r after answer up run is answers free = record { ended = r; after = after; run = run (sym (refusal_up s up) ∙ free); is = is; answers = answers }
+
+-- after a fault of the wire only a number is used up
+pub faulted : (s : SessionState) (w v : WireState) (r : Result ReportState RunError) (error : RunError) (after : MasterState) → is_up s.startup.phase ≡ true → (begin_refusal s.master ≡ None → IsRun s.master w v r after)
+    → ((e : CycleError) → begin_refusal s.master ≡ Some e → r ≡ Err (Refused e)) → r ≡ Err error → error ≡ Wire → record s { master = after } ≡ with_number_used s
+faulted s w v r error after up run refused is wire = by (begin_refusal s.master) refl
+  where
+    ended : r ≡ Err Wire
+    ended = subst (λ (e : RunError). r ≡ Err e) wire is
+
+    by : (o : Option CycleError) → begin_refusal s.master ≡ o → record s { master = after } ≡ with_number_used s
+    by None free =
+        let ran : IsRun s.master w v (Err Wire) after = subst (λ (x : Result ReportState RunError). IsRun s.master w v x after) ended (run free) in
+        ap (λ (m : MasterState). record s { master = m }) (fault_keeps s.master w v after (none_open s.master free) ran)
+    by (Some e) was = absurd (let f : Err Wire ≡ Err (Refused e) = sym ended ∙ refused e was in cc)
+
+-- ---- a start-up
+
+-- it is one of the master's plan
+pub of_plan : (t : Contents) (s first start : StartState) (m : MasterState) (number : ℕ) → IsOfTable t s m → first ≡ begun s.plan number → start.plan ≡ first.plan → start.plan ≡ s.plan
+of_plan t s first start m number h is kept = kept ∙ (ap (λ (x : StartState). x.plan) is ∙ begun_plan s.plan number)
+
+pub started : (s : SessionState) (w v : WireState) (first start : StartState) (new : MasterState) (number a b : ℕ) → s.startup.plan ≡ s.master.plan.slaves → first ≡ begun s.startup.plan number → number ≡ max a b
+    → a ≡ s.startup.next → b ≡ s.master.next → IsBroughtUp first w start v → ComesUpOver first start w v → new ≡ ready_with s.master start → Starts s w (record s { startup = start; master = new }) v
+started s w v first start new number a b same is most one other brought up behind =
+    let again : first ≡ start_again s =
+    is ∙ (ap (λ (n : ℕ). begun s.startup.plan n) (most ∙ (ap (λ (n : ℕ). max n b) one ∙ ap (λ (n : ℕ). max s.startup.next n) other))
+    ∙ ap (λ (ps : List SlavePlan). begun ps (max s.startup.next s.master.next)) same) in
+    record {
+      start = start;
+      brought = subst (λ (x : StartState). IsBroughtUp x w start v) again brought;
+      up = subst (λ (x : StartState). ComesUpOver x start w v) again up;
+      is = ap (λ (x : MasterState). record s { startup = start; master = x }) behind;
+    }

@@ -1,0 +1,10 @@
+//! A master with all that it needs in one value: a [`Session`] owns a machine, its start-up and its cycles. The frames are carried
+//! by hand or over a wire.
+#![tactic(auto)]
+
+mod by_hand;
+pub mod laws;
+mod session;
+mod wired;
+
+pub use crate::session::Session;
