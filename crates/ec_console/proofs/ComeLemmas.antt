@@ -96,8 +96,8 @@ module _ {S : Type 0} (one : S → Line → S → List ℕ → ℕ → Type 0) (
   -- no further line
   pub come_out : (s now : S) (given left gone : Option (List ℕ)) (place count : ℕ) (x : Option Reading) (old new : OutputState) → HasCome one read s given left place now count old new
       → IsNext (read (place + 1)) left gone x → ((r : Reading) → x ≡ Some r → ⊥) → (unmet : ℕ) × (count ≡ counted unmet) × ComesOut one read s given now unmet old new
-  come_out s now given left gone place count None old new h end none = (h.unmet, h.counts, record { left = left; gone = gone; count = place; so_far = h.so_far; end = end })
-  come_out s now given left gone place count (Some r) old new h end none = absurd (none r refl)
+  come_out s now given left rest place count None old new h end none = (h.unmet, h.counts, record { left = left; gone = rest; count = place; so_far = h.so_far; end = end })
+  come_out s now given left rest place count (Some r) old new h end none = absurd (none r refl)
 
   -- the next line isn't begun
   pub come_stop : (s now : S) (given left : Option (List ℕ)) (place count : ℕ) (old new : OutputState) → HasCome one read s given left place now count old new → ComesPart one read s given now old new

@@ -14,21 +14,27 @@ reason_if false why h = inl h
 joined : (p q a b : List ℕ) → p ≡ a → q ≡ b → p ++ q ≡ a ++ b
 joined p q a b first second = ap (λ (r : List ℕ). r ++ q) first ∙ ap (λ (r : List ℕ). a ++ r) second
 
--- there is a reason
-some_words : (63 ∷ []) ≢ []
-some_words is = let e : 63 ∷ [] ≡ [] = is in cc
+-- there is a reason: a question mark
+abbrev mark : List ℕ
+mark = 63 ∷ []
 
-pub some_reason : IsReason (codes "  " ++ ((63 ∷ []) ++ (10 ∷ [])))
+some_words : mark ≢ []
+some_words is = let e : mark ≡ [] = is in cc
+
+no_end : (b : ℕ) → b ≡ 63 → b ≢ 10
+no_end b is end = absurd (omega arith)
+
+pub some_reason : IsReason (codes "  " ++ (mark ++ (10 ∷ [])))
 some_reason = record {
-  words = 63 ∷ [];
+  words = mark;
   some = some_words;
-  on_one_line = All-cons (λ b. b ≢ 10) 63 [] (λ is. let e : 63 ≡ 10 = is in absurd (omega arith)) (All-nil (λ b. b ≢ 10));
+  on_one_line = All-cons (λ b. b ≢ 10) 63 [] (no_end 63 refl) (All-nil (λ b. b ≢ 10));
   is = refl;
 }
 
 -- a text that may stand behind a line
 pub some_why : (b : Bool) → (why : List ℕ) × ReasonIf b why
-some_why true = (codes "  " ++ ((63 ∷ []) ++ (10 ∷ [])), some_reason)
+some_why true = (codes "  " ++ (mark ++ (10 ∷ [])), some_reason)
 some_why false = ([], refl)
 
 -- lines that only add reasons, since each of them does

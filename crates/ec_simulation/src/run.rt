@@ -12,7 +12,7 @@ ghost use Rattle.ec_simulation.specs.Views.{view_of};
 ghost use Rattle.ec_simulation.specs.Promised.{IsReadied};
 ghost use Rattle.ec_script.specs.Texts.{output_text};
 
-use crate::rounds::watch_action;
+use crate::action::watch_action;
 use crate::view::view_of;
 use ec_script::{Line, LineAction, LineOutput, output_text};
 use ec_table::Table;

@@ -19,7 +19,7 @@ loop-place-preserved c =
     let t = c.args.table.now in
     let xs = c.as_slice-line-items.result.now in
     let read = c.simulated.ensures ∙ ap (taken_by is_simulated) c.in_ok-read_line.ensures in
-    elim c.match-branch-3.branch [
+    elim c.match-simulated.branch [
       | in-Empty w ↦
           ap (λ ls. after ls (rest_of t xs (c.loop-place.place + 1))) w.lines-is
           ∙ (skips t xs c.loop-place.place no_text c.simulated.result c.loop-place.lines c.loop-place-test.true read w.in-Empty.is ∙ c.loop-place.invariant)
