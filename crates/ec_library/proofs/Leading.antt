@@ -1,8 +1,8 @@
 -- What was done to what is behind a handle is what was done to it in its box.
 use Rattle.std.proofs.Common.{◌≡◌, ◌∙◌, ℕ, Bool, List, Option, Some, refl, sym, ap, subst}
-use Rattle.ec_owned.specs.Opening.{IsOpenFault}
-use Rattle.ec_owned.specs.declared.error.OpenError.{OpenError}
 use Rattle.ec_library.specs.Calling.{Leads}
+use Rattle.ec_library.specs.Opening.{IsOpenFault}
+use Rattle.ec_library.specs.declared.error.OpenError.{OpenError}
 use Rattle.ec_library.specs.Refusing.{HasOpened, Opens, TellsRefusal, no_refusal}
 use Rattle.ec_library.specs.declared.opening.NotOpened.{NotOpened}
 

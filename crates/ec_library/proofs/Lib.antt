@@ -4,3 +4,5 @@ pub mod Values
 pub mod Handles
 -- what was done to what is behind a handle is what was done to it in its box
 pub mod Leading
+-- the slaves of a table shown in full, or as it states them
+pub mod Shown

@@ -23,7 +23,7 @@ use Rattle.std_heap.proofs.Global.TheLaws.{the_row_laws as global_laws}
 use Rattle.std_heap.specs.contracts.Global.{the_row as global_row}
 use Rattle.std_heap.specs.contracts.GlobalAllocator.TheImpl.{ghosts, dict}
 use Rattle.ec_library.specs.Keeping.{keeps}
-use Rattle.ec_library.specs.contracts.kept.Kept as kept
+use Rattle.ec_library.specs.contracts.handle.Kept as kept
 
 -- a struct of one pointer
 abbrev pub alone : Val → Val

@@ -14,7 +14,7 @@ use Rattle.ec_start.specs.Errors.{error_number}
 use Rattle.ec_start.specs.Running.{asked, given_up, next_frame, outcome_of}
 use Rattle.ec_start.specs.declared.error.StartError.{StartError}
 use Rattle.ec_start.specs.declared.phase.NextFrame.TheVariants.{Send}
-use Rattle.ec_owned.specs.Machines.{IsGiven, IsNextFrame, MachineState, resumed, unit_taken, variable_named}
+use Rattle.ec_session.specs.Sessions.{IsGiven, IsNextFrame, SessionState, resumed, unit_taken, variable_named}
 use Rattle.ec_library.specs.declared.done.Done.{Done}
 
 -- A step leads from the value behind the handle that is passed to the value behind the one that is handed back; both have one.
@@ -40,13 +40,13 @@ pub record AreShown (bytes room : List ℕ) (done : Done) (shown : List ℕ) : T
 
 -- ---- the start-up
 
-pub record AsksNext (old : MachineState) (room : List ℕ) (done : Done) (shown : List ℕ) (new : MachineState) : Type 0 where
+pub record AsksNext (old : SessionState) (room : List ℕ) (done : Done) (shown : List ℕ) (new : SessionState) : Type 0 where
   pub short : length room < 1472 → (done.count ≡ 0) × (new ≡ old)
   pub state : 1472 ≤ length room → new ≡ record old { startup = asked (resumed old.startup) }
   pub frame : 1472 ≤ length room → next_frame (resumed old.startup) ≡ Send → IsNextFrame (resumed old.startup) (take done.count shown)
   pub none : next_frame (resumed old.startup) ≢ Send → done.count ≡ 0
 
-abbrev pub Takes : MachineState → List ℕ → Done → MachineState → Type 0
+abbrev pub Takes : SessionState → List ℕ → Done → SessionState → Type 0
 Takes old payload done new = IsGiven old payload done.is_done new × (done.count ≡ missing_of new.master.cycle)
 
 -- done if Ready, not done if it runs, or a failure's number
@@ -55,10 +55,10 @@ phase_told None = counted false 0
 phase_told (Some (Ok done)) = counted true 0
 phase_told (Some (Err error)) = refused (error_number error)
 
-abbrev pub TellsPhase : MachineState → Done → MachineState → Type 0
+abbrev pub TellsPhase : SessionState → Done → SessionState → Type 0
 TellsPhase old done new = (new ≡ old) × (done ≡ phase_told (outcome_of old.startup.phase))
 
-abbrev pub GivesUp : MachineState → MachineState → Type 0
+abbrev pub GivesUp : SessionState → SessionState → Type 0
 GivesUp old new = new ≡ record old { startup = given_up old.startup }
 
 -- ---- cycles
@@ -67,13 +67,13 @@ abbrev pub begin_told : Option CycleError → ℕ → Done
 begin_told None parts = counted true parts
 begin_told (Some error) parts = refused (refusal_number error)
 
-pub record Begins (old : MachineState) (done : Done) (new : MachineState) : Type 0 where
+pub record Begins (old : SessionState) (done : Done) (new : SessionState) : Type 0 where
   pub told : done ≡ begin_told (begin_refusal old.master) (length new.master.plan.parts)
   pub begun : begin_refusal old.master ≡ None → (c : OpenCycle) × Begun old.master new.master c
   pub kept : done.is_done ≡ false → new ≡ old
   pub rest : new ≡ record old { master = new.master }
 
-pub record ShowsPart (old : MachineState) (part : ℕ) (room : List ℕ) (done : Done) (shown : List ℕ) (new : MachineState) : Type 0 where
+pub record ShowsPart (old : SessionState) (part : ℕ) (room : List ℕ) (done : Done) (shown : List ℕ) (new : SessionState) : Type 0 where
   pub there : is_some old.master.cycle ≡ true → part < length old.master.plan.parts → AreShown (frame_of old.master.cycle part) room done shown
   pub none : (is_some old.master.cycle ≡ true → part < length old.master.plan.parts → ⊥) → (done ≡ counted false 0) × (shown ≡ room)
   pub same : new ≡ old
@@ -81,7 +81,7 @@ pub record ShowsPart (old : MachineState) (part : ℕ) (room : List ℕ) (done :
 abbrev pub report_told : ReportState → Done
 report_told r = record { number = 0; is_done = list_all (λ (t : Bool). t) r.taken; count = r.missing; value = r.al_word }
 
-pub record Closes (old : MachineState) (done : Done) (new : MachineState) : Type 0 where
+pub record Closes (old : SessionState) (done : Done) (new : SessionState) : Type 0 where
   pub closed : is_some old.master.cycle ≡ true → (r : ReportState) × (new.report ≡ Some r) × IsClosed old.master new.master r × (done ≡ report_told r)
   pub not_open : old.master.cycle ≡ None → (done ≡ refused 35) × (new ≡ old)
   pub rest : new ≡ record old { master = new.master; report = new.report }
@@ -90,27 +90,27 @@ abbrev pub unit_told : Option Bool → Done
 unit_told None = counted false 0
 unit_told (Some is_taken) = counted is_taken 1
 
-abbrev pub TellsUnit : MachineState → ℕ → Done → MachineState → Type 0
+abbrev pub TellsUnit : SessionState → ℕ → Done → SessionState → Type 0
 TellsUnit old unit done new = (new ≡ old) × (done ≡ unit_told (option_and_then (unit_taken unit) old.report))
 
 -- ---- variables
 
-pub record Sets (old : MachineState) (variable value : ℕ) (done : Done) (new : MachineState) : Type 0 where
+pub record Sets (old : SessionState) (variable value : ℕ) (done : Done) (new : SessionState) : Type 0 where
   pub told : done ≡ counted (holds_value value (slice_get old.master.plan.variables variable)) 0
   pub is : done.is_done ≡ true → new ≡ record old { master = variable_set old.master variable value }
   pub kept : done.is_done ≡ false → new ≡ old
 
-pub record Gets (old : MachineState) (variable : ℕ) (done : Done) (new : MachineState) : Type 0 where
+pub record Gets (old : SessionState) (variable : ℕ) (done : Done) (new : SessionState) : Type 0 where
   pub same : new ≡ old
   pub there : variable < length old.master.plan.variables → done.value ≡ value_at old.master (slice_get old.master.plan.variables variable)
   pub none : length old.master.plan.variables ≤ variable → done ≡ counted false 0
 
-pub record SetsOutputs (old : MachineState) (outputs : List ℕ) (done : Done) (new : MachineState) : Type 0 where
+pub record SetsOutputs (old : SessionState) (outputs : List ℕ) (done : Done) (new : SessionState) : Type 0 where
   pub size : done.count ≡ length old.master.outputs
   pub is : length outputs ≡ done.count → new ≡ record old { master = record old.master { outputs = outputs } }
   pub kept : length outputs ≢ done.count → new ≡ old
 
-abbrev pub ShowsInputs : MachineState → List ℕ → Done → List ℕ → MachineState → Type 0
+abbrev pub ShowsInputs : SessionState → List ℕ → Done → List ℕ → SessionState → Type 0
 ShowsInputs old room done shown new = (new ≡ old) × AreShown old.master.inputs room done shown
 
 abbrev pub place_told : Option ℕ → Done
@@ -118,7 +118,7 @@ place_told None = counted false 0
 place_told (Some place) = counted true place
 
 -- a name that is not UTF-8 is no variable's
-pub record Finds (old : MachineState) (name : List ℕ) (done : Done) (new : MachineState) : Type 0 where
+pub record Finds (old : SessionState) (name : List ℕ) (done : Done) (new : SessionState) : Type 0 where
   pub same : new ≡ old
   pub found : IsUtf8 name → done ≡ place_told (variable_named old.table name)
   pub none : (IsUtf8 name → ⊥) → done ≡ counted false 0

@@ -2,7 +2,8 @@
 
 -- what a call does to the value behind its handle, and what it returns
 pub mod Calling
--- what an opening returns
+-- what bytes are opened to, why they open nothing, and what an opening returns
+pub mod Opening
 pub mod Refusing
 -- Private: these serve the code and its proofs alone, and no public clause cites them.
 

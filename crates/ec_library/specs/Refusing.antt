@@ -1,15 +1,11 @@
 -- What an opening returns.
-use Rattle.std.specs.Prelude.{◌≡◌, ℕ, Bool, true, false, List, [], ◌∷◌, Option, Some, length, min, take}
-use Rattle.ec_owned.specs.Opening.{IsOpenFault, open_name, open_number, open_values}
-use Rattle.ec_owned.specs.declared.error.OpenError.{OpenError}
+use Rattle.std.specs.Prelude.{◌≡◌, ℕ, Bool, true, false, List, Option, Some, length, min, take}
+use Rattle.ec_library.specs.Opening.{IsOpenFault, open_name, open_number, open_values, with_values}
+use Rattle.ec_library.specs.declared.error.OpenError.{OpenError}
 use Rattle.ec_library.specs.declared.opening.NotOpened.{NotOpened}
 
 abbrev pub no_refusal : NotOpened
 no_refusal = record { is_open = true; number = 0; name = 0; count = 0; first = 0; second = 0 }
-
--- the first `count` of two values
-abbrev pub with_values : ℕ → ℕ → ℕ → List ℕ
-with_values count first second = take count (first ∷ second ∷ [])
 
 -- the refusal's number, as much of its name as the room holds, and its values
 pub record TellsRefusal (error : OpenError) (told : NotOpened) (room : List ℕ) : Type 0 where

@@ -1,33 +1,33 @@
-//! The calls of a master: each makes the call of a machine, and returns what C sees of it.
+//! The calls of a master: each makes the call of a session, and returns what C sees of it.
 ghost use Rattle.std.specs.Prelude.{◌≡◌};
 ghost use Rattle.ec_cycle.specs.Closing.{ReportState};
 ghost use Rattle.ec_library.specs.Calling.{AreShown, AsksNext, Begins, Closes, Finds, Gets, GivesUp, Sets, SetsOutputs, ShowsInputs, ShowsPart, Takes, TellsPhase, TellsUnit, report_told};
 
 use crate::done::{Done, counted, refused};
 use ec_cycle::Report;
-use ec_owned::MachineMaster;
+use ec_session::Session;
 
 /// Writes the next frame of the start-up into `room`; the count is its length in bytes, 0 if there is none.
-pub fn next(machine: &mut MachineMaster, room: &mut [u8]) -> Done
-    ensures { AsksNext machine.old room.old result room.new machine.new }
+pub fn next(session: &mut Session, room: &mut [u8]) -> Done
+    ensures { AsksNext session.old room.old result room.new session.new }
 {
-    let count = machine.next(room);
+    let count = session.next(room);
     counted(count > 0, count)
 }
 
 /// Takes a payload; done if it was kept. The count is how many parts of the open cycle are missing.
-pub fn take(machine: &mut MachineMaster, payload: &[u8]) -> Done
-    ensures { Takes machine.old payload.now result machine.new }
+pub fn take(session: &mut Session, payload: &[u8]) -> Done
+    ensures { Takes session.old payload.now result session.new }
 {
-    let is_kept = machine.take(payload);
-    counted(is_kept, machine.missing())
+    let is_kept = session.take(payload);
+    counted(is_kept, session.missing())
 }
 
 /// Whether the start-up has ended Ready, or the number of its failure.
-pub fn phase(machine: &MachineMaster) -> Done
-    ensures { TellsPhase machine.now result machine.now }
+pub fn phase(session: &Session) -> Done
+    ensures { TellsPhase session.now result session.now }
 {
-    match machine.outcome() {
+    match session.outcome() {
         None => counted(false, 0),
         Some(Ok(())) => counted(true, 0),
         Some(Err(error)) => refused(error.number()),
@@ -35,64 +35,64 @@ pub fn phase(machine: &MachineMaster) -> Done
 }
 
 /// Ends a start-up that runs, as lost.
-pub fn give_up(machine: &mut MachineMaster)
-    ensures { GivesUp machine.old machine.new }
+pub fn give_up(session: &mut Session)
+    ensures { GivesUp session.old session.new }
 {
-    machine.give_up();
+    session.give_up();
 }
 
 /// Begins a cycle; the count is its number of parts.
-pub fn begin(machine: &mut MachineMaster) -> Done
-    ensures { Begins machine.old result machine.new }
+pub fn begin(session: &mut Session) -> Done
+    ensures { Begins session.old result session.new }
 {
-    match machine.begin() {
-        Ok(()) => counted(true, machine.parts()),
+    match session.begin() {
+        Ok(()) => counted(true, session.parts()),
         Err(error) => refused(error.number()),
     }
 }
 
 /// Writes the frame of a part of the open cycle into `room`, if there is one and it fits; the count is its length in bytes.
-pub fn show_part(machine: &MachineMaster, part: usize, room: &mut [u8]) -> Done
-    ensures { ShowsPart machine.now part room.old result room.new machine.now }
+pub fn show_part(session: &Session, part: usize, room: &mut [u8]) -> Done
+    ensures { ShowsPart session.now part room.old result room.new session.now }
 {
-    match machine.part(part) {
+    match session.part(part) {
         Some(frame) => show(frame, room),
         None => counted(false, 0),
     }
 }
 
 /// Closes the cycle, and returns its report.
-pub fn close(machine: &mut MachineMaster) -> Done
-    ensures { Closes machine.old result machine.new }
+pub fn close(session: &mut Session) -> Done
+    ensures { Closes session.old result session.new }
 {
-    match machine.close() {
-        Ok(()) => tell_last(machine),
+    match session.close() {
+        Ok(()) => tell_last(session),
         Err(error) => refused(error.number()),
     }
 }
 
 /// Whether a sync unit was taken in the last report; the count is 1 if the report has the unit, and else 0.
-pub fn tell_unit(machine: &MachineMaster, unit: u8) -> Done
-    ensures { TellsUnit machine.now unit result machine.now }
+pub fn tell_unit(session: &Session, unit: u8) -> Done
+    ensures { TellsUnit session.now unit result session.now }
 {
-    match machine.unit(unit) {
+    match session.unit(unit) {
         Some(is_taken) => counted(is_taken, 1),
         None => counted(false, 0),
     }
 }
 
 /// Sets a variable of the outputs; done if there is one that holds the value.
-pub fn set(machine: &mut MachineMaster, variable: usize, value: u64) -> Done
-    ensures { Sets machine.old variable value result machine.new }
+pub fn set(session: &mut Session, variable: usize, value: u64) -> Done
+    ensures { Sets session.old variable value result session.new }
 {
-    counted(machine.set(variable, value), 0)
+    counted(session.set(variable, value), 0)
 }
 
 /// The value of a variable; not done if there is no such variable.
-pub fn get(machine: &MachineMaster, variable: usize) -> Done
-    ensures { Gets machine.now variable result machine.now }
+pub fn get(session: &Session, variable: usize) -> Done
+    ensures { Gets session.now variable result session.now }
 {
-    match machine.get(variable) {
+    match session.get(variable) {
         Some(value) => Done {
             number: 0,
             is_done: true,
@@ -104,28 +104,28 @@ pub fn get(machine: &MachineMaster, variable: usize) -> Done
 }
 
 /// Sets the image of all outputs if the lengths agree; the count is the image's number of bytes.
-pub fn set_outputs(machine: &mut MachineMaster, outputs: &[u8]) -> Done
-    ensures { SetsOutputs machine.old outputs.now result machine.new }
+pub fn set_outputs(session: &mut Session, outputs: &[u8]) -> Done
+    ensures { SetsOutputs session.old outputs.now result session.new }
 {
-    let count = machine.set_outputs(outputs);
+    let count = session.set_outputs(outputs);
     counted(count == outputs.len(), count)
 }
 
 /// Writes the image of all inputs into `room` if it fits; the count is its number of bytes.
-pub fn show_inputs(machine: &MachineMaster, room: &mut [u8]) -> Done
-    ensures { ShowsInputs machine.now room.old result room.new machine.now }
+pub fn show_inputs(session: &Session, room: &mut [u8]) -> Done
+    ensures { ShowsInputs session.now room.old result room.new session.now }
 {
-    show(machine.inputs(), room)
+    show(session.inputs(), room)
 }
 
 /// The number of the variable with a name, as the count; not done if there is none.
-pub fn find(machine: &MachineMaster, name: &[u8]) -> Done
-    ensures { Finds machine.now name.now result machine.now }
+pub fn find(session: &Session, name: &[u8]) -> Done
+    ensures { Finds session.now name.now result session.now }
 {
     let Ok(name) = str::from_utf8(name) else {
         return counted(false, 0);
     };
-    match machine.variable(name) {
+    match session.variable(name) {
         Some(place) => counted(true, place),
         None => counted(false, 0),
     }
@@ -144,10 +144,10 @@ fn show(bytes: &[u8], room: &mut [u8]) -> Done
 }
 
 /// The last report, if there is one.
-fn tell_last(machine: &MachineMaster) -> Done
-    ensures { (r : ReportState) → machine.now.report ≡ Some r → result ≡ report_told r }
+fn tell_last(session: &Session) -> Done
+    ensures { (r : ReportState) → session.now.report ≡ Some r → result ≡ report_told r }
 {
-    match machine.report() {
+    match session.report() {
         Some(report) => tell_report(report),
         None => counted(false, 0),
     }

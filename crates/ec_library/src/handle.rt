@@ -1,13 +1,45 @@
-//! The handles of masters and segments that C holds: a struct of one pointer, and a ghost field with what it owns.
+//! The handles of masters and segments that C holds: structs of one pointer, each with a ghost field for what it owns.
 ghost use Rattle.std.specs.Prelude.{◌≡◌, List, Option, Some, true, is_some};
-ghost use Rattle.ec_owned.specs.Machines.{MachineState};
+ghost use Rattle.ec_session.specs.Sessions.{SessionState};
 ghost use Rattle.ec_slave.specs.State.{SlaveState};
-ghost use Rattle.ec_library.specs.Owning.{owns_machine, owns_slaves};
+ghost use Rattle.ec_library.specs.Keeping.{keeps};
+ghost use Rattle.ec_library.specs.Owning.{owns_session, owns_slaves};
 
-use crate::kept::Kept;
-use ec_owned::MachineMaster;
 use ec_ring::Ring;
+use ec_session::Session;
+use std::alloc::Global;
 use std::marker::Model;
+
+/// The pointer that was a box, and still owns the value behind it.
+pub struct Kept<T> {
+    pub at: *mut T,
+    pub ghost value: { T },
+}
+
+impl<T> Model for Kept<T> {
+    ghost also_owns = { λ k. keeps T.row k.at k.value };
+}
+
+impl<T> Kept<T> {
+    /// Takes a box apart into its pointer. Nothing is freed.
+    pub fn of(boxed: Box<T>) -> Kept<T>
+    where
+        T: Drop,
+        ensures { result.value ≡ boxed.value }
+    {
+        let at = Box::into_raw(boxed);
+        Kept { at }
+    }
+
+    /// The box of the pointer again.
+    pub fn into_box(self, alloc: Global) -> Box<T>
+        ensures { result.value ≡ self.value }
+    {
+        let Kept { at } = self;
+        // SAFETY: `at` came from `Box::into_raw`. A `Kept` is moved and never copied, so its box is made again only once.
+        unsafe { Box::from_raw(alloc, at) }
+    }
+}
 
 /// The target of a handle's pointer; C doesn't read it.
 #[repr(C)]
@@ -16,16 +48,16 @@ pub struct Hidden {
     nothing: u8,
 }
 
-/// The handle of a master: it owns a machine, or nothing.
+/// The handle of a master: it owns a session, or nothing.
 #[repr(C)]
 #[derive(Drop)]
 pub struct MasterHandle {
     at: *mut Hidden,
-    ghost machine: { Option MachineState },
+    ghost session: { Option SessionState },
 }
 
 impl Model for MasterHandle {
-    ghost also_owns = { λ h. owns_machine h.at h.machine };
+    ghost also_owns = { λ h. owns_session h.at h.session };
 }
 
 /// The handle of a segment: it owns slaves, or nothing.
@@ -40,9 +72,9 @@ impl Model for SegmentHandle {
     ghost also_owns = { λ h. owns_slaves h.at h.slaves };
 }
 
-/// The handle that owns a machine.
-pub fn conceal_master(kept: Kept<MachineMaster>) -> MasterHandle
-    ensures { result.machine ≡ Some kept.value }
+/// The handle that owns a session.
+pub fn conceal_master(kept: Kept<Session>) -> MasterHandle
+    ensures { result.session ≡ Some kept.value }
 {
     let Kept { at } = kept;
     MasterHandle {
@@ -50,14 +82,14 @@ pub fn conceal_master(kept: Kept<MachineMaster>) -> MasterHandle
     }
 }
 
-/// The machine that a handle owns.
-pub fn reveal_master(handle: MasterHandle) -> Kept<MachineMaster>
-    requires { is_some handle.machine ≡ true }
-    ensures { Some result.value ≡ handle.machine }
+/// The session that a handle owns.
+pub fn reveal_master(handle: MasterHandle) -> Kept<Session>
+    requires { is_some handle.session ≡ true }
+    ensures { Some result.value ≡ handle.session }
 {
     let MasterHandle { at } = handle;
     Kept {
-        at: at as *mut MachineMaster,
+        at: at as *mut Session,
     }
 }
 

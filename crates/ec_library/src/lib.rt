@@ -1,30 +1,30 @@
 //! The master and the segment of a link table for programs in C; `include/ecat.h` has the calls as C sees them.
 //!
 //! An export takes a handle by value and hands one back through `out`, so that a handle is never in two places. The contract
-//! of each export relates what the two handles own: the call of the machine, or of the slaves, leads from the first to the
+//! of each export relates what the two handles own: the call of the session, or of the slaves, leads from the first to the
 //! second.
 #![tactic(auto)]
 
 ghost use Rattle.std.specs.Prelude.{◌≡◌, true, is_some};
-ghost use Rattle.ec_owned.specs.Opening.{AreOpened, IsOpened};
 ghost use Rattle.ec_slave.specs.Serving.{served};
 ghost use Rattle.ec_slave.specs.State.{power_on};
 ghost use Rattle.ec_library.specs.Calling.{AsksNext, Begins, Closes, Does, Finds, Gets, GivesUp, HasFault, Leads, Passes, Reads, Sets, SetsOutputs, ShowsInputs, ShowsPart, Takes, TellsPhase, TellsUnit, Writes};
+ghost use Rattle.ec_library.specs.Opening.{HasSession, HasSlaves};
 ghost use Rattle.ec_library.specs.Refusing.{HasOpened};
 
 mod calls;
 mod done;
+mod error;
 mod handle;
-mod kept;
 mod opening;
 mod segments;
 
 use crate::done::Done;
 use crate::handle::{
-    MasterHandle, SegmentHandle, conceal_master, conceal_segment, reveal_master, reveal_segment,
+    Kept, MasterHandle, SegmentHandle, conceal_master, conceal_segment, reveal_master,
+    reveal_segment,
 };
-use crate::kept::Kept;
-use crate::opening::{NotOpened, boxed_machine, boxed_slaves, opened, tell_refusal};
+use crate::opening::{NotOpened, boxed_session, boxed_slaves, opened, tell_refusal};
 use std::alloc::Global;
 
 /// Opens the master of the table that bytes state, or writes the refusal into `told` and its name into `name`.
@@ -37,12 +37,12 @@ pub extern "C" fn ecat_c_open(
     told: &mut NotOpened,
     out: &mut MasterHandle,
 )
-    ensures { HasOpened (IsOpened table.now) table.now told.new name.new out.new.machine out.old out.new }
+    ensures { HasOpened (HasSession table.now) table.now told.new name.new out.new.session out.old out.new }
 {
-    match boxed_machine(alloc, table) {
-        Ok(machine) => {
+    match boxed_session(alloc, table) {
+        Ok(session) => {
             *told = opened();
-            *out = conceal_master(Kept::of(machine));
+            *out = conceal_master(Kept::of(session));
         }
         Err(error) => *told = tell_refusal(error, name),
     }
@@ -50,10 +50,10 @@ pub extern "C" fn ecat_c_open(
 
 /// Frees a master.
 #[unsafe(no_mangle)]
-pub extern "C" fn ecat_c_drop(alloc: Global, machine: MasterHandle)
-    requires { is_some machine.machine ≡ true }
+pub extern "C" fn ecat_c_drop(alloc: Global, master: MasterHandle)
+    requires { is_some master.session ≡ true }
 {
-    let _machine = reveal_master(machine).into_box(alloc);
+    let _session = reveal_master(master).into_box(alloc);
 }
 
 /// Writes the next frame of the start-up; `done.count` is its length in bytes, 0 if there is none.
@@ -61,17 +61,17 @@ pub extern "C" fn ecat_c_drop(alloc: Global, machine: MasterHandle)
 #[unsafe(no_mangle)]
 pub extern "C" fn ecat_c_next(
     alloc: Global,
-    machine: MasterHandle,
+    master: MasterHandle,
     frame: &mut [u8],
     done: &mut Done,
     out: &mut MasterHandle,
 )
-    requires { is_some machine.machine ≡ true }
-    ensures { Leads machine.machine out.new.machine (λ m n. AsksNext m frame.old done.new frame.new n) }
+    requires { is_some master.session ≡ true }
+    ensures { Leads master.session out.new.session (λ m n. AsksNext m frame.old done.new frame.new n) }
 {
-    let mut machine = reveal_master(machine).into_box(alloc);
-    *done = calls::next(&mut machine, frame);
-    *out = conceal_master(Kept::of(machine));
+    let mut session = reveal_master(master).into_box(alloc);
+    *done = calls::next(&mut session, frame);
+    *out = conceal_master(Kept::of(session));
 }
 
 /// Takes a payload that came; done if it was kept. `done.count` is how many parts of the open cycle are missing then.
@@ -79,17 +79,17 @@ pub extern "C" fn ecat_c_next(
 #[unsafe(no_mangle)]
 pub extern "C" fn ecat_c_take(
     alloc: Global,
-    machine: MasterHandle,
+    master: MasterHandle,
     payload: &[u8],
     done: &mut Done,
     out: &mut MasterHandle,
 )
-    requires { is_some machine.machine ≡ true }
-    ensures { Leads machine.machine out.new.machine (λ m n. Takes m payload.now done.new n) }
+    requires { is_some master.session ≡ true }
+    ensures { Leads master.session out.new.session (λ m n. Takes m payload.now done.new n) }
 {
-    let mut machine = reveal_master(machine).into_box(alloc);
-    *done = calls::take(&mut machine, payload);
-    *out = conceal_master(Kept::of(machine));
+    let mut session = reveal_master(master).into_box(alloc);
+    *done = calls::take(&mut session, payload);
+    *out = conceal_master(Kept::of(session));
 }
 
 /// Whether the start-up has ended Ready, or the number of its failure.
@@ -97,28 +97,28 @@ pub extern "C" fn ecat_c_take(
 #[unsafe(no_mangle)]
 pub extern "C" fn ecat_c_phase(
     alloc: Global,
-    machine: MasterHandle,
+    master: MasterHandle,
     done: &mut Done,
     out: &mut MasterHandle,
 )
-    requires { is_some machine.machine ≡ true }
-    ensures { Leads machine.machine out.new.machine (λ m n. TellsPhase m done.new n) }
+    requires { is_some master.session ≡ true }
+    ensures { Leads master.session out.new.session (λ m n. TellsPhase m done.new n) }
 {
-    let machine = reveal_master(machine).into_box(alloc);
-    *done = calls::phase(&machine);
-    *out = conceal_master(Kept::of(machine));
+    let session = reveal_master(master).into_box(alloc);
+    *done = calls::phase(&session);
+    *out = conceal_master(Kept::of(session));
 }
 
 /// Ends a start-up that runs, as lost.
 #[tactic(auto, using(crate::proofs::Leading::leads))]
 #[unsafe(no_mangle)]
-pub extern "C" fn ecat_c_give_up(alloc: Global, machine: MasterHandle, out: &mut MasterHandle)
-    requires { is_some machine.machine ≡ true }
-    ensures { Leads machine.machine out.new.machine (λ m n. GivesUp m n) }
+pub extern "C" fn ecat_c_give_up(alloc: Global, master: MasterHandle, out: &mut MasterHandle)
+    requires { is_some master.session ≡ true }
+    ensures { Leads master.session out.new.session (λ m n. GivesUp m n) }
 {
-    let mut machine = reveal_master(machine).into_box(alloc);
-    calls::give_up(&mut machine);
-    *out = conceal_master(Kept::of(machine));
+    let mut session = reveal_master(master).into_box(alloc);
+    calls::give_up(&mut session);
+    *out = conceal_master(Kept::of(session));
 }
 
 /// Begins a cycle. `done.count` is its number of parts.
@@ -126,16 +126,16 @@ pub extern "C" fn ecat_c_give_up(alloc: Global, machine: MasterHandle, out: &mut
 #[unsafe(no_mangle)]
 pub extern "C" fn ecat_c_begin(
     alloc: Global,
-    machine: MasterHandle,
+    master: MasterHandle,
     done: &mut Done,
     out: &mut MasterHandle,
 )
-    requires { is_some machine.machine ≡ true }
-    ensures { Leads machine.machine out.new.machine (λ m n. Begins m done.new n) }
+    requires { is_some master.session ≡ true }
+    ensures { Leads master.session out.new.session (λ m n. Begins m done.new n) }
 {
-    let mut machine = reveal_master(machine).into_box(alloc);
-    *done = calls::begin(&mut machine);
-    *out = conceal_master(Kept::of(machine));
+    let mut session = reveal_master(master).into_box(alloc);
+    *done = calls::begin(&mut session);
+    *out = conceal_master(Kept::of(session));
 }
 
 /// Writes the frame of a part of the open cycle, if it fits. `done.count` is its length in bytes.
@@ -143,18 +143,18 @@ pub extern "C" fn ecat_c_begin(
 #[unsafe(no_mangle)]
 pub extern "C" fn ecat_c_part(
     alloc: Global,
-    machine: MasterHandle,
+    master: MasterHandle,
     part: usize,
     frame: &mut [u8],
     done: &mut Done,
     out: &mut MasterHandle,
 )
-    requires { is_some machine.machine ≡ true }
-    ensures { Leads machine.machine out.new.machine (λ m n. ShowsPart m part frame.old done.new frame.new n) }
+    requires { is_some master.session ≡ true }
+    ensures { Leads master.session out.new.session (λ m n. ShowsPart m part frame.old done.new frame.new n) }
 {
-    let machine = reveal_master(machine).into_box(alloc);
-    *done = calls::show_part(&machine, part, frame);
-    *out = conceal_master(Kept::of(machine));
+    let session = reveal_master(master).into_box(alloc);
+    *done = calls::show_part(&session, part, frame);
+    *out = conceal_master(Kept::of(session));
 }
 
 /// Closes the cycle. `done` is its report: whether all units were taken, the missing parts, and the AL word.
@@ -162,16 +162,16 @@ pub extern "C" fn ecat_c_part(
 #[unsafe(no_mangle)]
 pub extern "C" fn ecat_c_close(
     alloc: Global,
-    machine: MasterHandle,
+    master: MasterHandle,
     done: &mut Done,
     out: &mut MasterHandle,
 )
-    requires { is_some machine.machine ≡ true }
-    ensures { Leads machine.machine out.new.machine (λ m n. Closes m done.new n) }
+    requires { is_some master.session ≡ true }
+    ensures { Leads master.session out.new.session (λ m n. Closes m done.new n) }
 {
-    let mut machine = reveal_master(machine).into_box(alloc);
-    *done = calls::close(&mut machine);
-    *out = conceal_master(Kept::of(machine));
+    let mut session = reveal_master(master).into_box(alloc);
+    *done = calls::close(&mut session);
+    *out = conceal_master(Kept::of(session));
 }
 
 /// Whether a sync unit was taken in the last report; `done.count` is 1 if the report has the unit.
@@ -179,17 +179,17 @@ pub extern "C" fn ecat_c_close(
 #[unsafe(no_mangle)]
 pub extern "C" fn ecat_c_unit(
     alloc: Global,
-    machine: MasterHandle,
+    master: MasterHandle,
     unit: u8,
     done: &mut Done,
     out: &mut MasterHandle,
 )
-    requires { is_some machine.machine ≡ true }
-    ensures { Leads machine.machine out.new.machine (λ m n. TellsUnit m unit done.new n) }
+    requires { is_some master.session ≡ true }
+    ensures { Leads master.session out.new.session (λ m n. TellsUnit m unit done.new n) }
 {
-    let machine = reveal_master(machine).into_box(alloc);
-    *done = calls::tell_unit(&machine, unit);
-    *out = conceal_master(Kept::of(machine));
+    let session = reveal_master(master).into_box(alloc);
+    *done = calls::tell_unit(&session, unit);
+    *out = conceal_master(Kept::of(session));
 }
 
 /// Sets a variable of the outputs, if there is one that holds the value.
@@ -197,18 +197,18 @@ pub extern "C" fn ecat_c_unit(
 #[unsafe(no_mangle)]
 pub extern "C" fn ecat_c_set(
     alloc: Global,
-    machine: MasterHandle,
+    master: MasterHandle,
     variable: usize,
     value: u64,
     done: &mut Done,
     out: &mut MasterHandle,
 )
-    requires { is_some machine.machine ≡ true }
-    ensures { Leads machine.machine out.new.machine (λ m n. Sets m variable value done.new n) }
+    requires { is_some master.session ≡ true }
+    ensures { Leads master.session out.new.session (λ m n. Sets m variable value done.new n) }
 {
-    let mut machine = reveal_master(machine).into_box(alloc);
-    *done = calls::set(&mut machine, variable, value);
-    *out = conceal_master(Kept::of(machine));
+    let mut session = reveal_master(master).into_box(alloc);
+    *done = calls::set(&mut session, variable, value);
+    *out = conceal_master(Kept::of(session));
 }
 
 /// The value of a variable, in `done.value`; not done if there is no such variable.
@@ -216,17 +216,17 @@ pub extern "C" fn ecat_c_set(
 #[unsafe(no_mangle)]
 pub extern "C" fn ecat_c_get(
     alloc: Global,
-    machine: MasterHandle,
+    master: MasterHandle,
     variable: usize,
     done: &mut Done,
     out: &mut MasterHandle,
 )
-    requires { is_some machine.machine ≡ true }
-    ensures { Leads machine.machine out.new.machine (λ m n. Gets m variable done.new n) }
+    requires { is_some master.session ≡ true }
+    ensures { Leads master.session out.new.session (λ m n. Gets m variable done.new n) }
 {
-    let machine = reveal_master(machine).into_box(alloc);
-    *done = calls::get(&machine, variable);
-    *out = conceal_master(Kept::of(machine));
+    let session = reveal_master(master).into_box(alloc);
+    *done = calls::get(&session, variable);
+    *out = conceal_master(Kept::of(session));
 }
 
 /// Sets the image of all outputs if the lengths agree. `done.count` is the image's number of bytes.
@@ -234,17 +234,17 @@ pub extern "C" fn ecat_c_get(
 #[unsafe(no_mangle)]
 pub extern "C" fn ecat_c_outputs(
     alloc: Global,
-    machine: MasterHandle,
+    master: MasterHandle,
     outputs: &[u8],
     done: &mut Done,
     out: &mut MasterHandle,
 )
-    requires { is_some machine.machine ≡ true }
-    ensures { Leads machine.machine out.new.machine (λ m n. SetsOutputs m outputs.now done.new n) }
+    requires { is_some master.session ≡ true }
+    ensures { Leads master.session out.new.session (λ m n. SetsOutputs m outputs.now done.new n) }
 {
-    let mut machine = reveal_master(machine).into_box(alloc);
-    *done = calls::set_outputs(&mut machine, outputs);
-    *out = conceal_master(Kept::of(machine));
+    let mut session = reveal_master(master).into_box(alloc);
+    *done = calls::set_outputs(&mut session, outputs);
+    *out = conceal_master(Kept::of(session));
 }
 
 /// Writes the image of all inputs, if it fits. `done.count` is its number of bytes.
@@ -252,17 +252,17 @@ pub extern "C" fn ecat_c_outputs(
 #[unsafe(no_mangle)]
 pub extern "C" fn ecat_c_inputs(
     alloc: Global,
-    machine: MasterHandle,
+    master: MasterHandle,
     inputs: &mut [u8],
     done: &mut Done,
     out: &mut MasterHandle,
 )
-    requires { is_some machine.machine ≡ true }
-    ensures { Leads machine.machine out.new.machine (λ m n. ShowsInputs m inputs.old done.new inputs.new n) }
+    requires { is_some master.session ≡ true }
+    ensures { Leads master.session out.new.session (λ m n. ShowsInputs m inputs.old done.new inputs.new n) }
 {
-    let machine = reveal_master(machine).into_box(alloc);
-    *done = calls::show_inputs(&machine, inputs);
-    *out = conceal_master(Kept::of(machine));
+    let session = reveal_master(master).into_box(alloc);
+    *done = calls::show_inputs(&session, inputs);
+    *out = conceal_master(Kept::of(session));
 }
 
 /// The number of the variable with a name, in `done.count`; not done if there is none.
@@ -270,17 +270,17 @@ pub extern "C" fn ecat_c_inputs(
 #[unsafe(no_mangle)]
 pub extern "C" fn ecat_c_variable(
     alloc: Global,
-    machine: MasterHandle,
+    master: MasterHandle,
     name: &[u8],
     done: &mut Done,
     out: &mut MasterHandle,
 )
-    requires { is_some machine.machine ≡ true }
-    ensures { Leads machine.machine out.new.machine (λ m n. Finds m name.now done.new n) }
+    requires { is_some master.session ≡ true }
+    ensures { Leads master.session out.new.session (λ m n. Finds m name.now done.new n) }
 {
-    let machine = reveal_master(machine).into_box(alloc);
-    *done = calls::find(&machine, name);
-    *out = conceal_master(Kept::of(machine));
+    let session = reveal_master(master).into_box(alloc);
+    *done = calls::find(&session, name);
+    *out = conceal_master(Kept::of(session));
 }
 
 /// Opens the slaves of the table that bytes state, just switched on, as full slaves if `full`. Refuses as `ecat_c_open` does.
@@ -294,7 +294,7 @@ pub extern "C" fn ecat_c_segment_open(
     told: &mut NotOpened,
     out: &mut SegmentHandle,
 )
-    ensures { HasOpened (AreOpened full table.now) table.now told.new name.new out.new.slaves out.old out.new }
+    ensures { HasOpened (HasSlaves full table.now) table.now told.new name.new out.new.slaves out.old out.new }
 {
     match boxed_slaves(alloc, table, full) {
         Ok(slaves) => {

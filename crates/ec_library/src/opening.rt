@@ -1,10 +1,18 @@
-//! Boxes of opened machines and slaves, and the refusal of a text as C sees it.
-ghost use Rattle.std.specs.Prelude.{◌≡◌, length, min, take, IfOk, IfErr};
-ghost use Rattle.ec_owned.specs.Opening.{AreOpened, IsOpenFault, IsOpened, listed};
-ghost use Rattle.ec_library.specs.Refusing.{TellsRefusal, no_refusal, with_values};
+//! Boxes of opened sessions and slaves, and the refusal of a text as C sees it.
+ghost use Rattle.std.specs.Prelude.{◌≡◌, None, IfErr, IfOk, IsUtf8, OnOk, length, min, take};
+ghost use Rattle.ec_bringup.specs.SwitchedOn.{AreSlavesOf};
+ghost use Rattle.ec_link.specs.Faults.{Fails, compile_fault};
+ghost use Rattle.ec_link.specs.Machine.{Refuses};
+ghost use Rattle.ec_session.specs.Sessions.{IsOpened};
+ghost use Rattle.ec_library.specs.Opening.{AreOpened, HasSession, HasSlaves, IsOpenFault};
+ghost use Rattle.ec_library.specs.Refusing.{TellsRefusal, no_refusal};
 
-use ec_owned::{MachineMaster, OpenError, Values, open_machine, open_slaves};
+use crate::error::OpenError;
+use ec_bringup::slaves_of_machine;
+use ec_link::{LinkError, Machine, MachineError};
 use ec_ring::Ring;
+use ec_session::Session;
+use ec_table::{Table, TableError, read_table};
 use std::alloc::Global;
 
 /// Whether an opening succeeded, and else the refusal: its number, the length of its name in bytes, how many values it has, and
@@ -38,7 +46,7 @@ pub fn opened() -> NotOpened
 pub fn tell_refusal(error: OpenError, room: &mut [u8]) -> NotOpened
     ensures { TellsRefusal error result room.new }
 {
-    let (count, first, second) = spread(error.values());
+    let (count, first, second) = error.values();
     NotOpened {
         is_open: false,
         number: error.number(),
@@ -49,28 +57,81 @@ pub fn tell_refusal(error: OpenError, room: &mut [u8]) -> NotOpened
     }
 }
 
-/// The box of the machine of the table that bytes state; the error is that of [`open_machine`], or `Memory`.
-pub fn boxed_machine(alloc: Global, table: &[u8]) -> Result<Box<MachineMaster>, OpenError>
-    ensures opened { IfOk result (λ boxed. IsOpened table.now boxed.value) }
+/// The box of the session of the table that bytes state; the error is `Text`, or that of [`Session::open`].
+pub fn boxed_session(alloc: Global, table: &[u8]) -> Result<Box<Session>, OpenError>
+    ensures opened { IfOk result (λ boxed. HasSession table.now boxed.value) }
     ensures refused { IfErr result (IsOpenFault table.now) }
 {
-    let machine = open_machine(alloc, table)?;
-    match Box::new(alloc, machine) {
-        Ok(boxed) => Ok(boxed),
-        Err(_) => Err(OpenError::Memory),
+    let text = text_of(table)?;
+    Ok(session_of(alloc, text)?)
+}
+
+/// The box of the slaves of the table that bytes state, just switched on; all of them full slaves if `full`. The error is that of
+/// [`boxed_session`].
+pub fn boxed_slaves(alloc: Global, table: &[u8], full: bool) -> Result<Box<Ring>, OpenError>
+    ensures opened { IfOk result (λ boxed. HasSlaves full table.now boxed.value) }
+    ensures refused { IfErr result (IsOpenFault table.now) }
+{
+    let text = text_of(table)?;
+    Ok(slaves_of(alloc, text, full)?)
+}
+
+/// The text of bytes; the error is `Text` if they are not UTF-8.
+fn text_of(bytes: &[u8]) -> Result<&str, OpenError>
+    ensures readable { OnOk result (IsUtf8 bytes.now) }
+    ensures same { IfOk result (λ text. text.now ≡ bytes.now) }
+    ensures refused { IfErr result (IsOpenFault bytes.now) }
+{
+    match str::from_utf8(bytes) {
+        Ok(text) => Ok(text),
+        Err(_) => Err(OpenError::Text),
     }
 }
 
-/// The box of the slaves of the table that bytes state; the error is that of [`open_slaves`], or `Memory`.
-pub fn boxed_slaves(alloc: Global, table: &[u8], full: bool) -> Result<Box<Ring>, OpenError>
-    ensures opened { IfOk result (λ boxed. AreOpened full table.now boxed.value) }
-    ensures refused { IfErr result (IsOpenFault table.now) }
+/// The box of the session of the table that a text states; the error is that of [`Session::open`].
+fn session_of(alloc: Global, text: &str) -> Result<Box<Session>, MachineError>
+    ensures opened { IfOk result (λ boxed. IsOpened text.now boxed.value) }
+    ensures refused { IfErr result (Refuses text.now) }
 {
-    let slaves = open_slaves(alloc, table, full)?;
+    let session = Session::open(alloc, text)?;
+    match Box::new(alloc, session) {
+        Ok(boxed) => Ok(boxed),
+        Err(_) => Err(MachineError::Table(TableError::Memory)),
+    }
+}
+
+/// The box of the slaves of the table that a text states, just switched on; all of them full slaves if `full`. The error is the
+/// first fault of the text or of its table, or `Memory`.
+fn slaves_of(alloc: Global, text: &str, full: bool) -> Result<Box<Ring>, MachineError>
+    ensures opened { IfOk result (λ boxed. AreOpened full text.now boxed.value) }
+    ensures refused { IfErr result (Refuses text.now) }
+{
+    let slaves = slaves_in(alloc, text, full)?;
     match Box::new(alloc, slaves) {
         Ok(boxed) => Ok(boxed),
-        Err(_) => Err(OpenError::Memory),
+        Err(_) => Err(MachineError::Table(TableError::Memory)),
     }
+}
+
+/// As [`slaves_of`], without a box.
+#[tactic(auto, using(crate::proofs::Shown::are_opened, crate::proofs::Shown::are_refused))]
+fn slaves_in(alloc: Global, text: &str, full: bool) -> Result<Ring, MachineError>
+    ensures opened { IfOk result (AreOpened full text.now) }
+    ensures refused { IfErr result (Refuses text.now) }
+{
+    let mut table = read_table(alloc, text)?;
+    table.show_as(full);
+    Ok(switched_on(alloc, table)?)
+}
+
+/// The slaves of a table, just switched on; the error is the table's first fault, or `Memory`.
+fn switched_on(alloc: Global, table: Table) -> Result<Ring, LinkError>
+    ensures accepted { OnOk result (compile_fault table ≡ None) }
+    ensures slaves { IfOk result (AreSlavesOf table) }
+    ensures refused { IfErr result (λ error. Fails error (compile_fault table)) }
+{
+    let machine = Machine::new(alloc, table)?;
+    Ok(slaves_of_machine(alloc, &machine)?)
 }
 
 /// Writes as much of a name as `room` holds, and returns how many bytes that is.
@@ -82,16 +143,4 @@ fn write_name(name: &str, room: &mut [u8]) -> usize
     let count = bytes.len().min(room.len());
     room[..count].copy_from_slice(&bytes[..count]);
     count
-}
-
-/// How many values there are, and these; 0 in place of a value that isn't there.
-fn spread(values: Values) -> (usize, u64, u64)
-    ensures count { result.0 ≡ length (listed values) }
-    ensures values { with_values result.0 result.1 result.2 ≡ listed values }
-{
-    match values {
-        Values::Empty => (0, 0, 0),
-        Values::One(first) => (1, first, 0),
-        Values::Two(first, second) => (2, first, second),
-    }
 }

@@ -38,10 +38,10 @@ use Rattle.std_heap.specs.contracts.GlobalAllocator.TheImpl.{ghosts, dict}
 use Rattle.std_alloc.specs.contracts.boxed.Box.from_raw as callee
 use Rattle.std_alloc.proofs.boxed.Box.from_raw.Met.{met}
 use Rattle.ec_library.proofs.Values.{Row, alone, boxed, heap_laws, heap_row, kept_out, no_drop}
-use Rattle.ec_library.specs.contracts.kept.Kept.into_box.{ended, clauses}
-use Rattle.ec_library.specs.contracts.kept.Kept.into_box.Key.{name as #self}
-use Rattle.ec_library.proofs.kept.Kept.into_box.Statement.{statement}
-use Rattle.ec_library.proofs.kept.Kept.into_box.Code as code
+use Rattle.ec_library.specs.contracts.handle.Kept.into_box.{ended, clauses}
+use Rattle.ec_library.specs.contracts.handle.Kept.into_box.Key.{name as #self}
+use Rattle.ec_library.proofs.handle.Kept.into_box.Statement.{statement}
+use Rattle.ec_library.proofs.handle.Kept.into_box.Code as code
 use Rattle.ec_library.proofs.Destruct++none.drop.Code as dropping
 
 pub into_box_spec : {M : Type 1} → statement M

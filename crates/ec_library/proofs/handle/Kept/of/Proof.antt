@@ -42,10 +42,10 @@ use Rattle.std_alloc.specs.contracts.boxed.Box.into_raw as callee
 use Rattle.std_alloc.proofs.boxed.Box.into_raw.Met.{met}
 use Rattle.ec_library.specs.Keeping.{keeps}
 use Rattle.ec_library.proofs.Values.{alone, boxed, heap_laws, heap_row, kept_in, no_drop}
-use Rattle.ec_library.specs.contracts.kept.Kept.of.{ended, clauses}
-use Rattle.ec_library.specs.contracts.kept.Kept.of.Key.{name as #self}
-use Rattle.ec_library.proofs.kept.Kept.of.Statement.{statement}
-use Rattle.ec_library.proofs.kept.Kept.of.Code as code
+use Rattle.ec_library.specs.contracts.handle.Kept.of.{ended, clauses}
+use Rattle.ec_library.specs.contracts.handle.Kept.of.Key.{name as #self}
+use Rattle.ec_library.proofs.handle.Kept.of.Statement.{statement}
+use Rattle.ec_library.proofs.handle.Kept.of.Code as code
 use Rattle.ec_library.proofs.Destruct++none.drop.Code as dropping
 
 pub of_spec : {M : Type 1} → statement M
