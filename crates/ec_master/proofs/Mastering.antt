@@ -1,8 +1,10 @@
 -- How a run of lines ends.
-use Rattle.std.proofs.Common.{◌≡◌, inl, ℕ, refl, subst, Result, Err, IfErr, OnErr}
+use Rattle.std.proofs.Common.{◌≡◌, inl, ℕ, List, refl, subst, Result, Err, IfErr, OnErr}
 use Rattle.std.specs.Result.{IsErrAnd}
 use Rattle.ec_table.specs.Contents.{Contents}
 use Rattle.ec_wire.specs.Wires.{WireState, silent}
+use Rattle.ec_script.specs.declared.line.Line.{Line}
+use Rattle.ec_script.specs.declared.read.Reading.{Reading}
 use Rattle.ec_console.specs.declared.refusal.Refusal.{Refusal}
 use Rattle.ec_console.specs.declared.refusal.Refusal.TheVariants.{Memory}
 use Rattle.ec_console.specs.declared.wanted.Reasons.{Reasons}
@@ -16,25 +18,23 @@ use Rattle.ec_master.specs.State.{MasteredState}
 use Rattle.ec_master.specs.Taking.{takes_action}
 use Rattle.ec_master.specs.Saying.{SaysLine}
 use Rattle.ec_master.specs.Mastering.{RunsMachine, RunsOver, begun_over}
+use Rattle.ec_master.specs.Stages.{RunsTarget}
 
--- ---- over a wire
-
-abbrev All : (t : Contents) (begun last : MasteredState) (input : Given) (old new : OutputState) → ℕ → Type 0
-All t begun last input old new unmet = ComesOut SaysLine (reading_at takes_action t) begun input.bytes last unmet old new
-
-abbrev Some_of : (t : Contents) (begun last : MasteredState) (input : Given) (old new : OutputState) → Type 0
-Some_of t begun last input old new = ComesPart SaysLine (reading_at takes_action t) begun input.bytes last old new
+-- ---- a target
 
 -- all lines are done
-pub lines_ran : (r : Result Unit Refusal) (t : Contents) (begun last : MasteredState) (count : ℕ) (input : Given) (old new : OutputState) → r ≡ ended_by count → (unmet : ℕ) × (count ≡ counted unmet) × All t begun last input old new unmet
-    → RunsOver t begun last input old new r
-lines_ran r t begun last count input old new ended all = run_ended r (All t begun last input old new) (Some_of t begun last input old new) input.is_refused old new count ended all
+pub target_ran : {S : Type 0} (r : Result Unit Refusal) (one : S → Line → S → List ℕ → ℕ → Type 0) (read : ℕ → List ℕ → Reading) (begun last : S) (count : ℕ) (input : Given) (old new : OutputState) → r ≡ ended_by count
+    → (unmet : ℕ) × (count ≡ counted unmet) × ComesOut one read begun input.bytes last unmet old new → RunsTarget one read begun last input old new r
+target_ran r one read begun last count input old new ended all =
+    run_ended r (λ (unmet : ℕ). ComesOut one read begun input.bytes last unmet old new) (ComesPart one read begun input.bytes last old new) input.is_refused old new count ended all
 
 -- or they are cut short
-pub lines_cut : {T : Type 0} (r : Result Unit Refusal) (printed : Result T Refusal) (e : Refusal) (t : Contents) (begun last : MasteredState) (input : Given) (old new : OutputState) → printed ≡ Err e
-    → OnErr printed (Some_of t begun last input old new) → IfErr printed (IsLate input.is_refused new) → IsErrAnd r (λ x. x ≡ e) → RunsOver t begun last input old new r
-lines_cut r printed e t begun last input old new is some late same =
-    run_cut r printed e (All t begun last input old new) (Some_of t begun last input old new) (Some_of t begun last input old new) input.is_refused old new is some late (λ part. part) same
+pub target_cut : {S T : Type 0} (r : Result Unit Refusal) (printed : Result T Refusal) (e : Refusal) (one : S → Line → S → List ℕ → ℕ → Type 0) (read : ℕ → List ℕ → Reading) (begun last : S) (input : Given) (old new : OutputState)
+    → printed ≡ Err e → OnErr printed (ComesPart one read begun input.bytes last old new) → IfErr printed (IsLate input.is_refused new) → IsErrAnd r (λ x. x ≡ e) → RunsTarget one read begun last input old new r
+target_cut r printed e one read begun last input old new is some late same =
+    run_cut r printed e (λ (unmet : ℕ). ComesOut one read begun input.bytes last unmet old new) (ComesPart one read begun input.bytes last old new) (ComesPart one read begun input.bytes last old new) input.is_refused old new is some late (λ part. part) same
+
+-- ---- over a wire
 
 -- lines over a wire whose payloads are noted are lines over the wire
 pub tapped_runs : (r : Result Unit Refusal) (m tapped last : MasteredState) (input : Given) (old new : OutputState) → tapped ≡ m → RunsOver tapped.session.table tapped last input old new r
@@ -57,4 +57,8 @@ on_socket r reasons t m failed input old new begun is runs =
 pub never_begun : (r : Result Unit Refusal) (reasons : Reasons) (t : Contents) (input : Given) (known : OutputState) → IsErrAnd r (λ e. e ≡ Memory) → RunsMachine reasons t input known known r
 never_begun r reasons t input known is =
     let begun = begun_over reasons t (silent 0) in
-    inl (begun, run_refused r (All t begun begun input known known) (Some_of t begun begun input known known) input.is_refused known is)
+    inl (
+      begun,
+      run_refused r (λ (unmet : ℕ). ComesOut SaysLine (reading_at takes_action t) begun input.bytes begun unmet known known) (ComesPart SaysLine (reading_at takes_action t) begun input.bytes begun known known) input.is_refused
+          known is,
+    )

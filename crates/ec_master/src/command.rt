@@ -1,15 +1,17 @@
 //! `ecat master`: lines that move the master of a machine over a socket or a card.
 ghost use Rattle.std.specs.Prelude.{◌≡◌, [], IfOk, is_some};
 ghost use Rattle.ec_wire.specs.Taps.{Tells};
+ghost use Rattle.ec_console.specs.Coming.{reading_at};
 ghost use Rattle.ec_console.specs.Given.{given_by};
 ghost use Rattle.ec_master.specs.Mastering.{RunsMachine, RunsOver};
+ghost use Rattle.ec_master.specs.Stages.{RunsTarget};
 ghost use Rattle.ec_master.specs.State.{MasteredState};
 
 use crate::mastered::Mastered;
 use ec_card::{CardWire, Sender};
-use ec_console::{Capture, InputStream, OutputStream, Reasons, Refusal, end_of, run_input};
+use ec_console::{Capture, InputStream, OutputStream, Reasons, Refusal, Target, end_of, run_input};
 use ec_link::Machine;
-use ec_wire::{Patience, SocketFault, UdpWire, Wire};
+use ec_wire::{CapturedWire, Patience, Side, SocketFault, UdpWire, Wire};
 use std::alloc::Global;
 use std::fs::Files;
 use std::io::{Read, Write};
@@ -25,25 +27,6 @@ pub struct MasterOptions<'a> {
     pub descriptor: Option<u16>,
     pub patience: u16,
     pub reasons: Reasons,
-}
-
-/// Runs the lines of an input with a master over a wire. The text of a line is printed before the next is read.
-///
-/// # Errors
-///
-/// `Refusal::Memory`, `Refusal::Input` or `Refusal::Output` if memory, a read or a write was refused; what was printed until then stays.
-/// `Refusal::Unmet` if what lines expect isn't so.
-pub fn run_mastered<W: Wire + Drop, R: Read + Drop, O: Write + Drop>(
-    alloc: Global,
-    mastered: &mut Mastered<W>,
-    input: &mut InputStream<R>,
-    output: &mut OutputStream<O>,
-) -> Result<(), Refusal>
-    ensures { RunsOver mastered.old.session.table mastered.old mastered.new (given_by R.remaining input.old input.new)
-        output.old output.new result }
-{
-    let unmet = run_input(alloc, mastered, input, output)?;
-    end_of(unmet)
 }
 
 /// Runs the lines of an input with a new master of a machine over a socket or a card. The text of a line is printed before the next
@@ -108,14 +91,37 @@ fn run_tapped<H: AllocGlobal + Files + Clock, W: Wire + Drop, R: Read + Drop, O:
     match capture.take() {
         None => {
             let mut mastered = mastered;
-            run_mastered(rt.alloc(), &mut mastered, input, output)
+            run_all(rt.alloc(), &mut mastered, input, output)
         }
         Some(recording) => {
-            let mut tapped = mastered.tapped(rt, recording);
-            let ended = run_mastered(rt.alloc(), &mut tapped, input, output);
-            let (_, recording) = tapped.into_wire().into_parts();
+            let Mastered {
+                session,
+                wire,
+                reasons,
+            } = mastered;
+            let mut tapped = Mastered {
+                session,
+                wire: CapturedWire::new(wire, recording, Side::Master, rt),
+                reasons,
+            };
+            let ended = run_all(rt.alloc(), &mut tapped, input, output);
+            let (_, recording) = tapped.wire.into_parts();
             *capture = Some(recording);
             ended
         }
     }
+}
+
+/// Runs the lines of an input, up to its end.
+fn run_all<T: Target, R: Read + Drop, O: Write + Drop>(
+    alloc: Global,
+    target: &mut T,
+    input: &mut InputStream<R>,
+    output: &mut OutputStream<O>,
+) -> Result<(), Refusal>
+    ensures { RunsTarget T.says (reading_at T.takes (T.table target.old)) target.old target.new
+        (given_by R.remaining input.old input.new) output.old output.new result }
+{
+    let unmet = run_input(alloc, target, input, output)?;
+    end_of(unmet)
 }

@@ -1,6 +1,5 @@
 //! A master over a wire, which lines move: the actions that it takes, what they do to it, and what they print.
-ghost use Rattle.std.specs.Prelude.{◌≡◌, [], IfOk, slice_get, string_bytes};
-ghost use Rattle.ec_wire.specs.Taps.{Tells};
+ghost use Rattle.std.specs.Prelude.{◌≡◌, IfOk, slice_get, string_bytes};
 ghost use Rattle.ec_script.specs.declared.line.LineAction.TheVariants.{Cycle, Ready, Set};
 ghost use Rattle.ec_script.specs.Expecting.{is_met};
 ghost use Rattle.ec_script.specs.Outputs.{output_if};
@@ -11,7 +10,6 @@ ghost use Rattle.ec_master.specs.Stages.{IsLineText, IsReasonedText};
 ghost use Rattle.ec_master.specs.Taking.{is_input, is_seen};
 
 use crate::why::Why;
-use ec_capture::Recorder;
 use ec_console::{Reasons, Said, Target};
 use ec_diagnostic::reason_line;
 use ec_link::Machine;
@@ -20,19 +18,17 @@ use ec_script::{
 };
 use ec_session::Session;
 use ec_table::{Direction, Table};
-use ec_wire::{CapturedWire, RunError, Side, Wire};
+use ec_wire::{RunError, Wire};
 use std::alloc::{AllocError, Global};
-use std::io::Write;
 use std::marker::Model;
-use std::time::Clock;
 
 /// A master over a wire, which lines move. It owns its session and its wire. With reasons, it also says why a line can't be done or has
 /// failed.
 #[derive(Drop)]
 pub struct Mastered<W: Wire + Drop> {
-    session: Session,
-    wire: W,
-    reasons: Reasons,
+    pub(crate) session: Session,
+    pub(crate) wire: W,
+    pub(crate) reasons: Reasons,
 }
 
 impl<W: Wire + Drop> Model for Mastered<W> {
@@ -62,35 +58,6 @@ impl<W: Wire + Drop> Mastered<W> {
             wire,
             reasons,
         })
-    }
-
-    /// The wire, as the lines left it.
-    pub fn into_wire(self) -> W
-        ensures { W.state result ≡ self.wire }
-    {
-        self.wire
-    }
-
-    /// This master, over a wire that has carried nothing yet and from now on notes its payloads in a capture.
-    pub(crate) fn tapped<C: Clock, O: Write + Drop>(
-        self,
-        clock: &C,
-        capture: Recorder<O>,
-    ) -> Mastered<CapturedWire<'_, W, O, C>>
-        requires sent { Tells self.wire.sent [] }
-        requires received { Tells self.wire.received [] }
-        ensures { result ≡ self }
-    {
-        let Mastered {
-            session,
-            wire,
-            reasons,
-        } = self;
-        Mastered {
-            session,
-            wire: CapturedWire::new(wire, capture, Side::Master, clock),
-            reasons,
-        }
     }
 
     /// Does an action once, and returns its output. It allocates nothing. After [`LineOutput::Fault`] only the number of the next cycle

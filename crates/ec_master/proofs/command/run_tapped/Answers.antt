@@ -1,6 +1,10 @@
+use Rattle.std.proofs.Common.{◌∙◌, ap}
+use Rattle.ec_wire.specs.Taps.{Tap}
+use Rattle.ec_master.proofs.Doing.{state_of}
 use Rattle.ec_master.proofs.Mastering.{tapped_runs}
 use Rattle.ec_master.proofs.command.run_tapped.Goals as goal
 
 pub returns-in-Some-clause-runs : goal.returns-in-Some-clause-runs
 returns-in-Some-clause-runs g c =
-    tapped_runs c.run_mastered-ended.result c.args.mastered c.tapped-tapped.result c.run_mastered-ended.new.mastered _ _ _ c.tapped-tapped.ensures c.run_mastered-ended.ensures
+    tapped_runs c.run_all-ended.result c.args.mastered _ c.run_all-ended.new.target _ _ _
+    (ap (λ (t : Tap). state_of c.mastered.inside.session t.wire c.mastered.inside.reasons) c.new.ensures ∙ c.mastered.view_is) c.run_all-ended.ensures
