@@ -24,5 +24,6 @@ pub use ec_loop::{run_loop, run_loopback};
 pub use ec_script::{Line, LineAction, ScriptError, read_script};
 pub use ec_segment::{Endpoint, print_served_segment, run_segment};
 pub use ec_sim::{run_live, run_script};
+pub use ec_simulation::run_line;
 pub use ec_text::{Refused, header_text, plan_text};
 pub use ec_wire::{App, MemoryWire, UdpWire, Wire, bring_up_wire, run_cycle, serve_segment};

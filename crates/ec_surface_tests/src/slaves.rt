@@ -1,10 +1,10 @@
 //! The AL state machine, the SII, the mailbox, one slave, and slaves in a row.
 use ec_al::{Al, Checks};
 use ec_coe::{AbortCode, Dictionary, SdoValue, ValueSize, read_message, write_message};
+use ec_device::{Identity, SlaveType};
 use ec_frame::check;
-use ec_regs::{Identity, SlaveType};
 use ec_ring::{NotAFrame, Ring};
-use ec_sii::{Image, Port};
+use ec_sii::{Port, SiiImage};
 use ec_slave::Slave;
 use std::alloc::{AllocError, Global};
 use std::process::Abort;
@@ -51,7 +51,7 @@ fn states(rt: HostRuntime) {
 // Word 8 is the vendor's low word. It stands in the data, from 0x0508 on, once the firmware stepped.
 #[test]
 fn words_of_the_sii(rt: HostRuntime) {
-    let image = Image::new(IDENTITY, None);
+    let image = SiiImage::new(IDENTITY, None);
     let word = image.word(8);
     let mut port = Port::new(image);
     port.write(0x0502, &[0, 1, 8, 0, 0, 0]);
@@ -70,13 +70,19 @@ const UPLOAD: [u8; 16] = [
     10, 0, 0, 0, 0, 0x13, 0, 0x20, 0x40, 0x18, 0x10, 1, 0, 0, 0, 0,
 ];
 
-#[test]
-fn messages(rt: HostRuntime) {
-    let message = read_message(&UPLOAD).expect(&rt, "a message");
+/// The reply to it.
+const REPLY: [u8; 16] = [
+    10, 0, 0, 0, 0, 0x13, 0, 0x30, 0x43, 0x18, 0x10, 1, 0xCD, 0xAB, 0, 0,
+];
+
+/// A message is read, and the reply to it is written, where there is room for it.
+fn expect_reply(rt: &impl Abort, objects: &mut Dictionary) {
+    let request = read_message(&UPLOAD).expect(rt, "a message");
+    let reply = objects.answer(true, &request, 1);
     let mut mailbox = [7; 18];
-    let short = write_message(&message, &mut mailbox[..15]).is_err();
-    write_message(&message, &mut mailbox).expect(&rt, "room");
-    assert_eq!(rt; (short, &mailbox[..16]), (true, UPLOAD.as_slice()));
+    let is_short = write_message(&reply, &mut mailbox[..15]).is_err();
+    write_message(&reply, &mut mailbox).expect(rt, "room");
+    assert_eq!(rt; (is_short, &mailbox[..16]), (true, REPLY.as_slice()));
     assert!(rt; read_message(&UPLOAD[..15]).is_err());
 }
 
@@ -91,9 +97,10 @@ const OTHER: SdoValue = SdoValue {
     number: 1,
 };
 
-/// The vendor can be read and not written. No PDO is assigned.
+/// Objects answer messages. The vendor can be read and not written. No PDO is assigned.
 fn expect_objects(rt: &impl Abort, objects: Result<Dictionary, AllocError>) {
     let mut objects = objects.expect(rt, "memory");
+    expect_reply(rt, &mut objects);
     let vendor = objects.upload(0x1018, 1);
     let written = objects.download(true, 0x1018, 1, OTHER);
     assert_eq!(rt;
