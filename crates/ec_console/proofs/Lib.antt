@@ -8,3 +8,13 @@ pub mod StateLemmas
 pub mod CaptureLemmas
 -- the names of refusals of a wire are short
 pub mod RefusalNames
+-- lines that a target obeys one after another, and lines that are done as they come
+pub mod SayLemmas
+pub mod ComeLemmas
+-- what cuts lines short, and how a run of them ends
+pub mod Late
+pub mod EndLemmas
+-- what lines do, told of a part of a target
+pub mod MapLemmas
+-- reasons between what lines print
+pub mod ReasonLemmas

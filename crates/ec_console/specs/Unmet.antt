@@ -1,7 +1,11 @@
 -- How a run with expectations ends (this project's profile).
-use Rattle.std.specs.Prelude.{◌≡◌, ℕ, ◌-◌, ◌^◌, ◌<◌, ◌==◌, min, if◌then◌else◌, Result, Ok, Err}
+use Rattle.std.specs.Prelude.{◌≡◌, ℕ, ◌-◌, ◌^◌, ◌<◌, ◌==◌, min, if◌then◌else◌, Bool, Result, Ok, Err}
 use Rattle.ec_console.specs.declared.refusal.Refusal.{Refusal}
 use Rattle.ec_console.specs.declared.refusal.Refusal.TheVariants.{Unmet}
+
+-- 1 for an expectation that isn't met
+abbrev pub unmet_of : (is_unmet : Bool) → ℕ
+unmet_of is_unmet = if is_unmet then 1 else 0
 
 -- a number of unmet expectations, as far as 64 bits count
 abbrev pub counted : ℕ → ℕ

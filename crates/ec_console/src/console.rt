@@ -1,5 +1,5 @@
 //! The streams of a run, and what explains its refusal.
-ghost use Rattle.std.specs.Prelude.{◌≡◌};
+ghost use Rattle.std.specs.Prelude.{◌≡◌, [], false};
 
 use crate::{Explanation, InputStream, OutputStream};
 use std::alloc::Global;
@@ -25,6 +25,7 @@ impl<R: Read + Drop, W: Write + Drop, F: Write + Drop> Console<R, W, F> {
         ensures input { result.input ≡ input }
         ensures output { result.output ≡ output }
         ensures faults { result.faults ≡ faults }
+        ensures explanation { result.explanation ≡ record { is_wanted = false; text = [] } }
     {
         Console {
             input,

@@ -15,9 +15,13 @@ use ec_table::{TableError, read_table};
 use ec_wire::RunError;
 use std::alloc::{AllocError, Global};
 
-/// The remarks on a text for which a command was refused: which lines are at fault, what is wrong there, and what to do. It is the text
-/// of a link table. For a bad line of a script it is all of the text, whose script begins at byte `script`. There are fewer remarks, or
-/// none, if the refusal isn't the text's. The error is want of memory.
+/// The remarks on a text for which a command was refused: which lines are at fault, what is wrong there, and what to do. The text is a
+/// link table; for a bad line of a script it is all that was read, and the script begins at byte `script`. If the text isn't at fault,
+/// there are no remarks.
+///
+/// # Errors
+///
+/// `AllocError` if there is no memory.
 pub fn remarks_on<'a>(
     alloc: Global,
     text: &'a str,
@@ -34,7 +38,7 @@ pub fn remarks_on<'a>(
     telling.into_remarks(rest)
 }
 
-/// The remarks on a text and its refusal, as one text: it stands behind the refusal's line.
+/// The remarks on a text and its refusal, as one text, which is printed behind the refusal's line. `AllocError` if there is no memory.
 pub fn remarks_text(
     alloc: Global,
     text: &str,

@@ -1,7 +1,10 @@
 //! Why a word can't stand for what a line needs in its place.
-use crate::form::WordKind;
 use crate::word::Word;
-use ec_diagnostic::{Meant, Nearest, Printable, Telling, is_among};
+use ec_diagnostic::{Meant, Nearest, Printable, Telling};
+use ec_script::{
+    WordKind, byte_of, code_of, hex_of, number_of, slave_named, state_named, times_of,
+    variable_named,
+};
 use ec_table::Table;
 
 /// The digits in which a number is written.
@@ -11,31 +14,8 @@ enum Base {
     Hex,
 }
 
-/// The names of the AL states.
-static STATES: [&str; 4] = ["INIT", "PREOP", "SAFEOP", "OP"];
-
 /// What to do about a word if nothing better is known.
 pub const SEE_HELP: &str = "correct it; `ecat sim --help` lists the lines that a script has";
-
-/// Whether a variable of a table has this name.
-pub fn names_variable(table: &Table, name: &str) -> bool {
-    for row in table.variables() {
-        if row.name.as_str() == name {
-            return true;
-        }
-    }
-    false
-}
-
-/// Whether a slave of a table has this name.
-fn names_slave(table: &Table, name: &str) -> bool {
-    for row in table.slaves() {
-        if row.name.as_str() == name {
-            return true;
-        }
-    }
-    false
-}
 
 /// Adds remarks on a word that isn't of a kind, by the names of the table if there is one; returns whether it isn't.
 pub fn tell_misfit(
@@ -71,12 +51,13 @@ fn tell_unknown(
         return false;
     };
     match kind {
-        WordKind::Variable if !names_variable(table, word.text) => {
+        WordKind::Variable if variable_named(table.variables(), word.text).is_none() => {
             tell_no_variable(telling, table, word);
             true
         }
         WordKind::Slave
-            if !has_digits(word.text, Base::Decimal) && !names_slave(table, word.text) => {
+            if !has_digits(word.text, Base::Decimal)
+                && slave_named(table.slaves(), word.text).is_none() => {
             tell_no_slave(telling, table, word);
             true
         }
@@ -138,7 +119,7 @@ fn past_64_bits(kind: WordKind, word: &str) -> Option<(&'static str, &'static st
         _ => return None,
     };
     let (digits, base, limit) = digits_of(kind, word);
-    if has_digits(digits, base) && number_of(digits, base).is_none() {
+    if has_digits(digits, base) && number_in(base, digits).is_none() {
         Some((limit, advice))
     } else {
         None
@@ -153,31 +134,30 @@ fn fault_of(kind: WordKind, word: &str) -> Option<(&'static str, &'static str)> 
 /// What is wrong with a word that isn't of a kind, if 64 bits hold its number, and what to do.
 fn misfit_of(kind: WordKind, word: &str) -> Option<(&'static str, &'static str)> {
     let (digits, base, _) = digits_of(kind, word);
-    let number = number_of(digits, base);
     let (fits, fault) = match kind {
         WordKind::Variable | WordKind::Slave => return None,
         WordKind::Value => (
-            number.is_some(),
+            number_in(base, digits).is_some(),
             "is no value: it is decimal, `0x` and hex digits, or `-` and decimal",
         ),
         WordKind::Number => (
-            number.is_some(),
+            number_of(word).is_some(),
             "is no number: it is written in decimal digits",
         ),
         WordKind::Byte => (
-            matches!(number, Some(0..=255)),
+            byte_of(word).is_some(),
             "is no byte: it is 0 to 255, in decimal",
         ),
         WordKind::Times => (
-            matches!(number, Some(1..=1_000_000)),
+            times_of(word).is_some(),
             "is no number of times: it is 1 to 1000000, in decimal",
         ),
         WordKind::State => (
-            is_among(word, &STATES),
+            state_named(word).is_some(),
             "is no AL state: it is INIT, PREOP, SAFEOP or OP",
         ),
         WordKind::Code => (
-            word.len() == 4 && has_digits(word, Base::Hex),
+            code_of(word).is_some(),
             "is no AL status code: it has four hex digits",
         ),
     };
@@ -211,11 +191,10 @@ fn digits_of(kind: WordKind, word: &str) -> (&str, Base, &'static str) {
 }
 
 /// The number that digits write, if 64 bits hold it.
-fn number_of(digits: &str, base: Base) -> Option<u64> {
+fn number_in(base: Base, digits: &str) -> Option<u64> {
     match base {
-        _ if !has_digits(digits, base) => None,
-        Base::Decimal => digits.parse().ok(),
-        Base::Hex => u64::from_str_radix(digits, 16).ok(),
+        Base::Decimal => number_of(digits),
+        Base::Hex => hex_of(digits),
     }
 }
 

@@ -1,8 +1,9 @@
 //! Which line of a script stands for nothing: refusal 39; and that what lines expect doesn't hold: 45.
-use crate::form::{WordKind, form_of, verb_near};
-use crate::misfit::{SEE_HELP, names_variable, tell_misfit};
-use crate::word::{Line, Word, without_comment};
+use crate::form::{form_of, verb_near};
+use crate::misfit::{SEE_HELP, tell_misfit};
+use crate::word::{Line, Word};
 use ec_diagnostic::{Meant, Printable, Span, Telling};
+use ec_script::{WordKind, uncommented, variable_named};
 use ec_table::{Table, read_table};
 
 /// Adds remarks on line `line`, counted from 1, of the script that begins at the byte `from` of a text. They say which word of
@@ -97,7 +98,9 @@ fn expects_variable(table: Option<&Table>, line: Line<'_>) -> bool {
     match (table, line.word(1)) {
         (Some(table), Some(name)) => {
             let has_three = line.word(2).is_some() && line.word(3).is_none();
-            has_three && line.has(0, "expect") && names_variable(table, name.text)
+            has_three
+                && line.has(0, "expect")
+                && variable_named(table.variables(), name.text).is_some()
         }
         _ => false,
     }
@@ -153,7 +156,7 @@ fn line_at(text: &str, start: usize) -> Line<'_> {
     };
     Line {
         start,
-        text: without_comment(whole.trim_end_matches('\r')),
+        text: uncommented(whole.trim_end_matches('\r')),
     }
 }
 

@@ -77,11 +77,3 @@ fn span_of(start: usize, text: &str) -> Span {
         end: start.saturating_add(text.len()),
     }
 }
-
-/// A line without its comment, which begins at the first `#`, and without the blanks before that.
-pub fn without_comment(line: &str) -> &str {
-    match line.split_once('#') {
-        Some((before, _)) => before.trim_end_matches(' '),
-        None => line,
-    }
-}

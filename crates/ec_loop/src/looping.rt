@@ -1,5 +1,5 @@
 //! `ecat loop`: cycles of a link table over two sockets of this process.
-ghost use Rattle.std.specs.Prelude.{◌≡◌, ◌≤◌, ◌%◌, ◌^◌, List, [], All, Some, Ok, IfErr, IfOk, OnErr, OnOk, is_some, length, slice_get};
+ghost use Rattle.std.specs.Prelude.{◌≡◌, ◌≤◌, ◌%◌, ◌^◌, List, [], All, None, Some, Ok, IfErr, IfOk, OnErr, OnOk, is_some, length, slice_get};
 ghost use Rattle.std.specs.String.{string_bytes};
 ghost use Rattle.ec_link.specs.Plan.{plan_of};
 ghost use Rattle.ec_start.specs.Planned.{HasFewAssigned};
@@ -271,6 +271,7 @@ fn open_loop<H: AllocGlobal + Net, A: App + Drop>(
     ensures slaves { OnOk result ((slaves : List SlaveState) × AreSlavesOf machine.now slaves
         × (loopback.new.traffic ≡ opened_to (length slaves) loopback.old.traffic)) }
     ensures opened { IfOk result (λ wire. wire.traffic ≡ loopback.new.traffic) }
+    ensures taken { OnOk result (loopback.new.app ≡ None) }
     ensures refused { IfErr result IsUnbound }
     ensures kept { OnErr result (loopback.new ≡ loopback.old) }
 {

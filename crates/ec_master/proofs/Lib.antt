@@ -1,12 +1,8 @@
--- what a cycle leaves of a master, and that a master over a wire stays one of its plan
-mod Holding
--- how a run of lines ends, and what that makes of their table
+-- when a cycle can be run
+mod Cycling
+-- what the calls of a session make of a master over a wire
+mod Doing
+-- how a run of lines ends
 mod Mastering
--- a text and why behind it, and that telling reasons only adds lines
+-- the text of a line and why behind it, and that reasons only add lines
 mod Reasoned
--- tasks that print one after another, lines that are taken one after another, and how a run ends
-mod SayingLemmas
--- the first `report` of a text
-mod Shown
--- what ends a run of lines, by what ended one of them
-pub mod Late

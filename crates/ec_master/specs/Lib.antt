@@ -1,19 +1,15 @@
--- To be believed, in this order: what lines ask of a master, what it does, and what is printed.
+-- To be believed, in this order: which actions a master takes, what they do to it, and what is printed.
 
--- what a line asks for
-pub mod Orders
--- a master over a wire, when what a line expects of it holds, and what each order does
+-- the actions that it takes
+pub mod Taking
+-- a master over a wire, and what each action does to it
 pub mod State
-pub mod Expecting
-pub mod Controls
--- what an order prints
-pub mod Texts
--- the lines of an input, one after another
+pub mod Doing
+-- what a line prints that is done once
 pub mod Saying
 -- the whole command
 pub mod Mastering
 -- Laws: what the definitions say together.
 pub mod Laws
 -- Private: these serve private code and its proofs alone.
-pub mod Held
 pub mod Stages

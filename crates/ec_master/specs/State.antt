@@ -1,11 +1,10 @@
--- The state of a master over a wire.
-use Rattle.std.specs.Prelude.{Option}
-use Rattle.ec_start.specs.Running.{StartState}
-use Rattle.ec_cycle.specs.Closing.{ReportState}
-use Rattle.ec_cycle.specs.Master.{MasterState}
+-- The state of a master over a wire that lines move.
+use Rattle.ec_session.specs.Sessions.{SessionState}
+use Rattle.ec_wire.specs.Wires.{WireState}
+use Rattle.ec_console.specs.declared.wanted.Reasons.{Reasons}
 
--- the last start-up, the master, and the report on the last cycle that had one
-pub record ControlState : Type 0 where
-  pub start : StartState
-  pub master : MasterState
-  pub report : Option ReportState
+-- its session, its wire, and whether it prints reasons
+pub record MasteredState : Type 0 where
+  pub session : SessionState
+  pub wire : WireState
+  pub reasons : Reasons

@@ -1,65 +1,29 @@
-//! Why a line can't be done, or a start-up has failed.
-ghost use Rattle.std.specs.Prelude.{◌≡◌, IfOk, string_bytes};
-ghost use Rattle.ec_master.specs.Stages.{IsToldText};
-ghost use Rattle.ec_master.specs.Texts.{is_reasoned};
-
-use crate::answer::{Answer, answer_text};
-use crate::control::Control;
-use crate::order::{Order, Task};
-use ec_console::Refusal;
-use ec_diagnostic::{Printable, reason_line};
+//! Why a line can't be done, or its start-up has failed: in words, with names of the table.
+use ec_console::{Misfit, Refusal};
+use ec_diagnostic::Printable;
 use ec_explain_start::StartFault;
-use ec_script::is_failed;
+use ec_script::LineAction;
+use ec_session::Session;
 use ec_start::StartError;
-use ec_table::{Direction, Table};
-use ec_why::{Misfit, Reasons};
-use std::alloc::{AllocError, Global};
+use ec_table::Direction;
 use std::fmt;
 
-/// The text that a task prints after it was done once, which is its answer. With reasons, behind that stands why the task can't be
-/// done or has failed.
-#[tactic(auto, using(crate::proofs::Reasoned::told_alone, crate::proofs::Reasoned::told_reasoned))]
-pub(crate) fn told_text(
-    alloc: Global,
-    table: &Table,
-    reasons: Reasons,
-    control: &Control<'_>,
-    task: Task,
-    answer: Answer,
-) -> Result<String, AllocError>
-    ensures { IfOk result (λ text. IsToldText reasons table.now task.number control.now answer (string_bytes text)) }
-{
-    let mut text = answer_text(alloc, table, task.number, control, answer)?;
-    if !is_reasoned(reasons, control, answer) {
-        return Ok(text);
-    }
-    let order = task.order;
-    let why = Why {
-        table,
-        control,
-        order,
-    };
-    let words = format!(in alloc; "{why}")?;
-    text.push_str(reason_line(alloc, words.as_str())?.as_str())?;
-    Ok(text)
-}
-
-/// Why an order can't be done, or its start-up has failed. It is printed in words, and as nothing for every other order.
+/// Why an action can't be done, or its start-up has failed, by the session that it left. It is printed in words, and as nothing for
+/// every other action.
 #[derive(Clone, Copy)]
-struct Why<'c, 'p> {
-    table: &'c Table,
-    control: &'c Control<'p>,
-    order: Order,
+pub(crate) struct Why<'s> {
+    pub session: &'s Session,
+    pub action: LineAction,
 }
 
-impl Why<'_, '_> {
+impl Why<'_> {
     /// Writes why a variable isn't set.
     fn write_unset<W: fmt::Write>(
         &self,
         f: &mut fmt::Formatter<W>,
         variable: usize,
     ) -> fmt::Result {
-        let table = self.table;
+        let table = self.session.table();
         match table.variables().get(variable) {
             Some(row) if row.direction == Direction::In => {
                 let name = Printable(row.name.as_str());
@@ -71,11 +35,11 @@ impl Why<'_, '_> {
 
     /// Writes why no cycle is run.
     fn write_no_cycle<W: fmt::Write>(&self, f: &mut fmt::Formatter<W>) -> fmt::Result {
-        match self.control.outcome() {
+        match self.session.outcome() {
             None => f.write_str("there was no start-up: `ready` brings the slaves up"),
             Some(Ok(())) => f.write_str("there is no number left for its frames"),
             Some(Err(error)) => {
-                let failed = Failed::new(self.table, self.control, error);
+                let failed = Failed::new(self.session, error);
                 write!(
                     f,
                     "the last start-up failed, {failed}; `ready` makes one more"
@@ -86,26 +50,28 @@ impl Why<'_, '_> {
 
     /// Writes what the last start-up failed by, and nothing if it hasn't failed.
     fn write_failed<W: fmt::Write>(&self, f: &mut fmt::Formatter<W>) -> fmt::Result {
-        match self.control.outcome() {
-            Some(Err(error)) => f.write(Failed::new(self.table, self.control, error)),
+        match self.session.outcome() {
+            Some(Err(error)) => f.write(Failed::new(self.session, error)),
             _ => Ok(()),
         }
     }
 }
 
-impl fmt::Display for Why<'_, '_> {
+impl fmt::Display for Why<'_> {
     fn fmt<W: fmt::Write>(&self, f: &mut fmt::Formatter<W>) -> fmt::Result {
-        match self.order {
-            Order::Ready => self.write_failed(f),
-            Order::Cycle => self.write_no_cycle(f),
-            Order::Set(variable, _) | Order::Never(variable) => self.write_unset(f, variable),
-            Order::Report => f.write_str("no cycle has ended with a report yet"),
-            Order::Bad | Order::Expect(_) | Order::Show => Ok(()),
+        match self.action {
+            LineAction::Ready => self.write_failed(f),
+            LineAction::Cycle => self.write_no_cycle(f),
+            LineAction::Set(variable, _) | LineAction::Never(variable) => {
+                self.write_unset(f, variable)
+            }
+            LineAction::Report => f.write_str("no cycle has ended with a report yet"),
+            _ => Ok(()),
         }
     }
 }
 
-/// What a start-up of a table failed by. It is printed as its refusal, in the form of other commands, and a sentence that explains it.
+/// What a start-up failed by. It is printed as its refusal, in the form of other commands, and a sentence that explains it.
 #[derive(Clone, Copy)]
 struct Failed<'t> {
     refusal: Refusal,
@@ -113,10 +79,10 @@ struct Failed<'t> {
 }
 
 impl<'t> Failed<'t> {
-    fn new(table: &'t Table, control: &Control<'_>, error: StartError) -> Failed<'t> {
+    fn new(session: &'t Session, error: StartError) -> Failed<'t> {
         Failed {
             refusal: Refusal::Start(error),
-            fault: StartFault::of_plan(table, control.plan(), error),
+            fault: StartFault::of_plan(session.table(), session.plan(), error),
         }
     }
 }
@@ -125,16 +91,5 @@ impl fmt::Display for Failed<'_> {
     fn fmt<W: fmt::Write>(&self, f: &mut fmt::Formatter<W>) -> fmt::Result {
         let Failed { refusal, fault } = self;
         write!(f, "{refusal}: {fault}")
-    }
-}
-
-/// Whether a reason stands behind an answer.
-fn is_reasoned(reasons: Reasons, control: &Control<'_>, answer: Answer) -> bool
-    ensures { result ≡ is_reasoned reasons control.now answer }
-{
-    match (reasons, answer) {
-        (Reasons::Told, Answer::No) => true,
-        (Reasons::Told, Answer::Ended) => is_failed(None, control.outcome()),
-        _ => false,
     }
 }

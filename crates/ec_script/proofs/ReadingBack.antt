@@ -20,20 +20,18 @@ use Rattle.ec_table.specs.Contents.{Contents}
 use Rattle.ec_table.specs.Fields.{is_name_byte}
 use Rattle.ec_table.specs.Sound as table
 use Rattle.ec_table.specs.declared.rows.VariableRow.{VariableRow}
-use Rattle.ec_world.specs.declared.event.Event.{Event}
-use Rattle.ec_world.specs.declared.event.Event.TheVariants.{StartNext, Set, Begin, Pass, Lose, Return, Close, Serve, AppPut, AppGet, Fault, Reset}
 use Rattle.ec_script.specs.declared.expectation.Expectation.{Expectation}
 use Rattle.ec_script.specs.declared.expectation.Expectation.TheVariants as expects
 use Rattle.ec_script.specs.declared.line.LineAction.{LineAction}
-use Rattle.ec_script.specs.declared.line.LineAction.TheVariants.{One, Input, Never, Expect, Ready, Cycle, Show}
+use Rattle.ec_script.specs.declared.line.LineAction.TheVariants.{Start, Set, Begin, Pass, Lose, Return, Close, Serve, Put, Get, Fail, Reset, Input, Never, Expect, Ready, Cycle, Show, Report}
 use Rattle.ec_script.specs.declared.line.Line.{Line}
 use Rattle.ec_script.specs.declared.read.Reading.TheVariants as reading
 use Rattle.ec_script.specs.declared.value.WrittenValue.{WrittenValue}
 use Rattle.ec_script.specs.declared.value.WrittenValue.TheVariants.{Number, Outside}
-use Rattle.ec_script.specs.Acts.{act_of_one, act_of_two, act_of_three, act_of_four, act_of_five, act_of_words, expected_by_one, expected_by_two, expected_by_three, expected_by_four, input_act, is_act, set_act, slave_in, state_named, value_expected, value_for, variable_named}
+use Rattle.ec_script.specs.Actions.{action_of_one, action_of_two, action_of_three, action_of_four, action_of_five, action_of_words, expected_by_one, expected_by_two, expected_by_three, expected_by_four, has_value, input_action, set_action, slave_in, state_named, value_expected, value_for, variable_named}
 use Rattle.ec_script.specs.Scripts.{found_line, line_of_words, line_on, reading_of, reading_without}
 use Rattle.ec_script.specs.Words.{Text, byte_of, code_of, hex_of, is_number, number_of, plain_of, times_of, uncommented, value_of, words_of}
-use Rattle.ec_script.specs.Writing.{ActsReadBack, IsActOf, IsCode, IsEventOf, IsExpectationOf, IsLineOf, IsNumber, IsOtherWord, below_all, code_word, code_words, joined_words, number_words, row_name, state_name, taken_word, words_expecting, words_for, words_for_event}
+use Rattle.ec_script.specs.Writing.{IsActionOf, IsCode, IsExpectationOf, IsLineOf, IsNumber, IsOtherWord, LinesReadBack, below_all, code_word, code_words, joined_words, number_words, row_name, state_name, taken_word, words_expecting, words_for}
 use Rattle.ec_script.proofs.Numbers.{by_test, both, digits, is_true}
 use Rattle.ec_script.proofs.Values.{often}
 use Rattle.ec_script.proofs.Verbs.{differ, false_from}
@@ -274,18 +272,18 @@ below_for_back t v r = rw r.at (below_back r.row.bits r.few)
 
 -- ---- what can be read back
 
-record IsBack (t : Contents) (act : LineAction) (words : List Text) : Type 0 where
+record IsBack (t : Contents) (action : LineAction) (words : List Text) : Type 0 where
   verb : Text
   rest : List Text
   are : words ≡ verb ∷ rest
   some : nat_lt 0 (length verb) ≡ true
   other : bytes_eq verb (codes "repeat") ≡ false
   plain : are_words (verb ∷ rest) ≡ true
-  reads : act_of_words t (verb ∷ rest) ≡ Some act
+  reads : action_of_words t (verb ∷ rest) ≡ Some action
 
-one_back : (t : Contents) (verb : Text) (act : LineAction) → nat_lt 0 (length verb) ≡ true → bytes_eq verb (codes "repeat") ≡ false → is_word verb ≡ true
-    → act_of_one verb ≡ Some act → IsBack t act (verb ∷ [])
-one_back t verb act some other plain reads =
+one_back : (t : Contents) (verb : Text) (action : LineAction) → nat_lt 0 (length verb) ≡ true → bytes_eq verb (codes "repeat") ≡ false → is_word verb ≡ true
+    → action_of_one verb ≡ Some action → IsBack t action (verb ∷ [])
+one_back t verb action some other plain reads =
     record { verb = verb; rest = []; are = refl; some = some; other = other; plain = and _ _ plain refl; reads = reads }
 
 slave_back : (t : Contents) (s : ℕ) → s < 2 ^ 64 → slave_in t (decimal s) ≡ Some s
@@ -294,60 +292,60 @@ slave_back t s h = rw (number_digits s h, number_back s h) refl
 
 -- ---- one more word
 
-two_back : (t : Contents) (verb word : Text) (act : LineAction) → nat_lt 0 (length verb) ≡ true → bytes_eq verb (codes "repeat") ≡ false → is_word verb ≡ true
-    → is_word word ≡ true → act_of_two t verb word ≡ Some act → IsBack t act (verb ∷ word ∷ [])
-two_back t verb word act some other plain word_plain reads =
+two_back : (t : Contents) (verb word : Text) (action : LineAction) → nat_lt 0 (length verb) ≡ true → bytes_eq verb (codes "repeat") ≡ false → is_word verb ≡ true
+    → is_word word ≡ true → action_of_two t verb word ≡ Some action → IsBack t action (verb ∷ word ∷ [])
+two_back t verb word action some other plain word_plain reads =
     record { verb = verb; rest = word ∷ []; are = refl; some = some; other = other; plain = and _ _ plain (and _ _ word_plain refl); reads = reads }
 
-place_back : (t : Contents) (verb : Text) (n : ℕ) (act : ℕ → LineAction) → nat_lt 0 (length verb) ≡ true → bytes_eq verb (codes "repeat") ≡ false → is_word verb ≡ true
-    → n < 2 ^ 64 → act_of_two t verb (decimal n) ≡ option_and_then (λ k. Some (act k)) (number_of (decimal n)) → IsBack t (act n) (verb ∷ decimal n ∷ [])
-place_back t verb n act some other plain h e =
-    two_back t verb (decimal n) (act n) some other plain (number_word n h) (e ∙ ap (option_and_then (λ k. Some (act k))) (number_back n h))
+place_back : (t : Contents) (verb : Text) (n : ℕ) (action : ℕ → LineAction) → nat_lt 0 (length verb) ≡ true → bytes_eq verb (codes "repeat") ≡ false → is_word verb ≡ true
+    → n < 2 ^ 64 → action_of_two t verb (decimal n) ≡ option_and_then (λ k. Some (action k)) (number_of (decimal n)) → IsBack t (action n) (verb ∷ decimal n ∷ [])
+place_back t verb n action some other plain h e =
+    two_back t verb (decimal n) (action n) some other plain (number_word n h) (e ∙ ap (option_and_then (λ k. Some (action k))) (number_back n h))
 
-by_slave : (t : Contents) (verb : Text) (n : ℕ) (act : ℕ → LineAction) → nat_lt 0 (length verb) ≡ true → bytes_eq verb (codes "repeat") ≡ false → is_word verb ≡ true
-    → n < 2 ^ 64 → act_of_two t verb (decimal n) ≡ option_and_then (λ k. Some (act k)) (slave_in t (decimal n)) → IsBack t (act n) (verb ∷ decimal n ∷ [])
-by_slave t verb n act some other plain h e =
-    two_back t verb (decimal n) (act n) some other plain (number_word n h) (e ∙ ap (option_and_then (λ k. Some (act k))) (slave_back t n h))
+by_slave : (t : Contents) (verb : Text) (n : ℕ) (action : ℕ → LineAction) → nat_lt 0 (length verb) ≡ true → bytes_eq verb (codes "repeat") ≡ false → is_word verb ≡ true
+    → n < 2 ^ 64 → action_of_two t verb (decimal n) ≡ option_and_then (λ k. Some (action k)) (slave_in t (decimal n)) → IsBack t (action n) (verb ∷ decimal n ∷ [])
+by_slave t verb n action some other plain h e =
+    two_back t verb (decimal n) (action n) some other plain (number_word n h) (e ∙ ap (option_and_then (λ k. Some (action k))) (slave_back t n h))
 
 -- ---- two more words
 
-three_back : (t : Contents) (verb a b : Text) (act : LineAction) → nat_lt 0 (length verb) ≡ true → bytes_eq verb (codes "repeat") ≡ false → is_word verb ≡ true
-    → is_word a ≡ true → is_word b ≡ true → act_of_three t verb a b ≡ Some act → IsBack t act (verb ∷ a ∷ b ∷ [])
-three_back t verb a b act some other plain pa pb reads =
+three_back : (t : Contents) (verb a b : Text) (action : LineAction) → nat_lt 0 (length verb) ≡ true → bytes_eq verb (codes "repeat") ≡ false → is_word verb ≡ true
+    → is_word a ≡ true → is_word b ≡ true → action_of_three t verb a b ≡ Some action → IsBack t action (verb ∷ a ∷ b ∷ [])
+three_back t verb a b action some other plain pa pb reads =
     record { verb = verb; rest = a ∷ b ∷ []; are = refl; some = some; other = other; plain = and _ _ plain (and _ _ pa (and _ _ pb refl)); reads = reads }
 
-set_back : (t : Contents) (v x : ℕ) → Row t v → x < 2 ^ 64 → IsBack t (One (Set v x)) (codes "set" ∷ row_name (slice_get t.variables v) ∷ decimal x ∷ [])
-unfolding act_of_three
+set_back : (t : Contents) (v x : ℕ) → Row t v → x < 2 ^ 64 → IsBack t (Set v x) (codes "set" ∷ row_name (slice_get t.variables v) ∷ decimal x ∷ [])
+unfolding action_of_three
 set_back t v x r h =
-    three_back t (codes "set") _ (decimal x) (One (Set v x)) refl refl refl r.plain (number_word x h)
-    (ap (option_and_then (λ k. option_and_then (λ y. Some (set_act k y)) (value_for t.variables k (decimal x)))) r.named
-    ∙ ap (option_and_then (λ y. Some (set_act v y))) (value_for_back t v x r h))
+    three_back t (codes "set") _ (decimal x) (Set v x) refl refl refl r.plain (number_word x h)
+    (ap (option_and_then (λ k. option_and_then (λ y. Some (set_action k y)) (value_for t.variables k (decimal x)))) r.named
+    ∙ ap (option_and_then (λ y. Some (set_action v y))) (value_for_back t v x r h))
 
 input_back : (t : Contents) (v x : ℕ) → Row t v → x < 2 ^ 64 → IsBack t (Input v x) (codes "in" ∷ row_name (slice_get t.variables v) ∷ decimal x ∷ [])
-unfolding act_of_three
+unfolding action_of_three
 input_back t v x r h =
     three_back t (codes "in") _ (decimal x) (Input v x) refl refl refl r.plain (number_word x h)
-    (ap (option_and_then (λ k. option_and_then (λ y. Some (input_act k y)) (value_for t.variables k (decimal x)))) r.named
-    ∙ ap (option_and_then (λ y. Some (input_act v y))) (value_for_back t v x r h))
+    (ap (option_and_then (λ k. option_and_then (λ y. Some (input_action k y)) (value_for t.variables k (decimal x)))) r.named
+    ∙ ap (option_and_then (λ y. Some (input_action v y))) (value_for_back t v x r h))
 
 never_back : (t : Contents) (v : ℕ) → Row t v → IsBack t (Never v) (codes "set" ∷ row_name (slice_get t.variables v) ∷ below_all ∷ [])
-unfolding act_of_three
+unfolding action_of_three
 never_back t v r =
     three_back t (codes "set") _ below_all (Never v) refl refl refl r.plain refl
-    (ap (option_and_then (λ k. option_and_then (λ y. Some (set_act k y)) (value_for t.variables k below_all))) r.named
-    ∙ ap (option_and_then (λ y. Some (set_act v y))) (below_for_back t v r))
+    (ap (option_and_then (λ k. option_and_then (λ y. Some (set_action k y)) (value_for t.variables k below_all))) r.named
+    ∙ ap (option_and_then (λ y. Some (set_action v y))) (below_for_back t v r))
 
-get_back : (t : Contents) (s i : ℕ) → s < 2 ^ 64 → i < 2 ^ 64 → IsBack t (One (AppGet s i)) (codes "get" ∷ decimal s ∷ decimal i ∷ [])
-unfolding act_of_three
+get_back : (t : Contents) (s i : ℕ) → s < 2 ^ 64 → i < 2 ^ 64 → IsBack t (Get s i) (codes "get" ∷ decimal s ∷ decimal i ∷ [])
+unfolding action_of_three
 get_back t s i h g =
-    three_back t (codes "get") (decimal s) (decimal i) (One (AppGet s i)) refl refl refl (number_word s h) (number_word i g)
-    (ap (option_and_then (λ s. option_and_then (λ i. Some (One (AppGet s i))) (number_of (decimal i)))) (slave_back t s h)
-    ∙ ap (option_and_then (λ i. Some (One (AppGet s i)))) (number_back i g))
+    three_back t (codes "get") (decimal s) (decimal i) (Get s i) refl refl refl (number_word s h) (number_word i g)
+    (ap (option_and_then (λ s. option_and_then (λ i. Some (Get s i)) (number_of (decimal i)))) (slave_back t s h)
+    ∙ ap (option_and_then (λ i. Some (Get s i))) (number_back i g))
 
 -- ---- three more words
 
-put_back : (t : Contents) (s i x : ℕ) → s < 2 ^ 64 → i < 2 ^ 64 → x < 256 → IsBack t (One (AppPut s i x)) (codes "put" ∷ decimal s ∷ decimal i ∷ decimal x ∷ [])
-unfolding act_of_four
+put_back : (t : Contents) (s i x : ℕ) → s < 2 ^ 64 → i < 2 ^ 64 → x < 256 → IsBack t (Put s i x) (codes "put" ∷ decimal s ∷ decimal i ∷ decimal x ∷ [])
+unfolding action_of_four
 put_back t s i x h g b = record {
   verb = codes "put";
   rest = decimal s ∷ decimal i ∷ decimal x ∷ [];
@@ -356,44 +354,29 @@ put_back t s i x h g b = record {
   other = refl;
   plain = and _ _ refl (and _ _ (number_word s h) (and _ _ (number_word i g) (and _ _ (number_word x (small x b)) refl)));
   reads =
-      ap (option_and_then (λ s. option_and_then (λ i. option_and_then (λ x. Some (One (AppPut s i x))) (byte_of (decimal x))) (number_of (decimal i)))) (slave_back t s h)
-      ∙ (ap (option_and_then (λ i. option_and_then (λ x. Some (One (AppPut s i x))) (byte_of (decimal x)))) (number_back i g)
-      ∙ ap (option_and_then (λ x. Some (One (AppPut s i x)))) (byte_back x b));
+      ap (option_and_then (λ s. option_and_then (λ i. option_and_then (λ x. Some (Put s i x)) (byte_of (decimal x))) (number_of (decimal i)))) (slave_back t s h)
+      ∙ (ap (option_and_then (λ i. option_and_then (λ x. Some (Put s i x)) (byte_of (decimal x)))) (number_back i g)
+      ∙ ap (option_and_then (λ x. Some (Put s i x))) (byte_back x b));
 }
-
-event_back : (t : Contents) (e : Event) → table.IsSound t → IsEventOf t.variables e → IsBack t (One e) (words_for_event t.variables e)
-unfolding act_of_one act_of_two
-event_back t StartNext sound h = one_back t (codes "start") _ refl refl refl refl
-event_back t (Set v x) sound h = set_back t v x (row_at t v sound h.0) h.1
-event_back t Begin sound h = one_back t (codes "begin") _ refl refl refl refl
-event_back t (Pass k) sound h = place_back t (codes "pass") k (λ k. One (Pass k)) refl refl refl h refl
-event_back t (Lose k) sound h = place_back t (codes "lose") k (λ k. One (Lose k)) refl refl refl h refl
-event_back t (Return k) sound h = place_back t (codes "return") k (λ k. One (Return k)) refl refl refl h refl
-event_back t Close sound h = one_back t (codes "close") _ refl refl refl refl
-event_back t (Serve s) sound h = by_slave t (codes "serve") s (λ s. One (Serve s)) refl refl refl h refl
-event_back t (AppPut s i x) sound h = put_back t s i x h.0 h.1 h.2
-event_back t (AppGet s i) sound h = get_back t s i h.0 h.1
-event_back t (Fault s) sound h = by_slave t (codes "fault") s (λ s. One (Fault s)) refl refl refl h refl
-event_back t (Reset s) sound h = by_slave t (codes "reset") s (λ s. One (Reset s)) refl refl refl h refl
 
 -- ---- what is expected
 
 expect_one : (t : Contents) (word : Text) (e : Expectation) → is_word word ≡ true → expected_by_one word ≡ Some e → IsBack t (Expect e) (codes "expect" ∷ word ∷ [])
-unfolding act_of_two
+unfolding action_of_two
 expect_one t word e plain reads = two_back t (codes "expect") word (Expect e) refl refl refl plain (ap (option_and_then (λ x. Some (Expect x))) reads)
 
 expect_two : (t : Contents) (a b : Text) (e : Expectation) → is_word a ≡ true → is_word b ≡ true → expected_by_two t a b ≡ Some e → IsBack t (Expect e) (codes "expect" ∷ a ∷ b ∷ [])
-unfolding act_of_three
+unfolding action_of_three
 expect_two t a b e pa pb reads = three_back t (codes "expect") a b (Expect e) refl refl refl pa pb (ap (option_and_then (λ x. Some (Expect x))) reads)
 
 value_of_name : (t : Contents) (v : ℕ) (word : Text) (value : WrittenValue) → Row t v → IsOtherWord (row_name (slice_get t.variables v)) → is_word word ≡ true
-    → value_for t.variables v word ≡ Some value → IsBack t (Expect (is_act v value)) (codes "expect" ∷ row_name (slice_get t.variables v) ∷ word ∷ [])
+    → value_for t.variables v word ≡ Some value → IsBack t (Expect (has_value v value)) (codes "expect" ∷ row_name (slice_get t.variables v) ∷ word ∷ [])
 unfolding expected_by_two value_expected
 value_of_name t v word value r free plain is =
-    expect_two t (row_name (slice_get t.variables v)) word (is_act v value) r.plain plain
+    expect_two t (row_name (slice_get t.variables v)) word (has_value v value) r.plain plain
     (rw (differ _ _ free.0, differ _ _ free.1, differ _ _ free.2)
-    (ap (option_and_then (λ k. option_and_then (λ x. Some (is_act k x)) (value_for t.variables k word))) r.named
-    ∙ ap (option_and_then (λ x. Some (is_act v x))) is))
+    (ap (option_and_then (λ k. option_and_then (λ x. Some (has_value k x)) (value_for t.variables k word))) r.named
+    ∙ ap (option_and_then (λ x. Some (has_value v x))) is))
 
 units_back : (t : Contents) (taken : Bool) → IsBack t (Expect (expects.Units taken)) (codes "expect" ∷ taken_word taken ∷ [])
 unfolding expected_by_one
@@ -472,7 +455,7 @@ code_plain n h =
 
 in_state : (t : Contents) (s : ℕ) (state : State) (code : Option ℕ) → s < 2 ^ 64 → IsCode code
     → IsBack t (Expect (expects.State s state code)) (codes "expect" ∷ codes "state" ∷ decimal s ∷ state_name state ∷ code_words code)
-unfolding act_of_four act_of_five expected_by_three expected_by_four
+unfolding action_of_four action_of_five expected_by_three expected_by_four
 in_state t s state None h g = record {
   verb = codes "expect";
   rest = codes "state" ∷ decimal s ∷ state_name state ∷ [];
@@ -504,17 +487,29 @@ expectation_back t (expects.State s state code) sound h = in_state t s state cod
 expectation_back t expects.Ready sound h = expect_one t (codes "ready") _ refl refl
 expectation_back t (expects.Failed number) sound h = failed_back t number h
 
--- ---- acts and lines
+-- ---- actions and lines
 
-act_back : (t : Contents) (act : LineAction) → table.IsSound t → IsActOf t.variables act → IsBack t act (words_for t.variables act)
-unfolding act_of_one
-act_back t (One e) sound h = event_back t e sound h
-act_back t (Input v x) sound h = input_back t v x (row_at t v sound h.0) h.1
-act_back t (Never v) sound h = never_back t v (row_at t v sound h)
-act_back t (Expect e) sound h = expectation_back t e sound h
-act_back t Ready sound h = one_back t (codes "ready") _ refl refl refl refl
-act_back t Cycle sound h = one_back t (codes "cycle") _ refl refl refl refl
-act_back t Show sound h = one_back t (codes "show") _ refl refl refl refl
+action_back : (t : Contents) (action : LineAction) → table.IsSound t → IsActionOf t.variables action → IsBack t action (words_for t.variables action)
+unfolding action_of_one action_of_two
+action_back t Start sound h = one_back t (codes "start") _ refl refl refl refl
+action_back t (Set v x) sound h = set_back t v x (row_at t v sound h.0) h.1
+action_back t Begin sound h = one_back t (codes "begin") _ refl refl refl refl
+action_back t (Pass k) sound h = place_back t (codes "pass") k (λ k. Pass k) refl refl refl h refl
+action_back t (Lose k) sound h = place_back t (codes "lose") k (λ k. Lose k) refl refl refl h refl
+action_back t (Return k) sound h = place_back t (codes "return") k (λ k. Return k) refl refl refl h refl
+action_back t Close sound h = one_back t (codes "close") _ refl refl refl refl
+action_back t (Serve s) sound h = by_slave t (codes "serve") s (λ s. Serve s) refl refl refl h refl
+action_back t (Put s i x) sound h = put_back t s i x h.0 h.1 h.2
+action_back t (Get s i) sound h = get_back t s i h.0 h.1
+action_back t (Fail s) sound h = by_slave t (codes "fault") s (λ s. Fail s) refl refl refl h refl
+action_back t (Reset s) sound h = by_slave t (codes "reset") s (λ s. Reset s) refl refl refl h refl
+action_back t (Input v x) sound h = input_back t v x (row_at t v sound h.0) h.1
+action_back t (Never v) sound h = never_back t v (row_at t v sound h)
+action_back t (Expect e) sound h = expectation_back t e sound h
+action_back t Ready sound h = one_back t (codes "ready") _ refl refl refl refl
+action_back t Cycle sound h = one_back t (codes "cycle") _ refl refl refl refl
+action_back t Show sound h = one_back t (codes "show") _ refl refl refl refl
+action_back t Report sound h = one_back t (codes "report") _ refl refl refl refl
 
 -- words that stand for a line
 record IsLineBack (t : Contents) (line : Line) (words : List Text) : Type 0 where
@@ -525,7 +520,7 @@ record IsLineBack (t : Contents) (line : Line) (words : List Text) : Type 0 wher
   plain : are_words (verb ∷ rest) ≡ true
   reads : line_of_words t line.number (verb ∷ rest) ≡ Some line
 
-once_back : (t : Contents) (line : Line) → line.times ≡ 1 → IsBack t line.act (words_for t.variables line.act) → IsLineBack t line (words_for t.variables line.act)
+once_back : (t : Contents) (line : Line) → line.times ≡ 1 → IsBack t line.action (words_for t.variables line.action) → IsLineBack t line (words_for t.variables line.action)
 once_back t line once b = record {
   verb = b.verb;
   rest = b.rest;
@@ -535,8 +530,8 @@ once_back t line once b = record {
   reads = rw (b.other, b.reads) (ap (λ (n : ℕ). Some (record line { times = n })) (sym once));
 }
 
-often_back : (t : Contents) (line : Line) → IsLineOf t.variables line → IsBack t line.act (words_for t.variables line.act)
-    → IsLineBack t line (codes "repeat" ∷ decimal line.times ∷ words_for t.variables line.act)
+often_back : (t : Contents) (line : Line) → IsLineOf t.variables line → IsBack t line.action (words_for t.variables line.action)
+    → IsLineBack t line (codes "repeat" ∷ decimal line.times ∷ words_for t.variables line.action)
 often_back t line h b =
     let times = times_back line.times h.some h.most in
     let low : line.times < 2 ^ 64 = let m : line.times ≤ 1000000 = h.most in omega arith in
@@ -549,8 +544,8 @@ often_back t line h b =
       reads = rw (times, b.reads) refl;
     }
 
-line_words : (t : Contents) (line : Line) (once : Bool) → (line.times == 1) ≡ once → IsLineOf t.variables line → IsBack t line.act (words_for t.variables line.act)
-    → IsLineBack t line (if once then words_for t.variables line.act else codes "repeat" ∷ decimal line.times ∷ words_for t.variables line.act)
+line_words : (t : Contents) (line : Line) (once : Bool) → (line.times == 1) ≡ once → IsLineOf t.variables line → IsBack t line.action (words_for t.variables line.action)
+    → IsLineBack t line (if once then words_for t.variables line.action else codes "repeat" ∷ decimal line.times ∷ words_for t.variables line.action)
 line_words t line true is h b = once_back t line (grind (arith, nat_tests)) b
 line_words t line false is h b = often_back t line h b
 
@@ -571,5 +566,5 @@ text_back t line words b =
     ∙ (ap (reading_without t line.number) same
     ∙ found t line.number text line (nonempty b.verb b.rest b.some) (ap (line_of_words t line.number) (split_back b.verb b.rest b.plain) ∙ b.reads))
 
-pub acts_read_back : ActsReadBack
-acts_read_back t line sound h = text_back t line _ (line_words t line (line.times == 1) refl h (act_back t line.act sound h.act))
+pub lines_read_back : LinesReadBack
+lines_read_back t line sound h = text_back t line _ (line_words t line (line.times == 1) refl h (action_back t line.action sound h.action))

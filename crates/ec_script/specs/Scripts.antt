@@ -1,18 +1,19 @@
 -- What a script stands for (this project's profile). It is a line for each text that isn't empty without its comment, or the number
 -- of the first text that stands for nothing.
-use Rattle.std.specs.Prelude.{◌≡◌, ℕ, ◌+◌, List, [], ◌∷◌, ◌++◌, replicate, if◌then◌else◌, Option, Some, None, option_map, Result, Ok, Err, codes}
+use Rattle.std.specs.Prelude.{◌≡◌, ℕ, ◌+◌, List, [], ◌∷◌, ◌++◌, replicate, Bool, true, false, if◌then◌else◌, Option, Some, None, option_map, Result, Ok, Err, codes}
 use Rattle.std.specs.Str.{bytes_eq}
 use Rattle.std.specs.Str.Lines.{lines}
 use Rattle.ec_table.specs.Contents.{Contents}
 use Rattle.ec_text.specs.RefusalText.{Told, one_value}
 use Rattle.ec_script.specs.declared.line.LineAction.{LineAction}
+use Rattle.ec_script.specs.declared.line.LineAction.TheVariants.{Report}
 use Rattle.ec_script.specs.declared.line.Line.{Line}
 use Rattle.ec_script.specs.declared.read.Reading.{Reading}
 use Rattle.ec_script.specs.declared.read.Reading.TheVariants as reading
 use Rattle.ec_script.specs.declared.error.ScriptError.{ScriptError}
 use Rattle.ec_script.specs.declared.error.ScriptError.TheVariants.{Memory, BadScript}
 use Rattle.ec_script.specs.Words.{Text, times_of, uncommented, words_of}
-use Rattle.ec_script.specs.Acts.{◌>>=◌, act_of_words}
+use Rattle.ec_script.specs.Actions.{◌>>=◌, action_of_words}
 
 -- ---- errors
 
@@ -34,19 +35,19 @@ error_told error = record { number = error_number error; name = error_name error
 
 -- ---- lines
 
--- line n, whose act is done this often
+-- line n, whose action is done this often
 abbrev pub done_times : ℕ → ℕ → Option LineAction → Option Line
-done_times n times act = option_map (λ a. record { number = n; times = times; act = a }) act
+done_times n times action = option_map (λ a. record { number = n; times = times; action = a }) action
 
--- behind `repeat` stand a number and the words of an act
+-- behind `repeat` stand a number and the words of an action
 abbrev pub repeated_line : Contents → ℕ → List Text → Option Line
 repeated_line t n [] = None
-repeated_line t n (count ∷ words) = times_of count >>= (λ times. done_times n times (act_of_words t words))
+repeated_line t n (count ∷ words) = times_of count >>= (λ times. done_times n times (action_of_words t words))
 
 -- what words stand for as line n
 abbrev pub line_of_words : Contents → ℕ → List Text → Option Line
 line_of_words t n [] = None
-line_of_words t n (verb ∷ words) = if bytes_eq verb (codes "repeat") then repeated_line t n words else done_times n 1 (act_of_words t (verb ∷ words))
+line_of_words t n (verb ∷ words) = if bytes_eq verb (codes "repeat") then repeated_line t n words else done_times n 1 (action_of_words t (verb ∷ words))
 
 -- what a text, not empty and without a comment, stands for as line n
 abbrev pub line_on : Contents → ℕ → Text → Option Line
@@ -65,6 +66,28 @@ reading_without t n (c ∷ cs) = found_line (line_on t n (c ∷ cs))
 abbrev pub reading_of : Contents → ℕ → Text → Reading
 reading_of t n text = reading_without t n (uncommented text)
 
+-- ---- lines that not every target takes
+
+-- what a line is where an action is taken or not: one that isn't makes it a bad line
+abbrev pub taken_if : Bool → Line → Reading
+taken_if true line = reading.Line line
+taken_if false line = reading.Bad
+
+-- what a line is where only these actions are taken
+abbrev pub taken_by : (LineAction → Bool) → Reading → Reading
+taken_by takes reading.Empty = reading.Empty
+taken_by takes reading.Bad = reading.Bad
+taken_by takes (reading.Line line) = taken_if (takes line.action) line
+
+-- a segment of simulated slaves takes all actions but `report`
+abbrev pub is_simulated : LineAction → Bool
+is_simulated Report = false
+is_simulated _ = true
+
+-- what line n of a script is
+abbrev pub script_reading : Contents → ℕ → Text → Reading
+script_reading t n text = taken_by is_simulated (reading_of t n text)
+
 -- ---- scripts
 
 -- line n before what follows it
@@ -77,7 +100,7 @@ with_reading n (reading.Line line) (Err bad) = Err bad
 -- the lines of texts, the first of which has number n
 unfoldable pub script_from : Contents → ℕ → List Text → Result (List Line) ℕ
 script_from t n [] = Ok []
-script_from t n (text ∷ texts) = with_reading n (reading_of t n text) (script_from t (n + 1) texts)
+script_from t n (text ∷ texts) = with_reading n (script_reading t n text) (script_from t (n + 1) texts)
 
 -- the lines of a script are counted from 1
 abbrev pub script_of : Contents → Text → Result (List Line) ℕ

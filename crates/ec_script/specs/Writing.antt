@@ -7,12 +7,10 @@ use Rattle.ec_al.specs.declared.state.State.TheVariants.{Init, PreOp, SafeOp, Op
 use Rattle.ec_table.specs.Contents.{Contents}
 use Rattle.ec_table.specs.Sound as table
 use Rattle.ec_table.specs.declared.rows.VariableRow.{VariableRow}
-use Rattle.ec_world.specs.declared.event.Event.{Event}
-use Rattle.ec_world.specs.declared.event.Event.TheVariants.{StartNext, Set, Begin, Pass, Lose, Return, Close, Serve, AppPut, AppGet, Fault, Reset}
 use Rattle.ec_script.specs.declared.expectation.Expectation.{Expectation}
 use Rattle.ec_script.specs.declared.expectation.Expectation.TheVariants as expects
 use Rattle.ec_script.specs.declared.line.LineAction.{LineAction}
-use Rattle.ec_script.specs.declared.line.LineAction.TheVariants.{One, Input, Never, Expect, Ready, Cycle, Show}
+use Rattle.ec_script.specs.declared.line.LineAction.TheVariants.{Start, Set, Begin, Pass, Lose, Return, Close, Serve, Put, Get, Fail, Reset, Input, Never, Expect, Ready, Cycle, Show, Report}
 use Rattle.ec_script.specs.declared.line.Line.{Line}
 use Rattle.ec_script.specs.declared.read.Reading.TheVariants as reading
 use Rattle.ec_script.specs.Words.{Text}
@@ -23,20 +21,6 @@ use Rattle.ec_script.specs.Scripts.{reading_of}
 abbrev pub row_name : Option VariableRow → Text
 row_name None = []
 row_name (Some row) = row.name
-
-abbrev pub words_for_event : List VariableRow → Event → List Text
-words_for_event variables StartNext = codes "start" ∷ []
-words_for_event variables (Set v x) = codes "set" ∷ row_name (slice_get variables v) ∷ decimal x ∷ []
-words_for_event variables Begin = codes "begin" ∷ []
-words_for_event variables (Pass k) = codes "pass" ∷ decimal k ∷ []
-words_for_event variables (Lose k) = codes "lose" ∷ decimal k ∷ []
-words_for_event variables (Return k) = codes "return" ∷ decimal k ∷ []
-words_for_event variables Close = codes "close" ∷ []
-words_for_event variables (Serve s) = codes "serve" ∷ decimal s ∷ []
-words_for_event variables (AppPut s i x) = codes "put" ∷ decimal s ∷ decimal i ∷ decimal x ∷ []
-words_for_event variables (AppGet s i) = codes "get" ∷ decimal s ∷ decimal i ∷ []
-words_for_event variables (Fault s) = codes "fault" ∷ decimal s ∷ []
-words_for_event variables (Reset s) = codes "reset" ∷ decimal s ∷ []
 
 -- below each number that 64 bits hold
 abbrev pub below_all : Text
@@ -74,18 +58,30 @@ words_expecting variables expects.Ready = codes "ready" ∷ []
 words_expecting variables (expects.Failed number) = codes "failed" ∷ number_words number
 
 abbrev pub words_for : List VariableRow → LineAction → List Text
-words_for variables (One e) = words_for_event variables e
+words_for variables Start = codes "start" ∷ []
+words_for variables (Set v x) = codes "set" ∷ row_name (slice_get variables v) ∷ decimal x ∷ []
+words_for variables Begin = codes "begin" ∷ []
+words_for variables (Pass k) = codes "pass" ∷ decimal k ∷ []
+words_for variables (Lose k) = codes "lose" ∷ decimal k ∷ []
+words_for variables (Return k) = codes "return" ∷ decimal k ∷ []
+words_for variables Close = codes "close" ∷ []
+words_for variables (Serve s) = codes "serve" ∷ decimal s ∷ []
+words_for variables (Put s i x) = codes "put" ∷ decimal s ∷ decimal i ∷ decimal x ∷ []
+words_for variables (Get s i) = codes "get" ∷ decimal s ∷ decimal i ∷ []
+words_for variables (Fail s) = codes "fault" ∷ decimal s ∷ []
+words_for variables (Reset s) = codes "reset" ∷ decimal s ∷ []
 words_for variables (Input v x) = codes "in" ∷ row_name (slice_get variables v) ∷ decimal x ∷ []
 words_for variables (Never v) = codes "set" ∷ row_name (slice_get variables v) ∷ below_all ∷ []
 words_for variables (Expect e) = codes "expect" ∷ words_expecting variables e
 words_for variables Ready = codes "ready" ∷ []
 words_for variables Cycle = codes "cycle" ∷ []
 words_for variables Show = codes "show" ∷ []
+words_for variables Report = codes "report" ∷ []
 
--- an act that is done once stands alone
+-- an action that is done once stands alone
 abbrev pub words_for_line : List VariableRow → Line → List Text
 words_for_line variables line =
-    if line.times == 1 then words_for variables line.act else codes "repeat" ∷ decimal line.times ∷ words_for variables line.act
+    if line.times == 1 then words_for variables line.action else codes "repeat" ∷ decimal line.times ∷ words_for variables line.action
 
 -- with a blank between them
 abbrev pub joined_words : List Text → Text
@@ -98,21 +94,6 @@ joined_words (word ∷ next ∷ words) = word ++ (32 ∷ joined_words (next ∷ 
 -- a number of 64 bits
 abbrev pub IsWord64 : ℕ → Type 0
 IsWord64 n = n < 2 ^ 64
-
--- a variable that there is, numbers of 64 bits, and a byte
-abbrev pub IsEventOf : List VariableRow → Event → Type 0
-IsEventOf variables StartNext = Unit {0}
-IsEventOf variables (Set v x) = (v < length variables) × IsWord64 x
-IsEventOf variables Begin = Unit {0}
-IsEventOf variables (Pass k) = IsWord64 k
-IsEventOf variables (Lose k) = IsWord64 k
-IsEventOf variables (Return k) = IsWord64 k
-IsEventOf variables Close = Unit {0}
-IsEventOf variables (Serve s) = IsWord64 s
-IsEventOf variables (AppPut s i x) = IsWord64 s × IsWord64 i × (x < 256)
-IsEventOf variables (AppGet s i) = IsWord64 s × IsWord64 i
-IsEventOf variables (Fault s) = IsWord64 s
-IsEventOf variables (Reset s) = IsWord64 s
 
 -- `expect` has words of its own, behind which no variable's value stands
 abbrev pub IsOtherWord : Text → Type 0
@@ -138,23 +119,36 @@ IsExpectationOf variables (expects.State s state code) = IsWord64 s × IsCode co
 IsExpectationOf variables expects.Ready = Unit {0}
 IsExpectationOf variables (expects.Failed number) = IsNumber number
 
-abbrev pub IsActOf : List VariableRow → LineAction → Type 0
-IsActOf variables (One e) = IsEventOf variables e
-IsActOf variables (Input v x) = (v < length variables) × IsWord64 x
-IsActOf variables (Never v) = v < length variables
-IsActOf variables (Expect e) = IsExpectationOf variables e
-IsActOf variables Ready = Unit {0}
-IsActOf variables Cycle = Unit {0}
-IsActOf variables Show = Unit {0}
+-- a variable that there is, numbers of 64 bits, and a byte
+abbrev pub IsActionOf : List VariableRow → LineAction → Type 0
+IsActionOf variables Start = Unit {0}
+IsActionOf variables (Set v x) = (v < length variables) × IsWord64 x
+IsActionOf variables Begin = Unit {0}
+IsActionOf variables (Pass k) = IsWord64 k
+IsActionOf variables (Lose k) = IsWord64 k
+IsActionOf variables (Return k) = IsWord64 k
+IsActionOf variables Close = Unit {0}
+IsActionOf variables (Serve s) = IsWord64 s
+IsActionOf variables (Put s i x) = IsWord64 s × IsWord64 i × (x < 256)
+IsActionOf variables (Get s i) = IsWord64 s × IsWord64 i
+IsActionOf variables (Fail s) = IsWord64 s
+IsActionOf variables (Reset s) = IsWord64 s
+IsActionOf variables (Input v x) = (v < length variables) × IsWord64 x
+IsActionOf variables (Never v) = v < length variables
+IsActionOf variables (Expect e) = IsExpectationOf variables e
+IsActionOf variables Ready = Unit {0}
+IsActionOf variables Cycle = Unit {0}
+IsActionOf variables Show = Unit {0}
+IsActionOf variables Report = Unit {0}
 
--- an act that can be written, once or more often
+-- an action that can be written, once or more often
 pub record IsLineOf (variables : List VariableRow) (line : Line) : Type 0 where
   pub some : 1 ≤ line.times
   pub most : line.times ≤ 1000000
-  pub act : IsActOf variables line.act
+  pub action : IsActionOf variables line.action
 
--- The line that is written for an act of a table's script is read as that line.
-abbrev pub ActsReadBack : Type 0
-ActsReadBack =
+-- The line that is written for an action of a table's script is read as that line.
+abbrev pub LinesReadBack : Type 0
+LinesReadBack =
     (t : Contents) (line : Line) → table.IsSound t → IsLineOf t.variables line
     → reading_of t line.number (joined_words (words_for_line t.variables line)) ≡ reading.Line line

@@ -1,16 +1,30 @@
 //! What the words behind `expect` stand for.
 ghost use Rattle.std.specs.Prelude.{◌≡◌};
-ghost use Rattle.ec_script.specs.Acts.{expected_by_four, expected_by_one, expected_by_three, expected_by_two, is_act, state_named, value_expected};
+ghost use Rattle.ec_script.specs.Actions.{expected_by_four, expected_by_one, expected_by_three, expected_by_two, has_value, state_named, value_expected};
 
-use crate::acts::{slave_in, value_for, variable_named};
+use crate::actions::{slave_in, value_for, variable_named};
 use crate::expectation::Expectation;
 use crate::value::WrittenValue;
 use crate::words::{code_of, number_of};
 use ec_al::State;
 use ec_table::Table;
 
+/// The AL state with this name; `None` if there is none.
+#[tactic(auto, unfolding(crate::specs::Actions::state_named))]
+pub fn state_named(name: &str) -> Option<State>
+    ensures { result ≡ state_named name.now }
+{
+    match name {
+        "INIT" => Some(State::Init),
+        "PREOP" => Some(State::PreOp),
+        "SAFEOP" => Some(State::SafeOp),
+        "OP" => Some(State::Op),
+        _ => None,
+    }
+}
+
 /// What one word stands for; `None` if for nothing.
-#[tactic(auto, unfolding(crate::specs::Acts::expected_by_one))]
+#[tactic(auto, unfolding(crate::specs::Actions::expected_by_one))]
 pub fn expected_by_one(word: &str) -> Option<Expectation>
     ensures { result ≡ expected_by_one word.now }
 {
@@ -24,7 +38,7 @@ pub fn expected_by_one(word: &str) -> Option<Expectation>
 }
 
 /// What two words stand for, `None` if for nothing; the words of reports and start-ups come before the names of variables.
-#[tactic(auto, unfolding(crate::specs::Acts::expected_by_two))]
+#[tactic(auto, unfolding(crate::specs::Actions::expected_by_two))]
 pub fn expected_by_two(table: &Table, first: &str, second: &str) -> Option<Expectation>
     ensures { result ≡ expected_by_two table.now first.now second.now }
 {
@@ -37,7 +51,7 @@ pub fn expected_by_two(table: &Table, first: &str, second: &str) -> Option<Expec
 }
 
 /// What three words stand for; `None` if for nothing.
-#[tactic(auto, unfolding(crate::specs::Acts::expected_by_three))]
+#[tactic(auto, unfolding(crate::specs::Actions::expected_by_three))]
 pub fn expected_by_three(
     table: &Table,
     first: &str,
@@ -56,7 +70,7 @@ pub fn expected_by_three(
 }
 
 /// What four words stand for; `None` if for nothing.
-#[tactic(auto, unfolding(crate::specs::Acts::expected_by_four))]
+#[tactic(auto, unfolding(crate::specs::Actions::expected_by_four))]
 pub fn expected_by_four(
     table: &Table,
     first: &str,
@@ -76,32 +90,18 @@ pub fn expected_by_four(
     }
 }
 
-/// The AL state with this name; `None` if there is none.
-#[tactic(auto, unfolding(crate::specs::Acts::state_named))]
-fn state_named(name: &str) -> Option<State>
-    ensures { result ≡ state_named name.now }
-{
-    match name {
-        "INIT" => Some(State::Init),
-        "PREOP" => Some(State::PreOp),
-        "SAFEOP" => Some(State::SafeOp),
-        "OP" => Some(State::Op),
-        _ => None,
-    }
-}
-
 /// What the name of a variable and a value stand for.
-#[tactic(auto, unfolding(crate::specs::Acts::value_expected))]
+#[tactic(auto, unfolding(crate::specs::Actions::value_expected))]
 fn value_expected(table: &Table, name: &str, value: &str) -> Option<Expectation>
     ensures { result ≡ value_expected table.now name.now value.now }
 {
     let variable = variable_named(table.variables(), name)?;
-    Some(is_act(variable, value_for(table, variable, value)?))
+    Some(has_value(variable, value_for(table, variable, value)?))
 }
 
 /// The expectation that a variable has a value.
-fn is_act(variable: usize, value: WrittenValue) -> Expectation
-    ensures { result ≡ is_act variable value }
+fn has_value(variable: usize, value: WrittenValue) -> Expectation
+    ensures { result ≡ has_value variable value }
 {
     match value {
         WrittenValue::Number(value) => Expectation::Is(variable, value),

@@ -1,28 +1,31 @@
-//! Scripts of events for a simulated segment: what their lines stand for, what they do to a world, and what they print.
+//! The language of `ecat sim` and `ecat master`: what lines stand for, and what they print.
 #![tactic(auto)]
 
-mod acts;
+mod actions;
 mod error;
 mod expectation;
 mod expecting;
+mod forms;
 mod halves;
-mod inputs;
 pub mod laws;
 mod line;
 mod met;
+mod output;
 mod read;
-mod rounds;
-mod run;
-mod said;
 mod value;
+mod view;
 mod words;
 
+pub use crate::actions::{slave_named, variable_named};
 pub use crate::error::ScriptError;
 pub use crate::expectation::Expectation;
+pub use crate::expecting::state_named;
+pub use crate::forms::{FORMS, WordKind};
 pub use crate::halves::split_script;
-pub use crate::line::{Line, LineAction};
-pub use crate::met::{all_units, is_failed, is_unit};
-pub use crate::read::{Reading, read_line, read_script};
-pub use crate::rounds::watch_act;
-pub use crate::run::{do_act, run_line};
-pub use crate::said::{LineOutput, output_text};
+pub use crate::line::{Line, LineAction, is_simulated};
+pub use crate::met::{is_failed, is_met};
+pub use crate::output::{LineOutput, output_text};
+pub use crate::read::{Reading, read_line, read_script, uncommented};
+pub use crate::value::hex_of;
+pub use crate::view::MasterView;
+pub use crate::words::{byte_of, code_of, number_of, times_of};

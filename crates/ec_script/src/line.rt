@@ -1,24 +1,50 @@
 //! Lines of scripts.
-use crate::expectation::Expectation;
-use ec_world::Event;
+ghost use Rattle.std.specs.Prelude.{◌≡◌};
+ghost use Rattle.ec_script.specs.Scripts.{is_simulated};
 
-/// What a line of a script asks for.
+use crate::expectation::Expectation;
+
+/// What a line asks for. Variables and slaves have their places in the table, and frames their slots.
 #[derive(Clone, Copy, Debug, PartialEq, Eq, Drop)]
 pub enum LineAction {
-    /// One event.
-    One(Event),
+    /// The next frame of the start-up is sent.
+    Start,
+    /// The output variable at this place is set to this value.
+    Set(usize, u64),
+    /// A cycle is begun: the frame of each part is sent.
+    Begin,
+    /// The frame in this slot passes its next slave.
+    Pass(usize),
+    /// The frame in this slot is lost.
+    Lose(usize),
+    /// The frame in this slot comes back to the master.
+    Return(usize),
+    /// The cycle is closed, or a start-up that waits for its frame is given up.
+    Close,
+    /// The firmware of this slave makes a step.
+    Serve(usize),
+    /// The application of this slave writes this byte of its inputs, counted from 0.
+    Put(usize, usize, u8),
+    /// The application of this slave reads this byte of its outputs, counted from 0.
+    Get(usize, usize),
+    /// The application of this slave has a fault.
+    Fail(usize),
+    /// This slave is switched off and on.
+    Reset(usize),
     /// The slaves that have bits of the input variable at this place write this value into them.
     Input(usize, u64),
-    /// The variable at this place becomes a value that its bits can't hold: no event does that.
+    /// The variable at this place becomes a value that its bits can't hold: this is never done.
     Never(usize),
-    /// An expectation of the world is checked; nothing changes.
+    /// An expectation is checked; nothing changes.
     Expect(Expectation),
-    /// The frames of a start-up, until it ends.
+    /// A start-up is run to its end.
     Ready,
-    /// A whole cycle, which nothing disturbs.
+    /// A whole cycle is run.
     Cycle,
-    /// The values of the input variables.
+    /// The input variables are printed.
     Show,
+    /// The last report is printed.
+    Report,
 }
 
 /// A line of a script that isn't empty.
@@ -26,7 +52,14 @@ pub enum LineAction {
 pub struct Line {
     /// Its number, counted from 1; empty lines count too.
     pub number: usize,
-    /// How often its act is done, one time after another; 1 without `repeat`.
+    /// How often its action is done, one time after another; 1 without `repeat`.
     pub times: u32,
-    pub act: LineAction,
+    pub action: LineAction,
+}
+
+/// Whether a script of simulated slaves may have this action: it may have any but `Report`.
+pub fn is_simulated(action: LineAction) -> bool
+    ensures { result ≡ is_simulated action }
+{
+    !matches!(action, LineAction::Report)
 }

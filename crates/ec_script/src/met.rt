@@ -1,38 +1,25 @@
-//! Whether what a line expects of a world holds.
-ghost use Rattle.std.specs.Prelude.{◌≡◌, ◌≤◌, true, slice_get};
-ghost use Rattle.ec_script.specs.Expecting.{all_units, has_bits, has_code, is_failed, is_in_state, is_met, is_published, is_unit, is_value, of_report};
-ghost use Rattle.ec_script.specs.Inputs.{is_of};
-ghost use Rattle.std.specs.List.{list_all};
+//! Whether what a line expects of a master holds.
+ghost use Rattle.std.specs.Prelude.{◌≡◌};
+ghost use Rattle.ec_script.specs.Expecting.{all_units, is_failed, is_met, is_ready, is_unit, of_report};
 
 use crate::expectation::Expectation;
-use crate::inputs::{is_of, is_short, slave_byte};
-use crate::said::value_of;
-use ec_al::State;
-use ec_bits::read_bits;
+use crate::view::MasterView;
 use ec_cycle::Report;
-use ec_link::{Link, Variable};
-use ec_regs::registers::{AL_STATUS, AL_STATUS_CODE};
 use ec_start::StartError;
-use ec_table::Direction;
-use ec_world::World;
+use ec_text::value_of;
 
-/// More bits than the memory of a slave has room for.
-const MAX_BITS: usize = 0x10000;
-
-/// Whether what a line expects of a world holds.
-pub fn is_met(world: &World<'_>, expected: Expectation) -> bool
-    ensures { result ≡ is_met expected world.now }
+/// Whether what a line expects holds, as far as a master alone shows it: a variable has its value in the process image. The state
+/// of a slave is never met.
+pub fn is_met(view: &MasterView<'_, '_>, expected: Expectation) -> bool
+    ensures { result ≡ is_met expected view.now }
 {
     match expected {
-        Expectation::Is(variable, value) => is_value(world, variable, value),
-        Expectation::Never(_) => false,
-        Expectation::Units(taken) => are_units(world, taken),
-        Expectation::Unit(number, taken) => has_unit(world, number, taken),
-        Expectation::State(slave, state, code) => {
-            is_in_state(world, slave, state) && has_code(world, slave, code)
-        }
-        Expectation::Ready => world.is_ready(),
-        Expectation::Failed(number) => is_failed(number, world.outcome()),
+        Expectation::Is(variable, value) => value_of(view.master, variable) == value,
+        Expectation::Never(_) | Expectation::State(_, _, _) => false,
+        Expectation::Units(taken) => are_units(view, taken),
+        Expectation::Unit(number, taken) => has_unit(view, number, taken),
+        Expectation::Ready => is_ready(view.outcome),
+        Expectation::Failed(number) => is_failed(number, view.outcome),
     }
 }
 
@@ -47,8 +34,35 @@ pub fn is_failed(number: Option<u64>, outcome: Option<Result<(), StartError>>) -
     }
 }
 
+/// Whether a start-up has ended Ready.
+fn is_ready(outcome: Option<Result<(), StartError>>) -> bool
+    ensures { result ≡ is_ready outcome }
+{
+    matches!(outcome, Some(Ok(())))
+}
+
+/// Whether the last report has this sync unit as `taken` says; false without a report.
+fn has_unit(view: &MasterView<'_, '_>, number: u64, taken: bool) -> bool
+    ensures { result ≡ of_report (is_unit number taken) view.now.report }
+{
+    match view.report {
+        Some(report) => is_unit(number, taken, report),
+        None => false,
+    }
+}
+
+/// Whether the last report has every sync unit as `taken` says; false without a report.
+fn are_units(view: &MasterView<'_, '_>, taken: bool) -> bool
+    ensures { result ≡ of_report (all_units taken) view.now.report }
+{
+    match view.report {
+        Some(report) => all_units(taken, report),
+        None => false,
+    }
+}
+
 /// Whether a report has the sync unit with this number as `taken` says: taken, or not.
-pub fn is_unit(number: u64, taken: bool, report: &Report) -> bool
+fn is_unit(number: u64, taken: bool, report: &Report) -> bool
     ensures { result ≡ is_unit number taken report.now }
 {
     report
@@ -59,104 +73,8 @@ pub fn is_unit(number: u64, taken: bool, report: &Report) -> bool
 }
 
 /// Whether a report has every sync unit as `taken` says: taken, or not.
-pub fn all_units(taken: bool, report: &Report) -> bool
+fn all_units(taken: bool, report: &Report) -> bool
     ensures { result ≡ all_units taken report.now }
 {
     report.units_taken().iter().all(|unit| *unit == taken)
-}
-
-/// Whether a slave shows this AL status code; true without one.
-fn has_code(world: &World<'_>, slave: usize, code: Option<u16>) -> bool
-    ensures { result ≡ has_code world.now slave code }
-{
-    let low = u16::from(slave_byte(world, slave, AL_STATUS_CODE));
-    let high = u16::from(slave_byte(world, slave, AL_STATUS_CODE + 1));
-    match code {
-        None => true,
-        Some(code) => low + 256 * high == code,
-    }
-}
-
-/// Whether a slave is in an AL state, by its AL status.
-fn is_in_state(world: &World<'_>, slave: usize, state: State) -> bool
-    ensures { result ≡ is_in_state world.now slave state }
-{
-    let status = u16::from(slave_byte(world, slave, AL_STATUS));
-    slave < world.slaves() && status % 16 == state.number()
-}
-
-/// Whether the last report has this sync unit as `taken` says; false without a report.
-fn has_unit(world: &World<'_>, number: u64, taken: bool) -> bool
-    ensures { result ≡ of_report (is_unit number taken) world.now.report }
-{
-    match world.report() {
-        Some(report) => is_unit(number, taken, report),
-        None => false,
-    }
-}
-
-/// Whether the last report has every sync unit as `taken` says; false without a report.
-fn are_units(world: &World<'_>, taken: bool) -> bool
-    ensures { result ≡ of_report (all_units taken) world.now.report }
-{
-    match world.report() {
-        Some(report) => all_units(taken, report),
-        None => false,
-    }
-}
-
-/// Whether a variable has a value: an input in the process image, an output as slaves publish it.
-fn is_value(world: &World<'_>, place: usize, value: u64) -> bool
-    ensures { result ≡ is_value world.now place value (slice_get world.now.plan.variables place) }
-{
-    let variables = world.plan().variables();
-    if place >= variables.len() {
-        return false;
-    }
-    let variable = variables[place];
-    match variable.direction {
-        Direction::Out => is_short(variable.bits, value) && is_output(world, variable, value),
-        Direction::In => value_of(world, place) == value,
-    }
-}
-
-/// Whether slaves publish a value in all linked bits of a variable.
-fn is_output(world: &World<'_>, variable: Variable, value: u64) -> bool
-    requires { variable.bits ≤ 64 }
-    ensures { result ≡ list_all (is_published world.now variable value) world.now.plan.out_links }
-{
-    world
-        .plan()
-        .out_links()
-        .iter()
-        .all(|link| is_published(world, variable, value, link))
-}
-
-/// Whether the slave of a link publishes the bits of a value; true if the link is none of the variable.
-fn is_published(world: &World<'_>, variable: Variable, value: u64, link: &Link) -> bool
-    requires { variable.bits ≤ 64 }
-    ensures { result ≡ is_published world.now variable value link.now }
-{
-    if !is_of(variable, link) {
-        return true;
-    }
-    link.slave < world.slaves() && has_bits(variable, value, link, world.outputs(link.slave))
-}
-
-/// Whether published outputs have all bits of a link of a variable, and these are those of a value.
-fn has_bits(variable: Variable, value: u64, link: &Link, outputs: &[u8]) -> bool
-    requires few { variable.bits ≤ 64 }
-    requires linked { is_of variable link.now ≡ true }
-    ensures { result ≡ has_bits variable value link.now outputs.now }
-{
-    if link.object_bit > MAX_BITS || link.count > MAX_BITS - link.object_bit {
-        return false;
-    }
-    let bytes = (link.object_bit + link.count + 7) / 8;
-    if bytes > outputs.len() {
-        return false;
-    }
-    let from = link.image - variable.from;
-    read_bits(outputs, link.object_bit, link.count)
-        == read_bits(&value.to_le_bytes(), from, link.count)
 }

@@ -2,11 +2,11 @@
 ghost use Rattle.std.specs.Prelude.{◌≡◌, IfOk, map};
 ghost use Rattle.std.specs.Str.Lines.{lines};
 ghost use Rattle.ec_script.specs.Words.{uncommented, without_end_blanks, words_of};
-ghost use Rattle.ec_script.specs.Scripts.{Gives, line_of_words, line_on, reading_of, repeated_line, script_of};
+ghost use Rattle.ec_script.specs.Scripts.{Gives, is_simulated, line_of_words, line_on, reading_of, repeated_line, script_of, taken_by};
 
-use crate::acts::act_of_words;
+use crate::actions::action_of_words;
 use crate::error::ScriptError;
-use crate::line::Line;
+use crate::line::{Line, is_simulated};
 use crate::words::times_of;
 use ec_listed::Listed;
 use ec_table::Table;
@@ -46,12 +46,12 @@ pub fn read_line(
     })
 }
 
-/// The lines of a script that aren't empty without their comments; their names are those of the table.
+/// The lines of a script of simulated slaves that aren't empty without their comments; their names are those of the table.
 ///
 /// # Errors
 ///
-/// `BadScript`, with the number of the first line that stands for nothing; `Memory` if memory ran
-/// out.
+/// `BadScript`, with the number of the first line that stands for nothing, or for a report; `Memory` if
+/// memory ran out.
 pub fn read_script(alloc: Global, table: &Table, text: &str) -> Result<Listed<Line>, ScriptError>
     ensures { Gives result (script_of table.now text.now) }
 {
@@ -59,7 +59,7 @@ pub fn read_script(alloc: Global, table: &Table, text: &str) -> Result<Listed<Li
     let mut lines = Listed::new(alloc);
     for (place, line) in texts.as_slice().iter().enumerate() {
         let number = place + 1;
-        match read_line(alloc, table, number, line)? {
+        match simulated(read_line(alloc, table, number, line)?) {
             Reading::Empty => {}
             Reading::Line(line) => lines.push(line)?,
             Reading::Bad => return Err(ScriptError::BadScript(number)),
@@ -68,21 +68,32 @@ pub fn read_script(alloc: Global, table: &Table, text: &str) -> Result<Listed<Li
     Ok(lines)
 }
 
-/// The lines of a text.
-fn lines_of<'a>(alloc: Global, text: &'a str) -> Result<Vec<&'a str>, AllocError>
-    ensures { IfOk result (λ v. map (λ x. x.now) v.items ≡ lines text.now) }
-{
-    text.lines().collect(alloc)
-}
-
 /// A line without its comment, which begins at the first `#`, and without the blanks before that.
-fn uncommented(line: &str) -> &str
+pub fn uncommented(line: &str) -> &str
     ensures { result.now ≡ uncommented line.now }
 {
     match line.split_once('#') {
         Some((before, _)) => without_end_blanks(before),
         None => line,
     }
+}
+
+/// What a line of a script of simulated slaves is: `Bad` if it asks for what no simulation does.
+fn simulated(reading: Reading) -> Reading
+    ensures { result ≡ taken_by is_simulated reading }
+{
+    match reading {
+        Reading::Line(line) if is_simulated(line.action) => Reading::Line(line),
+        Reading::Line(_) | Reading::Bad => Reading::Bad,
+        Reading::Empty => Reading::Empty,
+    }
+}
+
+/// The lines of a text.
+fn lines_of<'a>(alloc: Global, text: &'a str) -> Result<Vec<&'a str>, AllocError>
+    ensures { IfOk result (λ v. map (λ x. x.now) v.items ≡ lines text.now) }
+{
+    text.lines().collect(alloc)
 }
 
 /// A text without the blanks at its end.
@@ -120,11 +131,11 @@ fn line_of_words(table: &Table, number: usize, words: &[&str]) -> Option<Line>
     if *verb == "repeat" {
         return repeated_line(table, number, rest);
     }
-    let act = act_of_words(table, words)?;
+    let action = action_of_words(table, words)?;
     Some(Line {
         number,
         times: 1,
-        act,
+        action,
     })
 }
 
@@ -134,6 +145,10 @@ fn repeated_line(table: &Table, number: usize, words: &[&str]) -> Option<Line>
 {
     let (count, words) = words.split_first()?;
     let times = times_of(count)?;
-    let act = act_of_words(table, words)?;
-    Some(Line { number, times, act })
+    let action = action_of_words(table, words)?;
+    Some(Line {
+        number,
+        times,
+        action,
+    })
 }

@@ -5,8 +5,8 @@ use Rattle.ec_capture.specs.Recordings.{Notes}
 use Rattle.ec_capture.proofs.Noting.{notes_nothing, notes_then}
 use Rattle.ec_world.specs.declared.event.Event.{Event}
 use Rattle.ec_world.specs.World.{WorldState}
-use Rattle.ec_script.specs.Seeing.{SawAll, Sees}
-use Rattle.ec_watch.specs.Seeing.{Saw, Watched, next_event, seen_of}
+use Rattle.ec_simulation.specs.Seeing.{SawAll, Sees}
+use Rattle.ec_sim.specs.Seeing.{Saw, Watched, next_event, seen_of}
 use Rattle.ec_sim.specs.Capturing.{NotesRun, RunShows}
 
 -- the same of these events

@@ -4,7 +4,7 @@ use Rattle.ec_capture.specs.Captures.{Seen}
 use Rattle.ec_capture.specs.Recordings.{Notes}
 use Rattle.ec_world.specs.declared.event.Event.{Event}
 use Rattle.ec_world.specs.World.{WorldState, IsStep}
-use Rattle.ec_watch.specs.Seeing.{Watched, next_event, seen_of}
+use Rattle.ec_sim.specs.Seeing.{Watched, next_event, seen_of}
 
 -- what is seen of events that were all made, one after another, behind n others
 abbrev pub RunShows : ℕ → WorldState → List Event → WorldState → List Seen → Type 0

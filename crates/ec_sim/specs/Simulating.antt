@@ -1,81 +1,96 @@
--- What `ecat sim` prints and returns (this project's profile).
-use Rattle.std.specs.Prelude.{◌≡◌, ◌⊎◌, ℕ, ◌+◌, List, [], ◌∷◌, ◌++◌, take, if◌then◌else◌, true, Result, Ok, Err}
+-- What lines do to a simulated segment, and what `ecat sim` prints and returns (this project's profile).
+use Rattle.std.specs.Prelude.{◌≡◌, ℕ, List, ◌++◌, Bool, true, false, Option, Result}
 use Rattle.ec_table.specs.Contents.{Contents}
+use Rattle.ec_world.specs.declared.event.Event.{Event}
 use Rattle.ec_world.specs.Whole.{IsOfMachine}
 use Rattle.ec_world.specs.World.{WorldState}
 use Rattle.ec_script.specs.declared.line.Line.{Line}
-use Rattle.ec_script.specs.declared.said.LineOutput.{LineOutput}
-use Rattle.ec_script.specs.Events.{RunsLine}
-use Rattle.ec_script.specs.Scripts.{repeated}
+use Rattle.ec_script.specs.declared.line.LineAction.{LineAction}
+use Rattle.ec_script.specs.declared.output.LineOutput.{LineOutput}
+use Rattle.ec_script.specs.declared.output.LineOutput.TheVariants.{No}
+use Rattle.ec_script.specs.declared.read.Reading.{Reading}
+use Rattle.ec_script.specs.Outputs.{is_done, is_unmet}
+use Rattle.ec_script.specs.Scripts.{is_simulated, repeated}
 use Rattle.ec_script.specs.Texts.{output_text}
-use Rattle.ec_script.specs.Work.{Does, is_done, is_unmet}
-use Rattle.ec_why.specs.declared.wanted.Reasons.{Reasons}
-use Rattle.ec_why.specs.Reasons.{IsWhy}
+use Rattle.ec_simulation.specs.Events.{RunsLine}
+use Rattle.ec_simulation.specs.Seeing.{Sees}
+use Rattle.ec_simulation.specs.Views.{view_of}
+use Rattle.ec_simulation.specs.Work.{Does}
 use Rattle.ec_console.specs.declared.refusal.Refusal.{Refusal}
-use Rattle.ec_console.specs.declared.refusal.Refusal.TheVariants.{Memory, Output}
-use Rattle.ec_console.specs.Printing.{IsPartPrinted, IsPrinted, OutputState}
-use Rattle.ec_console.specs.Unmet.{EndsUnmet}
+use Rattle.ec_console.specs.declared.wanted.Reasons.{Reasons}
+use Rattle.ec_console.specs.declared.wanted.Reasons.TheVariants.{Told}
+use Rattle.ec_console.specs.Coming.{ComesOut, ComesPart, reading_at}
+use Rattle.ec_console.specs.Given.{Given}
+use Rattle.ec_console.specs.Printing.{OutputState}
+use Rattle.ec_console.specs.Reasons.{ReasonIf}
+use Rattle.ec_console.specs.Saying.{EndsRun, PrintsAll, PrintsPart}
+use Rattle.ec_console.specs.Unmet.{unmet_of}
 
 -- ---- lines
 
--- 1 if what is expected isn't so
-abbrev pub unmet_of : LineOutput → ℕ
-unmet_of said = if is_unmet said then 1 else 0
+-- the lines that a reason follows: those that say `no`, if reasons are wanted
+abbrev pub is_reasoned : Reasons → LineOutput → Bool
+is_reasoned Told No = true
+is_reasoned _ _ = false
 
--- A line is run once. It leaves the world as `World::run` of its events does (`RunsLine`), with or without reasons, and its text is
+-- A line is done once. It leaves the world as `World::run` of its events does (`RunsLine`), with or without reasons, and its text is
 -- that of the world then. Why it says `no` stands behind it, if reasons are wanted.
 pub record SaysLine (reasons : Reasons) (t : Contents) (w : WorldState) (line : Line) (new : WorldState) (printed : List ℕ) (unmet : ℕ) : Type 0 where
   pub said : LineOutput
-  pub does : Does line.act w new said
-  pub run : RunsLine line.act w new (is_done said)
+  pub does : Does line.action w new said
+  pub run : RunsLine line.action w new (is_done said)
   pub why : List ℕ
-  pub reason : IsWhy reasons said why
-  pub text : printed ≡ output_text t line.number new said ++ why
-  pub count : unmet ≡ unmet_of said
+  pub reason : ReasonIf (is_reasoned reasons said) why
+  pub text : printed ≡ output_text t line.number (view_of new) said ++ why
+  pub count : unmet ≡ unmet_of (is_unmet said)
 
--- What lines print that are run once each, and how often what they expect isn't so. Each is run in the world that the one
--- before left.
-abbrev pub Says : Reasons → Contents → WorldState → List Line → WorldState → List ℕ → ℕ → Type 0
-Says reasons t w [] new printed unmet = (new ≡ w) × (printed ≡ []) × (unmet ≡ 0)
-Says reasons t w (line ∷ lines) new printed unmet = (mid : WorldState) × (text : List ℕ) × (more : List ℕ) × (one : ℕ) × (rest : ℕ)
-    × SaysLine reasons t w line mid text one × Says reasons t mid lines new more rest × (printed ≡ text ++ more) × (unmet ≡ one + rest)
+-- the actions that a simulated segment takes
+abbrev pub takes_action : Contents → LineAction → Bool
+takes_action t action = is_simulated action
 
--- the texts of these lines are printed
-pub record PrintsAll (reasons : Reasons) (t : Contents) (w : WorldState) (lines : List Line) (last : WorldState) (unmet : ℕ) (old new : OutputState) : Type 0 where
-  pub printed : List ℕ
-  pub says : Says reasons t w lines last printed unmet
-  pub appends : IsPrinted old new printed
+-- what line n of an input is to it
+abbrev pub line_read : Contents → ℕ → List ℕ → Reading
+line_read t = reading_at takes_action t
 
--- a first part is printed of the texts of some first of these lines
-pub record PrintsPart (reasons : Reasons) (t : Contents) (w : WorldState) (lines : List Line) (old new : OutputState) : Type 0 where
-  pub count : ℕ
-  pub last : WorldState
-  pub printed : List ℕ
-  pub unmet : ℕ
-  pub says : Says reasons t w (take count lines) last printed unmet
-  pub appends : IsPartPrinted old new printed
+-- ---- a segment that is watched
 
--- the lines of a script are printed, each as many times as it is run
-abbrev pub PrintsLines : Reasons → Contents → WorldState → List Line → ℕ → (old new : OutputState) → Type 0
-PrintsLines reasons t w lines unmet old new = (last : WorldState) × PrintsAll reasons t w (repeated lines) last unmet old new
+-- a world, what its watcher keeps, the table whose names lines use, and whether reasons are wanted
+pub record Simulated (S : Type 0) : Type 0 where
+  pub world : WorldState
+  pub watcher : S
+  pub table : Contents
+  pub reasons : Reasons
 
-abbrev pub PrintsSome : Reasons → Contents → WorldState → List Line → (old new : OutputState) → Type 0
-PrintsSome reasons t w lines old new = PrintsPart reasons t w (repeated lines) old new
-
--- what can end a script that runs, by what the output is then; memory may run out at any time
-abbrev pub IsLate : OutputState → Refusal → Type 0
-IsLate output Memory = Unit {0}
-IsLate output Output = output.is_refused ≡ true
-IsLate output _ = ⊥
+-- a line is done once, and the watcher sees its events and nothing else
+pub record Simulates {S : Type 0} (saw : S → WorldState → Event → WorldState → S → Type 0) (s : Simulated S) (line : Line) (new : Simulated S) (printed : List ℕ) (unmet : ℕ) : Type 0 where
+  pub says : SaysLine s.reasons s.table s.world line new.world printed unmet
+  pub sees : Sees saw s.watcher s.world new.world new.watcher
+  pub plan : new.world.plan ≡ s.world.plan
+  pub table : new.table ≡ s.table
+  pub reasons : new.reasons ≡ s.reasons
 
 -- ---- the whole
 
--- the lines run over slaves of the table that are switched on, and what they say is printed, where what they expect is so; or
--- it isn't, so many times; or a script that runs is cut short, and what it said until then is printed; or memory is refused
--- before the first line
+-- the lines of a script are done over slaves of a table that are switched on, and what they expect isn't so so many times
+abbrev pub RunsAll : Reasons → Contents → List Line → (old new : OutputState) → (unmet : ℕ) → Type 0
+RunsAll reasons t lines old new unmet =
+    (w : WorldState) × IsOfMachine t w × (last : WorldState) × PrintsAll (SaysLine reasons t) w (repeated lines) last unmet old new
+
+-- some first of them are done
+abbrev pub RunsPart : Reasons → Contents → List Line → (old new : OutputState) → Type 0
+RunsPart reasons t lines old new = (w : WorldState) × IsOfMachine t w × (last : WorldState) × PrintsPart (SaysLine reasons t) w (repeated lines) last old new
+
+-- a script is run, up to its end or in part
 abbrev pub RunsLines : Reasons → Contents → List Line → (old new : OutputState) → Result Unit Refusal → Type 0
-RunsLines reasons t lines old new (Ok done) = (w : WorldState) × IsOfMachine t w × PrintsLines reasons t w lines 0 old new
-RunsLines reasons t lines old new (Err refusal) =
-    ((refusal ≡ Memory) × (new ≡ old))
-    ⊎ ((IsLate new refusal × (w : WorldState) × IsOfMachine t w × PrintsSome reasons t w lines old new)
-    ⊎ EndsUnmet refusal (λ unmet. (w : WorldState) × IsOfMachine t w × PrintsLines reasons t w lines unmet old new))
+RunsLines reasons t lines old new ended = EndsRun (RunsAll reasons t lines old new) (RunsPart reasons t lines old new) false old new ended
+
+-- the same for the lines of an input, which are done as they come
+abbrev pub LivesAll : Reasons → Contents → (given : Option (List ℕ)) → (old new : OutputState) → (unmet : ℕ) → Type 0
+LivesAll reasons t given old new unmet =
+    (w : WorldState) × IsOfMachine t w × (last : WorldState) × ComesOut (SaysLine reasons t) (line_read t) w given last unmet old new
+
+abbrev pub LivesPart : Reasons → Contents → (given : Option (List ℕ)) → (old new : OutputState) → Type 0
+LivesPart reasons t given old new = (w : WorldState) × IsOfMachine t w × (last : WorldState) × ComesPart (SaysLine reasons t) (line_read t) w given last old new
+
+abbrev pub RunsLive : Reasons → Contents → (given : Given) → (old new : OutputState) → Result Unit Refusal → Type 0
+RunsLive reasons t given old new ended = EndsRun (LivesAll reasons t given.bytes old new) (LivesPart reasons t given.bytes old new) given.is_refused old new ended

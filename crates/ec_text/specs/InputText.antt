@@ -1,5 +1,5 @@
 -- The input variables of a table as text (this project's profile): for each, in file order, its name and its value in decimal.
-use Rattle.std.specs.Prelude.{◌≡◌, ◌<◌, ◌^◌, ℕ, List, [], ◌++◌, slice_get, codes}
+use Rattle.std.specs.Prelude.{ℕ, List, [], ◌++◌, slice_get, codes}
 use Rattle.std.specs.Fmt.{decimal}
 use Rattle.ec_table.specs.declared.rows.Direction.{Direction}
 use Rattle.ec_table.specs.declared.rows.Direction.TheVariants.{Out, In}
@@ -19,10 +19,6 @@ input_line value n row = input_by row.direction (value n) row.name
 
 abbrev pub inputs_text : (ℕ → ℕ) → Contents → List ℕ
 inputs_text value t = lines_from (input_line value) 0 t.variables
-
--- what a function returns for each place, which has 64 bits, is the value there
-abbrev pub Answers : (ℕ → ℕ → Type 0) → (ℕ → ℕ) → Type 0
-Answers answered value = (n x : ℕ) → n < 2 ^ 64 → answered n x → x ≡ value n
 
 -- the value of the n-th variable of a master
 abbrev pub shown : MasterState → ℕ → ℕ

@@ -1,32 +1,12 @@
 //! Input variables as text.
-ghost use Rattle.std.specs.Prelude.{◌≡◌, ◌++◌, ℕ, IfOk, OnOk, string_bytes};
-ghost use Rattle.ec_text.specs.InputText.{Answers, input_by, input_line, inputs_text, shown};
+ghost use Rattle.std.specs.Prelude.{◌≡◌, ◌++◌, IfOk, OnOk, string_bytes};
+ghost use Rattle.ec_text.specs.InputText.{input_by, input_line, inputs_text, shown};
 ghost use Rattle.ec_text.specs.PlanText.{lines_from};
 
 use ec_cycle::Master;
 use ec_table::{Direction, Table, VariableRow};
 use std::alloc::{AllocError, Global};
 use std::fmt::Write as _;
-
-/// Adds the lines of the input variables among these: for each its name and the value that `value` returns for its place.
-///
-/// # Errors
-///
-/// `AllocError` if memory ran out.
-pub fn write_inputs<F: Fn(usize) -> u64>(
-    text: &mut String,
-    rows: &[VariableRow],
-    value: F,
-) -> Result<(), AllocError>
-    requires { F.IsAlwaysCallable value }
-    ensures { OnOk result ((values : ℕ → ℕ) → Answers (F.post value) values
-        → string_bytes text.new ≡ string_bytes text.old ++ lines_from (input_line values) 0 rows.now) }
-{
-    for (place, row) in rows.iter().enumerate() {
-        write_input(text, row, value(place))?;
-    }
-    Ok(())
-}
 
 /// The value of a variable of a master; 0 if it has no such variable.
 pub fn value_of(master: &Master<'_>, place: usize) -> u64
@@ -48,7 +28,7 @@ pub fn input_lines(alloc: Global, table: &Table, master: &Master<'_>) -> Result<
     ensures { IfOk result (λ text. string_bytes text ≡ inputs_text (shown master.now) table.now) }
 {
     let mut text = String::new(alloc);
-    write_shown(&mut text, master, table.variables())?;
+    write_inputs(&mut text, master, table.variables())?;
     Ok(text)
 }
 
@@ -67,7 +47,7 @@ fn write_input(text: &mut String, row: &VariableRow, value: u64) -> Result<(), A
 }
 
 /// Adds the lines of the input variables of a master.
-fn write_shown(
+fn write_inputs(
     text: &mut String,
     master: &Master<'_>,
     rows: &[VariableRow],
@@ -75,5 +55,8 @@ fn write_shown(
     ensures { OnOk result (string_bytes text.new
         ≡ string_bytes text.old ++ lines_from (input_line (shown master.now)) 0 rows.now) }
 {
-    write_inputs(text, rows, |place| value_of(master, place))
+    for (place, row) in rows.iter().enumerate() {
+        write_input(text, row, value_of(master, place))?;
+    }
+    Ok(())
 }

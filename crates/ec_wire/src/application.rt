@@ -1,5 +1,6 @@
 //! The applications of simulated slaves, and how a segment serves its slaves after a frame.
 ghost use Rattle.std.specs.Prelude.{◌≡◌, ◌<◌, ℕ, List, false, true, length};
+ghost use Rattle.ec_bits.specs.Bits.{zeros};
 ghost use Rattle.ec_slave.specs.Application.{get_size, put_size};
 ghost use Rattle.ec_ring.specs.Rings.{IsNoFrame};
 ghost use Rattle.ec_wire.specs.Applications.{AreServed, HasStepped, IsServed, inputs_written, outputs_read, outputs_seen};
@@ -16,8 +17,9 @@ pub trait App {
     /// Relates outputs to the inputs that the application may make from them, now or later.
     ghost shows: { Self → List ℕ → List ℕ → Type 0 } = { λ app outputs inputs. Unit {0} };
 
-    /// Sets the bytes of `inputs` from the bytes of `outputs`. Before the call, `inputs` may hold any bytes.
+    /// Sets the bytes of `inputs` from the bytes of `outputs`. Before the call, all bytes of `inputs` are 0.
     fn step(&mut self, outputs: &[u8], inputs: &mut [u8])
+        requires { inputs.old ≡ zeros (length inputs.old) }
         ensures made { shows self.old outputs.now inputs.new }
         ensures later { (o i : List ℕ) → shows self.new o i → shows self.old o i };
 }
@@ -30,7 +32,7 @@ impl App for &mut dyn App {
     }
 }
 
-/// An application that copies its outputs to its inputs, and sets the inputs beyond them to 0.
+/// An application that copies its outputs to its inputs, and leaves the inputs beyond them 0.
 #[derive(Drop)]
 pub struct Echo;
 
@@ -42,7 +44,6 @@ impl App for Echo {
     fn step(&mut self, outputs: &[u8], inputs: &mut [u8]) {
         let shown = outputs.len().min(inputs.len());
         inputs[..shown].copy_from_slice(&outputs[..shown]);
-        inputs[shown..].fill(0);
     }
 }
 
@@ -94,6 +95,7 @@ fn step_application<A: App>(slave: &mut Slave, app: &mut A, output_count: usize,
     ensures stepped { HasStepped (A.shows app.old) slave.old slave.new }
     ensures later { (o i : List ℕ) → A.shows app.new o i → A.shows app.old o i }
 {
+    inputs.fill(0);
     app.step(outputs_of(slave, output_count), inputs);
     read_outputs(slave);
     write_inputs(slave, inputs);

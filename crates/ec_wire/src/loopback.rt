@@ -132,8 +132,10 @@ impl<A: App + Drop> Loopback<A> {
         })
     }
 
-    /// Takes back the application of a wire, and the wire's counts.
+    /// Takes back the application of a wire that this loopback opened, and the wire's counts. It can be called only while a wire has the
+    /// application, so none is lost.
     pub fn close(&mut self, wire: LoopWire<A>)
+        requires { self.old.app ≡ None }
         ensures counts { self.new.traffic ≡ opened_to self.old.traffic.slaves wire.traffic }
         ensures back { is_some self.new.app ≡ true }
     {

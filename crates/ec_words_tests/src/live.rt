@@ -5,10 +5,10 @@ mod drivers;
 
 use crate::streams::Sink;
 use ec_console::{
-    Capture, InputStream, OutputStream, Refusal, SlaveForm, Source, read_source, read_stated,
+    Capture, InputStream, OutputStream, Reasons, Refusal, SlaveForm, Source, read_source,
+    read_stated,
 };
-use ec_live::run_live;
-use ec_why::Reasons;
+use ec_sim::run_live;
 use std::fs::Files;
 use std::io::Read;
 use std::process::Abort;

@@ -1,7 +1,7 @@
 //! `ecat decode` and `ecat encode` to a writer that is full. What they print and tell stands as cases in
 //! `tools/cases/data/translates.cases`.
 use crate::streams::{HandedOn, Sink, Source, nothing_handed_on, sink_of, source_of};
-use ec_commands::{print_decode, print_encode};
+use ec_app::{print_decode, print_encode};
 use ec_console::{InputStream, OutputStream, Refusal};
 use std::alloc::Global;
 use std::process::Abort;

@@ -192,6 +192,13 @@ impl<'p> World<'p> {
         self.ring.len()
     }
 
+    /// Its master.
+    pub fn master(&self) -> &Master<'p>
+        ensures { result.now ≡ self.now.master }
+    {
+        &self.master
+    }
+
     /// How many variables the process image has.
     pub fn variables(&self) -> usize
         ensures { result ≡ length self.now.master.plan.variables }

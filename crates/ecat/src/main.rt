@@ -1,8 +1,8 @@
 //! The program `ecat`: an EtherCAT master and a segment of simulated slaves. It runs the commands of
-//! `ec_commands` over the arguments, the streams and the memory of the system.
+//! `ec_app` over the arguments, the streams and the memory of the system.
 #![tactic(auto)]
 
-use ec_commands::{Console, InputStream, OutputStream, run_program};
+use ec_app::{Console, InputStream, OutputStream, run_program};
 use std::env;
 use std::process::ExitCode;
 

@@ -47,8 +47,8 @@ fn follow<H: AllocGlobal + Net>(
         if session.run_cycle(&mut wire).is_err() {
             break;
         }
-        let seen = session.get(switches).unwrap_or(0);
-        session.set(valves, seen & FOLLOWED);
+        let shown = session.get(switches).unwrap_or(0);
+        session.set(valves, shown & FOLLOWED);
         if !session.report().is_some_and(|report| report.is_taken()) {
             break;
         }

@@ -2,10 +2,9 @@
 //! `tools/cases/data/masters.cases`.
 
 use ec_bringup::slaves_of_machine;
-use ec_console::{InputStream, OutputStream, Refusal};
+use ec_console::{InputStream, OutputStream, Reasons, Refusal, run_input};
 use ec_link::Machine;
-use ec_master::{Control, print_lines};
-use ec_why::Reasons;
+use ec_master::Mastered;
 use ec_wire::MemoryWire;
 use std::alloc::Global;
 use std::process::Abort;
@@ -15,27 +14,20 @@ const THREE_SLAVES: &str = ec_test_data::BARE_THREE_SLAVES;
 /// So many calls of a wire never fail.
 const NEVER: u64 = u64::MAX;
 
-/// Runs lines by a control over a wire. What they answer is told by no clause, so that the comparisons behind it carry nothing
-/// of it.
-fn run_lines(
+/// Runs lines by a master over a wire. What they print is said by no clause, so that the comparisons behind it carry nothing of it.
+fn run_all(
     alloc: Global,
-    machine: &Machine,
-    reasons: Reasons,
-    control: &mut Control,
-    wire: &mut MemoryWire,
+    mastered: &mut Mastered<MemoryWire>,
     lines: &str,
     output: &mut OutputStream<Vec<u8>>,
 ) -> Result<u64, Refusal> {
     let mut input = InputStream::new(lines.as_bytes());
-    print_lines(
-        alloc,
-        machine.table(),
-        reasons,
-        control,
-        wire,
-        &mut input,
-        output,
-    )
+    run_input(alloc, mastered, &mut input, output)
+}
+
+/// The machine of the three slaves.
+fn three_slaves(rt: &(impl AllocGlobal + Abort)) -> Machine {
+    Machine::read(rt.alloc(), THREE_SLAVES).expect(rt, "a good table")
 }
 
 /// A wire to the slaves of a machine, whose call of this number fails.
@@ -44,9 +36,13 @@ fn wire_of(rt: &(impl AllocGlobal + Abort), machine: &Machine, fails_at: u64) ->
     MemoryWire::new(rt.alloc(), slaves, 2000, fails_at).expect(rt, "memory")
 }
 
-/// A master of a machine.
-fn control_of<'p>(rt: &(impl AllocGlobal + Abort), machine: &'p Machine) -> Control<'p> {
-    Control::new(rt.alloc(), machine).expect(rt, "memory")
+/// A master of the three slaves over a wire.
+fn mastered_over(
+    rt: &(impl AllocGlobal + Abort),
+    wire: MemoryWire,
+    reasons: Reasons,
+) -> Mastered<MemoryWire> {
+    Mastered::new(rt.alloc(), three_slaves(rt), wire, reasons).expect(rt, "memory")
 }
 
 /// Lines, the call of the wire that fails, how often what they expect isn't so, and what they print.
@@ -58,29 +54,19 @@ fn expect_ended(rt: &impl Abort, run: &Run, ended: Result<u64, Refusal>, output:
     assert_eq!(rt; (ended, output), (Ok(unmet), printed.as_bytes()), "{lines}");
 }
 
-/// Runs lines over a wire to the slaves of a machine, and compares what they print.
-fn expect_run<H: AllocGlobal + Abort>(rt: &H, machine: &Machine, reasons: Reasons, run: &Run) {
-    let mut wire = wire_of(rt, machine, run.1);
-    let mut control = control_of(rt, machine);
+/// Runs lines over a wire to the three slaves, and compares what they print.
+fn expect_run<H: AllocGlobal + Abort>(rt: &H, reasons: Reasons, run: &Run) {
+    let wire = wire_of(rt, &three_slaves(rt), run.1);
+    let mut mastered = mastered_over(rt, wire, reasons);
     let mut output = OutputStream::new(Vec::new(rt.alloc()));
-    let alloc = rt.alloc();
-    let ended = run_lines(
-        alloc,
-        machine,
-        reasons,
-        &mut control,
-        &mut wire,
-        run.0,
-        &mut output,
-    );
+    let ended = run_all(rt.alloc(), &mut mastered, run.0, &mut output);
     expect_ended(rt, run, ended, output.into_stream().as_slice());
 }
 
-/// Does so with each of these, of the three slaves.
+/// Does so with each of these.
 fn expect_runs<H: AllocGlobal + Abort>(rt: &H, reasons: Reasons, runs: &[Run]) {
-    let machine = Machine::read(rt.alloc(), THREE_SLAVES).expect(rt, "a good table");
     for run in runs {
-        expect_run(rt, &machine, reasons, run);
+        expect_run(rt, reasons, run);
     }
 }
 
@@ -188,7 +174,7 @@ const REASONED: [Run; 4] = [
          no 4\n  the last start-up failed, 32 Lost: given up; `ready` makes one more\n\
          report taken missing 0 counters 6 al 0008\n",
     ),
-    // A fault of the wire is none, nor are lines that are no order, and what is expected.
+    // A fault of the wire has none, nor have bad lines, and what is expected.
     (
         "ready\ncycle\nreport\nbegin\nexpect taken\nshow\n",
         150,
@@ -255,36 +241,26 @@ fn other_slaves(rt: &(impl AllocGlobal + Abort), old: &str, new: &str) -> Machin
     Machine::read(rt.alloc(), text.as_str()).expect(rt, "a good table")
 }
 
-/// Runs `ready` of a machine over other slaves, where reasons are told.
-fn ready_over(rt: &(impl AllocGlobal + Abort), machine: &Machine, slaves: &Machine) -> Vec<u8> {
-    let mut wire = wire_of(rt, slaves, NEVER);
-    let mut control = control_of(rt, machine);
+/// Runs `ready` of the three slaves over other ones, with reasons.
+fn ready_over(rt: &(impl AllocGlobal + Abort), slaves: &Machine) -> Vec<u8> {
+    let mut mastered = mastered_over(rt, wire_of(rt, slaves, NEVER), Reasons::Told);
     let mut output = OutputStream::new(Vec::new(rt.alloc()));
-    let ended = run_lines(
-        rt.alloc(),
-        machine,
-        Reasons::Told,
-        &mut control,
-        &mut wire,
-        "ready\n",
-        &mut output,
-    );
+    let ended = run_all(rt.alloc(), &mut mastered, "ready\n", &mut output);
     assert_eq!(rt; ended, Ok(0));
     output.into_stream()
 }
 
 /// Compares what is printed of a start-up over other slaves.
-fn expect_failure(rt: &(impl AllocGlobal + Abort), machine: &Machine, failure: &Failure) {
+fn expect_failure(rt: &(impl AllocGlobal + Abort), failure: &Failure) {
     let (old, new, number, words) = *failure;
-    let output = ready_over(rt, machine, &other_slaves(rt, old, new));
+    let output = ready_over(rt, &other_slaves(rt, old, new));
     let wanted = format!(in rt.alloc(); "failed {number}\n  {words}\n").expect(rt, "memory");
     assert_eq!(rt; output.as_slice(), wanted.as_bytes(), "{words}");
 }
 
 #[test]
 fn failed_start_ups_tell_why(rt: HostRuntime) {
-    let machine = Machine::read(rt.alloc(), THREE_SLAVES).expect(&rt, "a good table");
     for failure in &FAILURES {
-        expect_failure(&rt, &machine, failure);
+        expect_failure(&rt, failure);
     }
 }

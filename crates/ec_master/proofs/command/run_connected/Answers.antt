@@ -1,5 +1,18 @@
-use Rattle.ec_master.proofs.Mastering.{on_socket}
+use Rattle.std.proofs.Common.{refl}
+use Rattle.ec_wire.specs.Wires.{silent}
+use Rattle.ec_master.proofs.Mastering.{never_begun, on_socket, on_wire}
 use Rattle.ec_master.proofs.command.run_connected.Goals as goal
 
-pub returns-in_ok-wire-in-None-clause-runs : goal.returns-in_ok-wire-in-None-clause-runs
-returns-in_ok-wire-in-None-clause-runs g c = on_socket c.run_tapped.result c.args.reasons c.args.machine.now c.in_ok-wire-in-None.wire.failed _ _ _ _ c.in_ok-wire-in-None.ensures c.run_tapped.ensures.runs.1
+pub returns-in_err-mastered-in-None-clause-runs : goal.returns-in_err-mastered-in-None-clause-runs
+returns-in_err-mastered-in-None-clause-runs g c = never_begun _ c.args.options.reasons c.args.machine _ _ c.from_residual-in_err-mastered-in-None.ensures.1
+
+pub returns-in_err-mastered-in-Some-clause-runs : goal.returns-in_err-mastered-in-Some-clause-runs
+returns-in_err-mastered-in-Some-clause-runs g c = never_begun _ c.args.options.reasons c.args.machine _ _ c.from_residual-in_err-mastered-in-Some.ensures.1
+
+pub returns-in_ok-mastered-in-None-clause-runs : goal.returns-in_ok-mastered-in-None-clause-runs
+returns-in_ok-mastered-in-None-clause-runs g c =
+    on_socket c.run_tapped.result c.args.options.reasons c.args.machine c.in_ok-mastered-in-None.mastered c.in_ok-wire-in-None.wire.failed _ _ _ c.in_ok-mastered-in-None.ensures c.in_ok-wire-in-None.ensures c.run_tapped.ensures.runs
+
+pub returns-in_ok-mastered-in-Some-clause-runs : goal.returns-in_ok-mastered-in-Some-clause-runs
+returns-in_ok-mastered-in-Some-clause-runs g c =
+    on_wire c.run_tapped-2.result c.args.options.reasons c.args.machine c.in_ok-mastered-in-Some.mastered (silent 0) _ _ _ c.in_ok-mastered-in-Some.ensures refl c.run_tapped-2.ensures.runs

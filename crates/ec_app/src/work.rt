@@ -1,0 +1,200 @@
+//! Commands that run a machine, in one order: its text, the machine, a capture, the run, the end of the capture, the explanation.
+ghost use Rattle.std.specs.Prelude.{◌≡◌, is_some, option_map};
+ghost use Rattle.ec_console.specs.Explaining.{IsLeft};
+ghost use Rattle.ec_console.specs.Given.{given_by};
+ghost use Rattle.ec_console.specs.Stating.{RunsStated};
+ghost use Rattle.ec_app.specs.Running.{IsSilent, LeavesApp, RunsWork, does_of, form_of, source_of};
+
+use ec_console::{
+    Capture, Console, Interfaces, Reasons, Refusal, SlaveForm, Source, Stated, close_capture,
+    open_capture, read_source, read_stated,
+};
+use ec_loop::run_loopback;
+use ec_master::{MasterOptions, run_connected};
+use ec_segment::{Endpoint, run_segment};
+use ec_sim::{run_live, run_script};
+use ec_wire::{App, Loopback};
+use std::fs::Files;
+use std::io::{Read, Write};
+use std::net::Net;
+use std::time::Clock;
+
+/// What is done with a machine.
+#[derive(Clone, Copy, Drop)]
+pub enum Work<'a> {
+    /// The lines of its script are run.
+    Script(Reasons),
+    /// The lines that the input gives are run as they come.
+    Live(Reasons),
+    /// So many cycles are run over sockets of this process.
+    Cycles(u16),
+    /// Its slaves are served, in a form.
+    Segment(SlaveForm, Endpoint),
+    /// The lines that the input gives move its master.
+    Master(MasterOptions<'a>),
+}
+
+impl Work<'_> {
+    /// What is read of the input for it.
+    fn source(&self) -> Source
+        ensures { result ≡ source_of self.now }
+    {
+        match *self {
+            Work::Script(_) => Source::Script,
+            Work::Live(_) | Work::Master(_) => Source::Lines,
+            Work::Cycles(_) | Work::Segment(_, _) => Source::Table,
+        }
+    }
+
+    /// The form in which its slaves are shown.
+    fn form(&self) -> SlaveForm
+        ensures { result ≡ form_of self.now }
+    {
+        match *self {
+            Work::Segment(form, _) => form,
+            Work::Script(_) | Work::Live(_) | Work::Cycles(_) | Work::Master(_) => SlaveForm::Plain,
+        }
+    }
+
+    /// The interfaces of its capture.
+    fn interfaces(&self) -> Interfaces {
+        match *self {
+            Work::Script(_) | Work::Live(_) => Interfaces::Segment,
+            Work::Cycles(_) => Interfaces::One("loop"),
+            Work::Segment(_, _) => Interfaces::One("segment"),
+            Work::Master(_) => Interfaces::One("master"),
+        }
+    }
+}
+
+/// Does some work with the machine that the input states. The frames go into a capture, if a file is named. A refusal is explained, if
+/// that is wanted.
+///
+/// # Errors
+///
+/// The refusal of the input or of what it states. `Refusal::Output` or `Memory` if the file couldn't be opened. The errors of the work.
+/// `Refusal::Output` if that was through and the capture isn't whole.
+#[tactic(auto, using(crate::proofs::RunLemmas::left_alone))]
+pub(crate) fn run_work<
+    H: AllocGlobal + Net + Files + Clock,
+    R: Read + Drop,
+    W: Write + Drop,
+    F: Write + Drop,
+>(
+    rt: &H,
+    work: Work<'_>,
+    file: Option<&str>,
+    console: &mut Console<R, W, F>,
+    app: &mut dyn App,
+) -> Result<(), Refusal>
+    ensures runs { RunsWork (source_of work.entry) (form_of work.entry) (does_of work.entry) (option_map (λ x. x.now) file.entry)
+        (given_by R.remaining console.old.input console.new.input)
+        (record { old = console.old.output; new = console.new.output })
+        (record { old = console.old.faults; new = console.new.faults }) result }
+    ensures alone { LeavesApp work.entry app.old app.new }
+    ensures explains { IsLeft console.old.explanation console.new.explanation }
+{
+    let text = read_source(rt.alloc(), work.source(), &mut console.input)?;
+    let ended = run_text(rt, work, file, text.as_str(), console, app);
+    console
+        .explanation
+        .explain(rt.alloc(), work.source(), text.as_str(), &ended);
+    ended
+}
+
+/// Does some work with the machine that a text states.
+#[tactic(auto, using(crate::proofs::RunLemmas::left_alone))]
+fn run_text<H: AllocGlobal + Net + Files + Clock, R: Read + Drop, W: Write + Drop, F: Write + Drop>(
+    rt: &H,
+    work: Work<'_>,
+    file: Option<&str>,
+    text: &str,
+    console: &mut Console<R, W, F>,
+    app: &mut dyn App,
+) -> Result<(), Refusal>
+    ensures runs { RunsStated (source_of work.entry) (form_of work.entry) (option_map (λ x. x.now) file.entry)
+        (does_of work.entry (record { old = console.old.output; new = console.new.output })
+        (record { old = console.old.faults; new = console.new.faults }) (given_by R.remaining console.old.input console.new.input))
+        (IsSilent (record { old = console.old.output; new = console.new.output })
+        (record { old = console.old.faults; new = console.new.faults })) text.now result }
+    ensures alone { LeavesApp work.entry app.old app.new }
+    ensures explanation { console.new.explanation ≡ console.old.explanation }
+{
+    let stated = read_stated(rt.alloc(), work.source(), work.form(), text)?;
+    let mut capture = open_capture(rt, file, work.interfaces(), stated.machine.table())?;
+    let ended = run_on(rt, work, stated, &mut capture, console, app);
+    close_capture(ended, &capture)
+}
+
+/// Does some work with a machine. The frames go into an open capture, if there is one.
+fn run_on<H: AllocGlobal + Net + Files + Clock, R: Read + Drop, W: Write + Drop, F: Write + Drop>(
+    rt: &H,
+    work: Work<'_>,
+    stated: Stated,
+    capture: &mut Capture<H::File>,
+    console: &mut Console<R, W, F>,
+    app: &mut dyn App,
+) -> Result<(), Refusal>
+    ensures runs { does_of work.entry (record { old = console.old.output; new = console.new.output })
+        (record { old = console.old.faults; new = console.new.faults }) (given_by R.remaining console.old.input console.new.input)
+        stated.machine stated.lines result }
+    ensures kept { is_some capture.new ≡ is_some capture.old }
+    ensures alone { LeavesApp work.entry app.old app.new }
+    ensures explanation { console.new.explanation ≡ console.old.explanation }
+{
+    let Stated { machine, lines } = stated;
+    match work {
+        Work::Script(reasons) => {
+            run_script(
+                rt.alloc(),
+                &machine,
+                reasons,
+                lines.as_slice(),
+                capture,
+                &mut console.output,
+            )
+        }
+        Work::Live(reasons) => {
+            run_live(
+                rt.alloc(),
+                &machine,
+                reasons,
+                capture,
+                &mut console.input,
+                &mut console.output,
+            )
+        }
+        Work::Cycles(cycles) => {
+            let mut loopback = Loopback::new(app);
+            run_loopback(
+                rt,
+                &machine,
+                cycles,
+                capture,
+                &mut console.output,
+                &mut loopback,
+            )
+        }
+        Work::Segment(_, endpoint) => {
+            run_segment(
+                rt,
+                &machine,
+                endpoint,
+                capture,
+                &mut console.output,
+                &mut console.faults,
+                app,
+            )
+        }
+        Work::Master(options) => {
+            run_connected(
+                rt,
+                machine,
+                options,
+                capture,
+                &mut console.input,
+                &mut console.output,
+            )
+        }
+    }
+}

@@ -1,5 +1,0 @@
-use Rattle.ec_commands.proofs.PlanLemmas.{memory_refused}
-use Rattle.ec_commands.proofs.plan.show_plan.Goals as goal
-
-pub returns-clause-refused : goal.returns-clause-refused
-returns-clause-refused c = memory_refused _ c.args.text.now c.text_of.ensures.memory

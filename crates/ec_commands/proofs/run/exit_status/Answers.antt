@@ -1,6 +1,0 @@
-use Rattle.std.proofs.Common.{sym, subst}
-use Rattle.ec_commands.specs.Running.{Tells}
-use Rattle.ec_commands.proofs.run.exit_status.Goals as goal
-
-pub returns-in-Err : goal.returns-in-Err
-returns-in-Err g c = subst (Tells _ c.tell_and_end.result) (sym c.in-Err.is) (c.tell_and_end.ensures.status, c.tell_and_end.ensures.told)

@@ -1,0 +1,191 @@
+//! Lines that a target obeys, one after another: those of a script, or those of an input as they come.
+ghost use Rattle.std.specs.Prelude.{◌≡◌, ◌∷◌, [], ℕ, List, IfErr, IfOk, OnErr, OnOk, false, replicate};
+ghost use Rattle.ec_lines.specs.Inputs.{bytes_left};
+ghost use Rattle.ec_script.specs.Scripts.{repeated, taken_by};
+ghost use Rattle.ec_console.specs.Coming.{ComesOut, ComesPart, PartOf, SaysReading, bad_text, reading_at};
+ghost use Rattle.ec_console.specs.Given.{IsReadRefusal};
+ghost use Rattle.ec_console.specs.Printing.{IsPartPrinted, IsPrinted};
+ghost use Rattle.ec_console.specs.Saying.{IsLate, PrintsAll, PrintsPart};
+ghost use Rattle.ec_console.specs.Stages.{IsNext};
+ghost use Rattle.ec_console.specs.Unmet.{counted, unmet_of};
+
+use crate::printing::print_text;
+use crate::{OutputStream, Refusal, Target};
+use ec_lines::{InputStream, NextLine, take_line};
+use ec_script::{Line, Reading, read_line};
+use std::alloc::Global;
+use std::io::{Read, Write};
+
+/// Does the lines of a script, each as many times as it says. The text of each is printed before the next one is done. Returns how often
+/// what they expect isn't so.
+///
+/// # Errors
+///
+/// `Refusal::Memory` or `Refusal::Output`. They cut the run short; what was printed until then stays.
+pub fn run_lines<T: Target, W: Write + Drop>(
+    alloc: Global,
+    target: &mut T,
+    lines: &[Line],
+    output: &mut OutputStream<W>,
+) -> Result<u64, Refusal>
+    ensures all { IfOk result (λ count. (unmet : ℕ) × (count ≡ counted unmet)
+        × PrintsAll T.says target.old (repeated lines.now) target.new unmet output.old output.new) }
+    ensures part { OnErr result (PrintsPart T.says target.old (repeated lines.now) target.new output.old output.new) }
+    ensures late { IfErr result (IsLate false output.new) }
+    ensures table { T.table target.new ≡ T.table target.old }
+{
+    let mut unmet: u64 = 0;
+    for line in lines {
+        let count = obey_line(alloc, target, line, output)?;
+        unmet = unmet.saturating_add(count);
+    }
+    Ok(unmet)
+}
+
+/// Does the lines that an input gives, each as it comes. The text of a line is printed before the next one is taken. A line that can't be
+/// read, or whose action the target doesn't take, prints `bad` and its number, and does nothing. Returns how often what lines expect
+/// isn't so.
+///
+/// # Errors
+///
+/// `Refusal::Memory`, `Refusal::Input` or `Refusal::Output`. They cut the run short; what was printed until then stays.
+#[tactic(auto, using(crate::proofs::Late::line_late, crate::proofs::Late::untaken_late))]
+pub fn run_input<T: Target, R: Read + Drop, W: Write + Drop>(
+    alloc: Global,
+    target: &mut T,
+    input: &mut InputStream<R>,
+    output: &mut OutputStream<W>,
+) -> Result<u64, Refusal>
+    ensures all { IfOk result (λ count. (unmet : ℕ) × (count ≡ counted unmet)
+        × ComesOut T.says (reading_at T.takes (T.table target.old)) target.old (bytes_left R.remaining input.old) target.new unmet
+        output.old output.new) }
+    ensures part { OnErr result (ComesPart T.says (reading_at T.takes (T.table target.old)) target.old (bytes_left R.remaining input.old) target.new
+        output.old output.new) }
+    ensures late { IfErr result (IsLate input.new.is_refused output.new) }
+    ensures table { T.table target.new ≡ T.table target.old }
+{
+    let mut unmet: u64 = 0;
+    for place in 0..usize::MAX {
+        let Some(reading) = next_reading(alloc, target, place + 1, input)? else {
+            return Ok(unmet);
+        };
+        let count = obey_reading(alloc, target, place + 1, reading, output)?;
+        unmet = unmet.saturating_add(count);
+    }
+    // There is no number for a further line.
+    Err(Refusal::Memory)
+}
+
+/// Does what line `number` of an input is, and prints its text. Returns how often what it expects isn't so.
+fn obey_reading<T: Target, W: Write + Drop>(
+    alloc: Global,
+    target: &mut T,
+    number: usize,
+    reading: Reading,
+    output: &mut OutputStream<W>,
+) -> Result<u64, Refusal>
+    ensures all { IfOk result (λ count. (unmet : ℕ) × (count ≡ counted unmet) × (printed : List ℕ)
+        × SaysReading T.says target.old number reading target.new printed unmet
+        × IsPrinted output.old output.new printed) }
+    ensures part { OnErr result (PartOf T.says target.old number reading target.new output.old output.new) }
+    ensures late { IfErr result (IsLate false output.new) }
+    ensures table { T.table target.new ≡ T.table target.old }
+{
+    match reading {
+        Reading::Empty => Ok(0),
+        Reading::Line(line) => obey_line(alloc, target, &line, output),
+        Reading::Bad => {
+            print_bad(alloc, number, output)?;
+            Ok(0)
+        }
+    }
+}
+
+/// Does a line as many times as it says, and prints its text each time before it is done again. Returns how often what it expects isn't so.
+fn obey_line<T: Target, W: Write + Drop>(
+    alloc: Global,
+    target: &mut T,
+    line: &Line,
+    output: &mut OutputStream<W>,
+) -> Result<u64, Refusal>
+    ensures all { IfOk result (λ count. (unmet : ℕ) × (count ≡ counted unmet)
+        × PrintsAll T.says target.old (replicate line.now.times line.now) target.new unmet output.old output.new) }
+    ensures part { OnErr result (PrintsPart T.says target.old (replicate line.now.times line.now) target.new output.old output.new) }
+    ensures late { IfErr result (IsLate false output.new) }
+    ensures table { T.table target.new ≡ T.table target.old }
+{
+    let mut unmet: u64 = 0;
+    for _ in 0..line.times {
+        if obey_once(alloc, target, line, output)? {
+            unmet = unmet.saturating_add(1);
+        }
+    }
+    Ok(unmet)
+}
+
+/// Does a line once and prints its text. Returns whether what it expects isn't so.
+#[tactic(auto, using(crate::proofs::Late::refused_late))]
+fn obey_once<T: Target, W: Write + Drop>(
+    alloc: Global,
+    target: &mut T,
+    line: &Line,
+    output: &mut OutputStream<W>,
+) -> Result<bool, Refusal>
+    ensures all { IfOk result (λ is_unmet.
+        PrintsAll T.says target.old (line.now ∷ []) target.new (unmet_of is_unmet) output.old output.new) }
+    ensures part { OnErr result (PrintsPart T.says target.old (line.now ∷ []) target.new output.old output.new) }
+    ensures late { IfErr result (IsLate false output.new) }
+    ensures table { T.table target.new ≡ T.table target.old }
+{
+    let said = target.obey(alloc, line)?;
+    print_text(said.text.as_bytes(), output)?;
+    Ok(said.is_unmet)
+}
+
+/// Prints `bad` and the number of a line.
+#[tactic(auto, using(crate::proofs::Late::write_late, crate::proofs::Late::cut_part))]
+fn print_bad<W: Write + Drop>(
+    alloc: Global,
+    number: usize,
+    output: &mut OutputStream<W>,
+) -> Result<(), Refusal>
+    ensures all { OnOk result (IsPrinted output.old output.new (bad_text number)) }
+    ensures part { OnErr result (IsPartPrinted output.old output.new (bad_text number)) }
+    ensures late { IfErr result (IsLate false output.new) }
+{
+    let text = format!(in alloc; "bad {number}\n")?;
+    print_text(text.as_bytes(), output)
+}
+
+/// What the next line of an input, line `number`, is to a target. A line that isn't text is bad. `None` if the input has ended.
+#[tactic(auto, using(crate::proofs::Late::unread))]
+fn next_reading<T: Target, R: Read + Drop>(
+    alloc: Global,
+    target: &T,
+    number: usize,
+    input: &mut InputStream<R>,
+) -> Result<Option<Reading>, Refusal>
+    ensures next { IfOk result (IsNext (reading_at T.takes (T.table target.now) number)
+        (bytes_left R.remaining input.old) (bytes_left R.remaining input.new)) }
+    ensures late { IfErr result (IsReadRefusal input.new.is_refused) }
+{
+    match take_line(alloc, input)? {
+        NextLine::End => Ok(None),
+        NextLine::Text(text) => {
+            let reading = read_line(alloc, target.table(), number, text.as_str())?;
+            Ok(Some(taken_by(target, reading)))
+        }
+        NextLine::NoText => Ok(Some(Reading::Bad)),
+    }
+}
+
+/// What a line is to a target: one with an action that the target doesn't take is bad.
+fn taken_by<T: Target>(target: &T, reading: Reading) -> Reading
+    ensures { result ≡ taken_by (T.takes (T.table target.now)) reading }
+{
+    match reading {
+        Reading::Line(line) if target.takes(line.action) => Reading::Line(line),
+        Reading::Line(_) | Reading::Bad => Reading::Bad,
+        Reading::Empty => Reading::Empty,
+    }
+}

@@ -1,0 +1,25 @@
+//! Whether reasons are wanted.
+ghost use Rattle.std.specs.Prelude.{◌≡◌};
+ghost use Rattle.ec_console.specs.Reasons.{reasons_of};
+
+/// Whether a line that says why follows each line that can't be done.
+#[derive(Clone, Copy, Drop)]
+pub enum Reasons {
+    /// It does.
+    Told,
+    /// It doesn't.
+    Untold,
+}
+
+impl Reasons {
+    /// `Told` if an explanation is wanted, else `Untold`.
+    pub fn of(explained: bool) -> Reasons
+        ensures { result ≡ reasons_of explained }
+    {
+        if explained {
+            Reasons::Told
+        } else {
+            Reasons::Untold
+        }
+    }
+}

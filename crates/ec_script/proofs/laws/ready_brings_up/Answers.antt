@@ -1,5 +1,0 @@
-use Rattle.ec_script.proofs.Readying.{ready_law}
-use Rattle.ec_script.proofs.laws.ready_brings_up.Goals as goal
-
-pub returns : goal.returns
-returns c = ready_law

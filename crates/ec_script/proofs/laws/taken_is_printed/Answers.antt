@@ -1,5 +1,0 @@
-use Rattle.ec_script.proofs.Cycling.{taken_text_law}
-use Rattle.ec_script.proofs.laws.taken_is_printed.Goals as goal
-
-pub returns : goal.returns
-returns c = taken_text_law

@@ -1,5 +1,0 @@
-use Rattle.std.proofs.Common.{rules}
-use Rattle.ec_script.proofs.met.is_published.Goals as goal
-
-pub returns-then-not-is_of : goal.returns-then-not-is_of
-returns-then-not-is_of c = search rules

@@ -1,9 +1,0 @@
-use Rattle.ec_script.proofs.Going.{AreGone}
-use Rattle.ec_script.specs.Seeing.{Sees}
-use Rattle.ec_script.proofs.rounds.go_rounds.Given as goal
-
-abbrev pub invariant-loop-slot : goal.invariant-loop-slot
-invariant-loop-slot g l = record {
-  gone : AreGone l.slaves l.serving l.number l.initial.world l.slot l.world l.said;
-  seen : Sees g.S.Watcher.saw l.initial.watcher l.initial.world l.world l.watcher;
-}

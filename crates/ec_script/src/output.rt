@@ -1,0 +1,113 @@
+//! The output of a line, and what it prints.
+ghost use Rattle.std.specs.Prelude.{◌≡◌, ◌++◌, IfOk, OnOk, string_bytes};
+ghost use Rattle.ec_text.specs.ReportText.{report_if};
+ghost use Rattle.ec_script.specs.Outputs.{is_done, is_unmet};
+ghost use Rattle.ec_script.specs.Texts.{byte_text, output_text};
+
+use crate::view::MasterView;
+use ec_table::{Table, Version};
+use ec_text::{input_lines, write_outcome, write_report};
+use std::alloc::{AllocError, Global};
+use std::fmt::Write as _;
+
+/// The output of a line that is done once: it decides what the line prints.
+#[derive(Clone, Copy, Debug, PartialEq, Eq, Drop)]
+pub enum LineOutput {
+    /// Nothing.
+    Nothing,
+    /// What the line says can't be done, and it ended there.
+    No,
+    /// What was expected doesn't hold.
+    Unmet,
+    /// The byte that an application read.
+    Byte,
+    /// How the start-up ended.
+    Ended,
+    /// The last report.
+    Report,
+    /// The input variables.
+    Values,
+    /// A fault of the wire ended the cycle, and nothing of it was taken.
+    Fault,
+}
+
+impl LineOutput {
+    /// Whether all that the line asks for was done.
+    pub fn is_done(self) -> bool
+        ensures { result ≡ is_done self }
+    {
+        match self {
+            LineOutput::No | LineOutput::Fault => false,
+            LineOutput::Nothing
+            | LineOutput::Unmet
+            | LineOutput::Byte
+            | LineOutput::Ended
+            | LineOutput::Report
+            | LineOutput::Values => true,
+        }
+    }
+
+    /// Whether what was expected doesn't hold.
+    pub fn is_unmet(self) -> bool
+        ensures { result ≡ is_unmet self }
+    {
+        matches!(self, LineOutput::Unmet)
+    }
+}
+
+/// The text that line `number` prints for this output, by a master of the table.
+///
+/// # Errors
+///
+/// `AllocError` if memory ran out.
+pub fn output_text(
+    alloc: Global,
+    table: &Table,
+    number: usize,
+    output: LineOutput,
+    view: &MasterView<'_, '_>,
+) -> Result<String, AllocError>
+    ensures { IfOk result (λ text. string_bytes text ≡ output_text table.now number view.now output) }
+{
+    let mut text = String::new(alloc);
+    match output {
+        LineOutput::Nothing => {}
+        LineOutput::No => writeln!(text, "no {number}")?,
+        LineOutput::Unmet => writeln!(text, "unmet {number}")?,
+        LineOutput::Byte => write_byte(alloc, &mut text, view.byte)?,
+        LineOutput::Ended => write_outcome(&mut text, view.outcome)?,
+        LineOutput::Report => write_last(alloc, &mut text, table.version(), view)?,
+        LineOutput::Values => return input_lines(alloc, table, view.master),
+        LineOutput::Fault => text.push_str("fault 37 Wire\n")?,
+    }
+    Ok(text)
+}
+
+/// Adds the line of the byte that an application read, if one did.
+fn write_byte(alloc: Global, text: &mut String, byte: Option<u8>) -> Result<(), AllocError>
+    ensures { OnOk result (string_bytes text.new ≡ string_bytes text.old ++ byte_text byte) }
+{
+    match byte {
+        None => Ok(()),
+        Some(byte) => {
+            let digits = hex::encode(alloc, &[byte])?;
+            writeln!(text, "byte {digits}")
+        }
+    }
+}
+
+/// Adds the line of the last report, if there is one.
+fn write_last(
+    alloc: Global,
+    text: &mut String,
+    version: Version,
+    view: &MasterView<'_, '_>,
+) -> Result<(), AllocError>
+    ensures { OnOk result (string_bytes text.new
+        ≡ string_bytes text.old ++ report_if version view.now.master.plan.parts view.now.report) }
+{
+    match view.report {
+        None => Ok(()),
+        Some(report) => write_report(alloc, text, version, view.master.plan().parts(), report),
+    }
+}

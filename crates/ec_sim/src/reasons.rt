@@ -1,0 +1,100 @@
+//! Why a line ended at an event that can't be made, as a printed line.
+ghost use Rattle.std.specs.Prelude.{◌≡◌, IfOk, is_some, string_bytes};
+ghost use Rattle.ec_diagnostic.specs.Reason.{IsReason};
+ghost use Rattle.ec_world.specs.Watching.{sent_of};
+
+use crate::scene::{Firmware, Scene};
+use ec_console::{Misfit, greatest};
+use ec_diagnostic::reason_line;
+use ec_link::{Link, Variable};
+use ec_script::LineAction;
+use ec_simulation::event_of;
+use ec_table::Direction;
+use ec_world::{Event, World};
+use std::alloc::{AllocError, Global};
+use std::fmt;
+
+/// Whether a cycle is open.
+pub fn has_cycle(world: &World<'_>) -> bool
+    ensures { result ≡ is_some (sent_of world.now 0) }
+{
+    world.sent(0).is_some()
+}
+
+/// Why a line ended at an event that can't be made, as a line with two blanks before it. The world of `scene` is the one that the line
+/// left, and the event changed nothing of it. `had_cycle` is what [`has_cycle`] returned before the line. If the line didn't end so, the
+/// words mean nothing.
+///
+/// # Errors
+///
+/// `AllocError` if there is no memory for the text.
+pub fn reason_text(
+    alloc: Global,
+    scene: Scene<'_, '_>,
+    action: LineAction,
+    had_cycle: bool,
+) -> Result<String, AllocError>
+    ensures { IfOk result (λ text. IsReason (string_bytes text)) }
+{
+    let why = Why {
+        scene,
+        action,
+        had_cycle,
+    };
+    let words = format!(in alloc; "{why}")?;
+    reason_line(alloc, words.as_str())
+}
+
+/// Why a line ended at an event that can't be made, in the world that it left. It is printed in words, or as nothing if there is
+/// nothing to say.
+#[derive(Clone, Copy)]
+struct Why<'w, 'p> {
+    scene: Scene<'w, 'p>,
+    action: LineAction,
+    had_cycle: bool,
+}
+
+impl fmt::Display for Why<'_, '_> {
+    fn fmt<W: fmt::Write>(&self, f: &mut fmt::Formatter<W>) -> fmt::Result {
+        let scene = self.scene;
+        match self.action {
+            LineAction::Input(variable, value) => match still_slave(scene.world, variable, value) {
+                Some(slave) => scene.write_event(f, Event::AppPut(slave, 0, 0)),
+                None => scene.write_unset(f, variable, Direction::In),
+            },
+            LineAction::Never(variable) => f.write(Misfit {
+                table: scene.table,
+                variable,
+            }),
+            LineAction::Ready => scene.write_event(f, Event::StartNext),
+            // a whole cycle wasn't begun, or a frame of it is held up
+            LineAction::Cycle if self.had_cycle || !has_cycle(scene.world) => {
+                scene.write_event(f, Event::Begin)
+            }
+            LineAction::Cycle => scene.write_held(f),
+            action => match event_of(action) {
+                Some(event) => scene.write_event(f, event),
+                None => Ok(()),
+            },
+        }
+    }
+}
+
+/// The first slave that has bits of an input variable and isn't in SAFEOP or OP, if the variable can hold the value.
+fn still_slave(world: &World<'_>, variable: usize, value: u64) -> Option<usize> {
+    let variable = *world.plan().variables().get(variable)?;
+    if variable.direction == Direction::Out || value > greatest(variable.bits) {
+        return None;
+    }
+    for link in world.plan().in_links() {
+        if is_of(variable, link) && !Firmware::of(world, link.slave).is_running {
+            return Some(link.slave);
+        }
+    }
+    None
+}
+
+/// Whether a link's bits of the image are among those of a variable.
+fn is_of(variable: Variable, link: &Link) -> bool {
+    link.image >= variable.from && link.image - variable.from < usize::from(variable.bits)
+}

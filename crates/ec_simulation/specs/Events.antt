@@ -1,0 +1,98 @@
+-- The events of a line. The work of a line, of `ready`, of `cycle` and of a whole script is a run of events (this
+-- project's profile).
+use Rattle.std.specs.Prelude.{ℕ, zero, suc, ◌<◌, ◌≤◌, ◌≡◌, ◌⊎◌, List, [], ◌∷◌, ◌++◌, length, replicate, take, get_or, slice_get, Bool, true, false, Option}
+use Rattle.ec_world.specs.declared.event.Event.{Event}
+use Rattle.ec_world.specs.declared.event.Event.TheVariants.{StartNext, Begin, Close}
+use Rattle.ec_world.specs.Laws.{IsRun}
+use Rattle.ec_world.specs.Plain.{filled}
+use Rattle.ec_world.specs.World.{Flight, WorldState, can_happen, flights_from}
+use Rattle.ec_script.specs.declared.line.LineAction.{LineAction}
+use Rattle.ec_script.specs.declared.line.LineAction.TheVariants.{Input, Never, Ready, Cycle}
+use Rattle.ec_script.specs.declared.line.Line.{Line}
+use Rattle.ec_script.specs.declared.output.LineOutput.{LineOutput}
+use Rattle.ec_simulation.specs.Inputs.{input_events, is_input_of}
+use Rattle.ec_simulation.specs.Rounds.{greatest, rounds, slots_with}
+use Rattle.ec_script.specs.Scripts.{repeated}
+use Rattle.ec_script.specs.Outputs.{is_done}
+use Rattle.ec_simulation.specs.Work.{Does, Onward, alone, event_of, has_ended, last_turn}
+
+-- ---- events as far as they can be made
+
+-- This many of the events are made, in their order; then there is none left, or the next can't be made.
+pub record AreMade (events : List Event) (old new : WorldState) (all : Bool) : Type 0 where
+  pub made : ℕ
+  pub within : made ≤ length events
+  pub run : IsRun old (take made events) new made
+  pub whole : all ≡ true → made ≡ length events
+  pub stopped : all ≡ false → (made < length events) × (can_happen new (get_or events made Close) ≡ false)
+
+-- ---- a cycle
+
+-- the slots after this many frames of a number were sent, into the lowest free ones; what is in the frames is left out
+abbrev pub slots_sent : ℕ → ℕ → List (Option Flight) → List (Option Flight)
+slots_sent count number slots = filled (flights_from number 0 (replicate count [])) slots
+
+-- the slots of the newest frames, rising
+abbrev pub newest_slots : List (Option Flight) → List ℕ
+newest_slots slots = slots_with (greatest slots) 0 slots
+
+-- `begin`; each part's frame past every slave and back; `close`
+abbrev pub cycle_events : WorldState → List Event
+cycle_events w =
+    Begin ∷ (rounds (length w.slaves) false (newest_slots (slots_sent (length w.master.plan.parts) w.master.next w.slots)) ++ (Close ∷ []))
+
+-- ---- a start-up
+
+-- A frame of a start-up is in the lowest slot, since it is sent only if no other is on its way.
+abbrev pub lowest_slot : {X : Type 0} → List X → List ℕ
+lowest_slot [] = []
+lowest_slot (slot ∷ slots) = 0 ∷ []
+
+-- `start`; the frame past every slave; each slave serves; the frame comes back
+abbrev pub turn_events : WorldState → List Event
+turn_events w = StartNext ∷ rounds (length w.slaves) true (lowest_slot w.slots)
+
+-- this many turns
+abbrev pub turns_events : WorldState → ℕ → List Event
+turns_events w zero = []
+turns_events w (suc turns) = turn_events w ++ turns_events w turns
+
+-- the start-up goes on after these events
+pub record GoesOn (events : List Event) (old : WorldState) : Type 0 where
+  pub mid : WorldState
+  pub made : AreMade events old mid true
+  pub going : has_ended mid ≡ false
+
+-- turn after turn until the start-up has ended, and no further; there are no more turns than numbers of frames
+pub record RunsReady (old new : WorldState) (all : Bool) : Type 0 where
+  pub turns : ℕ
+  pub most : turns ≤ last_turn
+  pub made : AreMade (turns_events old turns) old new all
+  pub before : (n : ℕ) → 0 < n → n < turns → GoesOn (turns_events old n) old
+  pub ended : all ≡ true → (has_ended new ≡ true) ⊎ (turns ≡ last_turn)
+
+-- ---- a line
+
+-- Whether all of its events could be made. A line that expects or prints something has none. A line that gives a variable a value
+-- that it can't have has none either, and can't be done.
+abbrev pub RunsLine : LineAction → WorldState → WorldState → Bool → Type 0
+RunsLine (Input v x) old new all = Onward (is_input_of x (slice_get old.plan.variables v)) (AreMade (input_events old v x) old new all) ((new ≡ old) × (all ≡ false))
+RunsLine (Never v) old new all = (new ≡ old) × (all ≡ false)
+RunsLine Ready old new all = RunsReady old new all
+RunsLine Cycle old new all = AreMade (cycle_events old) old new all
+RunsLine action old new all = AreMade (alone (event_of action)) old new all
+
+-- What a line does is a run of its events; it says `no` exactly if one can't be made.
+abbrev pub LinesRun : Type 0
+LinesRun = (action : LineAction) (old new : WorldState) (word : LineOutput) → Does action old new word → RunsLine action old new (is_done word)
+
+-- ---- a script
+
+-- lines one after another
+abbrev pub DoesAll : List Line → WorldState → WorldState → Type 0
+DoesAll [] old new = new ≡ old
+DoesAll (line ∷ lines) old new = (mid : WorldState) × (word : LineOutput) × Does line.action old mid word × DoesAll lines mid new
+
+-- A run of events does to a world what a script does, with each line as often as it is done.
+abbrev pub ScriptsRun : Type 0
+ScriptsRun = (lines : List Line) (old new : WorldState) → DoesAll (repeated lines) old new → (events : List Event) × IsRun old events new (length events)

@@ -1,0 +1,55 @@
+-- When what a line expects of a world holds (this project's profile): what its slaves have, and else what its master shows.
+use Rattle.std.specs.Prelude.{ℕ, ◌+◌, ◌-◌, ◌*◌, ◌%◌, ◌==◌, ◌&&◌, List, length, nat_le, slice_get, Bool, true, false, if◌then◌else◌, Option, Some, None}
+use Rattle.std.specs.List.{list_all}
+use Rattle.ec_al.specs.declared.state.State.{State}
+use Rattle.ec_al.specs.States.{state_number}
+use Rattle.ec_bits.specs.Bits.{bits_number}
+use Rattle.ec_link.specs.declared.image.Variable.{Variable}
+use Rattle.ec_link.specs.declared.plan.Link.{Link}
+use Rattle.ec_link.specs.LinkRuns.{is_out}
+use Rattle.ec_slave.specs.Application.{outputs_shown}
+use Rattle.ec_world.specs.World.{WorldState, is_slave, slave_of}
+use Rattle.ec_script.specs.declared.expectation.Expectation.{Expectation}
+use Rattle.ec_script.specs.declared.expectation.Expectation.TheVariants.{Is, State as InState}
+use Rattle.ec_script.specs.Expecting as master
+use Rattle.ec_simulation.specs.Inputs.{is_of, is_short, slave_byte, value_bytes}
+use Rattle.ec_simulation.specs.Views.{view_of}
+
+-- ---- values
+
+-- these published outputs have the link's bits, and they are the value's; 0x10000 bits are more than a slave's memory has room
+-- for
+abbrev pub has_bits : Variable → ℕ → Link → List ℕ → Bool
+has_bits v x l outputs =
+    nat_le (l.object_bit + l.count) 0x10000
+    && (nat_le (l.object_bit + l.count) (8 * length outputs)
+    && (bits_number outputs l.object_bit l.count == bits_number (value_bytes x) (l.image - v.from) l.count))
+
+-- the slave of a link of the variable publishes the value's bits
+abbrev pub is_published : WorldState → Variable → ℕ → Link → Bool
+is_published w v x l = if is_of v l then is_slave w l.slave && has_bits v x l (outputs_shown (slave_of w l.slave)) else true
+
+-- an output if all slaves publish their linked bits so; bits of the variable that aren't linked don't count
+abbrev pub is_value : WorldState → ℕ → ℕ → Option Variable → Bool
+is_value w n x None = false
+is_value w n x (Some v) =
+    if is_out v.direction then is_short v.bits x && list_all (is_published w v x) w.plan.out_links
+    else master.is_met (Is n x) (view_of w)
+
+-- ---- AL states, by the slave's registers
+
+-- the low nibble of AL status (0x0130)
+abbrev pub is_in_state : WorldState → ℕ → State → Bool
+is_in_state w s state = is_slave w s && (slave_byte w s 0x0130 % 16 == state_number state)
+
+-- the AL status code (0x0134), if one is given
+abbrev pub has_code : WorldState → ℕ → Option ℕ → Bool
+has_code w s None = true
+has_code w s (Some code) = slave_byte w s 0x0134 + 256 * slave_byte w s 0x0135 == code
+
+-- ---- whatever is expected
+
+abbrev pub is_met : Expectation → WorldState → Bool
+is_met (Is v x) w = is_value w v x (slice_get w.plan.variables v)
+is_met (InState s state code) w = is_in_state w s state && has_code w s code
+is_met expected w = master.is_met expected (view_of w)

@@ -1,0 +1,98 @@
+//! What a line does once, by its action.
+ghost use Rattle.std.specs.Prelude.{◌≡◌};
+ghost use Rattle.ec_script.specs.Outputs.{is_done, output_if};
+ghost use Rattle.ec_simulation.specs.Events.{RunsLine};
+ghost use Rattle.ec_simulation.specs.Expecting.{is_met};
+ghost use Rattle.ec_simulation.specs.Seeing.{Sees};
+ghost use Rattle.ec_simulation.specs.Work.{Does, event_of};
+
+use crate::inputs::put_input;
+use crate::met::is_met;
+use crate::rounds::{make, run_cycle, start_up};
+use ec_script::{Expectation, LineAction, LineOutput};
+use ec_world::{Event, Watcher, World};
+
+/// Does once what a line asks for, as [`do_action`](crate::do_action) does; a watcher makes its events, and may keep what it
+/// sees of them.
+#[tactic(auto, using(crate::proofs::Plans::action_keeps, crate::proofs::Running::lines_run))]
+pub fn watch_action<S: Watcher>(
+    world: &mut World<'_>,
+    watcher: &mut S,
+    action: LineAction,
+) -> LineOutput
+    ensures does { Does action world.old world.new result }
+    ensures run { RunsLine action world.old world.new (is_done result) }
+    ensures plan { world.new.plan ≡ world.old.plan }
+    ensures seen { Sees S.saw watcher.old world.old world.new watcher.new }
+{
+    perform(world, watcher, action)
+}
+
+/// The event of an action that is one; none for any other.
+pub fn event_of(action: LineAction) -> Option<Event>
+    ensures { result ≡ event_of action }
+{
+    match action {
+        LineAction::Start => Some(Event::StartNext),
+        LineAction::Set(variable, value) => Some(Event::Set(variable, value)),
+        LineAction::Begin => Some(Event::Begin),
+        LineAction::Pass(slot) => Some(Event::Pass(slot)),
+        LineAction::Lose(slot) => Some(Event::Lose(slot)),
+        LineAction::Return(slot) => Some(Event::Return(slot)),
+        LineAction::Close => Some(Event::Close),
+        LineAction::Serve(slave) => Some(Event::Serve(slave)),
+        LineAction::Put(slave, place, byte) => Some(Event::AppPut(slave, place, byte)),
+        LineAction::Get(slave, place) => Some(Event::AppGet(slave, place)),
+        LineAction::Fail(slave) => Some(Event::Fault(slave)),
+        LineAction::Reset(slave) => Some(Event::Reset(slave)),
+        LineAction::Input(_, _)
+        | LineAction::Never(_)
+        | LineAction::Expect(_)
+        | LineAction::Ready
+        | LineAction::Cycle
+        | LineAction::Show
+        | LineAction::Report => None,
+    }
+}
+
+/// Does once what a line asks for.
+#[tactic(auto, using(crate::proofs::Seeing::sees_none))]
+fn perform<S: Watcher>(world: &mut World<'_>, watcher: &mut S, action: LineAction) -> LineOutput
+    ensures does { Does action world.old world.new result }
+    ensures seen { Sees S.saw watcher.old world.old world.new watcher.new }
+{
+    match action {
+        LineAction::Start => make(world, watcher, Event::StartNext),
+        LineAction::Set(variable, value) => make(world, watcher, Event::Set(variable, value)),
+        LineAction::Begin => make(world, watcher, Event::Begin),
+        LineAction::Pass(slot) => make(world, watcher, Event::Pass(slot)),
+        LineAction::Lose(slot) => make(world, watcher, Event::Lose(slot)),
+        LineAction::Return(slot) => make(world, watcher, Event::Return(slot)),
+        LineAction::Close => make(world, watcher, Event::Close),
+        LineAction::Serve(slave) => make(world, watcher, Event::Serve(slave)),
+        LineAction::Put(slave, place, byte) => {
+            make(world, watcher, Event::AppPut(slave, place, byte))
+        }
+        LineAction::Get(slave, place) => make(world, watcher, Event::AppGet(slave, place)),
+        LineAction::Fail(slave) => make(world, watcher, Event::Fault(slave)),
+        LineAction::Reset(slave) => make(world, watcher, Event::Reset(slave)),
+        LineAction::Input(variable, value) => put_input(world, watcher, variable, value),
+        LineAction::Never(_) => LineOutput::No,
+        LineAction::Expect(expected) => expect(world, expected),
+        LineAction::Ready => start_up(world, watcher),
+        LineAction::Cycle => run_cycle(world, watcher),
+        LineAction::Show => LineOutput::Values,
+        LineAction::Report => LineOutput::Report,
+    }
+}
+
+/// The output of an expectation, by whether it holds.
+fn expect(world: &World<'_>, expected: Expectation) -> LineOutput
+    ensures { result ≡ output_if (is_met expected world.now) }
+{
+    if is_met(world, expected) {
+        LineOutput::Nothing
+    } else {
+        LineOutput::Unmet
+    }
+}

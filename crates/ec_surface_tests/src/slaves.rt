@@ -1,0 +1,196 @@
+//! The AL state machine, the SII, the mailbox, one slave, and slaves in a row.
+use ec_al::{Al, Checks};
+use ec_coe::{AbortCode, Dictionary, SdoValue, ValueSize, read_message, write_message};
+use ec_device::{Identity, SlaveType};
+use ec_frame::check;
+use ec_ring::{NotAFrame, Ring};
+use ec_sii::{Port, SiiImage};
+use ec_slave::Slave;
+use std::alloc::{AllocError, Global};
+use std::process::Abort;
+
+/// What a slave shows.
+const IDENTITY: Identity = Identity {
+    vendor: 0xABCD,
+    product: 3,
+    revision: 1,
+    serial: 4,
+};
+
+// ---- ec_al
+
+/// A request whose checks all pass.
+fn ask(al: &mut Al, control: u16) -> u16 {
+    al.request();
+    al.step(
+        control,
+        Checks {
+            mailbox: true,
+            outputs: true,
+            inputs: true,
+        },
+    );
+    al.status_word()
+}
+
+#[test]
+fn states(rt: HostRuntime) {
+    let mut al = Al::new();
+    let met = [ask(&mut al, 2), ask(&mut al, 4), ask(&mut al, 8)];
+    let has_fault = al.fault();
+    let fault = (al.status_word(), al.code());
+    al.reset();
+    assert_eq!(rt;
+        (met, has_fault, fault, al.status_word()),
+        ([2, 4, 8], true, (0x0014, 0x0001), 1)
+    );
+}
+
+// ---- ec_sii
+
+// Word 8 is the vendor's low word. It stands in the data, from 0x0508 on, once the firmware stepped.
+#[test]
+fn words_of_the_sii(rt: HostRuntime) {
+    let image = SiiImage::new(IDENTITY, None);
+    let word = image.word(8);
+    let mut port = Port::new(image);
+    port.write(0x0502, &[0, 1, 8, 0, 0, 0]);
+    let before = (port.read(0x0503), port.read(0x0508));
+    port.step();
+    assert_eq!(rt;
+        (word, before, port.read(0x0503), port.read(0x0508)),
+        (0xABCD, (0x81, 0), 0x00, 0xCD)
+    );
+}
+
+// ---- ec_coe
+
+/// An upload of the vendor, from object 0x1018.
+const UPLOAD: [u8; 16] = [
+    10, 0, 0, 0, 0, 0x13, 0, 0x20, 0x40, 0x18, 0x10, 1, 0, 0, 0, 0,
+];
+
+/// The reply to it.
+const REPLY: [u8; 16] = [
+    10, 0, 0, 0, 0, 0x13, 0, 0x30, 0x43, 0x18, 0x10, 1, 0xCD, 0xAB, 0, 0,
+];
+
+/// A message is read, and the reply to it is written, where there is room for it.
+fn expect_reply(rt: &impl Abort, objects: &mut Dictionary) {
+    let request = read_message(&UPLOAD).expect(rt, "a message");
+    let reply = objects.answer(true, &request, 1);
+    let mut mailbox = [7; 18];
+    let is_short = write_message(&reply, &mut mailbox[..15]).is_err();
+    write_message(&reply, &mut mailbox).expect(rt, "room");
+    assert_eq!(rt; (is_short, &mailbox[..16]), (true, REPLY.as_slice()));
+    assert!(rt; read_message(&UPLOAD[..15]).is_err());
+}
+
+/// The vendor's number, and another one.
+const VENDOR: SdoValue = SdoValue {
+    size: ValueSize::Four,
+    number: 0xABCD,
+};
+
+const OTHER: SdoValue = SdoValue {
+    size: ValueSize::Four,
+    number: 1,
+};
+
+/// Objects answer messages. The vendor can be read and not written. No PDO is assigned.
+fn expect_objects(rt: &impl Abort, objects: Result<Dictionary, AllocError>) {
+    let mut objects = objects.expect(rt, "memory");
+    expect_reply(rt, &mut objects);
+    let vendor = objects.upload(0x1018, 1);
+    let written = objects.download(true, 0x1018, 1, OTHER);
+    assert_eq!(rt;
+        (
+            vendor,
+            written,
+            objects.assigned_outputs().len(),
+            objects.assigned_inputs().len()
+        ),
+        (Ok(VENDOR), Err(AbortCode::ReadOnly), 0, 0)
+    );
+}
+
+#[test]
+fn objects(rt: HostRuntime) {
+    let kind = SlaveType::without_pdos(rt.alloc());
+    expect_objects(&rt, Dictionary::new(rt.alloc(), kind, IDENTITY));
+}
+
+// ---- ec_slave
+
+/// A broadcast read of the AL status, with index 1.
+const BROADCAST: [u8; 16] = [14, 16, 7, 1, 0, 0, 0x30, 1, 2, 0, 0, 0, 0, 0, 0, 0];
+
+/// The same as a slave in INIT leaves it, and as three do.
+const BACK: [u8; 16] = [14, 16, 7, 1, 1, 0, 0x30, 1, 2, 0, 0, 0, 1, 0, 1, 0];
+
+const BACK_FROM_THREE: [u8; 16] = [14, 16, 7, 1, 3, 0, 0x30, 1, 2, 0, 0, 0, 1, 0, 3, 0];
+
+/// A slave without PDOs, just switched on.
+fn plain_slave(alloc: Global) -> Result<Slave, AllocError> {
+    Slave::new(alloc, SlaveType::without_pdos(alloc), IDENTITY)
+}
+
+/// The frame passes a slave.
+fn passed(rt: &impl Abort, slave: &mut Slave) -> [u8; 16] {
+    let mut frame = BROADCAST;
+    check(&frame).expect(rt, "a frame");
+    slave.pass(&mut frame);
+    frame
+}
+
+/// A slave in INIT answers frames, and its application has no process data.
+fn expect_slave(rt: &impl Abort, slave: Result<Slave, AllocError>) {
+    let mut slave = slave.expect(rt, "memory");
+    assert_eq!(rt; passed(rt, &mut slave), BACK);
+    slave.serve();
+    let denied = (slave.app_put(0, 1), slave.app_get(0), slave.fault());
+    slave.reset();
+    assert_eq!(rt;
+        (denied, slave.app_sizes(), slave.outputs().len()),
+        ((false, None, false), (0, 0), 0)
+    );
+}
+
+#[test]
+fn slaves(rt: HostRuntime) {
+    expect_slave(&rt, plain_slave(rt.alloc()));
+}
+
+// ---- ec_ring
+
+/// Three slaves in a row.
+fn three_slaves(alloc: Global) -> Result<Ring, AllocError> {
+    let mut slaves = Vec::new(alloc);
+    for _ in 0..3 {
+        slaves.push(plain_slave(alloc)?)?;
+    }
+    Ok(Ring::new(slaves))
+}
+
+/// The AL status of a slave, by its bytes.
+fn status_of(slave: &Slave) -> Option<u8> {
+    slave.byte(0x0130)
+}
+
+/// The frame passes one slave, and then all of them. What is no frame passes none.
+fn expect_ring(rt: &impl Abort, ring: Result<Ring, AllocError>) {
+    let mut ring = ring.expect(rt, "memory");
+    assert!(rt; ring.len() == 3);
+    let (mut one, mut all) = (BROADCAST, BROADCAST);
+    ring.pass_one(&mut one, 1).expect(rt, "a frame");
+    ring.pass_all(&mut all).expect(rt, "a frame");
+    assert_eq!(rt; (one, all), (BACK, BACK_FROM_THREE));
+    assert!(rt; ring.pass_all(&mut one[..15]) == Err(NotAFrame));
+    assert_eq!(rt; status_of(ring.slave(1)), Some(1));
+    assert!(rt; !ring.slave_mut(1).fault());
+}
+
+#[test]
+fn rings(rt: HostRuntime) {
+    expect_ring(&rt, three_slaves(rt.alloc()));
+}

@@ -1,2 +1,0 @@
--- what is seen of an event, noted
-pub mod Watching

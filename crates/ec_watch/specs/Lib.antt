@@ -1,2 +1,0 @@
--- To be believed: what is seen of the frames of a world.
-pub mod Seeing

@@ -1,2 +1,0 @@
--- To be believed by reading: which lines a reason follows.
-pub mod Reasons

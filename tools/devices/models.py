@@ -1,0 +1,463 @@
+"""The devices: data sheets of terminals and drives, and variants that have one oddity each.
+
+Numbers of Beckhoff's terminals are those that `ethercat pdos` and ESI files show; where a figure is from memory of such lists it is
+marked (?). `Quick` is nobody's device: one that is without oddities, so that each variant shows one.
+"""
+from __future__ import annotations
+
+import struct
+
+from coe import EOE, Coe, emergency
+from esc import BYTEWISE, ET1100, ET1200, HAS_CLOCKS, NO_LRW, SII_CONTROL, SII_EIGHT, Chip
+from slave import BOOT, INIT, OP, PREOP, SAFEOP, WATCHDOG, Area, Pdo, Slave, Smart, Variable
+
+
+def channels(first: int, entry: int, count: int, step: int = 1) -> tuple[Pdo, ...]:
+    """An object of one bit for each channel, as digital terminals have them."""
+    return tuple(Pdo(first + place * step, ((entry + 0x10 * place, 1, 1),)) for place in range(count))
+
+
+def bits_of(entry: int, count: int) -> tuple[tuple[int, int], ...]:
+    return tuple((entry + 0x10 * place, 1) for place in range(count))
+
+
+# ---- terminals without firmware
+
+
+class EK1100(Slave):
+    """A coupler: no mailbox, no process data."""
+
+    product, revision = 0x044C2C52, 0x00110000
+    chip = ET1100
+
+
+class EK1122(Slave):
+    """A junction, here with a controller that has neither FMMUs nor sync managers."""
+
+    product, revision = 0x04622C52, 0x00110000
+    chip = Chip(0x11, 0, 0, 1, HAS_CLOCKS)
+
+
+class EL1008(Slave):
+    """Eight digital inputs on sync manager 0."""
+
+    product = 0x03F03052
+    chip = ET1200
+    in_area = Area(0, 0x1000, 0x00)
+    inputs = channels(0x1A00, 0x6000, 8)
+    variables = (Variable("switches", bits_of(0x6000, 8), 0xA5),)
+
+
+class EL1008Masked(EL1008):
+    """The same, if its controller didn't copy the acknowledge bit. A table of today has its inputs on manager 3."""
+
+    def begin(self) -> None:
+        self.esc.copied = 0x0F
+
+
+class EL2008(Slave):
+    """Eight digital outputs in the register of the pins, on sync manager 0 with a watchdog of 100 ms [ESC 0x0F00]."""
+
+    product, revision = 0x07D83052, 0x00110000
+    chip = ET1200
+    out_area = Area(0, 0x0F00, 0x44)
+    outputs = channels(0x1600, 0x7000, 8)
+    variables = (Variable("lamps", bits_of(0x7000, 8), 0xC5),)
+
+
+class EL2008Elsewhere(EL2008):
+    """The same with a table whose outputs begin in RAM, where no pins are; and the acknowledge bit isn't copied."""
+
+    told_out_start = 0x1000
+
+    def begin(self) -> None:
+        self.esc.copied = 0x0F
+
+
+# ---- analog and serial terminals
+
+
+SLOW = {PREOP: 0.080, SAFEOP: 0.050}
+
+
+class EL3102(Coe):
+    """Two analog inputs, of the older kind: a byte of status and a value for each; manager 2 has the length 0."""
+
+    product = 0x0C1E3052
+    mailbox = (0x1800, 246, 0x18F6, 246)
+    out_area, in_area = Area(2, 0x1000, 0x24), Area(3, 0x1100, 0x20)
+    inputs = tuple(Pdo(0x1A00 + place, ((0x3101 + place, 1, 8), (0x3101 + place, 2, 16))) for place in range(2))
+    variables = (Variable("first", ((0x3101, 2),), 0x1234), Variable("second", ((0x3102, 2),), 0xFFF6))
+    delays = {PREOP: 0.050, SAFEOP: 0.050}
+
+
+def analog(channel: int) -> tuple[Pdo, Pdo]:
+    """The standard and the compact object of a channel of an EL31xx."""
+    entry = 0x6000 + 0x10 * channel
+    status = ((entry, 1, 1), (entry, 2, 1), (entry, 3, 2), (entry, 5, 2), (entry, 7, 1), (0, 0, 1), (0, 0, 5))
+    toggles = ((entry, 14, 1), (entry, 15, 1), (entry, 16, 1), (entry, 17, 16))
+    return Pdo(0x1A00 + 2 * channel, status + toggles), Pdo(0x1A01 + 2 * channel, ((entry, 17, 16),))
+
+
+class EL3104(Coe):
+    """Four analog inputs with their status."""
+
+    product, revision = 0x0C203052, 0x00150000
+    inputs = tuple(pdo for channel in range(4) for pdo in analog(channel))
+    variables = tuple(Variable(f"value{n}", ((0x6000 + 0x10 * n, 17),), value) for n, value in enumerate((0x7FFF, 0x8000, 0x0001, 0xFFFF)))
+    assigns = delivered = ((), (0x1A00, 0x1A02, 0x1A04, 0x1A06))
+    excludes = tuple((0x1A00 + 2 * n, 0x1A01 + 2 * n) for n in range(4))
+    delays = SLOW
+
+
+class EL3104Compact(EL3104):
+    """The same with the compact object of each channel."""
+
+    assigns = ((), (0x1A01, 0x1A03, 0x1A05, 0x1A07))
+
+
+class EL4002(Coe):
+    """Two analog outputs. It enters OP once it has received outputs in SAFEOP, and waits 9 s for them."""
+
+    product, revision = 0x0FA23052, 0x00140000
+    outputs = (Pdo(0x1600, ((0x7000, 1, 16),)), Pdo(0x1601, ((0x7010, 1, 16),)))
+    variables = (Variable("first", ((0x7000, 1),), 0x1234), Variable("second", ((0x7010, 1),), 0x8001))
+    delays, patience = SLOW, 9.0
+
+
+class EL4002Quick(EL4002):
+    """The same with transitions that take no time."""
+
+    delays = {}
+
+
+class EL4002Impatient(EL4002Quick):
+    """The same with firmware that refuses OP at once if there are no outputs."""
+
+    patience = 0.0
+
+
+def serial(index: int, entry: int) -> tuple[Pdo, ...]:
+    """22 bytes and a word of control or status."""
+    return (Pdo(index, ((entry, 1, 16), *((entry, 17 + place, 8) for place in range(22)))),)
+
+
+class EL6001(Coe):
+    """A serial interface: 24 bytes each way (?)."""
+
+    product, revision = 0x17713052, 0x00140000
+    outputs, inputs = serial(0x1604, 0x7000), serial(0x1A04, 0x6000)
+    variables = (
+        Variable("control", ((0x7000, 1),), 0x0101), Variable("sent", ((0x7000, 17), (0x7000, 38)), 0x5AA5),
+        Variable("status", ((0x6000, 1),), 0x0201), Variable("received", ((0x6000, 17), (0x6000, 38)), 0xC33C))
+    patience = 9.0
+
+
+class EL6224(Coe):
+    """An IO-Link master with an entry of 240 bits, which no table can say."""
+
+    product, revision = 0x18503052, 0x00120000
+    inputs = (Pdo(0x1A00, ((0x6000, 1, 240),)),)
+
+
+# ---- a device without oddities, and its variants
+
+
+class Quick(Coe):
+    """Eight digital outputs and an analog input; nothing takes time, and OP needs no outputs. It assigns all its objects."""
+
+    vendor, product, revision = 0x5A5, 0x0100, 3
+    outputs = (Pdo(0x1600, ((0x7000, 1, 8),)),)
+    inputs = (Pdo(0x1A00, ((0x6000, 1, 16),)),)
+    variables = (Variable("lamps", ((0x7000, 1),), 0xA5), Variable("force", ((0x6000, 1),), 0xBEEF))
+
+
+class NoLrw(Quick):
+    """Its controller doesn't know LRW [ESC 0x0008 bit 9]."""
+
+    product = 0x0101
+    chip = Chip(0x11, 8, 8, 8, NO_LRW)
+
+
+class TwoFmmus(Quick):
+    product = 0x0102
+    chip = Chip(0x04, 2, 4, 4)
+
+
+class ThreeFmmus(Quick):
+    product = 0x0103
+    chip = Chip(0x12, 3, 4, 4)
+
+
+class LeftFmmu(Quick):
+    """An ESC with eight FMMUs, of which a former master left number 5 on the first logical address, as an input of the output's byte."""
+
+    product = 0x0104
+    inputs = ()
+    variables = (Variable("lamps", ((0x7000, 1),), 0xA5),)
+
+    def begin(self) -> None:
+        super().begin()
+        self.poke(0x0650, struct.pack("<IHBBHBBB", 0x10000, 1, 0, 7, 0x1400, 0, 1, 1))
+
+
+class FourthManager(Quick):
+    """Process data on managers 4 and 5."""
+
+    product = 0x0105
+    out_area, in_area = Area(4, 0x1100, 0x24), Area(5, 0x1180, 0x20)
+
+
+class Bare(Smart):
+    """Firmware without process data on a controller without FMMUs and sync managers."""
+
+    vendor, product, revision = 0x5A5, 0x0106, 3
+    chip = Chip(0x02, 0, 0, 1)
+
+
+class Emergencies(Quick):
+    """It sends two emergencies as it enters PREOP."""
+
+    product = 0x0107
+    greetings = (emergency(0x5000), emergency(0xFF00, 0x81, b"hello"))
+
+
+class Chatty(Emergencies):
+    """It sends them whenever it has no reply to send."""
+
+    product = 0x011F
+    is_chatty = True
+
+
+class EndlessEmergencies(Chatty):
+    """It sends nothing else."""
+
+    product = 0x0108
+    is_mute = True
+
+
+class OtherProtocol(Quick):
+    """An Ethernet frame waits in its mailbox as it enters PREOP."""
+
+    product = 0x0109
+    greetings = ((EOE, bytes(14)),)
+
+
+class LateSdo(Quick):
+    """It takes 0.3 s to answer a request for the mapping of its inputs."""
+
+    product = 0x010A
+    late = {(0x1A00, 0): 0.3}
+
+
+class Seconds(Quick):
+    """States take up to three seconds, as ETG.1020 allows."""
+
+    product = 0x010B
+    delays = {PREOP: 2.0, SAFEOP: 3.0}
+
+
+class Unsized(Quick):
+    """The reply to an upload doesn't say how many of its bytes are the value's."""
+
+    product = 0x010C
+    is_unsized = True
+
+
+class Deaf(Quick):
+    """It takes no message, so its mailbox is full for ever."""
+
+    product = 0x010D
+    is_deaf = True
+
+
+class WrongIndex(Quick):
+    """It answers with another index."""
+
+    product = 0x010E
+    is_wrong = True
+
+
+class FixedAssignment(Quick):
+    """Its assignment can't be written."""
+
+    product = 0x010F
+    fixed = True
+
+
+class OtherMapping(Quick):
+    """As delivered it maps another entry than its table; the mapping can be written."""
+
+    product = 0x0110
+    maps, mapped = True, {0x1600: ((0x7001, 1, 8), (0x7001, 2, 8))}
+    init = ((0x1C12, 0, 8, 0), (0x1600, 0, 8, 0), (0x1600, 1, 32, 0x70000108), (0x1600, 0, 8, 1))
+
+
+class BigMailbox(Quick):
+    product = 0x0111
+    mailbox = (0x1800, 1024, 0x1C00, 1024)
+
+
+class NewerRevision(Quick):
+    """It was bought a year after its table was written."""
+
+    product, revision, told_revision = 0x0112, 4, 3
+    any_revision = True
+
+
+class SiiOfPdi(Quick):
+    """The SII was given to the PDI, as SOEM and TwinCAT leave it."""
+
+    product = 0x0113
+    sii_is_given = True
+
+
+class SiiFailed(Quick):
+    """A former command to the SII ended with an error."""
+
+    product = 0x0114
+    sii_has_failed = True
+
+
+class SiiByEight(Quick):
+    """Its SII is read eight bytes at a time."""
+
+    product = 0x0115
+
+    def begin(self) -> None:
+        super().begin()
+        self.esc.put_word(SII_CONTROL, SII_EIGHT)
+
+
+class ReadsSii(Quick):
+    """Its firmware reads the SII on its way to PREOP, and refuses that state if it may not."""
+
+    product = 0x0116
+    reads_sii = True
+
+
+class LeftInOp(Quick):
+    product, left = 0x0117, (OP, 0)
+
+
+class LeftInSafeop(Quick):
+    product, left = 0x0118, (SAFEOP, WATCHDOG)
+
+
+class LeftInBoot(Quick):
+    product, boots, left = 0x0119, True, (BOOT, 0)
+
+
+class LeftInError(Quick):
+    product, left = 0x011A, (INIT, 0x0011)
+
+
+class Twelve(Quick):
+    """Twelve bits of outputs in RAM, where bits can't be written one by one."""
+
+    product = 0x011B
+    outputs, inputs = (Pdo(0x1600, ((0x7000, 1, 12),)),), ()
+    variables = (Variable("setpoint", ((0x7000, 1),), 0x123),)
+
+
+class Nibble(Quick):
+    """Four bits of outputs, on a controller whose FMMUs know whole bytes alone."""
+
+    product = 0x011C
+    chip = Chip(0x02, 4, 4, 4, BYTEWISE)
+    outputs, inputs = (Pdo(0x1600, ((0x7000, 1, 4),)),), ()
+    variables = (Variable("lamps", ((0x7000, 1),), 0x5),)
+
+
+class Falls(Quick):
+    """In OP it takes three outputs, and then falls back to SAFEOP with an error. Its managers stay on."""
+
+    product = 0x011D
+    falls_after = 3
+
+
+class Refuses(Quick):
+    """It has no object that its table wants to be downloaded."""
+
+    product = 0x011E
+    init = ((0x6060, 0, 8, 8),)
+
+
+# ---- drives
+
+
+# states of CiA 402 by their status word [IEC 61800-7-201, "Finite state automaton"], and a status word's bit "remote"
+DISABLED, READY_TO_SWITCH, SWITCHED_ON, ENABLED = 0x0040, 0x0021, 0x0023, 0x0027
+REMOTE = 0x0200
+# cyclic synchronous position, and the most that the position changes by a cycle
+CSP, STRIDE = 8, 1000
+
+
+class Drive(Coe):
+    """A servo drive of CiA 402. Its position follows its target in mode 8, which is set by an SDO download."""
+
+    vendor, product, revision = 0x5A5, 0x0402, 3
+    mailbox = (0x1000, 256, 0x1200, 256)
+    out_area, in_area = Area(2, 0x1400, 0x64), Area(3, 0x1600, 0x20)
+    outputs = (Pdo(0x1600, ((0x6040, 0, 16), (0x607A, 0, 32))),)
+    inputs = (Pdo(0x1A00, ((0x6041, 0, 16), (0x6064, 0, 32))),)
+    variables = (
+        Variable("control", ((0x6040, 0),), 0), Variable("target", ((0x607A, 0),), 0),
+        Variable("status", ((0x6041, 0),), 0), Variable("position", ((0x6064, 0),), 0))
+    settings = {(0x6060, 0): (0, 1), (0x60C2, 1): (1, 1)}
+    init = ((0x6060, 0, 8, CSP), (0x60C2, 1, 8, 2))
+    delays, patience, sdo_time = {PREOP: 0.3, SAFEOP: 0.05}, 9.0, 0.004
+    script = (
+        "set {}_control 6", "repeat 2 cycle", "expect {}_status 0x221", "set {}_control 7", "repeat 2 cycle", "expect {}_status 0x223",
+        "set {}_control 15", "repeat 2 cycle", "expect {}_status 0x227", "set {}_target 4711", "repeat 8 cycle", "expect {}_position 4711",
+        "plant {} position 4711", "set {}_target -300", "repeat 8 cycle", "expect {}_position -300", "plant {} position -300")
+
+    def begin(self) -> None:
+        super().begin()
+        self.axis, self.position = DISABLED, 0
+
+    def follow(self) -> None:
+        """A control word and a target came in OP."""
+        control, target = struct.unpack("<Hi", self.outside)
+        self.axis = next_state(self.axis, control)
+        if self.axis == ENABLED and self.objects[0x6060, 0] == bytes([CSP]):
+            self.position += max(-STRIDE, min(STRIDE, target - self.position))
+
+    def enter(self, state: int) -> None:
+        super().enter(state)
+        if state != OP:
+            self.axis = DISABLED
+
+    def measured(self) -> bytes:
+        return struct.pack("<Hi", self.axis | REMOTE, self.position)
+
+    def looks(self) -> dict[str, str]:
+        return super().looks() | {"position": str(self.position)}
+
+
+def next_state(state: int, control: int) -> int:
+    """The state behind a control word: disable voltage, shutdown, switch on, enable operation [IEC 61800-7-201]."""
+    if control & 0x82 == 0 or control & 0x86 == 2:
+        return DISABLED
+    if control & 0x87 == 6:
+        return READY_TO_SWITCH
+    if control & 0x8F == 7 and state in (READY_TO_SWITCH, ENABLED):
+        return SWITCHED_ON
+    if control & 0x8F == 15 and state in (READY_TO_SWITCH, SWITCHED_ON):
+        return SWITCHED_ON if state == READY_TO_SWITCH else ENABLED
+    return state
+
+
+class DriveQuick(Drive):
+    """The same without waits, and OP needs no outputs: so only its mode is missing."""
+
+    delays, patience, sdo_time = {}, None, 0.0
+
+
+class DriveByClocks(DriveQuick):
+    """A drive that runs by distributed clocks alone: SAFEOP needs SYNC0 [AL status code 0x0030]."""
+
+    product = 0x0403
+
+    def safeop_fault(self) -> int:
+        return super().safeop_fault() or (0 if self.esc.memory[0x0981] & 1 else 0x0030)

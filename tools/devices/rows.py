@@ -1,0 +1,131 @@
+"""What is tried: rows of devices, what is done with them, and how `ecat master` ends with each.
+
+An end is `up`, or `up, but ..` with what the plant shows otherwise, or the refusal of the start-up or of the table with its values.
+Each row has a table of today's keys and one for hardware. Ends may only get better: if you teach the master a device, write its new end
+here.
+"""
+from __future__ import annotations
+
+from dataclasses import dataclass
+
+import models
+from slave import Slave
+from tables import is_output, names_of
+
+CYCLES = 5
+# what is done with a row once it is up and its variables are set. `plant NAME WHAT VALUE` looks at a device, `silence MS` lets time pass
+# without frames, every other line is the master's
+MORE: dict[str, tuple[str, ...]] = {
+    # the watchdog switches the pins off, and the state stays; the next cycle brings them back [ESC 0x0420]
+    "EL2008": ("silence 90", "plant el2008 pins c5", "silence 200", "plant el2008 pins 00", "plant el2008 state OP", "cycle", "plant el2008 pins c5"),
+    # EL4002's manager feeds no watchdog by its control byte 0x24, a drive's does by 0x64: it falls back
+    "Drive": ("silence 200", "cycle", "plant drive state SAFEOP+ERROR 001b"),
+    "EL4002": ("silence 200", "cycle", "plant el4002 pins 34120180"),
+}
+# rows of several devices; each device also is a row of its own
+SEVERAL: dict[str, list[type[Slave]]] = {
+    "digital": [models.EK1100, models.EL1008, models.EL2008],
+    "branches": [models.EK1100, models.EL2008, models.EK1122, models.EL1008, models.EL2008, models.EL1008],
+    "machine": [models.EK1100, models.EL1008, models.EL2008, models.EL3104, models.EL4002, models.Drive],
+    "odd": [models.Quick, models.LeftInOp, models.TwoFmmus, models.NoLrw, models.LeftInSafeop, models.ThreeFmmus, models.SiiByEight, models.LeftInBoot],
+    "nibbles": [models.Nibble, models.Nibble],
+    # as many slaves as there may be, each with a mailbox
+    "many": [models.Quick] * 64,
+}
+# the end of each row with a table of today's keys
+EXPECTED: dict[str, str] = {
+    # the acknowledge bit is copied, so INIT is never seen
+    "EK1100": "31 TooSlow 2", "EK1122": "31 TooSlow 2", "EL1008": "31 TooSlow 2",
+    "EL1008Masked": "up",
+    # a table can't say the register of the pins; in RAM nothing lights up
+    "EL2008": "25 OutsideRam 0",
+    "EL2008Elsewhere": "up, but pins 00, wanted c5; no manager has the outputs at 0x0f00; no FMMU has the outputs at 0x0f00",
+    # PREOP takes longer than 1000 polls
+    "EL3102": "31 TooSlow 16", "EL3104": "31 TooSlow 16", "EL3104Compact": "31 TooSlow 16", "EL4002": "31 TooSlow 16",
+    "Seconds": "31 TooSlow 16", "Drive": "31 TooSlow 16",
+    # outputs don't come before OP
+    "EL4002Quick": "31 TooSlow 38", "EL4002Impatient": "29 AlError 0 27", "EL6001": "31 TooSlow 132",
+    "EL6224": "13 BadValue 1 0",
+    "Quick": "up", "NoLrw": "up", "TwoFmmus": "up", "ThreeFmmus": "up",
+    "LeftFmmu": "up, but unmet `expect taken`; 2 FMMUs are active, wanted 1",
+    "FourthManager": "29 AlError 0 29",
+    "Bare": "28 Counter 3",
+    # a message that nobody asked for is taken for the reply
+    "Emergencies": "9 BadMailbox 0", "Chatty": "9 BadMailbox 0", "EndlessEmergencies": "9 BadMailbox 0", "OtherProtocol": "9 BadMailbox 0",
+    "LateSdo": "31 TooSlow 22", "Deaf": "31 TooSlow 18", "WrongIndex": "9 BadMailbox 0", "Unsized": "9 BadMailbox 0",
+    # 0x06010002: the object can only be read
+    "FixedAssignment": "30 Abort 0 100728834",
+    "OtherMapping": "38 Mapping 0 5632 0 2",
+    "BigMailbox": "up",
+    "NewerRevision": "27 Identity 0 1445 274 4",
+    "SiiOfPdi": "27 Identity 0 0 0 0", "SiiFailed": "27 Identity 0 0 0 0", "SiiByEight": "up", "ReadsSii": "29 AlError 0 80",
+    "LeftInOp": "up", "LeftInSafeop": "up", "LeftInBoot": "up", "LeftInError": "up",
+    # bits of a byte in RAM can't be written one by one
+    "Twelve": "up, but pins 23f1, wanted 2301",
+    "Nibble": "up",
+    "nibbles": "up, but nibble: pins 55, wanted 05; nibble_2: pins 55, wanted 05",
+    "Falls": "up, but state SAFEOP+ERROR 001d; pins 00, wanted a5",
+    "Refuses": "up",
+    # nothing sets its mode
+    "DriveQuick": "up, but unmet `expect drivequick_position 4711`; drivequick: position 0, wanted 4711; "
+                  "unmet `expect drivequick_position -300`; drivequick: position 0, wanted -300",
+    "DriveByClocks": "29 AlError 0 48",
+    "digital": "25 OutsideRam 2", "branches": "25 OutsideRam 1", "machine": "25 OutsideRam 2",
+    "odd": "up", "many": "up",
+}
+# the end of each row with its table for hardware: NO_KEYS as long as the master doesn't know the keys, but for these rows
+NO_KEYS = "12 BadKey 0 0"
+EXPECTED_HARDWARE: dict[str, str] = {}
+# the end that a table for hardware shall come to: `up`, but for these rows
+GOALS: dict[str, str] = {
+    # entries of over 64 bits, and managers over 3, can't be said
+    "EL6224": "13 BadValue 1 0", "FourthManager": "13 BadValue 1 0",
+    # no reply comes, or none to the request; the object isn't there (0x06020000)
+    "Deaf": "31 TooSlow 23", "EndlessEmergencies": "31 TooSlow 23", "WrongIndex": "9 BadMailbox 0", "Refuses": "30 Abort 0 100794368",
+    # there are no distributed clocks
+    "DriveByClocks": "29 AlError 0 48",
+    # a real slave goes on counting in SAFEOP
+    "Falls": "up, but state SAFEOP+ERROR 001d; pins 00, wanted a5",
+}
+
+
+def expected(name: str) -> tuple[str, str]:
+    """The ends of a row: with a table of today's keys, and with one for hardware."""
+    return EXPECTED.get(name, "an end in rows.py"), EXPECTED_HARDWARE.get(name, NO_KEYS)
+
+
+def goal(name: str) -> str:
+    return GOALS.get(name, "up")
+
+
+@dataclass(frozen=True)
+class Row:
+    """Devices in a row, by name."""
+
+    name: str
+    kinds: list[type[Slave]]
+
+    def lines(self) -> list[str]:
+        """What is done once the slaves are up: outputs are set, cycles run, inputs are expected; then what a device has besides."""
+        names = list(zip(names_of(self.kinds), self.kinds))
+        rows = [(f"{name}_{one.name}", one, is_output(kind, one)) for name, kind in names if not kind.script for one in kind.variables]
+        found = [f"set {title} {one.value}" for title, one, is_out in rows if is_out]
+        found += [f"repeat {CYCLES} cycle", "expect taken"]
+        found += [f"expect {title} {one.value}" for title, one, is_out in rows if not is_out]
+        for name, kind in names:
+            found += [line.format(name) for line in kind.script or ()]
+        return found
+
+    def more(self) -> tuple[str, ...]:
+        return MORE.get(self.name, ())
+
+
+def all_devices() -> list[type[Slave]]:
+    """The devices of models.py in its order."""
+    kinds = [kind for kind in vars(models).values() if isinstance(kind, type) and issubclass(kind, Slave)]
+    return [kind for kind in kinds if kind.__module__ == "models"]
+
+
+def all_rows() -> dict[str, Row]:
+    single = {kind.__name__: Row(kind.__name__, [kind]) for kind in all_devices()}
+    return single | {name: Row(name, kinds) for name, kinds in SEVERAL.items()}
