@@ -10,9 +10,11 @@ mod phase;
 mod requests;
 mod script;
 mod startup;
+mod steps;
 mod verdict;
 
 pub use crate::action::{Action, SdoRequest, Transfer};
 pub use crate::error::StartError;
 pub use crate::phase::{NextFrame, Phase, Taken};
 pub use crate::startup::{Startup, StartupRest};
+pub use crate::steps::step_at;
