@@ -1,15 +1,13 @@
 //! The bytes that a part brought back, in memory of their own.
 ghost use Rattle.std.specs.Prelude.{◌≡◌, ◌≤◌, [], length};
 
+use ec_link::MAX_PART_BYTES;
 use std::marker::Model;
-
-/// The most bytes that a part has.
-const MAX_BYTES: usize = 1422;
 
 /// The bytes that a part brought back. `replace` touches only as many bytes of `room` as there are.
 #[derive(Drop)]
 pub struct Content {
-    room: [u8; MAX_BYTES],
+    room: [u8; MAX_PART_BYTES],
     count: usize,
 }
 
@@ -29,7 +27,7 @@ impl Content {
         ensures { result ≡ [] }
     {
         Content {
-            room: [0; MAX_BYTES],
+            room: [0; MAX_PART_BYTES],
             count: 0,
         }
     }
