@@ -1,2 +1,4 @@
 -- one event, and then by induction the runs of them
 pub mod RunLemmas
+-- the names of states
+pub mod NameLemmas

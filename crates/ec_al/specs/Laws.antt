@@ -1,7 +1,7 @@
 -- What ETG.1000.6 says of the EtherCAT state machine, proved of the definitions of this crate.
-use Rattle.std.specs.Prelude.{ℕ, ◌+◌, ◌≡◌, ◌≢◌, ◌<◌, ◌≤◌, ◌↔◌, ◌⊎◌, true, false, List, [], ◌∷◌, ◌++◌, take, IsOk, IfOk, All}
+use Rattle.std.specs.Prelude.{ℕ, ◌+◌, ◌≡◌, ◌≢◌, ◌<◌, ◌≤◌, ◌↔◌, ◌⊎◌, true, false, List, [], ◌∷◌, ◌++◌, take, Some, IsOk, IfOk, All}
 use Rattle.ec_regs.specs.Words.{al_state}
-use Rattle.ec_al.specs.States.{state_number, bootstrap_number}
+use Rattle.ec_al.specs.States.{state_number, state_name, state_named, bootstrap_number}
 use Rattle.ec_al.specs.Transitions.{requested_number, requested_by, acknowledges, answer}
 use Rattle.ec_al.specs.Al.{Al, power_on, status_word, requesting, stepped, IsSound}
 use Rattle.ec_al.specs.Runs.{Event, Request, Step, Fault, Reset, after_all}
@@ -112,3 +112,7 @@ ComesUpToOp =
     (checks : Checks) → PassesChecks checks PreOp → PassesChecks checks SafeOp →
     status_word (after_all power_on
     (asked_for 0x0002 checks ++ asked_for 0x0004 checks ++ asked_for 0x0008 checks)) ≡ 0x0008
+
+-- The name of a state stands for that state.
+abbrev pub NamesReadBack : Type 0
+NamesReadBack = (state : State) → state_named (state_name state) ≡ Some state

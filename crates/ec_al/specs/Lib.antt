@@ -1,4 +1,4 @@
--- To be believed: the numbers (States), the table of transitions (Transitions) and the state machine (Al). Runs and Laws
+-- To be believed: numbers and names (States), the table of transitions (Transitions) and the state machine (Al). Runs and Laws
 -- say what follows, in the standard's words.
 pub mod States
 pub mod Transitions

@@ -1,7 +1,7 @@
 //! What the standard says of the EtherCAT state machine, proved of the definitions that the contracts of this
 //! crate cite. Each function does nothing; its contract is the law, which `specs/Laws.antt` spells out.
 
-ghost use Rattle.ec_al.specs.Laws.{AsksByNumber, GrantsUpToTheNextState, ClimbsOneStateAtATime, KeepsErrors, ReachesOpByRequest, CodeTellsErrors, NeverEntersBootstrap, DecidesOnce, ReturnsToInit, ComesUpToOp};
+ghost use Rattle.ec_al.specs.Laws.{AsksByNumber, GrantsUpToTheNextState, ClimbsOneStateAtATime, KeepsErrors, ReachesOpByRequest, CodeTellsErrors, NeverEntersBootstrap, DecidesOnce, ReturnsToInit, ComesUpToOp, NamesReadBack};
 
 /// A control word asks for a state exactly by that state's number.
 pub fn asks_by_number()
@@ -56,4 +56,10 @@ pub fn returns_to_init()
 /// Requests for PREOP, SAFEOP and OP lead from INIT to OP if all checks pass.
 pub fn comes_up_to_op()
     ensures { ComesUpToOp }
+{}
+
+/// The name of a state stands for that state.
+#[tactic(auto, using(crate::proofs::NameLemmas::names_read_back))]
+pub fn names_read_back()
+    ensures { NamesReadBack }
 {}

@@ -7,9 +7,11 @@ pub mod laws;
 mod machine;
 mod state;
 mod status_code;
+mod status_text;
 mod transition;
 
 pub use crate::machine::Al;
 pub use crate::state::State;
 pub use crate::status_code::StatusCode;
+pub use crate::status_text::StatusText;
 pub use crate::transition::{Checks, Requested};

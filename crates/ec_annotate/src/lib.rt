@@ -14,4 +14,4 @@ pub use crate::carried::{
     variable_at, write_process,
 };
 pub use crate::names::Names;
-pub use crate::remark::{abort_text, sii_text, status_text, write_remarks};
+pub use crate::remark::{sii_text, write_remarks};

@@ -11,12 +11,20 @@ mod copying;
 mod fields;
 pub mod laws;
 
-ghost use Rattle.std.specs.Prelude.{◌≡◌, ◌<◌, ◌*◌, length, is_some};
+ghost use Rattle.std.specs.Prelude.{◌≡◌, ◌<◌, ◌≤◌, ◌*◌, ◌^◌, nat_lt, length, is_some};
 ghost use Rattle.ec_bits.specs.Bits.{bit, put as with_put, put_told as with_put_told, within as is_within};
 
 pub use crate::by_words::{copy_by_words, copy_slice};
 pub use crate::copying::copy_bits;
 pub use crate::fields::{read_bits, write_bits};
+
+/// Whether a number has at most `bits` bits.
+pub fn is_short(value: u64, bits: u8) -> bool
+    requires { bits ≤ 64 }
+    ensures { result ≡ nat_lt value (2 ^ bits) }
+{
+    bits == 64 || value < 1u64 << bits
+}
 
 /// Whether `at` is one of the `count` numbers that begin at `from`.
 pub fn within(from: usize, count: usize, at: usize) -> bool

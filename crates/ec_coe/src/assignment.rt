@@ -9,12 +9,9 @@ ghost use Rattle.ec_coe.specs.Transfers.{distinct, takes_count as takes_count_of
 
 use crate::abort_code::AbortCode;
 use crate::value::SdoValue;
-use ec_device::Pdo;
+use ec_device::{MAX_BITS, Pdo};
 use std::alloc::{AllocError, Global};
 use std::marker::Model;
-
-/// The most bits that the PDOs assigned in one direction may have together.
-pub const MAX_BITS: usize = 2048;
 
 /// The PDO assignment of one direction, object 0x1C12 or 0x1C13: a slot for each PDO of the type, and how many of the slots
 /// count. It allocates all its memory in `new`.

@@ -4,6 +4,7 @@
 #![tactic(auto)]
 
 mod abort_code;
+mod abort_text;
 mod assignment;
 mod bytes;
 mod dictionary;
@@ -16,7 +17,8 @@ mod reply_bytes;
 mod value;
 
 pub use crate::abort_code::AbortCode;
-pub use crate::assignment::{Assignment, MAX_BITS, find_pdo};
+pub use crate::abort_text::AbortText;
+pub use crate::assignment::{Assignment, find_pdo};
 pub use crate::dictionary::{
     Dictionary, IDENTITY_OBJECT, INPUT_ASSIGNMENT, OUTPUT_ASSIGNMENT, entry_number,
 };

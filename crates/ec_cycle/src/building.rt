@@ -1,18 +1,14 @@
 //! Builds the frames of a cycle.
-ghost use Rattle.std.specs.Prelude.{◌≡◌, ◌≤◌, ◌<◌, ◌+◌, ◌*◌, ◌∷◌, ◌++◌, [], length, if◌then◌else◌};
-ghost use Rattle.std.specs.Int.{to_le_bytes, w16, w64};
+ghost use Rattle.std.specs.Prelude.{◌≡◌, ◌≤◌, ◌<◌, ◌+◌, ◌*◌, ◌%◌, ◌∷◌, ◌++◌, [], length, if◌then◌else◌};
 ghost use Rattle.ec_bits.specs.Bits.{zeros};
 ghost use Rattle.ec_frame.specs.Building.{bare_payload, new_datagram};
 ghost use Rattle.ec_frame.specs.Datagram.{joined};
 ghost use Rattle.ec_frame.specs.Frame.{IsFrame};
 ghost use Rattle.ec_cycle.specs.Frames.{cyclic_datagrams, process_datagrams, returned_first};
 
-use ec_frame::{Builder, Command, Frame, address_of};
-use ec_link::PartPlan;
+use ec_frame::{Builder, Command, Frame, address_of, index_of, name_of};
+use ec_link::{MAX_SPLIT_BYTES, PartPlan};
 use ec_regs::registers;
-
-/// The most bytes of process data in a part that goes by an LWR and an LRD.
-const MAX_SPLIT: usize = 705;
 
 /// The cyclic frame of a part: cycle `number`, part `place`, and the process data `sent`.
 #[tactic(auto, using(ec_frame::proofs::Builds::joined_push))]
@@ -22,19 +18,18 @@ pub fn build(part: &PartPlan, number: u64, place: usize, sent: &[u8]) -> Frame
     requires small { (if part.now.split then 2 * part.now.bytes + 12 else part.now.bytes) ≤ 1422 }
     ensures { IsFrame result.items (bare_payload (cyclic_datagrams part.now number place 0 (zeros 2) sent.now (returned_first part.now sent.now) [])) }
 {
-    let index = (number % 256) as u8;
     let mut builder = Builder::new();
     append(
         &mut builder,
         Command::Nop,
-        index,
+        number,
         0,
-        &name_of(number, place),
+        &name_of(number, place as u16),
     );
     append(
         &mut builder,
         Command::Brd,
-        index,
+        number,
         address_of(0, registers::AL_STATUS as u16),
         &[0, 0],
     );
@@ -49,47 +44,35 @@ fn append_process(builder: &mut Builder, part: &PartPlan, number: u64, sent: &[u
     requires small { (if part.now.split then 2 * part.now.bytes + 12 else part.now.bytes) ≤ 1422 }
     ensures { builder.new ≡ builder.old ++ process_datagrams part.now number sent.now (returned_first part.now sent.now) [] }
 {
-    let index = (number % 256) as u8;
     if part.bytes == 0 {
         return;
     }
     if part.split {
         let nothing = nothing();
-        append(builder, Command::Lwr, index, part.address, sent);
+        append(builder, Command::Lwr, number, part.address, sent);
         append(
             builder,
             Command::Lrd,
-            index,
+            number,
             part.address,
             &nothing[..part.bytes],
         );
     } else {
-        append(builder, Command::Lrw, index, part.address, sent);
+        append(builder, Command::Lrw, number, part.address, sent);
     }
 }
 
 /// The data of the longest LRD as it is sent: zeros.
-fn nothing() -> [u8; MAX_SPLIT]
+fn nothing() -> [u8; MAX_SPLIT_BYTES]
     ensures { result ≡ zeros 705 }
 {
-    [0; MAX_SPLIT]
+    [0; MAX_SPLIT_BYTES]
 }
 
-/// The name of a frame: the cycle's number in eight bytes, and the part in two, little-endian.
-fn name_of(number: u64, part: usize) -> [u8; 10]
-    requires { part < 65536 }
-    ensures { result ≡ to_le_bytes w64 number ++ to_le_bytes w16 part }
-{
-    let mut name = [0; 10];
-    name[..8].copy_from_slice(&number.to_le_bytes());
-    name[8..].copy_from_slice(&(part as u16).to_le_bytes());
-    name
-}
-
-/// Appends a datagram, for which there is room.
-fn append(builder: &mut Builder, command: Command, index: u8, address: u32, content: &[u8])
+/// Appends a datagram of the frame of this number, for which there is room.
+fn append(builder: &mut Builder, command: Command, number: u64, address: u32, content: &[u8])
     requires { length (joined builder.old) + 12 + length content.now ≤ 1470 }
-    ensures { builder.new ≡ builder.old ++ new_datagram command index address content.now ∷ [] }
+    ensures { builder.new ≡ builder.old ++ new_datagram command (number % 256) address content.now ∷ [] }
 {
-    let _ = builder.add(command, index, address, content);
+    let _ = builder.add(command, index_of(number), address, content);
 }

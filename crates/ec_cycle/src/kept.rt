@@ -19,11 +19,8 @@ use crate::matching::{counter_at, data_at};
 use crate::renewing::renew;
 use crate::run::BitRun;
 use ec_frame::{DatagramSpan, Frame};
-use ec_link::{ExpectedCounters, Plan};
+use ec_link::{ExpectedCounters, MAX_PART_BYTES, Plan};
 use std::marker::Model;
-
-/// The most bytes that a part has.
-const MAX_BYTES: usize = 1422;
 
 /// The frame of a part, as it was sent.
 #[derive(Drop)]
@@ -169,7 +166,7 @@ impl Returned {
 /// The bytes that a part brought back. `replace` touches only as many bytes of `room` as there are.
 #[derive(Drop)]
 struct Content {
-    room: [u8; MAX_BYTES],
+    room: [u8; MAX_PART_BYTES],
     count: usize,
 }
 
@@ -189,7 +186,7 @@ impl Content {
         ensures { result ≡ [] }
     {
         Content {
-            room: [0; MAX_BYTES],
+            room: [0; MAX_PART_BYTES],
             count: 0,
         }
     }

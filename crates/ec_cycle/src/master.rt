@@ -1,5 +1,5 @@
 //! The master of the cyclic frames: its image, its open cycle and its report.
-ghost use Rattle.std.specs.Prelude.{◌&&◌, nat_lt, set, if◌then◌else◌, ◌≡◌, ◌≤◌, ◌<◌, ◌+◌, ◌*◌, ◌^◌, ◌↔◌, ℕ, [], Option, Some, None, length, replicate, slice_get, get_or, true, false, is_some, IfOk, IsErr, IfErr, OnOk, OnErr};
+ghost use Rattle.std.specs.Prelude.{◌&&◌, set, if◌then◌else◌, ◌≡◌, ◌≤◌, ◌<◌, ◌+◌, ◌*◌, ◌^◌, ◌↔◌, ℕ, [], Option, Some, None, length, replicate, slice_get, get_or, true, false, is_some, IfOk, IsErr, IfErr, OnOk, OnErr};
 ghost use Rattle.ec_bits.specs.Bits.{zeros, bytes_of_bits};
 ghost use Rattle.ec_frame.specs.Building.{bare_payload};
 ghost use Rattle.ec_frame.specs.Frame.{IsFrame};
@@ -25,9 +25,9 @@ use crate::matching::{answered, first_places};
 use crate::renewing::fill;
 use crate::report::{Report, missing_of};
 use crate::run::{BitRun, InputRun, runs_by_part, runs_of_inputs};
-use ec_bits::{copy_by_words, read_bits, write_bits};
+use ec_bits::{copy_by_words, is_short, read_bits, write_bits};
 use ec_frame::{Frame, check};
-use ec_link::{ExpectedCounters, Plan};
+use ec_link::{ExpectedCounters, MAX_PART_BYTES, Plan};
 use ec_listed::Listed;
 use ec_start::{HeldPlan, Startup, Taken};
 use ec_table::Direction;
@@ -317,15 +317,6 @@ fn can_hold(plan: &Plan, variable: usize, value: u64) -> bool
     }
 }
 
-/// Whether a number has at most `bits` bits.
-fn is_short(value: u64, bits: u8) -> bool
-    requires some { 1 ≤ bits }
-    requires few { bits ≤ 64 }
-    ensures { result ≡ nat_lt value (2 ^ bits) }
-{
-    bits == 64 || value < 1u64 << bits
-}
-
 /// Forgets what came back of each part.
 fn forget(kept: &mut [Returned])
     ensures { (k : ℕ) → k < length kept.new → get_or kept.new k None ≡ None }
@@ -399,10 +390,10 @@ fn frame_for(plan: &Plan, part: usize, runs: &[BitRun], number: u64, image: &[u8
 }
 
 /// Room for the process data of a part, all 0.
-fn blank() -> [u8; 1422]
+fn blank() -> [u8; MAX_PART_BYTES]
     ensures { result ≡ zeros 1422 }
 {
-    [0; 1422]
+    [0; MAX_PART_BYTES]
 }
 
 /// Copies the linked input bits of each unit that is taken out of what its parts brought back.

@@ -7,6 +7,7 @@ ghost use Rattle.ec_frame.specs.Frame.{Payload, IsFrame};
 ghost use Rattle.ec_cycle.specs.Matching.{Answered, SameAt, SameFrom, StandsFor, FirstStand, StepsOn, NextAre, Names};
 
 use crate::kept::{Returned, SentFrame};
+use ec_frame::field::NAME_LEN;
 use ec_frame::{DatagramCursor, DatagramSpan, Header, read_counter, read_data};
 
 /// The places of a frame's first four datagrams, in bytes; from 0 to 0 for each that isn't there.
@@ -93,7 +94,7 @@ fn named_part(payload: &[u8], span: DatagramSpan) -> Option<usize>
     ensures named { (o : Option Datagram) → StandsFor payload.now span o → Names o result }
 {
     let name = data_at(payload, span);
-    if name.len() != 10 {
+    if name.len() != NAME_LEN {
         return None;
     }
     Some(usize::from(name[8]) + 256 * usize::from(name[9]))

@@ -11,13 +11,14 @@ ghost use Rattle.ec_cycle.specs.Kept.{IsMade};
 ghost use Rattle.ec_cycle.specs.Renewing.{front_bytes, process_spelled};
 
 use crate::run::{BitRun, copy_runs};
-use ec_frame::field::{FRAME_HEADER_LEN, HEADER_LEN, INDEX, OVERHEAD};
+use ec_frame::field::{FRAME_HEADER_LEN, HEADER_LEN, INDEX, NAME_LEN, OVERHEAD};
+use ec_frame::index_of;
 use ec_link::{PartPlan, Plan};
 
 /// The offset in bytes of the datagram that names a frame.
 const NAME: usize = FRAME_HEADER_LEN;
-/// The offset in bytes of the broadcast, behind the ten bytes of the name.
-const STATUS: usize = NAME + OVERHEAD + 10;
+/// The offset in bytes of the broadcast, behind the name.
+const STATUS: usize = NAME + OVERHEAD + NAME_LEN;
 /// The offset in bytes of the process datagrams, behind the two bytes of the AL status.
 const PROCESS: usize = STATUS + OVERHEAD + 2;
 
@@ -59,7 +60,7 @@ fn renumber_process(process: &mut [u8], part: &PartPlan, number: u64)
     if part.bytes == 0 {
         return;
     }
-    let index = (number % 256) as u8;
+    let index = index_of(number);
     process[INDEX] = index;
     if part.split {
         process[OVERHEAD + part.bytes + INDEX] = index;
@@ -71,7 +72,7 @@ fn renumber(front: &mut [u8], number: u64)
     requires { length front.old ≡ 38 }
     ensures { (a b : ℕ) (more : Bool) (n k : ℕ) → front.old ≡ a ∷ b ∷ front_bytes more n k → front.new ≡ a ∷ b ∷ front_bytes more number k }
 {
-    let index = (number % 256) as u8;
+    let index = index_of(number);
     front[NAME + INDEX] = index;
     front[NAME + HEADER_LEN..NAME + HEADER_LEN + 8].copy_from_slice(&number.to_le_bytes());
     front[STATUS + INDEX] = index;

@@ -12,11 +12,11 @@ ghost use Rattle.ec_decode.specs.Stating.{datagram_of, heading_of};
 
 use crate::line::{Heading, Stated};
 use ec_frame::Command;
-use ec_frame::field::OVERHEAD;
+use ec_frame::field::{FRAME_HEADER_LEN, MAX_FRAME_LEN, OVERHEAD};
 use std::alloc::{AllocError, Global};
 
 /// How many bytes of datagrams a frame has at most.
-const MAX_AREA: usize = 1470;
+const MAX_AREA: usize = MAX_FRAME_LEN - FRAME_HEADER_LEN;
 
 /// In a datagram's flags: the place of the reserved bits, behind the length.
 const RESERVED_BITS: u32 = 11;

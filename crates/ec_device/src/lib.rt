@@ -5,7 +5,7 @@ pub mod laws;
 mod slave_type;
 
 pub use crate::slave_type::{
-    Device, Entry, FIRST_INPUT_INDEX, FIRST_OUTPUT_INDEX, Face, Identity, MAX_ENTRIES,
+    Device, Entry, FIRST_INPUT_INDEX, FIRST_OUTPUT_INDEX, Face, Identity, MAX_BITS, MAX_ENTRIES,
     MAX_ENTRY_BITS, MAX_MAILBOX_SIZE, MAX_NAME, MAX_PDOS, MIN_MAILBOX_SIZE, Mailbox, PDO_INDICES,
     Pdo, SlaveType, are_within_limits, copied_pdos, have_own_indices,
 };

@@ -19,6 +19,8 @@ pub const MAX_PDOS: usize = 16;
 pub const MAX_ENTRIES: usize = 64;
 /// How many bits an entry may have.
 pub const MAX_ENTRY_BITS: u8 = 64;
+/// How many bits the PDOs may have together that a slave assigns in one direction.
+pub const MAX_BITS: usize = 2048;
 /// The fewest bytes of a mailbox: one message with an expedited SDO.
 pub const MIN_MAILBOX_SIZE: u16 = 16;
 /// The most bytes of a mailbox.

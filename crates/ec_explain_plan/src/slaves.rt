@@ -2,13 +2,11 @@
 use crate::areas::{Area, first_free, first_met, first_outside};
 use crate::places::{SlaveAt, assignment_key, word_of};
 use crate::twice::tell_entry_twice;
+use ec_device::MAX_BITS;
 use ec_diagnostic::{MarkedPart, PathStep, Telling};
 use ec_link::LinkFault;
 use ec_regs::registers::{RAM_END, RAM_START};
 use ec_table::{Direction, Table};
-
-/// How many bits of a direction a slave has at most.
-const MAX_BITS: usize = 2048;
 
 /// What to do about a device whose outputs lie in its output register.
 const LEAVE_OUT: &str =

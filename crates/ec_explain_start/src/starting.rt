@@ -218,7 +218,7 @@ fn at_step(telling: &mut Telling<'_>, fault: StartFault<'_>) {
     let Some(found) = fault.step() else {
         return;
     };
-    match found.slave {
+    match found.slave() {
         Some(slave) => at_slave(telling, slave, fault),
         None => telling.note(fault),
     }

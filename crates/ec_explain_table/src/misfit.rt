@@ -1,10 +1,13 @@
 //! Why a value doesn't fit what its key takes.
 use crate::rule::{DIRECTIONS, Rule, TRUTHS, last_index, word_of};
-use ec_device::{MAX_ENTRIES, MAX_NAME, MAX_PDOS};
+use ec_device::{MAX_ENTRIES, MAX_MAILBOX_SIZE, MAX_NAME, MAX_PDOS, MIN_MAILBOX_SIZE};
 use ec_diagnostic::{MarkedPart, PathStep, Printable, Telling, is_among, printed};
-use ec_table::{Place, Section};
+use ec_table::{LAST_BIT, MAX_U8, MAX_U16, MAX_VALUE_BITS, Place, Section};
 use std::fmt;
 use toml::{Table, Value};
+
+/// The fewest and the most bytes of a mailbox.
+const MAILBOX_SIZES: (u32, u32) = (MIN_MAILBOX_SIZE as u32, MAX_MAILBOX_SIZE as u32);
 
 /// Room for the steps to a value. The longest way in a link table, to a number of an entry of a PDO of a type, has 7.
 const STEPS: usize = 8;
@@ -49,11 +52,11 @@ pub struct Mark<'s> {
 /// The keys of a PDO.
 pub static PDO_KEYS: [&str; 2] = ["index", "entries"];
 
-static MAILBOX: [(u32, u32); 4] = [(0, 65535), (16, 1024), (0, 65535), (16, 1024)];
+static MAILBOX: [(u32, u32); 4] = [(0, MAX_U16), MAILBOX_SIZES, (0, MAX_U16), MAILBOX_SIZES];
 
-static LINK_BITS: [(u32, u32); 3] = [(0, 63), (0, 63), (1, 64)];
+static LINK_BITS: [(u32, u32); 3] = [(0, LAST_BIT), (0, LAST_BIT), (1, MAX_VALUE_BITS)];
 
-static ENTRY: [(u32, u32); 3] = [(0, 65535), (0, 255), (1, 64)];
+static ENTRY: [(u32, u32); 3] = [(0, MAX_U16), (0, MAX_U8), (1, MAX_VALUE_BITS)];
 
 impl<'s> Mark<'s> {
     /// Where an element begins.

@@ -1,7 +1,7 @@
 //! The keys of a link table, and what each takes.
 use ec_device::{FIRST_INPUT_INDEX, FIRST_OUTPUT_INDEX, MAX_PDOS, PDO_INDICES};
 use ec_diagnostic::comma;
-use ec_table::Section;
+use ec_table::{MAX_U8, MAX_U16, MAX_UNIT, MAX_VALUE_BITS, Section};
 use std::fmt;
 use toml::Table;
 
@@ -43,8 +43,8 @@ static TYPE_KEYS: [Key; 10] = [
     ("product", Rule::Number(0, u32::MAX), true),
     ("revision", Rule::Number(0, u32::MAX), true),
     ("mailbox", Rule::Mailbox, false),
-    ("out_start", Rule::Number(0, 65535), true),
-    ("in_start", Rule::Number(0, 65535), true),
+    ("out_start", Rule::Number(0, MAX_U16), true),
+    ("in_start", Rule::Number(0, MAX_U16), true),
     ("rxpdo", Rule::Pdos(FIRST_OUTPUT_INDEX), false),
     ("txpdo", Rule::Pdos(FIRST_INPUT_INDEX), false),
     ("lrw", Rule::Truth, false),
@@ -56,20 +56,20 @@ static SLAVE_KEYS: [Key; 6] = [
     ("out", Rule::Indices(FIRST_OUTPUT_INDEX), false),
     ("in", Rule::Indices(FIRST_INPUT_INDEX), false),
     ("serial", Rule::Number(0, u32::MAX), false),
-    ("unit", Rule::Number(0, 63), false),
+    ("unit", Rule::Number(0, MAX_UNIT), false),
 ];
 
 static VARIABLE_KEYS: [Key; 3] = [
     ("name", Rule::Name, true),
     ("dir", Rule::Direction, true),
-    ("bits", Rule::Number(1, 64), true),
+    ("bits", Rule::Number(1, MAX_VALUE_BITS), true),
 ];
 
 static LINK_KEYS: [Key; 5] = [
     ("var", Rule::Name, true),
     ("slave", Rule::Name, true),
-    ("index", Rule::Number(1, 65535), true),
-    ("sub", Rule::Number(0, 255), true),
+    ("index", Rule::Number(1, MAX_U16), true),
+    ("sub", Rule::Number(0, MAX_U8), true),
     ("bits", Rule::LinkBits, false),
 ];
 

@@ -10,14 +10,14 @@ ghost use Rattle.ec_frame.specs.Datagram.{Datagram, joined};
 ghost use Rattle.ec_frame.specs.Frame.{IsFrame};
 
 use crate::command::Command;
-use crate::field::{DATAGRAMS, FLAGS_HIGH, FRAME_HEADER_LEN, MORE, OVERHEAD};
+use crate::field::{DATAGRAMS, FLAGS_HIGH, FRAME_HEADER_LEN, MAX_FRAME_LEN, MORE, OVERHEAD};
 use arrayvec::ArrayVec;
 use byteorder::{ByteOrder, LittleEndian};
 use std::marker::Model;
 use thiserror::Error;
 
 /// The frame of an EtherCAT UDP datagram: two bytes of header, and at most 1470 of datagrams.
-pub type Frame = ArrayVec<u8, 1472>;
+pub type Frame = ArrayVec<u8, MAX_FRAME_LEN>;
 
 /// The datagram doesn't fit beside those that are there: all datagrams have at most 1470 bytes.
 #[derive(Clone, Copy, Debug, PartialEq, Eq, Drop, Error)]

@@ -26,6 +26,9 @@ pub(crate) const COUNTER_LEN: usize = 2;
 /// What a datagram has beside its data.
 pub const OVERHEAD: usize = 12;
 
+/// The bytes of a frame's name, the data of its first datagram.
+pub const NAME_LEN: usize = 10;
+
 /// How many bytes of datagrams a frame has at most: what an Ethernet frame leaves a UDP payload,
 /// 1500 - 20 - 8, without the frame's header.
 pub(crate) const MAX_AREA: u16 = 1470;

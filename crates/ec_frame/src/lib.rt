@@ -1,5 +1,5 @@
 //! EtherCAT frames (ETG.1000.4, "EtherCAT frame structure"): the test of a payload, a pass over
-//! its datagrams, their fields, and a builder.
+//! its datagrams, their fields, a builder, and the names of a master's frames.
 #![tactic(auto)]
 
 mod builder;
@@ -10,6 +10,7 @@ mod datagram;
 mod error;
 pub mod field;
 pub mod laws;
+mod name;
 mod walk;
 
 pub use crate::builder::{Builder, Frame, Full, Sent, write_pair};
@@ -21,4 +22,5 @@ pub use crate::datagram::{
     write_adp, write_counter,
 };
 pub use crate::error::FrameError;
+pub use crate::name::{index_of, name_of};
 pub use crate::walk::{Handler, pass};

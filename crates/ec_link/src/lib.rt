@@ -20,6 +20,7 @@ mod spans;
 pub use crate::compiling::compile;
 pub use crate::fault::{LinkError, LinkFault};
 pub use crate::image::Variable;
+pub use crate::layout::{MAX_PART_BYTES, MAX_SPLIT_BYTES};
 pub use crate::machine::{Machine, MachineError};
 pub use crate::plan::{ExpectedCounters, Link, PartPlan, Plan};
 pub use crate::settings::{Share, SlavePlan};

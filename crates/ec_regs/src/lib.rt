@@ -15,3 +15,5 @@ pub use crate::manager::{
     decode_manager, encode_manager,
 };
 pub use crate::words::{AlWord, SiiControl};
+/// What a slave of one type is, and the identity of one slave.
+pub use ec_device::{Identity, SlaveType};

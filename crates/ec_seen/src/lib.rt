@@ -1,12 +1,9 @@
-//! Frames by the standard's names: the registers of a slave, by name and address; AL states by their numbers; and the
-//! datagrams that bytes spell.
+//! Frames by the standard's names: the registers of a slave, by name and address, and the datagrams that bytes spell.
 #![tactic(auto)]
 
 pub mod laws;
 mod register;
 mod seen;
-mod state;
 
 pub use crate::register::{REGISTERS, Register, register_at, register_bytes, registers_within};
 pub use crate::seen::{Seen, first_seen};
-pub use crate::state::state_of;

@@ -9,6 +9,9 @@ use ec_device::{Identity, Mailbox, SlaveType};
 use ec_listed::Listed;
 use std::alloc::{AllocError, Global};
 
+/// A short name of a slave's SII.
+pub type Image = SiiImage;
+
 /// The words of a slave's SII (ETG.1000.6, "Slave information interface area").
 #[derive(Debug, Drop)]
 pub struct SiiImage {

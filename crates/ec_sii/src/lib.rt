@@ -9,5 +9,5 @@ mod image;
 pub mod laws;
 mod port;
 
-pub use crate::image::SiiImage;
+pub use crate::image::{Image, SiiImage};
 pub use crate::port::Port;

@@ -28,13 +28,14 @@ datagram_is (SendRequest i before b r) number = refl
 datagram_is (AwaitReply i b r) number = refl
 
 -- both datagrams of the frame of an action
-pub framed : (a : Action) (number : ℕ) (name bytes : List ℕ) (command : Command) (address : ℕ)
+pub framed : (a : Action) (number index : ℕ) (name bytes : List ℕ) (command : Command) (address : ℕ) → index ≡ number % 256
     → name ≡ to_le_bytes w64 number ++ to_le_bytes w16 0 → command ≡ (datagram_of a 0).command → address ≡ (datagram_of a 0).address → bytes ≡ (datagram_of a 0).data_bytes
-    → new_datagram Nop (number % 256) 0 name ∷ new_datagram command (number % 256) address bytes ∷ [] ≡ frame_of a number
-framed a number name bytes command address named commanded addressed told =
+    → new_datagram Nop index 0 name ∷ new_datagram command index address bytes ∷ [] ≡ frame_of a number
+framed a number index name bytes command address indexed named commanded addressed told =
     let first : Datagram = numbered number 0 in
-    ap (λ (xs : List ℕ). new_datagram Nop (number % 256) 0 xs ∷ new_datagram command (number % 256) address bytes ∷ []) named
+    ap (λ (n : ℕ). new_datagram Nop n 0 name ∷ new_datagram command n address bytes ∷ []) indexed
+    ∙ (ap (λ (xs : List ℕ). new_datagram Nop (number % 256) 0 xs ∷ new_datagram command (number % 256) address bytes ∷ []) named
     ∙ (ap (λ (c : Command). first ∷ new_datagram c (number % 256) address bytes ∷ []) commanded
     ∙ (ap (λ (n : ℕ). first ∷ new_datagram (datagram_of a 0).command (number % 256) n bytes ∷ []) addressed
     ∙ (ap (λ (xs : List ℕ). first ∷ new_datagram (datagram_of a 0).command (number % 256) (datagram_of a 0).address xs ∷ []) told
-    ∙ ap (λ (d : Datagram). first ∷ d ∷ []) (sym (datagram_is a number)))))
+    ∙ ap (λ (d : Datagram). first ∷ d ∷ []) (sym (datagram_is a number))))))

@@ -1,5 +1,5 @@
 -- The step of a start-up and its place in the script.
-use Rattle.std.proofs.Common.{◌≡◌, ℕ, zero, suc, ◌+◌, ◌<◌, ◌≤◌, List, [], ◌∷◌, length, drop, map, get_or, slice_get, Some, Bool, true, false, nat_lt, refl, sym, ap, subst, ◌∙◌, arith}
+use Rattle.std.proofs.Common.{◌≡◌, ℕ, zero, suc, ◌+◌, ◌<◌, ◌≤◌, List, [], ◌∷◌, length, drop, map, get_or, slice_get, Some, None, Bool, true, false, nat_lt, refl, sym, ap, subst, ◌∙◌, arith}
 use Rattle.std.proofs.lemmas.Bool.{lt-ltb, le-ltb}
 use Rattle.ec_coe.specs.Objects.{has_some}
 use Rattle.ec_frame.specs.Datagram.{Datagram}
@@ -20,7 +20,7 @@ use Rattle.ec_start.specs.Running.{StartState, is_sent, is_ended, with_shown, ac
 use Rattle.ec_start.specs.Ahead.{opening, ahead, IsSettled}
 use Rattle.ec_start.specs.Answered.{answered, Answers, IsAnswerAt}
 use Rattle.ec_start.specs.Held.{first_step, IsAtStep}
-use Rattle.ec_start.proofs.Aheads.{ahead_here, script_ahead}
+use Rattle.ec_start.proofs.Aheads.{ahead_here, script_ahead, get_none}
 
 -- ---- lists
 
@@ -29,6 +29,12 @@ get_of_drop [] zero x ys d e = absurd (let f : [] ≡ x ∷ ys = e in cc)
 get_of_drop [] (suc k) x ys d e = absurd (let f : [] ≡ x ∷ ys = e in cc)
 get_of_drop (z ∷ zs) zero x ys d e = let f : z ∷ zs ≡ x ∷ ys = e in cc
 get_of_drop (z ∷ zs) (suc k) x ys d e = get_of_drop zs k x ys d e
+
+slice_of_drop : {X : Type 0} (xs : List X) (k : ℕ) (x : X) (ys : List X) → drop k xs ≡ x ∷ ys → slice_get xs k ≡ Some x
+slice_of_drop [] zero x ys e = absurd (let f : [] ≡ x ∷ ys = e in cc)
+slice_of_drop [] (suc k) x ys e = absurd (let f : [] ≡ x ∷ ys = e in cc)
+slice_of_drop (z ∷ zs) zero x ys e = let f : z ∷ zs ≡ x ∷ ys = e in let g : z ≡ x = cc in ap Some g
+slice_of_drop (z ∷ zs) (suc k) x ys e = slice_of_drop zs k x ys e
 
 rest_of_drop : {X : Type 0} (xs : List X) (k : ℕ) (x : X) (ys : List X) → drop k xs ≡ x ∷ ys → drop (k + 1) xs ≡ ys
 rest_of_drop [] zero x ys e = absurd (let f : [] ≡ x ∷ ys = e in cc)
@@ -82,6 +88,19 @@ pub ends : (ps : List SlavePlan) (place : ℕ) (s : Step) → IsAtStep ps place 
 ends ps place s h e =
     let rest : drop (place + 1) (script ps) ≡ ahead ps (record s.cursor { place = s.cursor.place + 1 }) = rest_of_drop (script ps) place s.action _ (stands ps place s h) in
     le-ltb (place + 1) (length (script ps)) (none_of_drop (script ps) (place + 1) (rest ∙ e))
+
+-- ---- a step by its number
+
+pub step_found : (ps qs : List SlavePlan) (place : ℕ) (s : Step) → ps ≡ qs → IsAtStep ps place s → Some s.action ≡ slice_get (script qs) place
+step_found ps qs place s e h =
+    sym (slice_of_drop (script ps) place s.action _ (stands ps place s h)) ∙ ap (λ (xs : List SlavePlan). slice_get (script xs) place) e
+
+pub step_past : (ps qs : List SlavePlan) (place number : ℕ) (s : Step) → ps ≡ qs → place < number → IsAtStep ps place s
+    → ahead ps (record s.cursor { place = s.cursor.place + 1 }) ≡ [] → None ≡ slice_get (script qs) number
+step_past ps qs place number s e lt h end =
+    let rest : drop (place + 1) (script ps) ≡ ahead ps (record s.cursor { place = s.cursor.place + 1 }) = rest_of_drop (script ps) place s.action _ (stands ps place s h) in
+    let few : length (script ps) ≤ place + 1 = none_of_drop (script ps) (place + 1) (rest ∙ end) in
+    sym (get_none (script ps) number (omega (arith, few, lt))) ∙ ap (λ (xs : List SlavePlan). slice_get (script xs) number) e
 
 pub sent_runs : (p : Phase) → is_sent p ≡ true → is_ended p ≡ false
 sent_runs Idle e = refl

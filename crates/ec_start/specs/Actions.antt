@@ -1,7 +1,7 @@
 -- What a start-up does, action by action, and the datagram of each (ETG.1000.4, "Register description"; ETG.1000.6, "AL
 -- state machine", "SDO services"; which init commands come is this project's profile). One action is one step: a wait is one
 -- with all its polls.
-use Rattle.std.specs.Prelude.{ℕ, ◌+◌, ◌-◌, ◌*◌, ◌/◌, ◌%◌, List, [], ◌∷◌, ◌++◌, length}
+use Rattle.std.specs.Prelude.{ℕ, ◌+◌, ◌-◌, ◌*◌, ◌/◌, ◌%◌, List, [], ◌∷◌, ◌++◌, length, Option, Some, None}
 use Rattle.std.specs.Int.{to_le_bytes, w16, w64}
 use Rattle.ec_bits.specs.Bits.{zeros}
 use Rattle.ec_regs.specs.Memory.{station_address, al_control, al_status, sii_control, fmmus, fmmu_place, sync_managers, manager_place}
@@ -23,6 +23,19 @@ use Rattle.ec_start.specs.declared.action.Transfer.TheVariants.{Download, Upload
 use Rattle.ec_start.specs.declared.action.SdoRequest.{SdoRequest}
 use Rattle.ec_start.specs.declared.action.Action.{Action}
 use Rattle.ec_start.specs.declared.action.Action.TheVariants.{CountSlaves, AskInit, AwaitInit, ClearFmmus, ClearManagers, ClearStations, NameSlave, AskWord, AwaitWord, SetManager, SetFmmu, AskState, AwaitState, SendRequest, AwaitReply}
+
+-- the slave that an action is for; none if it is for all slaves
+abbrev pub slave_of_action : Action → Option ℕ
+slave_of_action (NameSlave i) = Some i
+slave_of_action (AskWord i which) = Some i
+slave_of_action (AwaitWord i which) = Some i
+slave_of_action (SetManager i n m) = Some i
+slave_of_action (SetFmmu i n f) = Some i
+slave_of_action (AskState i state) = Some i
+slave_of_action (AwaitState i state) = Some i
+slave_of_action (SendRequest i before b r) = Some i
+slave_of_action (AwaitReply i b r) = Some i
+slave_of_action _ = None
 
 -- the station address of slave i
 abbrev pub station : ℕ → ℕ

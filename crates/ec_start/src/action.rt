@@ -2,7 +2,7 @@
 
 ghost use Rattle.std.specs.Prelude.{◌≡◌, ◌≤◌, ◌-◌, ◌%◌, ◌/◌, length};
 ghost use Rattle.ec_bits.specs.Bits.{zeros};
-ghost use Rattle.ec_start.specs.Actions.{station, word_place, request_message, datagram_of};
+ghost use Rattle.ec_start.specs.Actions.{station, slave_of_action, word_place, request_message, datagram_of};
 ghost use Rattle.ec_start.specs.Scripts.{downloads, uploads};
 ghost use Rattle.ec_start.specs.Doable.{IsDoable};
 
@@ -168,6 +168,24 @@ impl SdoRequest {
 }
 
 impl Action {
+    /// The slave that it is for; none if it is for all slaves.
+    pub fn slave(&self) -> Option<usize>
+        ensures { result ≡ slave_of_action self.now }
+    {
+        match *self {
+            Action::NameSlave { slave }
+            | Action::AskWord { slave, .. }
+            | Action::AwaitWord { slave, .. }
+            | Action::SetManager { slave, .. }
+            | Action::SetFmmu { slave, .. }
+            | Action::AskState { slave, .. }
+            | Action::AwaitState { slave, .. }
+            | Action::SendRequest { slave, .. }
+            | Action::AwaitReply { slave, .. } => Some(slave),
+            _ => None,
+        }
+    }
+
     /// The command of the action's datagram.
     pub fn command(&self) -> Command
         ensures { result ≡ (datagram_of self.now 0).command }

@@ -1,6 +1,6 @@
 //! Whether a payload answers the outstanding frame.
 
-ghost use Rattle.std.specs.Prelude.{◌≡◌, ◌↔◌, Bool, true, length, take, MatchOption};
+ghost use Rattle.std.specs.Prelude.{◌≡◌, ◌%◌, ◌↔◌, Bool, true, length, take, MatchOption};
 ghost use Rattle.std.specs.Int.{to_le_bytes, w64};
 ghost use Rattle.ec_frame.specs.Datagram.{Datagram, IsDatagram, IsSpelling, spelling};
 ghost use Rattle.ec_frame.specs.Frame.{Payload, IsFrame};
@@ -9,13 +9,11 @@ ghost use Rattle.ec_start.specs.Running.{shape};
 ghost use Rattle.ec_start.specs.Answered.{Answers, IsAnswerAt};
 
 use crate::action::Action;
-use ec_frame::{Command, DatagramCursor, DatagramSpan, Header, check, read_data};
+use ec_frame::field::NAME_LEN;
+use ec_frame::{Command, DatagramCursor, DatagramSpan, Header, check, index_of, read_data};
 
 /// How many datagrams a frame of a start-up has: one that names the frame, and the action's.
 const DATAGRAMS: usize = 2;
-
-/// The length in bytes of a frame's name: its number, and part 0.
-const NAME_LENGTH: usize = 10;
 
 /// The bytes of the action's datagram in a payload that answers the action's frame of this number; none if it doesn't.
 pub fn answer_in(payload: &[u8], action: &Action, number: u64) -> Option<DatagramSpan>
@@ -33,12 +31,11 @@ pub fn answer_in(payload: &[u8], action: &Action, number: u64) -> Option<Datagra
     let answer = places.next(payload)?;
     let command = action.command();
     let bytes = action.data_length();
-    let index = (number % 256) as u8;
     let first = &payload[name.from..name.to];
     let second = &payload[answer.from..answer.to];
-    let is_named = has_shape(first, Command::Nop, index, NAME_LENGTH);
+    let is_named = has_shape(first, Command::Nop, number, NAME_LEN);
     let is_numbered = tells(first, number);
-    let is_answer = has_shape(second, command, index, bytes);
+    let is_answer = has_shape(second, command, number, bytes);
     if !is_named {
         return None;
     }
@@ -81,12 +78,14 @@ fn are_bytes_of(bytes: &[u8], number: u64) -> bool
     u64::from_le_bytes(eight) == number
 }
 
-/// Whether a datagram has this command, this index and so many bytes of data.
-fn has_shape(part: &[u8], command: Command, index: u8, bytes: usize) -> bool
+/// Whether a datagram of a frame with this number has this command and so many bytes of data.
+fn has_shape(part: &[u8], command: Command, number: u64, bytes: usize) -> bool
     requires { IsSpelling part.now }
     ensures { (more : Bool) (d : Datagram) → IsDatagram d → part.now ≡ spelling more d
-        → (result ≡ true) ↔ (shape d ≡ record { command = command; index = index; bytes = bytes }) }
+        → (result ≡ true) ↔ (shape d ≡ record { command = command; index = number % 256; bytes = bytes }) }
 {
     let header = Header::read(part);
-    header.command == command && header.index == index && header.data_length as usize == bytes
+    header.command == command
+        && header.index == index_of(number)
+        && header.data_length as usize == bytes
 }

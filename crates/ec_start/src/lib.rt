@@ -11,6 +11,7 @@ mod phase;
 mod requests;
 mod script;
 mod startup;
+mod steps;
 mod verdict;
 
 pub use crate::action::{Action, SdoRequest, Transfer};
@@ -18,3 +19,4 @@ pub use crate::error::StartError;
 pub use crate::held::HeldPlan;
 pub use crate::phase::{NextFrame, Phase, Taken};
 pub use crate::startup::Startup;
+pub use crate::steps::step_at;

@@ -4,6 +4,7 @@ ghost use Rattle.std.specs.Prelude.{◌≡◌, ◌≤◌, ◌<◌, length, All, 
 ghost use Rattle.ec_start.specs.Planned.{HasFewAssigned};
 ghost use Rattle.ec_start.specs.Scripts.{named, identified, mailbox_set, raised, talked, mapped};
 ghost use Rattle.ec_start.specs.Doable.{IsDoable};
+ghost use Rattle.ec_start.specs.Held.{first_step};
 ghost use Rattle.ec_start.specs.Ahead.{share, opening, share_at, is_for_all, following, behind, set_manager_of, manager_chosen, fmmu_chosen, choices, Settles};
 
 use crate::action::Action;
@@ -153,6 +154,20 @@ impl Cursor {
         }
         self.stretch
             .action_in(self.slave, &slaves[self.slave], self.place)
+    }
+}
+
+/// The first step of each script.
+pub fn first_step() -> Step
+    ensures { result ≡ first_step }
+{
+    Step {
+        cursor: Cursor {
+            stretch: Stretch::Opening,
+            slave: 0,
+            place: 0,
+        },
+        action: Action::CountSlaves,
     }
 }
 

@@ -1,12 +1,10 @@
 //! A start-up as it runs.
 
 ghost use Rattle.std.specs.Prelude.{◌≡◌, ◌≢◌, ◌++◌, ◌<◌, ◌≤◌, ◌+◌, length, true, false, ◌↔◌, All, IsTrue};
-ghost use Rattle.std.specs.Int.{to_le_bytes, w16, w64};
 ghost use Rattle.ec_bits.specs.Bits.{zeros};
 ghost use Rattle.ec_frame.specs.Building.{bare_payload};
 ghost use Rattle.ec_frame.specs.Frame.{IsFrame};
 ghost use Rattle.ec_start.specs.declared.verdict.Verdict.TheVariants.{Again};
-ghost use Rattle.ec_start.specs.Held.{first_step};
 ghost use Rattle.ec_start.specs.HeldPlans.{plan_in};
 ghost use Rattle.ec_start.specs.declared.phase.NextFrame.TheVariants.{Send};
 ghost use Rattle.ec_start.specs.Actions.{datagram_of, frame_of};
@@ -19,10 +17,10 @@ use crate::answer::answer_in;
 use crate::error::StartError;
 use crate::held::HeldPlan;
 use crate::phase::{NextFrame, Phase, Taken};
-use crate::script::{Cursor, Step, Stretch};
+use crate::script::{Step, first_step};
 use crate::verdict::{Verdict, nothing_seen, verdict_on, with_word};
 use ec_device::Device;
-use ec_frame::{Command, Frame, Sent, read_counter, read_data, write_pair};
+use ec_frame::{Command, Frame, Sent, index_of, name_of, read_counter, read_data, write_pair};
 use ec_link::{Plan, SlavePlan};
 use std::marker::Model;
 
@@ -317,8 +315,8 @@ fn write_through(buffer: &mut [u8], action: &Action, number: u64, frame: &mut Fr
     requires room { length (datagram_of action.now 0).data_bytes ≤ length buffer.old }
     ensures { IsFrame frame.new.items (bare_payload (frame_of action.now number)) }
 {
-    let index = (number % 256) as u8;
-    let name = name_of(number);
+    let index = index_of(number);
+    let name = name_of(number, 0);
     let data = &mut buffer[..action.data_length()];
     action.write_data(data);
     let naming = Sent {
@@ -336,31 +334,9 @@ fn write_through(buffer: &mut [u8], action: &Action, number: u64, frame: &mut Fr
     write_pair(frame, naming, asking);
 }
 
-/// The name of a frame: its number in eight bytes, little-endian, and part 0 in two.
-fn name_of(number: u64) -> [u8; 10]
-    ensures { result ≡ to_le_bytes w64 number ++ to_le_bytes w16 0 }
-{
-    let [a, b, c, d, e, f, g, h] = number.to_le_bytes();
-    [a, b, c, d, e, f, g, h, 0, 0]
-}
-
 /// Whether each slot of a slave's assignments has a subindex that fits one byte.
 fn has_few_assigned(settings: &SlavePlan) -> bool
     ensures { IsTrue result ↔ HasFewAssigned settings.now }
 {
     settings.outputs.len() < 256 && settings.inputs.len() < 256
-}
-
-/// The first step of each script.
-fn first_step() -> Step
-    ensures { result ≡ first_step }
-{
-    Step {
-        cursor: Cursor {
-            stretch: Stretch::Opening,
-            slave: 0,
-            place: 0,
-        },
-        action: Action::CountSlaves,
-    }
 }

@@ -10,8 +10,8 @@ use std::alloc::{AllocError, Global};
 use std::marker::Model;
 use std::mem;
 
-/// The longest value: three of them fit into the RAM.
-const MAX_LENGTH: usize = 2730;
+/// The longest value of a buffered manager in bytes: three of them fit into the RAM.
+pub const MAX_BUFFER_LEN: usize = 2730;
 
 /// The published value, a writer's draft and a reader's view, each in storage that every configuration fits.
 #[derive(Drop)]
@@ -48,10 +48,10 @@ impl Buffer {
     {
         Ok(Buffer {
             len: 0,
-            published: vec![in alloc; 0; MAX_LENGTH]?,
-            draft: vec![in alloc; 0; MAX_LENGTH]?,
+            published: vec![in alloc; 0; MAX_BUFFER_LEN]?,
+            draft: vec![in alloc; 0; MAX_BUFFER_LEN]?,
             is_drafting: false,
-            seen: vec![in alloc; 0; MAX_LENGTH]?,
+            seen: vec![in alloc; 0; MAX_BUFFER_LEN]?,
             is_viewing: false,
         })
     }

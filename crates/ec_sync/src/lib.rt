@@ -16,5 +16,6 @@ mod sound;
 mod touching;
 
 pub use crate::bounds::Bounds;
-pub use crate::manager::SyncManager;
+pub use crate::buffer::MAX_BUFFER_LEN;
+pub use crate::manager::{Manager, SyncManager};
 pub use crate::touching::{Reach, Touching, Writing};

@@ -15,6 +15,9 @@ use ec_regs::SyncManagerSettings;
 use std::alloc::{AllocError, Global};
 use std::marker::Model;
 
+/// A short name of a sync manager.
+pub type Manager = SyncManager;
+
 /// A sync manager: its settings, whether it is locked, and what it holds.
 #[derive(Drop)]
 pub struct SyncManager {

@@ -18,6 +18,12 @@ use toml::Value;
 pub const MAX_U16: u32 = u16::MAX as u32;
 /// The largest number of 8 bits, as a subindex has.
 pub const MAX_U8: u32 = u8::MAX as u32;
+/// The largest sync unit.
+pub const MAX_UNIT: u32 = 63;
+/// The most bits of a variable, of an entry and of a link.
+pub const MAX_VALUE_BITS: u32 = 64;
+/// The highest bit of a variable or an entry.
+pub const LAST_BIT: u32 = 63;
 
 /// Whether a text is a name: 1 to 32 ASCII letters, digits and `_`.
 pub fn is_name(text: &str) -> bool

@@ -6,7 +6,7 @@ ghost use Rattle.ec_table.specs.InOrder.{Gives, rows_after};
 ghost use Rattle.ec_table.specs.Reading.{all_bits, link_at, link_element};
 
 use crate::fault::{Fault, Place, Section, TableError};
-use crate::fields::{MAX_U8, MAX_U16, name_in, number_in};
+use crate::fields::{LAST_BIT, MAX_U8, MAX_U16, MAX_VALUE_BITS, name_in, number_in};
 use crate::keys::{Shape, values_of};
 use crate::named::NamedRows;
 use crate::rows::{LinkBits, LinkRow, SlaveRow, VariableRow, Version};
@@ -122,9 +122,9 @@ fn link_bits_in(place: Place, value: Option<&Value>) -> Result<Option<LinkBits>,
 fn link_bits_of(place: Place, value: &Value) -> Result<LinkBits, Fault>
     ensures { result ≡ link_bits_of place (view value.now) }
 {
-    let variable_bit = number_in(place, value.get(0), 0, 63)?;
-    let entry_bit = number_in(place, value.get(1), 0, 63)?;
-    let count = number_in(place, value.get(2), 1, 64)?;
+    let variable_bit = number_in(place, value.get(0), 0, LAST_BIT)?;
+    let entry_bit = number_in(place, value.get(1), 0, LAST_BIT)?;
+    let count = number_in(place, value.get(2), 1, MAX_VALUE_BITS)?;
     if value.get(3).is_some() {
         return Err(Fault::BadValue(place));
     }

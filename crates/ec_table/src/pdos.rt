@@ -7,12 +7,11 @@ ghost use Rattle.ec_table.specs.InOrder.{Gives, rows_after};
 ghost use Rattle.ec_table.specs.Pdos.{entry_of, entry_row, array_of, array_in, pdo_of, pdo_row, pdos_in, indices_of, has_twice};
 
 use crate::fault::{Fault, Place, TableError};
-use crate::fields::{MAX_U8, MAX_U16, number_in};
+use crate::fields::{MAX_U8, MAX_U16, MAX_VALUE_BITS, number_in};
 use crate::keys::{Shape, values_of};
 use crate::rows::Version;
 use ec_device::{
-    Entry, FIRST_INPUT_INDEX, FIRST_OUTPUT_INDEX, MAX_ENTRIES, MAX_ENTRY_BITS, MAX_PDOS,
-    PDO_INDICES, Pdo,
+    Entry, FIRST_INPUT_INDEX, FIRST_OUTPUT_INDEX, MAX_ENTRIES, MAX_PDOS, PDO_INDICES, Pdo,
 };
 use ec_listed::Listed;
 use std::alloc::{AllocError, Global};
@@ -207,7 +206,7 @@ fn entry_of(place: Place, value: &Value) -> Result<Entry, Fault>
 {
     let index = number_in(place, value.get(0), 0, MAX_U16)?;
     let subindex = number_in(place, value.get(1), 0, MAX_U8)?;
-    let bits = number_in(place, value.get(2), 1, MAX_ENTRY_BITS as u32)?;
+    let bits = number_in(place, value.get(2), 1, MAX_VALUE_BITS)?;
     if value.get(3).is_some() || is_bad_gap(index, subindex) {
         return Err(Fault::BadValue(place));
     }

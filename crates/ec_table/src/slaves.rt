@@ -8,7 +8,7 @@ ghost use Rattle.ec_table.specs.declared.rows.SlaveRow.{SlaveRow};
 ghost use Rattle.ec_table.specs.Reading.{all_in, assigned_in, same_list, slave_at, slave_element, slave_of_type};
 
 use crate::fault::{Fault, Place, Section, TableError};
-use crate::fields::{name_in, number_or_0, numbers_in};
+use crate::fields::{MAX_UNIT, name_in, number_or_0, numbers_in};
 use crate::keys::{Shape, values_of};
 use crate::named::{Named, NamedRows};
 use crate::pdos::{LAST_INPUT_INDEX, LAST_OUTPUT_INDEX, has_twice, indices_of, is_index};
@@ -101,7 +101,7 @@ fn slave_at(
     let (first, last) = (FIRST_INPUT_INDEX, LAST_INPUT_INDEX);
     let inputs = numbers_in(alloc, place, inputs, first, last)?;
     let serial = number_or_0(place, serial, u32::MAX)?;
-    let unit = number_or_0(place, unit, 63)?;
+    let unit = number_or_0(place, unit, MAX_UNIT)?;
     if is_twice(found.has(&name), &outputs, &inputs) {
         return Err(TableError::Refused(Fault::TwiceNamed(place)));
     }

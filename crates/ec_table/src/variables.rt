@@ -8,7 +8,7 @@ ghost use Rattle.ec_table.specs.InOrder.{Gives, rows_after};
 ghost use Rattle.ec_table.specs.Reading.{variable_at, variable_element};
 
 use crate::fault::{Fault, Place, Section, TableError};
-use crate::fields::{name_in, number_in};
+use crate::fields::{MAX_VALUE_BITS, name_in, number_in};
 use crate::keys::{Shape, values_of};
 use crate::named::{Named, NamedRows};
 use crate::rows::{Direction, Name, VariableRow, Version};
@@ -76,7 +76,7 @@ fn variable_at(
     };
     let name = name_in(place, values.at(2))?;
     let direction = direction_in(place, values.at(1))?;
-    let bits = number_in(place, values.at(0), 1, 64)?;
+    let bits = number_in(place, values.at(0), 1, MAX_VALUE_BITS)?;
     if found.has(&name) {
         return Err(Fault::TwiceNamed(place));
     }

@@ -8,9 +8,7 @@ ghost use Rattle.ec_wire.specs.Segments.{IsAnswer};
 
 use ec_ring::Ring;
 use ec_slave::Slave;
-
-/// The most bytes of inputs of a slave: its RAM of 8192 bytes has three buffers for them.
-const MAX_DATA: usize = 2730;
+use ec_sync::MAX_BUFFER_LEN;
 
 /// A slave's application, which makes the slave's inputs from its outputs.
 pub trait App {
@@ -67,7 +65,7 @@ fn serve_slaves<A: App>(ring: &mut Ring, app: &mut A)
     ensures served { AreServed (A.shows app.old) ring.old ring.new }
     ensures later { (o i : List ℕ) → A.shows app.new o i → A.shows app.old o i }
 {
-    let mut inputs = [0; MAX_DATA];
+    let mut inputs = [0; MAX_BUFFER_LEN];
     for place in 0..ring.len() {
         serve_slave(ring.slave_mut(place), app, &mut inputs);
     }

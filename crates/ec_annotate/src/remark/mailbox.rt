@@ -1,7 +1,7 @@
 //! What a mailbox message says.
 
-use crate::remark::abort::abort_text;
-use ec_coe::{Message, SdoCommand, SdoValue, Service};
+use crate::remark::OTHER_CODE;
+use ec_coe::{AbortCode, Message, SdoCommand, SdoValue, Service};
 use std::alloc::AllocError;
 use std::fmt::Write as _;
 
@@ -38,7 +38,10 @@ fn write_transfer(text: &mut String, message: &Message) -> Result<(), AllocError
             )
         }
         SdoCommand::Abort => {
-            let why = abort_text(number);
+            let why = match AbortCode::text(number) {
+                Some(text) => text.name,
+                None => OTHER_CODE,
+            };
             writeln!(
                 text,
                 "abort {index:04x}:{subindex:02x}, code {number:08x}: {why}"

@@ -1,7 +1,7 @@
 //! What the bytes of a register say.
 
 use crate::remark::sii::sii_text;
-use crate::remark::state::{state_name, status_text};
+use crate::remark::state::{state_name, status_name};
 use ec_regs::{AlWord, FmmuSettings, SiiControl, SyncManagerSettings, decode_fmmu, decode_manager};
 use ec_seen::Register;
 use std::alloc::AllocError;
@@ -52,7 +52,7 @@ fn write_word(text: &mut String, register: Register, number: u64) -> Result<(), 
     match register {
         Register::AlControl => write_al(text, AlWord(word), ", error acknowledged"),
         Register::AlStatus => write_al(text, AlWord(word), ", error"),
-        Register::AlStatusCode => writeln!(text, ": {}", status_text(word)),
+        Register::AlStatusCode => writeln!(text, ": {}", status_name(word)),
         Register::SiiControl => write_sii_control(text, SiiControl(word)),
         Register::SiiAddress => writeln!(text, ": {}", sii_text((number % (1 << 32)) as u32)),
         _ => text.push_str("\n"),

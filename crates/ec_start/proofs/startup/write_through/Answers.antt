@@ -14,5 +14,5 @@ write_pair-requires c =
 pub returns : goal.returns
 returns c =
     subst (λ (ds : List Datagram). IsFrame c.write_pair.new.frame.items (bare_payload ds))
-    (framed c.args.action.now c.args.number c.name_of-name.result c.write_data.new.bytes c.command.result c.address.result c.name_of-name.ensures c.command.ensures c.address.ensures c.write_data.ensures)
+    (framed c.args.action.now c.args.number c.index_of-index.result c.name_of-name.result c.write_data.new.bytes c.command.result c.address.result c.index_of-index.ensures c.name_of-name.ensures c.command.ensures c.address.ensures c.write_data.ensures)
     c.write_pair.ensures

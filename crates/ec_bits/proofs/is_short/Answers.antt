@@ -1,5 +1,5 @@
 use Rattle.std.proofs.Common.{rules}
-use Rattle.ec_cycle.proofs.master.is_short.Goals as goal
+use Rattle.ec_bits.proofs.is_short.Goals as goal
 
 pub returns-else-bits-eq64 : goal.returns-else-bits-eq64
 returns-else-bits-eq64 c = search rules
