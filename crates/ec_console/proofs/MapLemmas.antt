@@ -1,5 +1,5 @@
 -- What lines do to a target, told of a part of it.
-use Rattle.std.proofs.Common.{◌≡◌, inl, inr, ℕ, ◌+◌, List, [], ◌∷◌, ◌++◌, take, replicate, Option, refl, sym, ap, subst}
+use Rattle.std.proofs.Common.{inl, inr, ℕ, ◌+◌, List, [], ◌∷◌, take, replicate, Option, sym, ap, subst}
 use Rattle.ec_script.specs.declared.line.Line.{Line}
 use Rattle.ec_script.specs.declared.read.Reading.{Reading}
 use Rattle.ec_script.specs.declared.read.Reading.TheVariants as reading

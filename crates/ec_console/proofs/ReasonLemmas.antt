@@ -5,7 +5,6 @@ use Rattle.std.proofs.lemmas.List.Elements.{All-cons, All-nil}
 use Rattle.ec_diagnostic.specs.Reason.{IsReason}
 use Rattle.ec_script.specs.declared.line.Line.{Line}
 use Rattle.ec_console.specs.Reasons.{OnlyAdds, Part, ReasonIf, with_reasons, without_reasons}
-use Rattle.ec_console.specs.Saying.{Says}
 
 pub reason_if : (b : Bool) (why : List ℕ) → ReasonIf b why → (why ≡ []) ⊎ IsReason why
 reason_if true why h = inr h
