@@ -1,12 +1,12 @@
 //! Cycles whose frames are as long as a frame can be: 1470 bytes behind the header, 1472 in all.
 use crate::cycle::steps::Step::{Begins, Closes, Keeps, Next, Ready, Sends, Sets};
 use crate::cycle::steps::expect_steps;
-use ec_cycle::OwnMaster;
+use ec_cycle::Master;
 use ec_link::ExpectedCounters::{Lrw, Split};
-use ec_link::compile;
-use ec_table::read_table;
+use ec_link::Machine;
+use ec_start::HeldPlan;
 use std::alloc::{AllocError, Global};
-use std::process::Abort;
+use std::sync::Arc;
 use std::test::Fail;
 
 /// One variable is the last byte of the sixth slave, one is the bit of the seventh.
@@ -172,16 +172,16 @@ fn push_variables(text: &mut String, count: usize) -> Result<(), AllocError> {
     Ok(())
 }
 
-/// There is memory for a master that owns the plan of this table, whose inputs have so many bytes.
-fn expect_own(rt: &(impl AllocGlobal + Abort), text: &str, bytes: usize) {
-    let table = read_table(rt.alloc(), text).expect(rt, "a table");
-    let plan = compile(rt.alloc(), &table).expect(rt, "a plan");
-    let master = OwnMaster::new(rt.alloc(), plan).expect(rt, "memory");
-    assert_eq!(rt; master.inputs().len(), bytes);
+/// A master that owns its machine.
+fn owning_master(alloc: Global, machine: Machine) -> Result<Master<'static>, AllocError> {
+    let machine = Arc::new(alloc, machine)?;
+    // the plan of each machine can be used
+    let _ = machine.plan();
+    Master::of(alloc, HeldPlan::Shared(machine))
 }
 
-// There is memory for a master of each number of slaves, each with as many outputs as a slave may have; whether it owns its plan
-// or not.
+// There is memory for a master of each number of slaves, each with as many outputs as a slave may have; whether its plan is lent
+// or shared.
 #[test]
 fn masters_of_all_sizes(rt: HostRuntime) -> Result<(), Fail> {
     let slaves = [2048; 64];
@@ -189,7 +189,8 @@ fn masters_of_all_sizes(rt: HostRuntime) -> Result<(), Fail> {
         let mut table = table_of(rt.alloc(), &slaves[..count], true, "")?;
         push_variables(&mut table, count)?;
         expect_steps(&rt, table.as_str(), &[Next(0)])?;
-        expect_own(&rt, table.as_str(), 8 * count);
+        let master = owning_master(rt.alloc(), Machine::read(rt.alloc(), table.as_str())?)?;
+        assert_eq!(rt; master.inputs().len(), 8 * count);
     }
     Ok(())
 }

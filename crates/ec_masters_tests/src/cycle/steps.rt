@@ -97,9 +97,9 @@ fn make_ready(
     master: &mut Master,
     number: u64,
 ) -> Result<(), Fail> {
-    let plan = master.plan();
-    let first = first_number(rt, machine, plan, number)?;
-    let startup = ended_startup(rt, machine, plan, first)?;
+    let held = master.held_plan().clone()?;
+    let first = first_number(rt, machine, held.plan(), number)?;
+    let startup = ended_startup(rt, machine, held.plan(), first)?;
     assert_eq!(rt; startup.phase(), Phase::Ready);
     assert_eq!(rt; startup.next_number(), number);
     master.ready(&startup);
