@@ -107,11 +107,10 @@ impl<W: Wire + Drop> Mastered<W> {
     fn set(&mut self, variable: usize, value: u64) -> LineOutput
         ensures { Does (Set variable value) self.old self.new result }
     {
-        if self.session.set(variable, value) {
-            LineOutput::Nothing
-        } else {
-            LineOutput::No
+        if !self.session.set(variable, value) {
+            return LineOutput::No;
         }
+        LineOutput::Nothing
     }
 
     /// `Nothing` if what is expected holds, else `Unmet`.

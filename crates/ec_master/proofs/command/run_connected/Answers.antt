@@ -1,5 +1,3 @@
-use Rattle.std.proofs.Common.{refl}
-use Rattle.ec_wire.specs.Wires.{silent}
 use Rattle.ec_master.proofs.Mastering.{never_begun, on_socket, on_wire}
 use Rattle.ec_master.proofs.command.run_connected.Goals as goal
 
@@ -15,4 +13,5 @@ returns-in_ok-mastered-in-None-clause-runs g c =
 
 pub returns-in_ok-mastered-in-Some-clause-runs : goal.returns-in_ok-mastered-in-Some-clause-runs
 returns-in_ok-mastered-in-Some-clause-runs g c =
-    on_wire c.run_tapped-2.result c.args.options.reasons c.args.machine c.in_ok-mastered-in-Some.mastered (silent 0) _ _ _ c.in_ok-mastered-in-Some.ensures refl c.run_tapped-2.ensures.runs
+    on_wire c.run_tapped-in-Some.result c.args.options.reasons c.args.machine c.in_ok-mastered-in-Some.mastered c.in_ok-wire-in-Some.wire _ _ _ c.in_ok-mastered-in-Some.ensures c.in_ok-wire-in-Some.ensures
+    c.run_tapped-in-Some.ensures.runs

@@ -6,14 +6,14 @@ use Rattle.ec_master.specs.State.{MasteredState}
 use Rattle.ec_master.proofs.Doing.{state_of, was_kept, was_set}
 use Rattle.ec_master.proofs.mastered.Mastered.set.Goals as goal
 
-pub returns-then-set : goal.returns-then-set
-returns-then-set g c =
+pub returns : goal.returns
+returns g c =
     let t : MasteredState = state_of c.set.new.self (g.W.Wire.state c.self.inside.wire) c.self.inside.reasons in
     subst (λ (m : MasteredState). Does (Set c.args.variable c.args.value) m t Nothing) c.self.view_is
-    (was_set c.args.variable c.args.value c.self.inside.session c.set.new.self (g.W.Wire.state c.self.inside.wire) c.self.inside.reasons c.set.result c.set.ensures.answer c.set.ensures.set c.if-set.true)
+    (was_set c.args.variable c.args.value c.self.inside.session c.set.new.self (g.W.Wire.state c.self.inside.wire) c.self.inside.reasons c.set.result c.set.ensures.answer c.set.ensures.set c.if-not-set.false)
 
-pub returns-else-set : goal.returns-else-set
-returns-else-set g c =
+pub returns-then-not-set : goal.returns-then-not-set
+returns-then-not-set g c =
     let t : MasteredState = state_of c.set.new.self (g.W.Wire.state c.self.inside.wire) c.self.inside.reasons in
     subst (λ (m : MasteredState). Does (Set c.args.variable c.args.value) m t No) c.self.view_is
-    (was_kept c.args.variable c.args.value c.self.inside.session c.set.new.self (g.W.Wire.state c.self.inside.wire) c.self.inside.reasons c.set.result c.set.ensures.answer c.set.ensures.kept c.if-set.false)
+    (was_kept c.args.variable c.args.value c.self.inside.session c.set.new.self (g.W.Wire.state c.self.inside.wire) c.self.inside.reasons c.set.result c.set.ensures.answer c.set.ensures.kept c.if-not-set.true)
