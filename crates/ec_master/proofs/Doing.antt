@@ -1,7 +1,6 @@
 -- What the calls of a session make of a master over a wire.
-use Rattle.std.proofs.Common.{◌≡◌, ◌∙◌, ℕ, Bool, true, false, Option, Some, None, Result, Ok, Err, refl, sym, ap, subst, if◌then◌else◌}
+use Rattle.std.proofs.Common.{◌≡◌, ◌∙◌, ℕ, Bool, true, false, Option, Some, None, Result, Ok, Err, refl, sym, ap, subst}
 use Rattle.std.specs.Prelude.{is_none, slice_get}
-use Rattle.ec_table.specs.Contents.{Contents}
 use Rattle.ec_cycle.specs.Closing.{ReportState}
 use Rattle.ec_cycle.specs.Master.{MasterState, holds_value, variable_set}
 use Rattle.ec_cycle.specs.declared.error.CycleError.{CycleError}
@@ -16,7 +15,7 @@ use Rattle.ec_script.specs.declared.output.LineOutput.{LineOutput}
 use Rattle.ec_script.specs.declared.output.LineOutput.TheVariants as output
 use Rattle.ec_console.specs.declared.wanted.Reasons.{Reasons}
 use Rattle.ec_master.specs.State.{MasteredState}
-use Rattle.ec_master.specs.Doing.{Does, Either, RunsCycle, Sets, StartsUp, Tells, output_of_run}
+use Rattle.ec_master.specs.Doing.{Does, Either, RunsCycle, Sets, Tells, output_of_run}
 
 -- a master over a wire, by its parts
 abbrev pub state_of : SessionState → WireState → Reasons → MasteredState

@@ -18,7 +18,7 @@ use Rattle.ec_console.specs.Reasons.{Part, ReasonIf}
 use Rattle.ec_console.proofs.ReasonLemmas.{only_adds, reason_if, some_why}
 use Rattle.ec_console.specs.Unmet.{unmet_of}
 use Rattle.ec_master.specs.State.{MasteredState}
-use Rattle.ec_master.specs.Doing.{Does, Either, RunsCycle, Sets, StartsUp, Tells, view_of}
+use Rattle.ec_master.specs.Doing.{Does, Either, RunsCycle, Sets, Tells, view_of}
 use Rattle.ec_master.specs.Saying.{SaysLine, is_reasoned, plain_text}
 use Rattle.ec_master.specs.Stages.{IsLineText, IsReasonedText}
 use Rattle.ec_master.specs.Laws.{ReasonsOnlyAdd, SaysUntold, untold}

@@ -1,4 +1,3 @@
-use Rattle.std.proofs.Common.{refl}
 use Rattle.ec_console.proofs.PrintLemmas.{if_err}
 use Rattle.ec_master.proofs.Doing.{table_stays}
 use Rattle.ec_master.proofs.Reasoned.{one_line, some_line}
