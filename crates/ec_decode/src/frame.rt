@@ -33,8 +33,11 @@ pub(crate) fn write_counted(
     write_datagrams(alloc, text, count, area)
 }
 
-/// Adds the text of a frame: a line for the frame, and one for each of its datagrams. The error is
-/// want of memory; what stands in the text is then unspecified, and the text is to be dropped.
+/// Adds the text of a frame: a line for the frame, and one for each of its datagrams.
+///
+/// # Errors
+///
+/// `AllocError` if there is no memory. Drop the text then: it may have any part of the lines.
 pub fn write_frame(alloc: Global, text: &mut String, payload: &[u8]) -> Result<(), AllocError>
     requires { (p : Payload) × IsFrame payload.now p }
     ensures { OnOk result ((p : Payload) → IsFrame payload.now p

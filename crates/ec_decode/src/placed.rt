@@ -66,8 +66,11 @@ pub fn error_name(error: FrameError) -> &'static str
 }
 
 /// Adds the text of a payload that is no frame: the lines of the datagrams that stand whole before
-/// its fault, and that of its refusal. The error is want of memory; what stands in the text is then
-/// unspecified, and the text is to be dropped.
+/// its fault, and that of its refusal.
+///
+/// # Errors
+///
+/// `AllocError` if there is no memory. Drop the text then: it may have any part of the lines.
 pub fn write_refused(
     alloc: Global,
     text: &mut String,

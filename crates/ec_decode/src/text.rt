@@ -27,7 +27,7 @@ pub fn payload_text(alloc: Global, payload: &[u8]) -> Result<String, AllocError>
 }
 
 /// The text of the payload that a line spells in hex digits of either case; none if the line isn't
-/// hex. The error is want of memory.
+/// hex. `AllocError` if there is no memory.
 pub fn decode_line(alloc: Global, line: &str) -> Result<Option<String>, AllocError>
     ensures { IfOk result (DecodesLine line.now) }
 {
@@ -49,7 +49,7 @@ pub struct Decoded {
 }
 
 /// The texts of the payloads that the lines of a text spell in hex, one after another, up to the first
-/// line that isn't hex. Empty lines are skipped. The error is want of memory.
+/// line that isn't hex. Empty lines are skipped. `AllocError` if there is no memory.
 pub fn decode_text(alloc: Global, text: &str) -> Result<Decoded, AllocError>
     ensures { IfOk result (λ decoded.
         DecodesLines (lines text.now) (string_bytes decoded.text) decoded.is_whole) }

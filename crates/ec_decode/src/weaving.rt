@@ -4,8 +4,11 @@ ghost use Rattle.ec_decode.specs.Indented.{behind, ended, indented, indented_lin
 
 use std::alloc::{AllocError, Global};
 
-/// Adds each line of some remarks with a margin of four blanks, and leaves out empty ones. The error is
-/// want of memory; what stands in the text is then unspecified, and the text is to be dropped.
+/// Adds each line of some remarks with a margin of four blanks, and leaves out empty ones.
+///
+/// # Errors
+///
+/// `AllocError` if there is no memory. Drop the text then: it may have any part of the lines.
 pub fn push_indented(alloc: Global, text: &mut String, remarks: &str) -> Result<(), AllocError>
     ensures { OnOk result (string_bytes text.new ≡ string_bytes text.old ++ indented remarks.now) }
 {
@@ -17,7 +20,7 @@ pub fn push_indented(alloc: Global, text: &mut String, remarks: &str) -> Result<
 }
 
 /// A text with remarks behind its lines, of which the first has those of number 0: each line of the
-/// remarks is indented, and an empty one is left out. The error is want of memory.
+/// remarks is indented, and an empty one is left out. `AllocError` if there is no memory.
 pub fn weave(alloc: Global, text: &str, remarks: &[String]) -> Result<String, AllocError>
     ensures woven { IfOk result (λ answer. string_bytes answer ≡ woven (map string_bytes remarks.now) text.now) }
     ensures same { IfOk result (λ answer. without_indented (string_bytes answer) ≡ without_indented text.now) }

@@ -7,13 +7,13 @@ use ec_fmmu::{
     Fmmu, FmmuTable, ReadableBits, ReadableRuns, WritableBytes, apply_read, apply_write,
     show_by_bits,
 };
-use ec_frame::{Builder, Command, DatagramCursor, Frame, FrameError, Full, Header, check};
+use ec_frame::{Builder, Command, Datagrams, Frame, FrameError, Full, Header, check};
 use ec_regs::registers::{AL_CONTROL, AL_STATUS};
 use ec_regs::{
     AlWord, FmmuSettings, SiiControl, decode_fmmu, decode_manager, encode_fmmu, encode_manager,
     takes_writes,
 };
-use ec_sync::{Reach, SyncManager, Touching, Writing};
+use ec_sync::{Manager, Reach, Touching, Writing};
 use std::alloc::AllocError;
 use std::process::Abort;
 
@@ -70,7 +70,7 @@ fn frames(rt: HostRuntime) {
 /// The header of the first datagram of a frame, and whether there is another.
 fn first_of(rt: &impl Abort, frame: &[u8]) -> (Header, bool) {
     check(frame).expect(rt, "a frame");
-    let mut datagrams = DatagramCursor::new(frame);
+    let mut datagrams = Datagrams::new(frame);
     let first = datagrams.next(frame).expect(rt, "a datagram");
     let is_followed = datagrams.next(frame).is_some();
     (Header::read(&frame[first.from..first.to]), is_followed)
@@ -150,7 +150,7 @@ impl Writing for Zero {
 }
 
 /// A byte of inputs at 0x1100, which the application writes and the ring reads.
-fn expect_inputs(rt: &impl Abort, manager: &mut SyncManager) {
+fn expect_inputs(rt: &impl Abort, manager: &mut Manager) {
     manager.configure(decode_manager(&[0, 0x11, 1, 0, 0x20, 0, 1, 0]));
     let put = manager.app_put(0, 7);
     let is_read = manager.ring_read(&Reach {
@@ -163,7 +163,7 @@ fn expect_inputs(rt: &impl Abort, manager: &mut SyncManager) {
 }
 
 /// A byte of outputs there, which the ring writes and the application reads.
-fn expect_outputs(rt: &impl Abort, manager: &mut SyncManager) {
+fn expect_outputs(rt: &impl Abort, manager: &mut Manager) {
     manager.configure(decode_manager(&[0, 0x11, 1, 0, 0x24, 0, 1, 0]));
     let is_written = manager.ring_write(&Zero { address: 0x1100 });
     let met = (is_written, manager.app_get(0), manager.app_get(1));
@@ -171,7 +171,7 @@ fn expect_outputs(rt: &impl Abort, manager: &mut SyncManager) {
 }
 
 /// A mailbox there into which the firmware puts a message, and one from which it takes one.
-fn expect_mailboxes(rt: &impl Abort, manager: &mut SyncManager) {
+fn expect_mailboxes(rt: &impl Abort, manager: &mut Manager) {
     manager.configure(decode_manager(&[0, 0x11, 16, 0, 0x22, 0, 1, 0]));
     let are_put = (manager.mailbox_put(&[1, 2]), manager.mailbox_put(&[3]));
     manager.configure(decode_manager(&[0, 0x11, 1, 0, 0x26, 0, 1, 0]));
@@ -184,7 +184,7 @@ fn expect_mailboxes(rt: &impl Abort, manager: &mut SyncManager) {
 }
 
 /// Configures a manager in these ways.
-fn expect_manager(rt: &impl Abort, manager: Result<SyncManager, AllocError>) {
+fn expect_manager(rt: &impl Abort, manager: Result<Manager, AllocError>) {
     let mut manager = manager.expect(rt, "memory");
     expect_inputs(rt, &mut manager);
     expect_outputs(rt, &mut manager);
@@ -193,7 +193,7 @@ fn expect_manager(rt: &impl Abort, manager: Result<SyncManager, AllocError>) {
 
 #[test]
 fn managers(rt: HostRuntime) {
-    expect_manager(&rt, SyncManager::new(rt.alloc()));
+    expect_manager(&rt, Manager::new(rt.alloc()));
 }
 
 // ---- ec_fmmu

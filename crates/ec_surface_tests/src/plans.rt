@@ -1,6 +1,6 @@
 //! Link tables and their plans.
 use ec_link::{ExpectedCounters, Plan, compile};
-use ec_table::{Fault, TableError, read_table};
+use ec_table::{Direction, Fault, TableError, read_table};
 use ec_test_data::THREE_SLAVES;
 use std::process::Abort;
 
@@ -9,7 +9,13 @@ fn expect_settings(rt: &impl Abort, plan: &Plan) {
     assert!(rt; plan.slaves().len() == 3 && plan.parts().len() == 1);
     let outputs = plan.settings(0).managers[2];
     assert_eq!(rt; (outputs.start, outputs.length), (0x1100, 1));
-    assert_eq!(rt; (plan.out_links().len(), plan.in_links().len()), (2, 2));
+    assert_eq!(rt;
+        (
+            plan.links(Direction::Out).len(),
+            plan.links(Direction::In).len()
+        ),
+        (2, 2)
+    );
 }
 
 /// One part and one unit have all slaves. Its counter is 2 for each with outputs, and 1 for each with inputs.

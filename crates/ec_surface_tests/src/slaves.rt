@@ -1,10 +1,10 @@
 //! The AL state machine, the SII, the mailbox, one slave, and slaves in a row.
 use ec_al::{Al, Checks};
 use ec_coe::{AbortCode, Dictionary, SdoValue, ValueSize, read_message, write_message};
-use ec_device::{Identity, SlaveType};
 use ec_frame::check;
+use ec_regs::{Identity, SlaveType};
 use ec_ring::{NotAFrame, Ring};
-use ec_sii::{Port, SiiImage};
+use ec_sii::{Image, Port};
 use ec_slave::Slave;
 use std::alloc::{AllocError, Global};
 use std::process::Abort;
@@ -51,7 +51,7 @@ fn states(rt: HostRuntime) {
 // Word 8 is the vendor's low word. It stands in the data, from 0x0508 on, once the firmware stepped.
 #[test]
 fn words_of_the_sii(rt: HostRuntime) {
-    let image = SiiImage::new(IDENTITY, None);
+    let image = Image::new(IDENTITY, None);
     let word = image.word(8);
     let mut port = Port::new(image);
     port.write(0x0502, &[0, 1, 8, 0, 0, 0]);

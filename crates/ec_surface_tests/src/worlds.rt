@@ -1,7 +1,7 @@
 //! A world, event by event.
 use crate::machines::machine_of;
-use ec_device::Identity;
 use ec_link::Machine;
+use ec_regs::Identity;
 use ec_world::{Event, World};
 use std::alloc::AllocError;
 use std::process::Abort;
