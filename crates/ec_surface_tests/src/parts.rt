@@ -1,5 +1,5 @@
 //! Bits, frames, registers, sync managers and FMMUs.
-ghost use Rattle.std.specs.Prelude.{◌==◌, ◌||◌, ◌-◌, Option, Some, None, true, if◌then◌else◌};
+ghost use Rattle.std.specs.Prelude.{◌==◌, ◌-◌, Option, Some, None, true, if◌then◌else◌};
 ghost use Rattle.ec_bits.specs.Bits.{bit, within, zeros};
 
 use ec_bits::{copy_bits, get, put, read_bits, write_bits};
