@@ -179,7 +179,6 @@ fn started<'p, W: Wire>(
 }
 
 /// Brings up the slaves of a plan over a wire for a new master of it, which can then begin cycles.
-#[tactic(auto, unfolding(ec_start::specs::Running::begun))]
 fn bring_up_for<W: Wire>(plan: &Plan, master: &mut Master<'_>, wire: &mut W) -> Result<(), Refusal>
     requires few { All HasFewAssigned plan.now.slaves }
     requires new { master.old ≡ new_master plan.now }

@@ -79,7 +79,8 @@ impl<'p> Startup<'p> {
     /// A start-up of a plan. Its first frame has the number `from_number`. Neither this nor any later call takes memory.
     pub fn new(plan: &'p Plan, from_number: u64) -> Startup<'p>
         requires { All HasFewAssigned plan.now.slaves }
-        ensures { result ≡ begun plan.now.slaves from_number }
+        ensures begun { result ≡ begun plan.now.slaves from_number }
+        ensures plan { result.plan ≡ plan.now.slaves }
     {
         Startup::of(HeldPlan::Lent(plan), from_number)
     }
@@ -88,7 +89,8 @@ impl<'p> Startup<'p> {
     #[tactic(auto, unfolding(crate::specs::Running::begun))]
     pub fn of(plan: HeldPlan<'p>, from_number: u64) -> Startup<'p>
         requires { All HasFewAssigned (plan_in plan).slaves }
-        ensures { result ≡ begun (plan_in plan.entry).slaves from_number }
+        ensures begun { result ≡ begun (plan_in plan.entry).slaves from_number }
+        ensures plan { result.plan ≡ (plan_in plan.entry).slaves }
     {
         Startup {
             held: plan,

@@ -21,7 +21,6 @@ pub(crate) fn ring_of(rt: &(impl AllocGlobal + Abort), machine: &Machine) -> Rin
 }
 
 /// A start-up of a plan, from number 0.
-#[tactic(auto, unfolding(ec_start::specs::Running::begun))]
 fn startup_of_plan<'p>(rt: &impl Abort, plan: &'p Plan) -> Startup<'p>
     ensures { result.plan ≡ plan.now.slaves }
 {

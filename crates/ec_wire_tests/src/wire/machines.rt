@@ -43,7 +43,6 @@ pub fn master_of<'p>(rt: &(impl AllocGlobal + Abort), machine: &'p Machine) -> M
 }
 
 /// A start-up of a plan whose first frame has this number.
-#[tactic(auto, unfolding(ec_start::specs::Running::begun))]
 fn startup_of_plan<'p>(rt: &impl Abort, plan: &'p Plan, number: u64) -> Startup<'p>
     ensures { result.plan ≡ plan.now.slaves }
 {

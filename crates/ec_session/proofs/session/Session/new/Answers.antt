@@ -14,4 +14,4 @@ of-requires c =
 pub invariant_of-result : goal.invariant_of-result
 invariant_of-result c =
     is_new (arc_value c.in_ok-machine.machine) (arc_value c.in_ok-clone.field-0) (arc_value c.in_ok-clone-2.field-0) c.of-startup.result c.in_ok-master.master c.in_ok-clone.ensures.cases c.in_ok-clone-2.ensures.cases
-    c.of-startup.ensures c.in_ok-master.ensures
+    c.of-startup.ensures.begun c.in_ok-master.ensures
