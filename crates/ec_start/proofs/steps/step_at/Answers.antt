@@ -16,7 +16,7 @@ loop-preserved c = (advances c.slaves-slaves.result.now c.loop.counter c.loop.st
 
 pub returns-in_err-step : goal.returns-in_err-step
 returns-in_err-step c =
-    c.from_residual-in_err-step.ensures
+    c.from_residual.ensures
     ∙ step_past c.slaves-slaves.result.now c.args.plan.now.slaves c.loop.counter c.args.number c.loop.step c.slaves-slaves.ensures.value c.loop-test.true c.loop.invariant c.in_err-step.ensures
 
 pub returns : goal.returns
