@@ -81,6 +81,7 @@ impl<'p> Startup<'p> {
         requires { All HasFewAssigned plan.now.slaves }
         ensures begun { result ≡ begun plan.now.slaves from_number }
         ensures plan { result.plan ≡ plan.now.slaves }
+        ensures unsent { is_sent result.phase ≡ false }
     {
         Startup::of(HeldPlan::Lent(plan), from_number)
     }
@@ -91,6 +92,7 @@ impl<'p> Startup<'p> {
         requires { All HasFewAssigned (plan_in plan).slaves }
         ensures begun { result ≡ begun (plan_in plan.entry).slaves from_number }
         ensures plan { result.plan ≡ (plan_in plan.entry).slaves }
+        ensures unsent { is_sent result.phase ≡ false }
     {
         Startup {
             held: plan,

@@ -59,7 +59,6 @@ fn bytes_of(alloc: Global, row: &str) -> Result<Vec<u8>, Fail> {
 }
 
 /// A start-up of a plan over the slaves of its machine, whose first frame has this number; it has ended.
-#[tactic(auto, unfolding(ec_start::specs::Running::begun))]
 fn ended_startup<'p>(
     rt: &(impl AllocGlobal + Abort),
     machine: &Machine,
