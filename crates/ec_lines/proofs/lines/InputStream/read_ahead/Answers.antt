@@ -1,7 +1,7 @@
 use Rattle.std.proofs.Common.{◌∙◌, ap}
 use Rattle.ec_lines.specs.Inputs.{InputState}
 use Rattle.ec_lines.proofs.BlockLemmas.{read_ends, read_left}
-use Rattle.ec_lines.proofs.input.InputStream.read_ahead.Goals as goal
+use Rattle.ec_lines.proofs.lines.InputStream.read_ahead.Goals as goal
 
 pub returns-clause-left : goal.returns-clause-left
 returns-clause-left g c =

@@ -1,7 +1,7 @@
 use Rattle.std.proofs.Common.{◌∙◌, List, ℕ, ap, length, subst, take}
 use Rattle.ec_lines.specs.Kept.{IsPart, kept_more}
 use Rattle.ec_lines.proofs.BlockLemmas.{front_taken}
-use Rattle.ec_lines.proofs.input.Block.take_part.Goals as goal
+use Rattle.ec_lines.proofs.lines.Block.take_part.Goals as goal
 
 pub returns-clause-taken : goal.returns-clause-taken
 returns-clause-taken c =

@@ -1,7 +1,7 @@
 use Rattle.std.proofs.Common.{◌≡◌, ◌≤◌, ◌-◌, ◌^◌, length}
 use Rattle.ec_lines.specs.Inputs.{bytes_left}
 use Rattle.ec_lines.specs.Taking.{TakesUndivided}
-use Rattle.ec_lines.proofs.lines.take_lines.Given as goal
+use Rattle.ec_lines.proofs.text.take_lines.Given as goal
 
 abbrev pub invariant-loop-text : goal.invariant-loop-text
 invariant-loop-text g l = record {

@@ -1,6 +1,6 @@
 use Rattle.ec_lines.proofs.BlockLemmas.{first_known}
-use Rattle.ec_lines.proofs.input.InputStream.read_first.Goals as goal
-use Rattle.ec_lines.proofs.input.InputStream.read_first.Goals.{in-Ok, in-Err}
+use Rattle.ec_lines.proofs.lines.InputStream.read_first.Goals as goal
+use Rattle.ec_lines.proofs.lines.InputStream.read_first.Goals.{in-Ok, in-Err}
 
 pub returns-clause-bytes : goal.returns-clause-bytes
 returns-clause-bytes g c = elim c.match-read.branch [

@@ -1,6 +1,6 @@
 use Rattle.std.proofs.Common.{refl}
 use Rattle.ec_lines.proofs.BlockLemmas.{line_left, line_taken, line_whole}
-use Rattle.ec_lines.proofs.input.InputStream.take_ahead.Goals as goal
+use Rattle.ec_lines.proofs.lines.InputStream.take_ahead.Goals as goal
 
 pub returns-clause-taken : goal.returns-clause-taken
 returns-clause-taken g c =

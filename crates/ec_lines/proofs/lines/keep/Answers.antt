@@ -1,6 +1,6 @@
 use Rattle.std.proofs.Common.{◌≡◌, ◌++◌, ◌-◌, ◌∙◌, List, ℕ, ap, arith, length, take}
 use Rattle.std.proofs.lemmas.List.{take_min}
-use Rattle.ec_lines.proofs.input.keep.Goals as goal
+use Rattle.ec_lines.proofs.lines.keep.Goals as goal
 
 pub returns : goal.returns
 returns c =

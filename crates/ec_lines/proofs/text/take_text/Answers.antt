@@ -1,7 +1,7 @@
 use Rattle.ec_lines.specs.Inputs.{bytes_left}
 use Rattle.ec_lines.specs.Taking.{RefusesText}
 use Rattle.ec_lines.proofs.TextLemmas.{err_of, lines_refused, text_is_refused, text_is_short, text_is_taken}
-use Rattle.ec_lines.proofs.lines.take_text.Goals as goal
+use Rattle.ec_lines.proofs.text.take_text.Goals as goal
 
 pub returns-in_err-bytes-clause-refused : goal.returns-in_err-bytes-clause-refused
 returns-in_err-bytes-clause-refused g c =

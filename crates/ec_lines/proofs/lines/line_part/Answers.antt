@@ -1,6 +1,6 @@
 use Rattle.std.proofs.Common.{arith}
 use Rattle.ec_lines.proofs.BlockLemmas.{all_part, newline_bound, newline_ends}
-use Rattle.ec_lines.proofs.input.line_part.Goals as goal
+use Rattle.ec_lines.proofs.lines.line_part.Goals as goal
 
 pub overflow_add-result : goal.overflow_add-result
 overflow_add-result c = omega (arith, newline_bound c.args.bytes.now c.in-Some.place c.in-Some.ensures)

@@ -2,7 +2,7 @@ use Rattle.std.proofs.Common.{◌≡◌, ◌∙◌, ◌++◌, List, ℕ, subst}
 use Rattle.ec_lines.specs.Inputs.{bytes_left}
 use Rattle.ec_lines.specs.Kept.{IsAddFault, RefusesLines, is_last}
 use Rattle.ec_lines.proofs.TextLemmas.{add_refused, err_of, lines_more, read_refused, text_grows, text_taken}
-use Rattle.ec_lines.proofs.lines.take_lines.Goals as goal
+use Rattle.ec_lines.proofs.text.take_lines.Goals as goal
 
 pub returns-in_err-line-clause-refused : goal.returns-in_err-line-clause-refused
 returns-in_err-line-clause-refused g c =

@@ -1,6 +1,6 @@
 use Rattle.std.proofs.Common.{◌++◌, ◌∙◌, List, ℕ, ap, take}
 use Rattle.std.proofs.lemmas.List.{take_min}
-use Rattle.ec_lines.proofs.input.Block.take_first.Goals as goal
+use Rattle.ec_lines.proofs.lines.Block.take_first.Goals as goal
 
 pub returns-clause-bytes : goal.returns-clause-bytes
 returns-clause-bytes c =

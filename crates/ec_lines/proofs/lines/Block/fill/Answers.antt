@@ -1,7 +1,7 @@
 use Rattle.std.proofs.Common.{◌∙◌, List, ℕ, ap, length, subst, sym}
 use Rattle.std.specs.Io.KnownBytes.{Consumes}
 use Rattle.ec_lines.proofs.BlockLemmas.{front_is}
-use Rattle.ec_lines.proofs.input.Block.fill.Goals as goal
+use Rattle.ec_lines.proofs.lines.Block.fill.Goals as goal
 
 pub returns-clause-count : goal.returns-clause-count
 returns-clause-count g c = ap length (front_is c.in_ok-count.count c.read.new.buf) ∙ sym c.in_ok-count.ensures.bound.1
