@@ -1,6 +1,6 @@
 use Rattle.std.proofs.Common.{◌≡◌, ◌≤◌, take}
 use Rattle.ec_cycle.specs.Closing.{nones}
-use Rattle.ec_cycle.proofs.report.missing_of.Given as goal
+use Rattle.ec_cycle.proofs.master.missing_of.Given as goal
 
 abbrev pub invariant-loop-part : goal.invariant-loop-part
 invariant-loop-part l = record {

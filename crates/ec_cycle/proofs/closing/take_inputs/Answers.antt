@@ -4,7 +4,7 @@ use Rattle.ec_cycle.specs.Closing.{bytes_of}
 use Rattle.ec_cycle.specs.Copies.{run_copied}
 use Rattle.ec_cycle.specs.declared.run.InputRun.{InputRun}
 use Rattle.ec_cycle.proofs.Runs.{no_input, is_on, input_fits, input_more, input_all}
-use Rattle.ec_cycle.proofs.master.take_inputs.Goals as goal
+use Rattle.ec_cycle.proofs.closing.take_inputs.Goals as goal
 
 pub take_input-requires : goal.take_input-requires
 take_input-requires c = λ on.

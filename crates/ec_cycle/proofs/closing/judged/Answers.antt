@@ -3,7 +3,7 @@ use Rattle.std.proofs.lemmas.List.{length-replicate}
 use Rattle.std.proofs.Math.ListN.{length-set}
 use Rattle.ec_cycle.proofs.Judging.{judged_more, judged_all}
 use Rattle.ec_cycle.proofs.States.{all_on}
-use Rattle.ec_cycle.proofs.master.judged.Goals as goal
+use Rattle.ec_cycle.proofs.closing.judged.Goals as goal
 
 pub loop-k-init : goal.loop-k-init
 loop-k-init c = record {

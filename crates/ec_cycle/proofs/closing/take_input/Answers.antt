@@ -1,5 +1,5 @@
 use Rattle.std.proofs.Common.{rules}
-use Rattle.ec_cycle.proofs.master.take_input.Goals as goal
+use Rattle.ec_cycle.proofs.closing.take_input.Goals as goal
 
 pub copy_input-requires-clause-there : goal.copy_input-requires-clause-there
 copy_input-requires-clause-there c = search rules
