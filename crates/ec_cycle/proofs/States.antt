@@ -61,16 +61,17 @@ map_units : (us : List ℕ) (f g : ℕ → Bool) → ((i : ℕ) → get_or us i 
 map_units [] f g small same = refl
 map_units (u ∷ us) f g small same = ap (λ (b : Bool). b ∷ map f us) (same u (small 0)) ∙ ap (λ (bs : List Bool). g u ∷ bs) (map_units us f g (λ i. small (suc i)) same)
 
-abbrev reported : List ℕ → List Bool → List (Option KeptPart) → ReportState
-reported us taken ks = record { units = us; taken = taken; missing = nones ks; counters = map (λ (o : Option KeptPart). option_map (λ (q : KeptPart). q.counters) o) ks; al_word = or_words ks }
+abbrev reported : List ℕ → List Bool → ℕ → List (Option KeptPart) → ReportState
+reported us taken n ks = record { units = us; taken = taken; missing = n; counters = map (λ (o : Option KeptPart). option_map (λ (q : KeptPart). q.counters) o) ks; al_word = or_words ks }
 
-pub report_is : (p : PlanState) (ks k1 k2 : List (Option KeptPart)) (taken : List Bool) (us : List ℕ) (r : ReportState) → us ≡ p.units → k1 ≡ ks → k2 ≡ ks → ((i : ℕ) → get_or us i 0 < 256)
+pub report_is : (p : PlanState) (ks k1 k2 k3 : List (Option KeptPart)) (n : ℕ) (taken : List Bool) (us : List ℕ) (r : ReportState) → us ≡ p.units → k1 ≡ ks → k2 ≡ ks → k3 ≡ ks → n ≡ nones k3 → ((i : ℕ) → get_or us i 0 < 256)
     → ((u : ℕ) → u < 256 → get_or taken u false ≡ unit_taken p k1 u)
-    → r ≡ record { units = us; taken = map (λ (u : ℕ). get_or taken u false) us; missing = nones k2; counters = map (λ (o : Option KeptPart). option_map (λ (q : KeptPart). q.counters) o) k2; al_word = or_words k2 }
+    → r ≡ record { units = us; taken = map (λ (u : ℕ). get_or taken u false) us; missing = n; counters = map (λ (o : Option KeptPart). option_map (λ (q : KeptPart). q.counters) o) k2; al_word = or_words k2 }
     → r ≡ report_of p ks
-report_is p ks k1 k2 taken us r e a b small judged is =
-    is ∙ (ap (λ (bs : List Bool). reported us bs k2) (map_units us (λ u. get_or taken u false) (unit_taken p ks) small (λ u l. judged u l ∙ ap (λ (z : List (Option KeptPart)). unit_taken p z u) a))
-    ∙ (ap (λ (z : List (Option KeptPart)). reported us (map (unit_taken p ks) us) z) b ∙ ap (λ (vs : List ℕ). reported vs (map (unit_taken p ks) vs) ks) e))
+report_is p ks k1 k2 k3 n taken us r e a b d count small judged is =
+    is ∙ (ap (λ (bs : List Bool). reported us bs n k2) (map_units us (λ u. get_or taken u false) (unit_taken p ks) small (λ u l. judged u l ∙ ap (λ (z : List (Option KeptPart)). unit_taken p z u) a))
+    ∙ (ap (λ (m : ℕ). reported us (map (unit_taken p ks) us) m k2) (count ∙ ap nones d)
+    ∙ (ap (λ (z : List (Option KeptPart)). reported us (map (unit_taken p ks) us) (nones ks) z) b ∙ ap (λ (vs : List ℕ). reported vs (map (unit_taken p ks) vs) (nones ks) ks) e)))
 
 pub all_on : (n u : ℕ) → u < n → get_or (replicate n true) u false ≡ true
 all_on zero u l = absurd (omega arith)

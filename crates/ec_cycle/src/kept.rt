@@ -1,76 +1,22 @@
-//! What a master keeps of a part: its frame, and what came back.
-ghost use Rattle.std.specs.Prelude.{◌≡◌, ◌≤◌, ◌<◌, ◌+◌, ◌*◌, ◌^◌, [], List, Option, Some, None, true, false, is_some, option_map, length, slice_index, if◌then◌else◌};
-ghost use Rattle.ec_bits.specs.Bits.{bytes_of_bits};
-ghost use Rattle.ec_frame.specs.Building.{bare_payload};
+//! What a master keeps of what came back of a part.
+ghost use Rattle.std.specs.Prelude.{◌≡◌, ◌≤◌, ◌<◌, ◌+◌, ◌*◌, [], List, Option, Some, None, is_some, option_map, length, slice_index, if◌then◌else◌};
 ghost use Rattle.ec_frame.specs.Datagram.{Datagram};
-ghost use Rattle.ec_frame.specs.Frame.{IsFrame};
-ghost use Rattle.ec_link.specs.declared.plan.ExpectedCounters.{ExpectedCounters};
-ghost use Rattle.ec_link.specs.declared.plan.ExpectedCounters.TheVariants.{Lrw, Split};
-ghost use Rattle.ec_link.specs.Shares.{same_counters};
-ghost use Rattle.ec_link.specs.Usable.{IsUsable};
-ghost use Rattle.ec_cycle.specs.Closing.{KeptPart, bytes_at, bytes_of, came_back_as, counters_by, input_place, kept_by, word_of_kept};
-ghost use Rattle.ec_cycle.specs.Copies.{output_runs};
-ghost use Rattle.ec_cycle.specs.Frames.{sent_datagrams};
-ghost use Rattle.ec_cycle.specs.Kept.{IsMade};
+ghost use Rattle.ec_cycle.specs.Closing.{KeptPart, bytes_at, bytes_of, counters_by, input_place, kept_by, word_of_kept};
 ghost use Rattle.ec_cycle.specs.Matching.{FirstStand};
 
 use crate::counters::Counters;
 use crate::matching::{counter_at, data_at};
-use crate::renewing::renew;
-use crate::run::BitRun;
-use ec_frame::{DatagramSpan, Frame};
-use ec_link::{ExpectedCounters, MAX_PART_BYTES, Plan};
+use ec_frame::DatagramSpan;
+use ec_link::MAX_PART_BYTES;
 use std::marker::Model;
-
-/// The frame of a part, as it was sent.
-#[derive(Drop)]
-pub struct SentFrame {
-    frame: Frame,
-}
-
-impl Model for SentFrame {
-    ghost use Rattle.std.specs.Prelude.{ℕ, List};
-
-    ghost Value = { List ℕ };
-
-    ghost view = { λ s. s.frame.items };
-}
-
-impl SentFrame {
-    pub fn new(frame: Frame) -> SentFrame
-        ensures { result ≡ frame.items }
-    {
-        SentFrame { frame }
-    }
-
-    pub fn bytes(&self) -> &[u8]
-        ensures { result.now ≡ self.now }
-    {
-        self.frame.as_slice()
-    }
-
-    /// Writes the number of a cycle and the outputs of an image into the frame.
-    pub fn renew(&mut self, plan: &Plan, part: usize, runs: &[BitRun], number: u64, image: &[u8])
-        requires usable { IsUsable plan.now }
-        requires there { part < length plan.now.parts }
-        requires runs { runs.now ≡ output_runs plan.now part }
-        requires image { length image.now ≡ bytes_of_bits plan.now.out_bits }
-        requires few { plan.now.out_bits < 2 ^ 64 }
-        requires made { IsMade plan.now part self.old }
-        ensures spelled { IsFrame self.new (bare_payload (sent_datagrams plan.now number part image.now)) }
-        ensures made { IsMade plan.now part self.new }
-    {
-        renew(self.frame.as_mut_slice(), plan, part, runs, number, image);
-    }
-}
 
 /// What came back of a part, if its frame did, in memory of its own.
 #[derive(Drop)]
 pub struct Returned {
-    is_kept: bool,
-    broadcast: u16,
+    pub(crate) is_kept: bool,
+    pub(crate) broadcast: u16,
     al_word: u16,
-    counters: Counters,
+    pub(crate) counters: Counters,
     content: Content,
 }
 
@@ -122,15 +68,6 @@ impl Returned {
         self.al_word = word_of(data_at(payload, spans[1]));
         self.counters = counters_in(split, payload, spans);
         self.is_kept = true;
-    }
-
-    /// Whether `slaves` slaves processed the broadcast, and the working counters are `counters`.
-    pub fn came_back_as(&self, slaves: usize, counters: ExpectedCounters) -> bool
-        ensures { result ≡ came_back_as slaves counters self.now }
-    {
-        self.is_kept
-            && usize::from(self.broadcast) == slaves
-            && same_counters(self.counters.as_predicted(), counters)
     }
 
     /// The data with the inputs; empty if the part isn't kept.
@@ -242,16 +179,4 @@ fn word_of(bytes: &[u8]) -> u16
     let low = bytes.first().copied().unwrap_or(0);
     let high = bytes.get(1).copied().unwrap_or(0);
     u16::from(low) + 256 * u16::from(high)
-}
-
-/// Whether counters are the same, each by itself.
-fn same_counters(one: ExpectedCounters, other: ExpectedCounters) -> bool
-    ensures { result ≡ same_counters one other }
-{
-    match (one, other) {
-        (ExpectedCounters::Lrw(n), ExpectedCounters::Lrw(m)) => n == m,
-        (ExpectedCounters::Split { write, read }, ExpectedCounters::Split { write: v, read: q }) =>
-            write == v && read == q,
-        _ => false,
-    }
 }

@@ -6,6 +6,7 @@
 
 mod asking;
 mod building;
+mod closing;
 mod counters;
 mod error;
 mod kept;
@@ -13,10 +14,9 @@ pub mod laws;
 mod master;
 mod matching;
 mod renewing;
-mod report;
 mod run;
 
+pub use crate::closing::Report;
 pub use crate::error::CycleError;
 pub use crate::master::Master;
-pub use crate::report::Report;
 pub use ec_start::Taken;

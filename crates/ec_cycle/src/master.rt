@@ -1,31 +1,29 @@
-//! The master of the cyclic frames: its image, its open cycle and its report.
-ghost use Rattle.std.specs.Prelude.{◌&&◌, set, if◌then◌else◌, ◌≡◌, ◌≤◌, ◌<◌, ◌+◌, ◌*◌, ◌^◌, ◌↔◌, ℕ, [], Option, Some, None, length, replicate, slice_get, get_or, true, false, is_some, IfOk, IsErr, IfErr, OnOk, OnErr};
+//! The master of the cyclic frames: its image and its open cycle.
+ghost use Rattle.std.specs.Prelude.{◌≡◌, ◌≤◌, ◌<◌, ◌+◌, ◌^◌, ◌↔◌, ℕ, [], None, length, slice_get, get_or, true, is_some, IfOk, IsErr, IfErr, OnOk, OnErr};
 ghost use Rattle.ec_bits.specs.Bits.{zeros, bytes_of_bits};
 ghost use Rattle.ec_frame.specs.Building.{bare_payload};
 ghost use Rattle.ec_frame.specs.Frame.{IsFrame};
 ghost use Rattle.ec_link.specs.declared.plan.ExpectedCounters.{ExpectedCounters};
-ghost use Rattle.ec_link.specs.Plan.{part_at};
 ghost use Rattle.ec_link.specs.Shares.{predicted};
 ghost use Rattle.ec_link.specs.Usable.{IsUsable};
-ghost use Rattle.ec_cycle.specs.Closing.{KeptPart, bytes_of, is_good, unit_taken, inputs_closed};
-ghost use Rattle.ec_cycle.specs.Copies.{FitsRun, output_runs, input_runs, run_copied};
+ghost use Rattle.ec_cycle.specs.Closing.{nones};
+ghost use Rattle.ec_cycle.specs.Copies.{output_runs};
 ghost use Rattle.ec_cycle.specs.Frames.{sent_datagrams};
 ghost use Rattle.ec_cycle.specs.Kept.{IsMade};
 ghost use Rattle.ec_cycle.specs.Master.{OpenCycle, MasterState, Begun, IsTaken, IsClosed, new_master, readied, holds_value, value_put, variable_set, value_at, begin_refusal, refused_by, frame_of, missing_of, abandoned};
-ghost use Rattle.ec_cycle.specs.declared.error.CycleError.{CycleError};
 ghost use Rattle.ec_cycle.specs.declared.error.CycleError.TheVariants.{NotOpen};
 ghost use Rattle.ec_start.specs.HeldPlans.{plan_in};
 ghost use Rattle.ec_start.specs.declared.phase.Phase.TheVariants.{Ready};
 ghost use Rattle.ec_start.specs.Running.{is_kept};
 
 use crate::building::build;
+use crate::closing::{Report, judged, take_inputs};
 use crate::error::CycleError;
-use crate::kept::{Returned, SentFrame};
+use crate::kept::Returned;
 use crate::matching::{answered, first_places};
-use crate::renewing::fill;
-use crate::report::{Report, missing_of};
+use crate::renewing::{SentFrame, fill};
 use crate::run::{BitRun, InputRun, runs_by_part, runs_of_inputs};
-use ec_bits::{copy_by_words, is_short, read_bits, write_bits};
+use ec_bits::{is_short, read_bits, write_bits};
 use ec_frame::{Frame, check};
 use ec_link::{ExpectedCounters, MAX_PART_BYTES, Plan};
 use ec_listed::Listed;
@@ -199,6 +197,7 @@ impl<'p> Master<'p> {
             return Err(CycleError::NumbersSpent);
         }
         let number = self.next;
+        forget(&mut self.kept);
         make_frames(
             self.held.plan(),
             self.runs.as_slice(),
@@ -206,7 +205,6 @@ impl<'p> Master<'p> {
             &self.outputs,
             &mut self.frames,
         );
-        forget(&mut self.kept);
         self.next = number + 1;
         self.number = Some(number);
         Ok(())
@@ -260,7 +258,8 @@ impl<'p> Master<'p> {
         }
         let plan = self.held.plan();
         let taken = judged(plan, self.expected.as_slice(), &self.kept);
-        let report = Report::new(plan.units(), &taken, &self.kept);
+        let missing = missing_of(&self.kept);
+        let report = Report::new(plan.units(), &taken, missing, &self.kept);
         take_inputs(
             plan,
             self.input_runs.as_slice(),
@@ -349,6 +348,22 @@ fn make_frames(
     }
 }
 
+/// How many parts are not kept.
+#[tactic(auto, using(crate::proofs::Judging::missing_steps))]
+fn missing_of(kept: &[Returned]) -> usize
+    requires { length kept.now ≤ 32 }
+    ensures value { result ≡ nones kept.now }
+    ensures few { result ≤ 32 }
+{
+    let mut missing = 0;
+    for part in kept {
+        if !part.is_kept() {
+            missing += 1;
+        }
+    }
+    missing
+}
+
 /// One frame for each part, with the outputs of an image; `begin` gives them their number.
 fn frames_of(
     alloc: Global,
@@ -394,96 +409,6 @@ fn blank() -> [u8; MAX_PART_BYTES]
     ensures { result ≡ zeros 1422 }
 {
     [0; MAX_PART_BYTES]
-}
-
-/// Copies the linked input bits of each unit that is taken out of what its parts brought back.
-fn take_inputs(
-    plan: &Plan,
-    runs: &[InputRun],
-    taken: &[bool; 256],
-    kept: &[Returned],
-    inputs: &mut [u8],
-)
-    requires usable { IsUsable plan.now }
-    requires runs { runs.now ≡ input_runs plan.now }
-    requires size { length taken.now ≡ 256 }
-    requires taken { (u : ℕ) → u < 256 → get_or taken.now u false ≡ unit_taken plan.now kept.now u }
-    requires kept { length kept.now ≡ length plan.now.parts }
-    requires sizes { (k : ℕ) (q : KeptPart) → get_or kept.now k None ≡ Some q → length q.bytes ≡ (part_at plan.now.parts k).bytes }
-    requires room { length inputs.old ≡ bytes_of_bits plan.now.in_bits }
-    requires few { plan.now.in_bits < 2 ^ 64 }
-    ensures { inputs.new ≡ inputs_closed plan.now kept.now inputs.old }
-{
-    for input in runs {
-        take_input(*input, taken, kept, inputs);
-    }
-}
-
-/// Copies the input bits of a run, if its unit is taken.
-fn take_input(input: InputRun, taken: &[bool; 256], kept: &[Returned], inputs: &mut [u8])
-    requires { get_or taken.now input.unit false ≡ true → (input.part < length kept.now) × FitsRun (length inputs.old) (length (bytes_of (get_or kept.now input.part None))) input.run }
-    ensures copied { inputs.new ≡ (if get_or taken.now input.unit false then run_copied (bytes_of (get_or kept.now input.part None)) input.run inputs.old else inputs.old) }
-    ensures small { input.unit < 256 }
-{
-    if taken[usize::from(input.unit)] {
-        copy_input(input, kept, inputs);
-    }
-}
-
-/// Copies the input bits of a run out of what its part brought back.
-fn copy_input(input: InputRun, kept: &[Returned], inputs: &mut [u8])
-    requires there { input.part < length kept.now }
-    requires fits { FitsRun (length inputs.old) (length (bytes_of (get_or kept.now input.part None))) input.run }
-    ensures { inputs.new ≡ run_copied (bytes_of (get_or kept.now input.part None)) input.run inputs.old }
-{
-    let run = input.run;
-    let bytes = kept[input.part].bytes();
-    copy_by_words(inputs, run.to, bytes, run.from, run.count);
-}
-
-/// Whether each unit is taken, by the number of the unit: all its parts were kept and are good.
-fn judged(plan: &Plan, expected: &[ExpectedCounters], kept: &[Returned]) -> [bool; 256]
-    requires kept { length kept.now ≡ length plan.now.parts }
-    requires count { length expected.now ≡ length plan.now.parts }
-    requires counters { (k : ℕ) (d : ExpectedCounters) → k < length plan.now.parts → get_or expected.now k d ≡ predicted plan.now k }
-    ensures size { length result ≡ 256 }
-    ensures judged { (u : ℕ) → u < 256 → get_or result u false ≡ unit_taken plan.now kept.now u }
-{
-    let mut taken = all_taken();
-    for k in 0..plan.parts().len() {
-        let is_good = is_good(plan, expected, kept, k);
-        judge(&mut taken, plan.unit_of_part(k), is_good);
-    }
-    taken
-}
-
-/// Judges a unit by one of its parts: it isn't taken if the part isn't good.
-fn judge(taken: &mut [bool; 256], unit: u8, is_good: bool)
-    ensures judged { taken.new ≡ set taken.old unit (get_or taken.old unit false && is_good) }
-    ensures small { unit < 256 }
-{
-    let unit = usize::from(unit);
-    taken[unit] = taken[unit] && is_good;
-}
-
-/// Whether a part was kept and is good.
-#[tactic(auto, using(crate::proofs::Judging::good_is))]
-fn is_good(plan: &Plan, expected: &[ExpectedCounters], kept: &[Returned], part: usize) -> bool
-    requires there { part < length plan.now.parts }
-    requires kept { length kept.now ≡ length plan.now.parts }
-    requires count { length expected.now ≡ length plan.now.parts }
-    requires counters { (k : ℕ) (d : ExpectedCounters) → k < length plan.now.parts → get_or expected.now k d ≡ predicted plan.now k }
-    ensures { result ≡ is_good plan.now part (get_or kept.now part None) }
-{
-    let slaves = plan.slaves().len();
-    kept[part].came_back_as(slaves, expected[part])
-}
-
-/// All units, before any part is judged: taken.
-fn all_taken() -> [bool; 256]
-    ensures { result ≡ replicate 256 true }
-{
-    [true; 256]
 }
 
 /// Room for what comes back of `count` parts; nothing did yet.

@@ -6,7 +6,8 @@ ghost use Rattle.ec_frame.specs.Datagram.{Datagram, IsDatagram, IsSpelling, spel
 ghost use Rattle.ec_frame.specs.Frame.{Payload, IsFrame};
 ghost use Rattle.ec_cycle.specs.Matching.{Answered, SameAt, SameFrom, StandsFor, FirstStand, StepsOn, NextAre, Names};
 
-use crate::kept::{Returned, SentFrame};
+use crate::kept::Returned;
+use crate::renewing::SentFrame;
 use ec_frame::field::NAME_LEN;
 use ec_frame::{DatagramCursor, DatagramSpan, Header, read_counter, read_data};
 

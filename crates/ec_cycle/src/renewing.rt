@@ -1,19 +1,22 @@
-//! Renews the frame of a part. It is made once, and gets another number and other outputs in each cycle.
+//! The frame of a part. It is made once, and renewed in each cycle: it gets another number and other outputs.
 ghost use Rattle.std.specs.Prelude.{◌≡◌, ◌^◌, ◌<◌, ◌∷◌, ℕ, Bool, List, length};
+ghost use Rattle.std.specs.List.{AllByRecursion};
 ghost use Rattle.ec_bits.specs.Bits.{bytes_of_bits, zeros};
 ghost use Rattle.ec_frame.specs.Building.{bare_payload};
 ghost use Rattle.ec_frame.specs.Frame.{IsFrame};
 ghost use Rattle.ec_link.specs.Plan.{part_at};
 ghost use Rattle.ec_link.specs.Usable.{IsUsable};
-ghost use Rattle.ec_cycle.specs.Copies.{output_runs};
+ghost use Rattle.ec_cycle.specs.Copies.{FitsRun, output_runs, runs_copied};
 ghost use Rattle.ec_cycle.specs.Frames.{process_bytes, sent_datagrams};
 ghost use Rattle.ec_cycle.specs.Kept.{IsMade};
 ghost use Rattle.ec_cycle.specs.Renewing.{front_bytes, process_spelled};
 
-use crate::run::{BitRun, copy_runs};
+use crate::run::BitRun;
+use ec_bits::copy_by_words;
 use ec_frame::field::{FRAME_HEADER_LEN, HEADER_LEN, INDEX, NAME_LEN, OVERHEAD};
-use ec_frame::index_of;
+use ec_frame::{Frame, index_of};
 use ec_link::{PartPlan, Plan};
+use std::marker::Model;
 
 /// The offset in bytes of the datagram that names a frame.
 const NAME: usize = FRAME_HEADER_LEN;
@@ -21,6 +24,48 @@ const NAME: usize = FRAME_HEADER_LEN;
 const STATUS: usize = NAME + OVERHEAD + NAME_LEN;
 /// The offset in bytes of the process datagrams, behind the two bytes of the AL status.
 const PROCESS: usize = STATUS + OVERHEAD + 2;
+
+/// The frame of a part, as it was sent.
+#[derive(Drop)]
+pub struct SentFrame {
+    frame: Frame,
+}
+
+impl Model for SentFrame {
+    ghost use Rattle.std.specs.Prelude.{ℕ, List};
+
+    ghost Value = { List ℕ };
+
+    ghost view = { λ s. s.frame.items };
+}
+
+impl SentFrame {
+    pub fn new(frame: Frame) -> SentFrame
+        ensures { result ≡ frame.items }
+    {
+        SentFrame { frame }
+    }
+
+    pub fn bytes(&self) -> &[u8]
+        ensures { result.now ≡ self.now }
+    {
+        self.frame.as_slice()
+    }
+
+    /// Writes the number of a cycle and the outputs of an image into the frame.
+    pub fn renew(&mut self, plan: &Plan, part: usize, runs: &[BitRun], number: u64, image: &[u8])
+        requires usable { IsUsable plan.now }
+        requires there { part < length plan.now.parts }
+        requires runs { runs.now ≡ output_runs plan.now part }
+        requires image { length image.now ≡ bytes_of_bits plan.now.out_bits }
+        requires few { plan.now.out_bits < 2 ^ 64 }
+        requires made { IsMade plan.now part self.old }
+        ensures spelled { IsFrame self.new (bare_payload (sent_datagrams plan.now number part image.now)) }
+        ensures made { IsMade plan.now part self.new }
+    {
+        renew(self.frame.as_mut_slice(), plan, part, runs, number, image);
+    }
+}
 
 /// Writes the process data of a part, for an image of the outputs, into `sent`, which is zeros.
 #[tactic(auto, using(crate::proofs::Runs::fill_steps))]
@@ -108,4 +153,15 @@ fn refresh(plan: &Plan, part: usize, runs: &[BitRun], image: &[u8], sent: &mut [
     ensures { sent.new ≡ process_bytes plan.now part image.now }
 {
     copy_runs(sent, image, runs);
+}
+
+/// Copies run after run from `src` to `dst`.
+#[tactic(auto, using(crate::proofs::Runs::copy_steps))]
+fn copy_runs(dst: &mut [u8], src: &[u8], runs: &[BitRun])
+    requires { AllByRecursion (FitsRun (length dst.old) (length src.now)) runs.now }
+    ensures { dst.new ≡ runs_copied src.now runs.now dst.old }
+{
+    for run in runs {
+        copy_by_words(dst, run.to, src, run.from, run.count);
+    }
 }

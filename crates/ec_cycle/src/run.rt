@@ -1,11 +1,9 @@
 //! Runs of bits that are copied between the images and the process data of frames. There is one run for each link, and one for
 //! several links if their bits adjoin on both sides.
 ghost use Rattle.std.specs.Prelude.{◌≡◌, ◌<◌, ◌++◌, ◌∷◌, [], ℕ, Bool, List, IfOk, length, map, get_or, true};
-ghost use Rattle.std.specs.List.{AllByRecursion};
 ghost use Rattle.ec_link.specs.Usable.{IsUsable, IsOutLink, IsInLink};
-ghost use Rattle.ec_cycle.specs.Copies.{FitsRun, is_of_part, runs_copied, output_run, input_run, part_runs, adjoin, both, inputs_adjoin, both_inputs, merged, merged_from, output_runs, input_runs};
+ghost use Rattle.ec_cycle.specs.Copies.{is_of_part, output_run, input_run, part_runs, adjoin, both, inputs_adjoin, both_inputs, merged, merged_from, output_runs, input_runs};
 
-use ec_bits::copy_by_words;
 use ec_link::{Link, Plan};
 use ec_listed::Listed;
 use std::alloc::{AllocError, Global};
@@ -79,17 +77,6 @@ impl Adjoining for InputRun {
             unit: self.unit,
             run: self.run.joined(next.run),
         }
-    }
-}
-
-/// Copies run after run from `src` to `dst`.
-#[tactic(auto, using(crate::proofs::Runs::copy_steps))]
-pub fn copy_runs(dst: &mut [u8], src: &[u8], runs: &[BitRun])
-    requires { AllByRecursion (FitsRun (length dst.old) (length src.now)) runs.now }
-    ensures { dst.new ≡ runs_copied src.now runs.now dst.old }
-{
-    for run in runs {
-        copy_by_words(dst, run.to, src, run.from, run.count);
     }
 }
 

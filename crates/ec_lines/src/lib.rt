@@ -2,9 +2,9 @@
 #![tactic(auto)]
 
 mod error;
-mod input;
 mod lines;
+mod text;
 
 pub use crate::error::LinesError;
-pub use crate::input::InputStream;
-pub use crate::lines::{MAX_BYTES, NextLine, take_line, take_text};
+pub use crate::lines::{InputStream, MAX_BYTES, NextLine, take_line};
+pub use crate::text::take_text;

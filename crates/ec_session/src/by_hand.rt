@@ -5,13 +5,13 @@ ghost use Rattle.ec_cycle.specs.Master.{OpenCycle, Begun, IsClosed, IsTaken, beg
 ghost use Rattle.ec_cycle.specs.declared.error.CycleError.TheVariants.{NotOpen};
 ghost use Rattle.ec_start.specs.Running.{IsStartTaken, asked, given_up, next_frame};
 ghost use Rattle.ec_start.specs.declared.phase.NextFrame.TheVariants.{Send};
-ghost use Rattle.ec_session.specs.Sessions.{IsCyclic, IsGiven, IsNextFrame, IsStarting, ready_with, resumed};
+ghost use Rattle.ec_session.specs.Sessions.{IsCyclic, IsGiven, IsNextFrame, IsStarting, resumed};
 
-use crate::session::Session;
+use crate::session::{Session, make_ready};
 use ec_cycle::{CycleError, Master};
 use ec_frame::Frame;
 use ec_frame::field::MAX_FRAME_LEN;
-use ec_start::{NextFrame, Phase, Startup, Taken};
+use ec_start::{NextFrame, Startup, Taken};
 
 impl Session {
     /// Writes the next frame of the start-up into `room`, and returns its length in bytes. Returns 0 if a frame is
@@ -95,18 +95,6 @@ impl Session {
         let is_kept = take_start(&mut self.startup, payload);
         make_ready(&mut self.master, &self.startup);
         is_kept
-    }
-}
-
-/// Makes the master ready if the start-up has ended Ready.
-pub(crate) fn make_ready(master: &mut Master<'_>, startup: &Startup<'_>)
-    requires { startup.now.plan ≡ master.old.plan.slaves }
-    ensures ready { master.new ≡ ready_with master.old startup.now }
-    ensures plan { master.new.plan ≡ master.old.plan }
-{
-    match startup.phase() {
-        Phase::Ready => master.ready(startup),
-        Phase::Idle | Phase::Sent(_) | Phase::Failed(_) => {}
     }
 }
 

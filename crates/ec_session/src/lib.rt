@@ -5,6 +5,5 @@
 mod by_hand;
 pub mod laws;
 mod session;
-mod wired;
 
 pub use crate::session::Session;

@@ -1,13 +1,14 @@
-//! Numbers in decimal, in a line of fixed room, and working counters. A number of 64 bits has at most 20 digits.
+//! Numbers in decimal, in a line of fixed room, words in hex, and working counters. A number of 64 bits has at most 20 digits.
 ghost use Rattle.std.specs.Prelude.{◌≡◌, ◌+◌, ◌≤◌, ◌∷◌, ◌++◌, OnErr, OnOk, string_bytes};
 ghost use Rattle.std.specs.Fmt.{decimal};
 ghost use Rattle.arrayvec.specs.ArrayString.{array_string_len};
 ghost use Rattle.ec_text.specs.PlanText.{counter_text};
+ghost use Rattle.ec_text.specs.ReportText.{word_text};
 
 use arrayvec::ArrayString;
 use ec_link::{ExpectedCounters, PartPlan};
 use itoa::Buffer;
-use std::alloc::AllocError;
+use std::alloc::{AllocError, Global};
 
 /// The most bytes that the working counters of a part may have: two numbers and what stands between them.
 const COUNTER_SIZE: usize = 41;
@@ -27,6 +28,18 @@ pub fn write_counter(
     ensures kept { OnErr result (string_bytes text.new ≡ string_bytes text.old) }
 {
     text.push_str(counter_of(part, predicted).as_str())
+}
+
+/// Adds a word as four hex digits.
+///
+/// # Errors
+///
+/// `AllocError` if memory ran out.
+pub fn write_word(alloc: Global, text: &mut String, word: u16) -> Result<(), AllocError>
+    ensures { OnOk result (string_bytes text.new ≡ string_bytes text.old ++ word_text word) }
+{
+    let digits = hex::encode(alloc, &[(word / 256) as u8, (word % 256) as u8])?;
+    text.push_str(digits.as_str())
 }
 
 /// Adds a number in decimal.

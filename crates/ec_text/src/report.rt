@@ -1,9 +1,9 @@
 //! Reports on cycles, and how start-ups ended, as text.
 ghost use Rattle.std.specs.Prelude.{◌≡◌, ◌++◌, OnOk, None, false, string_bytes};
 ghost use Rattle.ec_text.specs.PlanText.{lines_from};
-ghost use Rattle.ec_text.specs.ReportText.{counter_at, kept_text, outcome_text, report_text, taken_text, unit_at, units_text, word_text};
+ghost use Rattle.ec_text.specs.ReportText.{counter_at, kept_text, outcome_text, report_text, taken_text, unit_at, units_text};
 
-use crate::digits::write_counter;
+use crate::digits::{write_counter, write_word};
 use ec_cycle::Report;
 use ec_link::{ExpectedCounters, PartPlan};
 use ec_start::StartError;
@@ -56,14 +56,6 @@ pub fn write_outcome(
             writeln!(text, "failed {number}")
         }
     }
-}
-
-/// Adds a word as four hex digits.
-fn write_word(alloc: Global, text: &mut String, word: u16) -> Result<(), AllocError>
-    ensures { OnOk result (string_bytes text.new ≡ string_bytes text.old ++ word_text word) }
-{
-    let digits = hex::encode(alloc, &[(word / 256) as u8, (word % 256) as u8])?;
-    text.push_str(digits.as_str())
 }
 
 /// Adds the working counters of the parts.
