@@ -63,6 +63,13 @@ same_length past ahead d e same =
 pub starts : (bytes : List ℕ) (l : Datagrams) (p : Payload) → IsFrame bytes p → l.places.at ≡ 2 → l.places.end ≡ 2 + length_field bytes → IsLending bytes l p [] p.datagrams
 starts bytes l p h at end = record { frame = h; at = at; end = end ∙ ap (λ (n : ℕ). 2 + n) (area_is bytes p h).said }
 
+pub first : (bytes : List ℕ) (l : Datagrams) (p : Payload) → IsFrame bytes p → l.places.at ≡ 2 → l.places.end ≡ 2 + length_field bytes → HasNext bytes l
+first bytes l p h at end = of_list p.datagrams h.some (starts bytes l p h at end)
+  where
+    of_list : (ds : List Datagram) → 0 < length ds → IsLending bytes l p [] ds → HasNext bytes l
+    of_list [] some x = absurd (omega (arith, some))
+    of_list (d ∷ others) some x = (record { payload = p; past = []; datagram = d; ahead = others }, x)
+
 pub ahead : (bytes : List ℕ) (l : Datagrams) (p : Payload) (past rest : List Datagram) → IsLending bytes l p past rest → IsAhead bytes l.places rest
 ahead bytes l p past [] h =
     let all : List Datagram = past ++ [] in

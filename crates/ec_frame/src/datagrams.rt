@@ -25,10 +25,11 @@ pub struct Datagram<'a> {
 }
 
 impl Datagrams {
-    /// All datagrams of a frame.
+    /// All datagrams of a frame. There is one at least.
     pub fn new(frame: &[u8]) -> Self
         requires { (p : Payload) × IsFrame frame.now p }
-        ensures { (p : Payload) → IsFrame frame.now p → IsLending frame.now result p [] p.datagrams }
+        ensures first { HasNext frame.now result }
+        ensures ahead { (p : Payload) → IsFrame frame.now p → IsLending frame.now result p [] p.datagrams }
     {
         let places = DatagramCursor::new(frame);
         Datagrams { places }
