@@ -6,6 +6,8 @@ pub mod Builds
 pub mod Decoding
 -- a frame's datagrams are read back from its bytes, and its data are bytes; a payload is a frame or is refused
 pub mod FrameLaws
+-- the datagrams of a frame as they are lent
+pub mod Lending
 -- bytes as numbers, and a command as its number
 pub mod Numbers
 -- bytes have at most one reading as datagrams, or one first fault

@@ -19,7 +19,7 @@ header n bit = little_bytes 2 (n + cond bit 2048 0 + 4096)
 abbrev pub Spells : List ℕ → Bool → List Datagram → List ℕ → Type 0
 Spells frame bit ds tail = IsFrame frame (record { reserved = bit; datagrams = ds; rest = tail })
 
-joined_split : (b : List Datagram) (d : Datagram) (ds : List Datagram) → joined (b ++ d ∷ ds) ≡ opened b ++ joined (d ∷ ds)
+pub joined_split : (b : List Datagram) (d : Datagram) (ds : List Datagram) → joined (b ++ d ∷ ds) ≡ opened b ++ joined (d ∷ ds)
 joined_split [] d ds = refl
 joined_split (c ∷ []) d ds = ap (λ (xs : List ℕ). xs ++ joined (d ∷ ds)) (sym (append-nil (spelling true c)))
 joined_split (c ∷ e ∷ b) d ds = ap (λ (xs : List ℕ). spelling true c ++ xs) (joined_split (e ∷ b) d ds) ∙ sym (append_assoc (spelling true c) (opened (e ∷ b)) (joined (d ∷ ds)))

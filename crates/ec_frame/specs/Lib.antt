@@ -1,7 +1,7 @@
 -- To be believed, in this order: `Commands`, `Datagram` and `Frame` say which bytes are which frame, `Refusals` which are
 -- none, and why. `Decoded` reads a frame's datagrams from its bytes, `Fields` changes one field of a datagram, `Walk` handles
 -- all datagrams of a frame in order, `Building` makes them. `Cursor` and `Parts` say where datagrams stand in a frame, and how
--- their parts are lent.
+-- their parts are lent; `Lending` says what is known of a datagram that is lent, and of the others.
 pub mod Commands
 pub mod Datagram
 pub mod Frame
@@ -12,6 +12,7 @@ pub mod Walk
 pub mod Building
 pub mod Cursor
 pub mod Parts
+pub mod Lending
 -- Laws: other words for these definitions, proved.
 pub mod Laws
 -- Private: facts for the impls of `Handler`: their ghost members, in tests too, may cite what stands in specs alone.

@@ -7,6 +7,7 @@ mod checking;
 mod command;
 mod cursor;
 mod datagram;
+mod datagrams;
 mod error;
 pub mod field;
 pub mod laws;
@@ -21,6 +22,7 @@ pub use crate::datagram::{
     Header, address_of, cut_counter, cut_heading, read_counter, read_data, write_address,
     write_adp, write_counter,
 };
+pub use crate::datagrams::{Datagram, Datagrams};
 pub use crate::error::FrameError;
 pub use crate::name::{index_of, name_of};
 pub use crate::walk::{Handler, pass};
