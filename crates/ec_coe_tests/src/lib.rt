@@ -2,8 +2,14 @@
 #![tactic(auto)]
 
 #[cfg(test)]
+mod compare;
+#[cfg(test)]
 mod full;
 #[cfg(test)]
+mod kinds;
+#[cfg(test)]
 mod refusals;
+#[cfg(test)]
+mod steps;
 #[cfg(test)]
 mod tests;
