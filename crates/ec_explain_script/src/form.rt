@@ -1,14 +1,15 @@
 //! The form that a line begins as.
 use crate::word::Line;
 use ec_diagnostic::{Nearest, Telling};
-use ec_script::{FORMS, WordKind};
+use ec_script::{FORMS, Form, REPEAT, WordKind};
 
-/// The form that a line begins as. `is_variable` says whether the second word of an `expect` with three words is the name of a
-/// variable.
+/// The form that a line of a script begins as. `is_variable` says whether it is an `expect` of three words whose second is the
+/// name of a variable: then it has a form of three words.
 pub fn form_of(line: Line<'_>, is_variable: bool) -> Option<&'static str> {
-    for form in &FORMS {
-        if begins(line, form) && !(is_variable && is_name_before_value(form)) {
-            return Some(*form);
+    for (form, text) in &FORMS {
+        let has_room = !is_variable || text.split(' ').count() == 3;
+        if *form != Form::Report && has_room && begins(line, text) {
+            return Some(*text);
         }
     }
     None
@@ -27,13 +28,19 @@ fn begins(line: Line<'_>, form: &str) -> bool {
     true
 }
 
-/// The first word of a form that may have been meant.
+/// The first word of a script's line that may have been meant.
 pub fn verb_near(telling: &mut Telling<'_>, word: &str) -> Option<&'static str> {
     let mut near = Nearest::to(word);
-    for (place, form) in FORMS.iter().enumerate() {
-        near = telling.nearer(near, word, place, first_word(form));
+    for (place, (form, text)) in FORMS.iter().enumerate() {
+        if *form != Form::Report {
+            near = telling.nearer(near, word, place, first_word(text));
+        }
     }
-    Some(first_word(FORMS.get(near.place?)?))
+    near = telling.nearer(near, word, FORMS.len(), first_word(REPEAT));
+    match FORMS.get(near.place?) {
+        Some((_, text)) => Some(first_word(text)),
+        None => Some(first_word(REPEAT)),
+    }
 }
 
 /// The first word of a form.
@@ -42,10 +49,4 @@ fn first_word(form: &'static str) -> &'static str {
         Some((first, _)) => first,
         None => form,
     }
-}
-
-/// Whether a form never has one word alone behind its first two. In a line that has, the second word is the name of a
-/// variable, and the third a value.
-fn is_name_before_value(form: &str) -> bool {
-    form == "expect ready" || form == "expect state S STATE CODE"
 }

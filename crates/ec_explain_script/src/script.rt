@@ -3,7 +3,7 @@ use crate::form::{form_of, verb_near};
 use crate::misfit::{SEE_HELP, tell_misfit};
 use crate::word::{Line, Word};
 use ec_diagnostic::{Meant, Printable, Span, Telling};
-use ec_script::{WordKind, uncommented, variable_named};
+use ec_script::{REPEAT, WordKind, uncommented, variable_named};
 use ec_table::{Table, read_table};
 
 /// Adds remarks on line `line`, counted from 1, of the script that begins at the byte `from` of a text. They say which word of
@@ -56,7 +56,7 @@ fn tell_gap(telling: &mut Telling<'_>, gap: Span) {
 /// Adds remarks on what is wrong with a line that repeats another.
 fn tell_repeat(telling: &mut Telling<'_>, table: Option<&Table>, line: Line<'_>) {
     let (Some(times), Some(next)) = (line.word(1), line.word(2)) else {
-        return tell_form(telling, line, "repeat N LINE");
+        return tell_form(telling, line, REPEAT);
     };
     if tell_misfit(telling, None, WordKind::Times, times) {
         return;

@@ -22,13 +22,19 @@ use Rattle.ec_table.specs.Sound as table
 use Rattle.ec_table.specs.declared.rows.VariableRow.{VariableRow}
 use Rattle.ec_script.specs.declared.expectation.Expectation.{Expectation}
 use Rattle.ec_script.specs.declared.expectation.Expectation.TheVariants as expects
+use Rattle.ec_script.specs.declared.forms.ExpectForm.{ExpectForm}
+use Rattle.ec_script.specs.declared.forms.ExpectForm.TheVariants as expected
+use Rattle.ec_script.specs.declared.forms.Form.{Form}
+use Rattle.ec_script.specs.declared.forms.Form.TheVariants as form
 use Rattle.ec_script.specs.declared.line.LineAction.{LineAction}
 use Rattle.ec_script.specs.declared.line.LineAction.TheVariants.{Start, Set, Begin, Pass, Lose, Return, Close, Serve, Put, Get, Fail, Reset, Input, Never, Expect, Ready, Cycle, Show, Report}
 use Rattle.ec_script.specs.declared.line.Line.{Line}
 use Rattle.ec_script.specs.declared.read.Reading.TheVariants as reading
 use Rattle.ec_script.specs.declared.value.WrittenValue.{WrittenValue}
 use Rattle.ec_script.specs.declared.value.WrittenValue.TheVariants.{Number, Outside}
-use Rattle.ec_script.specs.Actions.{action_of_one, action_of_two, action_of_three, action_of_four, action_of_five, action_of_words, expected_by_one, expected_by_two, expected_by_three, expected_by_four, has_value, input_action, set_action, slave_in, state_named, value_expected, value_for, variable_named}
+use Rattle.ec_script.specs.Actions.{action_of_form, action_of_words, expectation_of_form, input_action, set_action, value_expected}
+use Rattle.ec_script.specs.Forms.{form_of}
+use Rattle.ec_script.specs.Operands.{assignment_at, slave_in, state_named, value_for, variable_named}
 use Rattle.ec_script.specs.Scripts.{found_line, line_of_words, line_on, reading_of, reading_without}
 use Rattle.ec_script.specs.Words.{Text, byte_of, code_of, hex_of, is_number, number_of, plain_of, times_of, uncommented, value_of, words_of}
 use Rattle.ec_script.specs.Writing.{IsActionOf, IsCode, IsExpectationOf, IsLineOf, IsNumber, IsOtherWord, LinesReadBack, below_all, code_word, code_words, joined_words, number_words, row_name, state_name, taken_word, words_expecting, words_for}
@@ -281,117 +287,121 @@ record IsBack (t : Contents) (action : LineAction) (words : List Text) : Type 0 
   plain : are_words (verb ∷ rest) ≡ true
   reads : action_of_words t (verb ∷ rest) ≡ Some action
 
-one_back : (t : Contents) (verb : Text) (action : LineAction) → nat_lt 0 (length verb) ≡ true → bytes_eq verb (codes "repeat") ≡ false → is_word verb ≡ true
-    → action_of_one verb ≡ Some action → IsBack t action (verb ∷ [])
-one_back t verb action some other plain reads =
-    record { verb = verb; rest = []; are = refl; some = some; other = other; plain = and _ _ plain refl; reads = reads }
+-- words that fit this form, and stand for this action by it
+back : (t : Contents) (f : Form) (action : LineAction) (verb : Text) (rest : List Text) → nat_lt 0 (length verb) ≡ true → bytes_eq verb (codes "repeat") ≡ false
+    → is_word verb ≡ true → are_words rest ≡ true → form_of (verb ∷ rest) ≡ Some f → action_of_form t (verb ∷ rest) f ≡ Some action → IsBack t action (verb ∷ rest)
+back t f action verb rest some other plain others fits reads = record {
+  verb = verb;
+  rest = rest;
+  are = refl;
+  some = some;
+  other = other;
+  plain = and _ _ plain others;
+  reads = ap (option_and_then (action_of_form t (verb ∷ rest))) fits ∙ reads;
+}
+
+-- ---- a number, and a slave
+
+one_word : (word : Text) → is_word word ≡ true → are_words (word ∷ []) ≡ true
+one_word word plain = and _ _ plain refl
+
+two_words : (a b : Text) → is_word a ≡ true → is_word b ≡ true → are_words (a ∷ b ∷ []) ≡ true
+two_words a b pa pb = and _ _ pa (one_word b pb)
+
+place_back : (t : Contents) (f : Form) (verb : Text) (n : ℕ) (action : ℕ → LineAction) → nat_lt 0 (length verb) ≡ true → bytes_eq verb (codes "repeat") ≡ false → is_word verb ≡ true
+    → n < 2 ^ 64 → form_of (verb ∷ decimal n ∷ []) ≡ Some f → action_of_form t (verb ∷ decimal n ∷ []) f ≡ option_and_then (λ k. Some (action k)) (number_of (decimal n))
+    → IsBack t (action n) (verb ∷ decimal n ∷ [])
+place_back t f verb n action some other plain h fits e =
+    back t f (action n) verb _ some other plain (one_word (decimal n) (number_word n h)) fits (e ∙ ap (option_and_then (λ k. Some (action k))) (number_back n h))
 
 slave_back : (t : Contents) (s : ℕ) → s < 2 ^ 64 → slave_in t (decimal s) ≡ Some s
 unfolding slave_in
 slave_back t s h = rw (number_digits s h, number_back s h) refl
 
--- ---- one more word
-
-two_back : (t : Contents) (verb word : Text) (action : LineAction) → nat_lt 0 (length verb) ≡ true → bytes_eq verb (codes "repeat") ≡ false → is_word verb ≡ true
-    → is_word word ≡ true → action_of_two t verb word ≡ Some action → IsBack t action (verb ∷ word ∷ [])
-two_back t verb word action some other plain word_plain reads =
-    record { verb = verb; rest = word ∷ []; are = refl; some = some; other = other; plain = and _ _ plain (and _ _ word_plain refl); reads = reads }
-
-place_back : (t : Contents) (verb : Text) (n : ℕ) (action : ℕ → LineAction) → nat_lt 0 (length verb) ≡ true → bytes_eq verb (codes "repeat") ≡ false → is_word verb ≡ true
-    → n < 2 ^ 64 → action_of_two t verb (decimal n) ≡ option_and_then (λ k. Some (action k)) (number_of (decimal n)) → IsBack t (action n) (verb ∷ decimal n ∷ [])
-place_back t verb n action some other plain h e =
-    two_back t verb (decimal n) (action n) some other plain (number_word n h) (e ∙ ap (option_and_then (λ k. Some (action k))) (number_back n h))
-
-by_slave : (t : Contents) (verb : Text) (n : ℕ) (action : ℕ → LineAction) → nat_lt 0 (length verb) ≡ true → bytes_eq verb (codes "repeat") ≡ false → is_word verb ≡ true
-    → n < 2 ^ 64 → action_of_two t verb (decimal n) ≡ option_and_then (λ k. Some (action k)) (slave_in t (decimal n)) → IsBack t (action n) (verb ∷ decimal n ∷ [])
-by_slave t verb n action some other plain h e =
-    two_back t verb (decimal n) (action n) some other plain (number_word n h) (e ∙ ap (option_and_then (λ k. Some (action k))) (slave_back t n h))
-
--- ---- two more words
-
-three_back : (t : Contents) (verb a b : Text) (action : LineAction) → nat_lt 0 (length verb) ≡ true → bytes_eq verb (codes "repeat") ≡ false → is_word verb ≡ true
-    → is_word a ≡ true → is_word b ≡ true → action_of_three t verb a b ≡ Some action → IsBack t action (verb ∷ a ∷ b ∷ [])
-three_back t verb a b action some other plain pa pb reads =
-    record { verb = verb; rest = a ∷ b ∷ []; are = refl; some = some; other = other; plain = and _ _ plain (and _ _ pa (and _ _ pb refl)); reads = reads }
-
-set_back : (t : Contents) (v x : ℕ) → Row t v → x < 2 ^ 64 → IsBack t (Set v x) (codes "set" ∷ row_name (slice_get t.variables v) ∷ decimal x ∷ [])
-unfolding action_of_three
-set_back t v x r h =
-    three_back t (codes "set") _ (decimal x) (Set v x) refl refl refl r.plain (number_word x h)
-    (ap (option_and_then (λ k. option_and_then (λ y. Some (set_action k y)) (value_for t.variables k (decimal x)))) r.named
-    ∙ ap (option_and_then (λ y. Some (set_action v y))) (value_for_back t v x r h))
-
-input_back : (t : Contents) (v x : ℕ) → Row t v → x < 2 ^ 64 → IsBack t (Input v x) (codes "in" ∷ row_name (slice_get t.variables v) ∷ decimal x ∷ [])
-unfolding action_of_three
-input_back t v x r h =
-    three_back t (codes "in") _ (decimal x) (Input v x) refl refl refl r.plain (number_word x h)
-    (ap (option_and_then (λ k. option_and_then (λ y. Some (input_action k y)) (value_for t.variables k (decimal x)))) r.named
-    ∙ ap (option_and_then (λ y. Some (input_action v y))) (value_for_back t v x r h))
-
-never_back : (t : Contents) (v : ℕ) → Row t v → IsBack t (Never v) (codes "set" ∷ row_name (slice_get t.variables v) ∷ below_all ∷ [])
-unfolding action_of_three
-never_back t v r =
-    three_back t (codes "set") _ below_all (Never v) refl refl refl r.plain refl
-    (ap (option_and_then (λ k. option_and_then (λ y. Some (set_action k y)) (value_for t.variables k below_all))) r.named
-    ∙ ap (option_and_then (λ y. Some (set_action v y))) (below_for_back t v r))
+by_slave : (t : Contents) (f : Form) (verb : Text) (n : ℕ) (action : ℕ → LineAction) → nat_lt 0 (length verb) ≡ true → bytes_eq verb (codes "repeat") ≡ false → is_word verb ≡ true
+    → n < 2 ^ 64 → form_of (verb ∷ decimal n ∷ []) ≡ Some f → action_of_form t (verb ∷ decimal n ∷ []) f ≡ option_and_then (λ k. Some (action k)) (slave_in t (decimal n))
+    → IsBack t (action n) (verb ∷ decimal n ∷ [])
+by_slave t f verb n action some other plain h fits e =
+    back t f (action n) verb _ some other plain (one_word (decimal n) (number_word n h)) fits (e ∙ ap (option_and_then (λ k. Some (action k))) (slave_back t n h))
 
 get_back : (t : Contents) (s i : ℕ) → s < 2 ^ 64 → i < 2 ^ 64 → IsBack t (Get s i) (codes "get" ∷ decimal s ∷ decimal i ∷ [])
-unfolding action_of_three
+unfolding form_of
 get_back t s i h g =
-    three_back t (codes "get") (decimal s) (decimal i) (Get s i) refl refl refl (number_word s h) (number_word i g)
+    back t form.Get (Get s i) (codes "get") _ refl refl refl (two_words (decimal s) (decimal i) (number_word s h) (number_word i g)) refl
     (ap (option_and_then (λ s. option_and_then (λ i. Some (Get s i)) (number_of (decimal i)))) (slave_back t s h)
     ∙ ap (option_and_then (λ i. Some (Get s i))) (number_back i g))
 
--- ---- three more words
-
 put_back : (t : Contents) (s i x : ℕ) → s < 2 ^ 64 → i < 2 ^ 64 → x < 256 → IsBack t (Put s i x) (codes "put" ∷ decimal s ∷ decimal i ∷ decimal x ∷ [])
-unfolding action_of_four
-put_back t s i x h g b = record {
-  verb = codes "put";
-  rest = decimal s ∷ decimal i ∷ decimal x ∷ [];
-  are = refl;
-  some = refl;
-  other = refl;
-  plain = and _ _ refl (and _ _ (number_word s h) (and _ _ (number_word i g) (and _ _ (number_word x (small x b)) refl)));
-  reads =
-      ap (option_and_then (λ s. option_and_then (λ i. option_and_then (λ x. Some (Put s i x)) (byte_of (decimal x))) (number_of (decimal i)))) (slave_back t s h)
-      ∙ (ap (option_and_then (λ i. option_and_then (λ x. Some (Put s i x)) (byte_of (decimal x)))) (number_back i g)
-      ∙ ap (option_and_then (λ x. Some (Put s i x))) (byte_back x b));
-}
+unfolding form_of
+put_back t s i x h g b =
+    back t form.Put (Put s i x) (codes "put") _ refl refl refl (and _ _ (number_word s h) (two_words (decimal i) (decimal x) (number_word i g) (number_word x (small x b)))) refl
+    (ap (option_and_then (λ s. option_and_then (λ i. option_and_then (λ x. Some (Put s i x)) (byte_of (decimal x))) (number_of (decimal i)))) (slave_back t s h)
+    ∙ (ap (option_and_then (λ i. option_and_then (λ x. Some (Put s i x)) (byte_of (decimal x)))) (number_back i g)
+    ∙ ap (option_and_then (λ x. Some (Put s i x))) (byte_back x b)))
+
+-- ---- a variable and a value
+
+abbrev name_of : Contents → ℕ → Text
+name_of t v = row_name (slice_get t.variables v)
+
+assigned : (t : Contents) (verb : Text) (v : ℕ) (word : Text) (value : WrittenValue) → Row t v → value_for t.variables v word ≡ Some value
+    → assignment_at t (verb ∷ name_of t v ∷ word ∷ []) 1 2 ≡ Some (v, value)
+assigned t verb v word value r is =
+    ap (option_and_then (λ k. option_and_then (λ x. Some (k, x)) (value_for t.variables k word))) r.named ∙ ap (option_and_then (λ x. Some (v, x))) is
+
+assigning : (t : Contents) (f : Form) (verb : Text) (v : ℕ) (word : Text) (value : WrittenValue) (action : ℕ × WrittenValue → LineAction) → nat_lt 0 (length verb) ≡ true
+    → bytes_eq verb (codes "repeat") ≡ false → is_word verb ≡ true → Row t v → is_word word ≡ true → value_for t.variables v word ≡ Some value
+    → form_of (verb ∷ name_of t v ∷ word ∷ []) ≡ Some f
+    → action_of_form t (verb ∷ name_of t v ∷ word ∷ []) f ≡ option_and_then (λ a. Some (action a)) (assignment_at t (verb ∷ name_of t v ∷ word ∷ []) 1 2)
+    → IsBack t (action (v, value)) (verb ∷ name_of t v ∷ word ∷ [])
+assigning t f verb v word value action some other plain r word_plain is fits e =
+    back t f (action (v, value)) verb _ some other plain (two_words (name_of t v) word r.plain word_plain) fits
+    (e ∙ ap (option_and_then (λ a. Some (action a))) (assigned t verb v word value r is))
+
+set_back : (t : Contents) (v : ℕ) (word : Text) (value : WrittenValue) → Row t v → is_word word ≡ true → value_for t.variables v word ≡ Some value
+    → IsBack t (set_action (v, value)) (codes "set" ∷ name_of t v ∷ word ∷ [])
+unfolding form_of
+set_back t v word value r plain is = assigning t form.Set (codes "set") v word value set_action refl refl refl r plain is refl refl
+
+input_back : (t : Contents) (v x : ℕ) → Row t v → x < 2 ^ 64 → IsBack t (Input v x) (codes "in" ∷ name_of t v ∷ decimal x ∷ [])
+unfolding form_of
+input_back t v x r h = assigning t form.Input (codes "in") v (decimal x) (Number x) input_action refl refl refl r (number_word x h) (value_for_back t v x r h) refl refl
 
 -- ---- what is expected
 
-expect_one : (t : Contents) (word : Text) (e : Expectation) → is_word word ≡ true → expected_by_one word ≡ Some e → IsBack t (Expect e) (codes "expect" ∷ word ∷ [])
-unfolding action_of_two
-expect_one t word e plain reads = two_back t (codes "expect") word (Expect e) refl refl refl plain (ap (option_and_then (λ x. Some (Expect x))) reads)
+expect_back : (t : Contents) (f : ExpectForm) (e : Expectation) (rest : List Text) → are_words rest ≡ true → form_of (codes "expect" ∷ rest) ≡ Some (form.Expect f)
+    → expectation_of_form t (codes "expect" ∷ rest) f ≡ Some e → IsBack t (Expect e) (codes "expect" ∷ rest)
+expect_back t f e rest plain fits reads =
+    back t (form.Expect f) (Expect e) (codes "expect") rest refl refl refl plain fits (ap (option_and_then (λ x. Some (Expect x))) reads)
 
-expect_two : (t : Contents) (a b : Text) (e : Expectation) → is_word a ≡ true → is_word b ≡ true → expected_by_two t a b ≡ Some e → IsBack t (Expect e) (codes "expect" ∷ a ∷ b ∷ [])
-unfolding action_of_three
-expect_two t a b e pa pb reads = three_back t (codes "expect") a b (Expect e) refl refl refl pa pb (ap (option_and_then (λ x. Some (Expect x))) reads)
+value_form : (name word : Text) → IsOtherWord name → form_of (codes "expect" ∷ name ∷ word ∷ []) ≡ Some (form.Expect expected.Value)
+unfolding form_of
+value_form name word free = rw (differ _ _ free.0, differ _ _ free.1, differ _ _ free.2) refl
 
-value_of_name : (t : Contents) (v : ℕ) (word : Text) (value : WrittenValue) → Row t v → IsOtherWord (row_name (slice_get t.variables v)) → is_word word ≡ true
-    → value_for t.variables v word ≡ Some value → IsBack t (Expect (has_value v value)) (codes "expect" ∷ row_name (slice_get t.variables v) ∷ word ∷ [])
-unfolding expected_by_two value_expected
+value_of_name : (t : Contents) (v : ℕ) (word : Text) (value : WrittenValue) → Row t v → IsOtherWord (name_of t v) → is_word word ≡ true
+    → value_for t.variables v word ≡ Some value → IsBack t (Expect (value_expected (v, value))) (codes "expect" ∷ name_of t v ∷ word ∷ [])
 value_of_name t v word value r free plain is =
-    expect_two t (row_name (slice_get t.variables v)) word (has_value v value) r.plain plain
-    (rw (differ _ _ free.0, differ _ _ free.1, differ _ _ free.2)
-    (ap (option_and_then (λ k. option_and_then (λ x. Some (has_value k x)) (value_for t.variables k word))) r.named
-    ∙ ap (option_and_then (λ x. Some (has_value v x))) is))
+    expect_back t expected.Value (value_expected (v, value)) _ (two_words (name_of t v) word r.plain plain) (value_form (name_of t v) word free)
+    (ap (option_and_then (λ a. Some (value_expected a))) (assigned t (codes "expect") v word value r is))
 
 units_back : (t : Contents) (taken : Bool) → IsBack t (Expect (expects.Units taken)) (codes "expect" ∷ taken_word taken ∷ [])
-unfolding expected_by_one
-units_back t true = expect_one t (codes "taken") _ refl refl
-units_back t false = expect_one t (codes "untaken") _ refl refl
+unfolding form_of
+units_back t true = expect_back t (expected.Units true) _ _ refl refl refl
+units_back t false = expect_back t (expected.Units false) _ _ refl refl refl
 
 unit_back : (t : Contents) (u : ℕ) (taken : Bool) → u < 2 ^ 64 → IsBack t (Expect (expects.Unit u taken)) (codes "expect" ∷ taken_word taken ∷ decimal u ∷ [])
-unfolding expected_by_two
-unit_back t u true h = expect_two t (codes "taken") (decimal u) _ refl (number_word u h) (ap (option_and_then (λ u. Some (expects.Unit u true))) (number_back u h))
-unit_back t u false h = expect_two t (codes "untaken") (decimal u) _ refl (number_word u h) (ap (option_and_then (λ u. Some (expects.Unit u false))) (number_back u h))
+unfolding form_of
+unit_back t u true h = expect_back t (expected.Unit true) _ _ (two_words (codes "taken") (decimal u) refl (number_word u h)) refl (ap (option_and_then (λ u. Some (expects.Unit u true))) (number_back u h))
+unit_back t u false h = expect_back t (expected.Unit false) _ _ (two_words (codes "untaken") (decimal u) refl (number_word u h)) refl (ap (option_and_then (λ u. Some (expects.Unit u false))) (number_back u h))
+
+ready_back : (t : Contents) → IsBack t (Expect expects.Ready) (codes "expect" ∷ codes "ready" ∷ [])
+unfolding form_of
+ready_back t = expect_back t expected.Ready _ _ refl refl refl
 
 failed_back : (t : Contents) (number : Option ℕ) → IsNumber number → IsBack t (Expect (expects.Failed number)) (codes "expect" ∷ codes "failed" ∷ number_words number)
-unfolding expected_by_one expected_by_two
-failed_back t None h = expect_one t (codes "failed") _ refl refl
-failed_back t (Some n) h = expect_two t (codes "failed") (decimal n) _ refl (number_word n h) (ap (option_and_then (λ n. Some (expects.Failed (Some n)))) (number_back n h))
+unfolding form_of
+failed_back t None h = expect_back t expected.Failed _ _ refl refl refl
+failed_back t (Some n) h = expect_back t expected.Refusal _ _ (two_words (codes "failed") (decimal n) refl (number_word n h)) refl (ap (option_and_then (λ n. Some (expects.Failed (Some n)))) (number_back n h))
 
 -- ---- AL states
 
@@ -455,28 +465,14 @@ code_plain n h =
 
 in_state : (t : Contents) (s : ℕ) (state : State) (code : Option ℕ) → s < 2 ^ 64 → IsCode code
     → IsBack t (Expect (expects.State s state code)) (codes "expect" ∷ codes "state" ∷ decimal s ∷ state_name state ∷ code_words code)
-unfolding action_of_four action_of_five expected_by_three expected_by_four
-in_state t s state None h g = record {
-  verb = codes "expect";
-  rest = codes "state" ∷ decimal s ∷ state_name state ∷ [];
-  are = refl;
-  some = refl;
-  other = refl;
-  plain = and _ _ refl (and _ _ refl (and _ _ (number_word s h) (and _ _ (state_plain state) refl)));
-  reads = rw (slave_back t s h, state_back state) refl;
-}
-in_state t s state (Some code) h g = record {
-  verb = codes "expect";
-  rest = codes "state" ∷ decimal s ∷ state_name state ∷ code_word code ∷ [];
-  are = refl;
-  some = refl;
-  other = refl;
-  plain = and _ _ refl (and _ _ refl (and _ _ (number_word s h) (and _ _ (state_plain state) (and _ _ (code_plain code g) refl))));
-  reads = rw (slave_back t s h, state_back state, code_back code g) refl;
-}
+unfolding form_of
+in_state t s state None h g =
+    expect_back t expected.State _ _ (and _ _ refl (two_words (decimal s) (state_name state) (number_word s h) (state_plain state))) refl (rw (slave_back t s h, state_back state) refl)
+in_state t s state (Some code) h g =
+    expect_back t expected.Code _ _ (and _ _ refl (and _ _ (number_word s h) (two_words (state_name state) (code_word code) (state_plain state) (code_plain code g)))) refl
+    (rw (slave_back t s h, state_back state, code_back code g) refl)
 
 expectation_back : (t : Contents) (e : Expectation) → table.IsSound t → IsExpectationOf t.variables e → IsBack t (Expect e) (codes "expect" ∷ words_expecting t.variables e)
-unfolding expected_by_one
 expectation_back t (expects.Is v x) sound h =
     let r = row_at t v sound h.0.0 in value_of_name t v (decimal x) (Number x) r h.0.1 (number_word x h.1) (value_for_back t v x r h.1)
 expectation_back t (expects.Never v) sound h =
@@ -484,32 +480,32 @@ expectation_back t (expects.Never v) sound h =
 expectation_back t (expects.Units taken) sound h = units_back t taken
 expectation_back t (expects.Unit u taken) sound h = unit_back t u taken h
 expectation_back t (expects.State s state code) sound h = in_state t s state code h.0 h.1
-expectation_back t expects.Ready sound h = expect_one t (codes "ready") _ refl refl
+expectation_back t expects.Ready sound h = ready_back t
 expectation_back t (expects.Failed number) sound h = failed_back t number h
 
 -- ---- actions and lines
 
 action_back : (t : Contents) (action : LineAction) → table.IsSound t → IsActionOf t.variables action → IsBack t action (words_for t.variables action)
-unfolding action_of_one action_of_two
-action_back t Start sound h = one_back t (codes "start") _ refl refl refl refl
-action_back t (Set v x) sound h = set_back t v x (row_at t v sound h.0) h.1
-action_back t Begin sound h = one_back t (codes "begin") _ refl refl refl refl
-action_back t (Pass k) sound h = place_back t (codes "pass") k (λ k. Pass k) refl refl refl h refl
-action_back t (Lose k) sound h = place_back t (codes "lose") k (λ k. Lose k) refl refl refl h refl
-action_back t (Return k) sound h = place_back t (codes "return") k (λ k. Return k) refl refl refl h refl
-action_back t Close sound h = one_back t (codes "close") _ refl refl refl refl
-action_back t (Serve s) sound h = by_slave t (codes "serve") s (λ s. Serve s) refl refl refl h refl
+unfolding form_of
+action_back t Start sound h = back t form.Start _ (codes "start") [] refl refl refl refl refl refl
+action_back t (Set v x) sound h = let r = row_at t v sound h.0 in set_back t v (decimal x) (Number x) r (number_word x h.1) (value_for_back t v x r h.1)
+action_back t Begin sound h = back t form.Begin _ (codes "begin") [] refl refl refl refl refl refl
+action_back t (Pass k) sound h = place_back t form.Pass (codes "pass") k (λ k. Pass k) refl refl refl h refl refl
+action_back t (Lose k) sound h = place_back t form.Lose (codes "lose") k (λ k. Lose k) refl refl refl h refl refl
+action_back t (Return k) sound h = place_back t form.Return (codes "return") k (λ k. Return k) refl refl refl h refl refl
+action_back t Close sound h = back t form.Close _ (codes "close") [] refl refl refl refl refl refl
+action_back t (Serve s) sound h = by_slave t form.Serve (codes "serve") s (λ s. Serve s) refl refl refl h refl refl
 action_back t (Put s i x) sound h = put_back t s i x h.0 h.1 h.2
 action_back t (Get s i) sound h = get_back t s i h.0 h.1
-action_back t (Fail s) sound h = by_slave t (codes "fault") s (λ s. Fail s) refl refl refl h refl
-action_back t (Reset s) sound h = by_slave t (codes "reset") s (λ s. Reset s) refl refl refl h refl
+action_back t (Fail s) sound h = by_slave t form.Fail (codes "fault") s (λ s. Fail s) refl refl refl h refl refl
+action_back t (Reset s) sound h = by_slave t form.Reset (codes "reset") s (λ s. Reset s) refl refl refl h refl refl
 action_back t (Input v x) sound h = input_back t v x (row_at t v sound h.0) h.1
-action_back t (Never v) sound h = never_back t v (row_at t v sound h)
+action_back t (Never v) sound h = let r = row_at t v sound h in set_back t v below_all Outside r refl (below_for_back t v r)
 action_back t (Expect e) sound h = expectation_back t e sound h
-action_back t Ready sound h = one_back t (codes "ready") _ refl refl refl refl
-action_back t Cycle sound h = one_back t (codes "cycle") _ refl refl refl refl
-action_back t Show sound h = one_back t (codes "show") _ refl refl refl refl
-action_back t Report sound h = one_back t (codes "report") _ refl refl refl refl
+action_back t Ready sound h = back t form.Ready _ (codes "ready") [] refl refl refl refl refl refl
+action_back t Cycle sound h = back t form.Cycle _ (codes "cycle") [] refl refl refl refl refl refl
+action_back t Show sound h = back t form.Show _ (codes "show") [] refl refl refl refl refl refl
+action_back t Report sound h = back t form.Report _ (codes "report") [] refl refl refl refl refl refl
 
 -- words that stand for a line
 record IsLineBack (t : Contents) (line : Line) (words : List Text) : Type 0 where

@@ -2,9 +2,12 @@
 
 -- words, and the numbers that they write
 pub mod Words
+-- how lines are written
+pub mod Forms
 -- where a script begins
 pub mod Halves
--- what the words of a line stand for
+-- what single words and whole lines stand for
+pub mod Operands
 pub mod Actions
 -- what the lines of a script stand for, and which line is the first bad one
 pub mod Scripts

@@ -13,7 +13,8 @@ use Rattle.ec_script.specs.declared.read.Reading.TheVariants as reading
 use Rattle.ec_script.specs.declared.error.ScriptError.{ScriptError}
 use Rattle.ec_script.specs.declared.error.ScriptError.TheVariants.{Memory, BadScript}
 use Rattle.ec_script.specs.Words.{Text, times_of, uncommented, words_of}
-use Rattle.ec_script.specs.Actions.{◌>>=◌, action_of_words}
+use Rattle.ec_script.specs.Actions.{action_of_words}
+use Rattle.ec_script.specs.Operands.{◌>>=◌}
 
 -- ---- errors
 

@@ -1,67 +1,200 @@
-//! How lines are written, for people.
+//! The forms of lines: how they are written, and the actions that their words stand for.
+ghost use Rattle.std.specs.Prelude.{◌≡◌, map};
+ghost use Rattle.std.specs.Char.{is_ascii_uppercase};
+ghost use Rattle.std.specs.List.{list_all};
+ghost use Rattle.ec_script.specs.Actions.{action_of_form, action_of_words, expectation_of_form, input_action, set_action, value_expected};
+ghost use Rattle.ec_script.specs.Forms.{agree, fits, form_of};
+ghost use Rattle.ec_script.specs.Words.{words_of};
 
-/// What a word of a line stands for.
+use crate::expectation::Expectation;
+use crate::line::LineAction;
+use crate::operands::Operands;
+use crate::value::WrittenValue;
+use ec_table::Table;
+
+/// The form of a line, named for the action that it asks for.
 #[derive(Clone, Copy, Debug, PartialEq, Eq, Drop)]
-pub enum WordKind {
-    /// A variable, by its name.
-    Variable,
-    /// A value of a variable.
-    Value,
-    /// A slave, by its number or its name.
-    Slave,
-    /// A number in decimal.
-    Number,
-    /// A number up to 255.
-    Byte,
-    /// A number from 1 to 1,000,000.
-    Times,
-    /// An AL state, by its name.
-    State,
-    /// An AL status code in four hex digits.
-    Code,
+pub enum Form {
+    Start,
+    Set,
+    Begin,
+    Pass,
+    Lose,
+    Return,
+    Close,
+    Serve,
+    Put,
+    Get,
+    Fail,
+    Reset,
+    Input,
+    Ready,
+    Cycle,
+    Show,
+    Report,
+    Expect(ExpectForm),
 }
 
-/// How the lines of a script are written: a word in small letters stands for itself, and one in capitals for something else. A
-/// form that begins with two words of its own stands before one that begins with only the first of them.
-pub static FORMS: [&str; 23] = [
-    "start",
-    "set NAME VALUE",
-    "begin",
-    "pass K",
-    "lose K",
-    "return K",
-    "close",
-    "serve S",
-    "put S I BYTE",
-    "get S I",
-    "fault S",
-    "reset S",
-    "in NAME VALUE",
-    "ready",
-    "cycle",
-    "show",
-    "expect taken UNIT",
-    "expect untaken UNIT",
-    "expect ready",
-    "expect failed NUMBER",
-    "expect state S STATE CODE",
-    "expect NAME VALUE",
-    "repeat N LINE",
+/// The form of a line that expects something, named for what it expects.
+#[derive(Clone, Copy, Debug, PartialEq, Eq, Drop)]
+pub enum ExpectForm {
+    /// Sync unit by its number: taken, or with false not.
+    Unit(bool),
+    /// All sync units: taken, or with false none.
+    Units(bool),
+    Ready,
+    /// A failed start-up, by the number of its refusal.
+    Refusal,
+    Failed,
+    /// An AL state with an AL status code.
+    Code,
+    State,
+    Value,
+}
+
+/// How the lines of a script are written, without `repeat`: a word in capitals stands for what it names, and any other for itself.
+/// Words that fit several forms have the first of them. A form stands before those that are its beginning.
+pub static FORMS: [(Form, &str); 27] = [
+    (Form::Start, "start"),
+    (Form::Set, "set NAME VALUE"),
+    (Form::Begin, "begin"),
+    (Form::Pass, "pass K"),
+    (Form::Lose, "lose K"),
+    (Form::Return, "return K"),
+    (Form::Close, "close"),
+    (Form::Serve, "serve S"),
+    (Form::Put, "put S I BYTE"),
+    (Form::Get, "get S I"),
+    (Form::Fail, "fault S"),
+    (Form::Reset, "reset S"),
+    (Form::Input, "in NAME VALUE"),
+    (Form::Ready, "ready"),
+    (Form::Cycle, "cycle"),
+    (Form::Show, "show"),
+    (Form::Report, "report"),
+    (Form::Expect(ExpectForm::Unit(true)), "expect taken UNIT"),
+    (Form::Expect(ExpectForm::Units(true)), "expect taken"),
+    (Form::Expect(ExpectForm::Unit(false)), "expect untaken UNIT"),
+    (Form::Expect(ExpectForm::Units(false)), "expect untaken"),
+    (Form::Expect(ExpectForm::Ready), "expect ready"),
+    (Form::Expect(ExpectForm::Refusal), "expect failed NUMBER"),
+    (Form::Expect(ExpectForm::Failed), "expect failed"),
+    (Form::Expect(ExpectForm::Code), "expect state S STATE CODE"),
+    (Form::Expect(ExpectForm::State), "expect state S STATE"),
+    (Form::Expect(ExpectForm::Value), "expect NAME VALUE"),
 ];
 
-impl WordKind {
-    /// What a word of a form stands for; `None` if for itself.
-    pub fn of(part: &str) -> Option<WordKind> {
-        match part {
-            "NAME" => Some(WordKind::Variable),
-            "VALUE" => Some(WordKind::Value),
-            "S" => Some(WordKind::Slave),
-            "K" | "I" | "UNIT" | "NUMBER" => Some(WordKind::Number),
-            "BYTE" => Some(WordKind::Byte),
-            "N" => Some(WordKind::Times),
-            "STATE" => Some(WordKind::State),
-            "CODE" => Some(WordKind::Code),
-            _ => None,
+/// How a line is written that repeats one of these forms.
+pub const REPEAT: &str = "repeat N LINE";
+
+/// What the words of a line stand for; `None` if for nothing.
+pub fn action_of_words(table: &Table, words: &[&str]) -> Option<LineAction>
+    ensures { result ≡ action_of_words table.now (map (λ x. x.now) words.now) }
+{
+    action_of_form(form_of(words)?, Operands { table, words })
+}
+
+/// The form that the words of a line fit; `None` if there is none.
+fn form_of(words: &[&str]) -> Option<Form>
+    ensures { result ≡ form_of (map (λ x. x.now) words.now) }
+{
+    let (form, _) = FORMS.iter().find(|row| fits(words, row.1))?;
+    Some(*form)
+}
+
+/// Whether words fit a form: they are as many, and each of them fits.
+fn fits(words: &[&str], form: &str) -> bool
+    ensures { result ≡ fits (map (λ x. x.now) words.now) form.now }
+{
+    agree(words, form) && form.split(' ').count() == words.len()
+}
+
+/// Whether each of some words fits the word of a form in its place, as far as both have words.
+fn agree(words: &[&str], form: &str) -> bool
+    ensures { result ≡ agree (map (λ x. x.now) words.now) (words_of form.now) }
+{
+    form.split(' ')
+        .zip(words)
+        .all(|(part, word)| is_placeholder(part) || *word == part)
+}
+
+/// Whether a word of a form stands for what it names.
+fn is_placeholder(part: &str) -> bool
+    ensures { result ≡ list_all is_ascii_uppercase part.now }
+{
+    part.as_bytes().iter().all(|byte| byte.is_ascii_uppercase())
+}
+
+/// What words of this form stand for; `None` if one of them isn't what the form needs there.
+fn action_of_form(form: Form, words: Operands<'_>) -> Option<LineAction>
+    ensures { result ≡ action_of_form words.entry.table.now (map (λ x. x.now) words.entry.words.now) form }
+{
+    Some(match form {
+        Form::Start => LineAction::Start,
+        Form::Set => set_action(words.assignment(1, 2)?),
+        Form::Begin => LineAction::Begin,
+        Form::Pass => LineAction::Pass(words.index(1)?),
+        Form::Lose => LineAction::Lose(words.index(1)?),
+        Form::Return => LineAction::Return(words.index(1)?),
+        Form::Close => LineAction::Close,
+        Form::Serve => LineAction::Serve(words.slave(1)?),
+        Form::Put => LineAction::Put(words.slave(1)?, words.index(2)?, words.byte(3)?),
+        Form::Get => LineAction::Get(words.slave(1)?, words.index(2)?),
+        Form::Fail => LineAction::Fail(words.slave(1)?),
+        Form::Reset => LineAction::Reset(words.slave(1)?),
+        Form::Input => input_action(words.assignment(1, 2)?),
+        Form::Ready => LineAction::Ready,
+        Form::Cycle => LineAction::Cycle,
+        Form::Show => LineAction::Show,
+        Form::Report => LineAction::Report,
+        Form::Expect(form) => LineAction::Expect(expectation_of_form(form, words)?),
+    })
+}
+
+/// What words of this form expect; `None` if one of them isn't what the form needs there.
+fn expectation_of_form(form: ExpectForm, words: Operands<'_>) -> Option<Expectation>
+    ensures { result ≡ expectation_of_form words.entry.table.now (map (λ x. x.now) words.entry.words.now) form }
+{
+    Some(match form {
+        ExpectForm::Unit(taken) => Expectation::Unit(words.number(2)?, taken),
+        ExpectForm::Units(taken) => Expectation::Units(taken),
+        ExpectForm::Ready => Expectation::Ready,
+        ExpectForm::Refusal => Expectation::Failed(Some(words.number(2)?)),
+        ExpectForm::Failed => Expectation::Failed(None),
+        ExpectForm::Code => {
+            Expectation::State(words.slave(2)?, words.state(3)?, Some(words.code(4)?))
         }
+        ExpectForm::State => Expectation::State(words.slave(2)?, words.state(3)?, None),
+        ExpectForm::Value => value_expected(words.assignment(1, 2)?),
+    })
+}
+
+/// The action that gives an input variable a value.
+fn input_action(assignment: (usize, WrittenValue)) -> LineAction
+    ensures { result ≡ input_action assignment }
+{
+    match assignment {
+        (variable, WrittenValue::Number(value)) => LineAction::Input(variable, value),
+        (variable, WrittenValue::Outside) => LineAction::Never(variable),
+    }
+}
+
+/// The action that sets an output variable to a value.
+fn set_action(assignment: (usize, WrittenValue)) -> LineAction
+    ensures { result ≡ set_action assignment }
+{
+    match assignment {
+        (variable, WrittenValue::Number(value)) => LineAction::Set(variable, value),
+        (variable, WrittenValue::Outside) => LineAction::Never(variable),
+    }
+}
+
+/// The expectation that a variable has a value.
+fn value_expected(assignment: (usize, WrittenValue)) -> Expectation
+    ensures { result ≡ value_expected assignment }
+{
+    match assignment {
+        (variable, WrittenValue::Number(value)) => Expectation::Is(variable, value),
+        (variable, WrittenValue::Outside) => Expectation::Never(variable),
     }
 }

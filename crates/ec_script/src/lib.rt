@@ -1,29 +1,27 @@
 //! The language of `ecat sim` and `ecat master`: what lines stand for, and what they print.
 #![tactic(auto)]
 
-mod actions;
 mod error;
 mod expectation;
-mod expecting;
 mod forms;
 mod halves;
 pub mod laws;
 mod line;
 mod met;
+mod operands;
 mod output;
 mod read;
 mod value;
 mod view;
 mod words;
 
-pub use crate::actions::{slave_named, variable_named};
 pub use crate::error::ScriptError;
 pub use crate::expectation::Expectation;
-pub use crate::expecting::state_named;
-pub use crate::forms::{FORMS, WordKind};
+pub use crate::forms::{ExpectForm, FORMS, Form, REPEAT};
 pub use crate::halves::split_script;
 pub use crate::line::{Line, LineAction, is_simulated};
 pub use crate::met::{is_failed, is_met};
+pub use crate::operands::{WordKind, slave_named, state_named, variable_named};
 pub use crate::output::{LineOutput, output_text};
 pub use crate::read::{Reading, read_line, read_script, uncommented};
 pub use crate::value::hex_of;

@@ -4,8 +4,8 @@ ghost use Rattle.std.specs.Str.Lines.{lines};
 ghost use Rattle.ec_script.specs.Words.{uncommented, without_end_blanks, words_of};
 ghost use Rattle.ec_script.specs.Scripts.{Gives, is_simulated, line_of_words, line_on, reading_of, repeated_line, script_of, taken_by};
 
-use crate::actions::action_of_words;
 use crate::error::ScriptError;
+use crate::forms::action_of_words;
 use crate::line::{Line, is_simulated};
 use crate::words::times_of;
 use ec_listed::Listed;

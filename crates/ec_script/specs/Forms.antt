@@ -1,0 +1,57 @@
+-- How lines are written (this project's profile), without `repeat`. A word of a form in capitals stands for what it names, and any
+-- other for itself.
+use Rattle.std.specs.Prelude.{◌==◌, ◌&&◌, ◌||◌, List, [], ◌∷◌, length, Bool, true, false, Option, option_map, codes}
+use Rattle.std.specs.Char.{is_ascii_uppercase}
+use Rattle.std.specs.List.{find, list_all, zip}
+use Rattle.std.specs.Str.{bytes_eq}
+use Rattle.ec_script.specs.declared.forms.ExpectForm.TheVariants as expects
+use Rattle.ec_script.specs.declared.forms.Form.{Form}
+use Rattle.ec_script.specs.declared.forms.Form.TheVariants.{Start, Set, Begin, Pass, Lose, Return, Close, Serve, Put, Get, Fail, Reset, Input, Ready, Cycle, Show, Report, Expect}
+use Rattle.ec_script.specs.Words.{Text, words_of}
+
+abbrev pub forms : List (Form × Text)
+forms =
+    (Start, codes "start")
+    ∷ (Set, codes "set NAME VALUE")
+    ∷ (Begin, codes "begin")
+    ∷ (Pass, codes "pass K")
+    ∷ (Lose, codes "lose K")
+    ∷ (Return, codes "return K")
+    ∷ (Close, codes "close")
+    ∷ (Serve, codes "serve S")
+    ∷ (Put, codes "put S I BYTE")
+    ∷ (Get, codes "get S I")
+    ∷ (Fail, codes "fault S")
+    ∷ (Reset, codes "reset S")
+    ∷ (Input, codes "in NAME VALUE")
+    ∷ (Ready, codes "ready")
+    ∷ (Cycle, codes "cycle")
+    ∷ (Show, codes "show")
+    ∷ (Report, codes "report")
+    ∷ (Expect (expects.Unit true), codes "expect taken UNIT")
+    ∷ (Expect (expects.Units true), codes "expect taken")
+    ∷ (Expect (expects.Unit false), codes "expect untaken UNIT")
+    ∷ (Expect (expects.Units false), codes "expect untaken")
+    ∷ (Expect expects.Ready, codes "expect ready")
+    ∷ (Expect expects.Refusal, codes "expect failed NUMBER")
+    ∷ (Expect expects.Failed, codes "expect failed")
+    ∷ (Expect expects.Code, codes "expect state S STATE CODE")
+    ∷ (Expect expects.State, codes "expect state S STATE")
+    ∷ (Expect expects.Value, codes "expect NAME VALUE")
+    ∷ []
+
+-- a word of a form fits a word of a line
+abbrev pub stands_for : Text → Text → Bool
+stands_for part word = list_all is_ascii_uppercase part || bytes_eq word part
+
+-- as far as both have words
+abbrev pub agree : List Text → List Text → Bool
+agree words parts = list_all (λ p. stands_for p.0 p.1) (zip parts words)
+
+-- they are as many, and each fits
+abbrev pub fits : List Text → Text → Bool
+fits words form = (length (words_of form) == length words) && agree words (words_of form)
+
+-- the first form that words fit
+unfoldable pub form_of : List Text → Option Form
+form_of words = option_map (λ f. f.0) (find (λ f. fits words f.1) forms)
