@@ -21,7 +21,7 @@ def declared_types(top):
         crate = path.relative_to(top).parts[1]
         text = re.sub(r"//[^\n]*", "", path.read_text())
         brought = {}
-        for owner, names in re.findall(r"^use (ec_\w+)::([^;]*);", text, re.M):
+        for owner, names in re.findall(r"^use ((?:ec|cmd|test)_\w+)::([^;]*);", text, re.M):
             brought.update((name, (owner, name)) for name in re.findall(r"\b[A-Z]\w*", names))
         for found in re.finditer(r"^(?:pub(?:\(\w+\))? )?(?:struct|enum) (\w+)(?:[^;{]*;|.*?\})$", text, re.M | re.S):
             types.setdefault((crate, found.group(1)), Declared(found.group(0)))

@@ -8,7 +8,7 @@ use Rattle.ec_al.specs.States.{state_number}
 use Rattle.ec_al.specs.Transitions.{requested_number, requested_by, acknowledges, answer}
 use Rattle.ec_al.specs.Al.{Al, power_on, stepped, answered, faulted, IsSound}
 use Rattle.ec_al.specs.Runs.{Event, Request, Step, Fault, Reset, after, after_all}
-use Rattle.ec_al.specs.Laws.{height, ClimbsOneStateAtATime, KeepsErrors, ReachesOpByRequest, CodeTellsErrors, Unacknowledging, GrantsOp}
+use Rattle.ec_al.specs.Laws.{height, ClimbsOneStateAtATime, KeepsErrors, ReachesOpByRequest, CodeMatchesErrors, Unacknowledging, GrantsOp}
 use Rattle.ec_al.specs.declared.state.State.{State}
 use Rattle.ec_al.specs.declared.state.State.TheVariants.{Init, PreOp, SafeOp, Op}
 use Rattle.ec_al.specs.declared.status_code.StatusCode.{StatusCode}
@@ -53,7 +53,7 @@ climbs al (event ∷ events) r below reached =
     (λ there. (1, omega arith))
     (λ further. let rest = climbs (after al event) events r (omega arith) reached in (suc rest.0, rest.1))
 
--- ---- the code tells the error
+-- ---- the code is that of the error
 
 sound-after : (al : Al) (event : Event) → IsSound al → IsSound (after al event)
 sound-after al Request h = h
@@ -65,7 +65,7 @@ sound-after_all : (al : Al) (events : List Event) → IsSound al → IsSound (af
 sound-after_all al [] h = h
 sound-after_all al (event ∷ events) h = sound-after_all (after al event) events (sound-after al event h)
 
-pub code_tells : CodeTellsErrors
+pub code_tells : CodeMatchesErrors
 code_tells events = sound-after_all power_on events (search rules)
 
 -- ---- an error stays

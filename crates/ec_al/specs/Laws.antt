@@ -78,8 +78,8 @@ ReachesOpByRequest =
     ((events ≡ earlier ++ Step control checks ∷ later) × GrantsOp (after_all al earlier) control checks))))
 
 -- The status code is 0 exactly without an error, after every run from power-on.
-abbrev pub CodeTellsErrors : Type 0
-CodeTellsErrors = (events : List Event) → IsSound (after_all power_on events)
+abbrev pub CodeMatchesErrors : Type 0
+CodeMatchesErrors = (events : List Event) → IsSound (after_all power_on events)
 
 -- BOOT is never entered: no status word ever shows it, and no request for it changes the state.
 abbrev pub NeverEntersBootstrap : Type 0

@@ -1,7 +1,7 @@
 //! What the standard says of the EtherCAT state machine, proved of the definitions that the contracts of this
 //! crate cite. Each function does nothing; its contract is the law, which `specs/Laws.antt` spells out.
 
-ghost use Rattle.ec_al.specs.Laws.{AsksByNumber, GrantsUpToTheNextState, ClimbsOneStateAtATime, KeepsErrors, ReachesOpByRequest, CodeTellsErrors, NeverEntersBootstrap, DecidesOnce, ReturnsToInit, ComesUpToOp, NamesReadBack};
+ghost use Rattle.ec_al.specs.Laws.{AsksByNumber, GrantsUpToTheNextState, ClimbsOneStateAtATime, KeepsErrors, ReachesOpByRequest, CodeMatchesErrors, NeverEntersBootstrap, DecidesOnce, ReturnsToInit, ComesUpToOp, NamesReadBack};
 
 /// A control word asks for a state exactly by that state's number.
 pub fn asks_by_number()
@@ -34,8 +34,8 @@ pub fn reaches_op_by_request()
 
 /// The AL status code is 0 exactly without an error.
 #[tactic(auto, using(crate::proofs::RunLemmas::code_tells))]
-pub fn code_tells_errors()
-    ensures { CodeTellsErrors }
+pub fn code_matches_errors()
+    ensures { CodeMatchesErrors }
 {}
 
 /// BOOT is never entered.

@@ -4,7 +4,7 @@ use Rattle.ec_decode.specs.Answers.{DecodesLines}
 use Rattle.ec_decode.specs.FrameText.{Text}
 use Rattle.ec_decode.specs.Indented.{without_indented, woven}
 use Rattle.ec_annotate.specs.declared.names.Names.{Names}
-use Rattle.ec_annotate.specs.declared.names.Names.TheVariants.{Told, Untold}
+use Rattle.ec_annotate.specs.declared.names.Names.TheVariants.{Added, Omitted}
 
 -- remarks stand behind the lines of a text
 abbrev pub IsWoven : Text → Text → Type 0
@@ -16,5 +16,5 @@ Annotates lines text whole = (plain : Text) × DecodesLines lines plain whole ×
 
 -- names are explained if an explanation is wanted
 abbrev pub names_of : Bool → Names
-names_of true = Told
-names_of false = Untold
+names_of true = Added
+names_of false = Omitted

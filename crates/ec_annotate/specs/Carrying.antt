@@ -15,8 +15,8 @@ links_of Out p = p.out_links
 links_of In p = p.in_links
 
 -- the first bit of a link among those of the part's data
-abbrev pub place_of : PlanState → ℕ → Link → ℕ
-place_of p k l = (slave_at p l.slave).from + l.object_bit - 8 * (part_at p.parts k).address
+abbrev pub offset_of : PlanState → ℕ → Link → ℕ
+offset_of p k l = (slave_at p l.slave).from + l.object_bit - 8 * (part_at p.parts k).address
 
 -- the slave of the link stands in the part; no link of a table has more than 64 bits
 abbrev pub is_carried : PlanState → ℕ → Link → Bool
@@ -24,7 +24,7 @@ is_carried p k l = (part_of p l.slave == k) && nat_le l.count 64
 
 -- a link, with the number of its bits in the data
 abbrev pub carried_by : PlanState → ℕ → List ℕ → Link → Carried
-carried_by p k bytes l = record { link = l; number = bits_number bytes (place_of p k l) l.count }
+carried_by p k bytes l = record { link = l; number = bits_number bytes (offset_of p k l) l.count }
 
 -- the bits of variables of a direction that the data of part k carry, in the order of the plan's links
 abbrev pub carried : PlanState → ℕ → Direction → List ℕ → List Carried

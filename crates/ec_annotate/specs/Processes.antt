@@ -11,11 +11,11 @@ use Rattle.ec_annotate.specs.declared.carried.process.Process.{Process}
 use Rattle.ec_annotate.specs.declared.carried.process.ProcessCommand.{ProcessCommand}
 use Rattle.ec_annotate.specs.declared.carried.process.ProcessCommand.TheVariants.{Both, Write, Read}
 
-abbrev pub way_of : Command → Option ProcessCommand
-way_of Lrw = Some Both
-way_of Lwr = Some Write
-way_of Lrd = Some Read
-way_of _ = None
+abbrev pub process_command_of : Command → Option ProcessCommand
+process_command_of Lrw = Some Both
+process_command_of Lwr = Some Write
+process_command_of Lrd = Some Read
+process_command_of _ = None
 
 -- the commands of split parts, an LWR and an LRD
 abbrev pub is_split : ProcessCommand → Bool
@@ -28,12 +28,12 @@ abbrev pub is_of : (split : Bool) (address size : ℕ) → PartPlan → Bool
 is_of split address size part = ((part.address == address) && (part.bytes == size)) && ((part.split && split) || not (part.split || split))
 
 abbrev pub process_by : PlanState → (address size : ℕ) → ProcessCommand → Option Process
-process_by p address size way = option_map (λ k. record { part = k; way = way }) (position (is_of (is_split way) address size) p.parts)
+process_by p address size command = option_map (λ k. record { part = k; command = command }) (position (is_of (is_split command) address size) p.parts)
 
 -- the part whose data a datagram carries, by its command, its address and its bytes of data, if it carries one's
 abbrev pub process_of : PlanState → Option ProcessCommand → (address size : ℕ) → Option Process
 process_of p None address size = None
-process_of p (Some way) address size = process_by p address size way
+process_of p (Some command) address size = process_by p address size command
 
 -- the predicted counter of one datagram; a part that isn't split has an LRW alone
 abbrev pub counter_of : ProcessCommand → ExpectedCounters → Option ℕ

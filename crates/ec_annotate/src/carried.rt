@@ -7,4 +7,4 @@ mod saying;
 
 pub use self::bits::{Carried, carried_bits, variable_at};
 pub use self::process::{Process, ProcessCommand, find_process, predicted_counter};
-pub use self::saying::{Told, write_process};
+pub use self::saying::{ProcessDatagram, write_process};

@@ -10,8 +10,8 @@ mod remarks;
 
 pub use crate::annotate::{Links, annotate_text};
 pub use crate::carried::{
-    Carried, Process, ProcessCommand, Told, carried_bits, find_process, predicted_counter,
-    variable_at, write_process,
+    Carried, Process, ProcessCommand, ProcessDatagram, carried_bits, find_process,
+    predicted_counter, variable_at, write_process,
 };
 pub use crate::names::Names;
 pub use crate::remark::{sii_text, write_remarks};

@@ -6,9 +6,9 @@ ghost use Rattle.ec_annotate.specs.Annotating.{names_of};
 #[derive(Clone, Copy, Debug, PartialEq, Eq, Drop)]
 pub enum Names {
     /// They do.
-    Told,
+    Added,
     /// They don't.
-    Untold,
+    Omitted,
 }
 
 impl Names {
@@ -17,9 +17,9 @@ impl Names {
         ensures { result ≡ names_of explained }
     {
         if explained {
-            Names::Told
+            Names::Added
         } else {
-            Names::Untold
+            Names::Omitted
         }
     }
 }

@@ -3,13 +3,13 @@ ghost use Rattle.std.specs.Option.{ForSome};
 ghost use Rattle.ec_link.specs.Usable.{IsUsable};
 
 use crate::annotate::Links;
-use crate::carried::{Told, write_process};
+use crate::carried::{ProcessDatagram, write_process};
 use crate::names::Names;
 use crate::remark::write_remarks;
-use ec_decode::check_placed;
+use ec_decode::check_located;
 use ec_frame::FrameError;
 use ec_frame::field::FRAME_HEADER_LEN;
-use ec_seen::{Seen, first_seen};
+use ec_names::{DatagramFields, first_datagram};
 use hex::FromHexError;
 use std::alloc::{AllocError, Global};
 
@@ -66,7 +66,7 @@ fn add_payload(
         Some(bytes) => bytes,
         None => &[],
     };
-    match check_placed(payload) {
+    match check_located(payload) {
         Ok(count) => {
             remarks.push(String::new(alloc))?;
             add_datagrams(alloc, remarks, count, bytes, names, links)
@@ -74,8 +74,8 @@ fn add_payload(
         Err(refused) => {
             add_datagrams(alloc, remarks, refused.whole, bytes, names, links)?;
             let fault = match names {
-                Names::Told => fault_text(refused.error),
-                Names::Untold => "",
+                Names::Added => fault_text(refused.error),
+                Names::Omitted => "",
             };
             remarks.push(String::from_str(alloc, fault)?)?;
             Ok(())
@@ -96,10 +96,10 @@ fn add_datagrams(
 {
     let mut rest = bytes;
     for _ in 0..count {
-        let Some((seen, after)) = first_seen(rest) else {
+        let Some((fields, after)) = first_datagram(rest) else {
             return Ok(());
         };
-        remarks.push(remark_on(alloc, seen, names, links)?)?;
+        remarks.push(remark_on(alloc, fields, names, links)?)?;
         rest = after;
     }
     Ok(())
@@ -108,7 +108,7 @@ fn add_datagrams(
 /// The remarks on a datagram.
 fn remark_on(
     alloc: Global,
-    seen: Seen<'_>,
+    fields: DatagramFields<'_>,
     names: Names,
     links: Option<Links<'_>>,
 ) -> Result<String, AllocError>
@@ -116,11 +116,11 @@ fn remark_on(
 {
     let mut remark = String::new(alloc);
     match names {
-        Names::Told => write_remarks(alloc, &mut remark, seen)?,
-        Names::Untold => {}
+        Names::Added => write_remarks(alloc, &mut remark, fields)?,
+        Names::Omitted => {}
     }
     if let Some(links) = links {
-        write_variables(alloc, &mut remark, seen, links)?;
+        write_variables(alloc, &mut remark, fields, links)?;
     }
     Ok(remark)
 }
@@ -129,18 +129,18 @@ fn remark_on(
 fn write_variables(
     alloc: Global,
     text: &mut String,
-    seen: Seen<'_>,
+    fields: DatagramFields<'_>,
     links: Links<'_>,
 ) -> Result<(), AllocError>
     requires { IsUsable links.plan.now }
 {
-    let told = Told {
-        command: seen.command,
-        address: seen.address,
-        content: seen.content,
-        counter: seen.counter,
+    let datagram = ProcessDatagram {
+        command: fields.command,
+        address: fields.address,
+        content: fields.content,
+        counter: fields.counter,
     };
-    write_process(alloc, text, links.table, links.plan, told)
+    write_process(alloc, text, links.table, links.plan, datagram)
 }
 
 /// What is wrong with a payload that is no frame (ETG.1000.4, "EtherCAT frame structure").

@@ -15,10 +15,10 @@ use Rattle.ec_console.specs.Printing.{OutputState}
 use Rattle.ec_lines.specs.Inputs.{InputState}
 use Rattle.ec_wire.specs.Wires.{LoopbackState, Traffic}
 use Rattle.ec_table.specs.Contents.{Contents}
-use Rattle.ec_loop.specs.Looping.{LoopsOnSockets}
+use Rattle.cmd_loop.specs.Looping.{LoopsOnSockets}
 use Rattle.ec_app.specs.declared.work.Work.{Work}
 use Rattle.ec_app.specs.declared.work.Work.TheVariants as work
-use Rattle.ec_app.specs.Running.{Ends, EndsAlone, EndsGiven, EndsOwning, EndsUnread, LeavesApp, Stream, Tells, TellsWith, given_words, unread}
+use Rattle.ec_app.specs.Running.{Ends, EndsAlone, EndsGiven, EndsOwning, EndsUnread, LeavesApp, Stream, Eprints, EprintsWith, given_words, unread}
 use Rattle.ec_args.specs.Requests.{Reads}
 use Rattle.ec_args.specs.declared.request.Notice.{Notice}
 use Rattle.ec_args.specs.declared.request.Request.{Request}
@@ -33,11 +33,11 @@ three_to_five false false = (2, omega arith, refl)
 pub status_known : (refusal : Refusal) → Contains {X = ℕ} (0 ∷ 2 ∷ 3 ∷ 4 ∷ 5 ∷ []) (status_of refusal)
 status_known refusal = let n = number_of refusal in three_to_five (n == 37 || (n == 41 || (n == 42 || n == 43))) (n == 45)
 
-pub tells_known : (faults : Stream) (status : ℕ) (ended : Result Unit Refusal) → Tells faults status ended → Contains {X = ℕ} (0 ∷ 2 ∷ 3 ∷ 4 ∷ 5 ∷ []) status
+pub tells_known : (faults : Stream) (status : ℕ) (ended : Result Unit Refusal) → Eprints faults status ended → Contains {X = ℕ} (0 ∷ 2 ∷ 3 ∷ 4 ∷ 5 ∷ []) status
 tells_known faults status (Ok done) told = subst (Contains {X = ℕ} (0 ∷ 2 ∷ 3 ∷ 4 ∷ 5 ∷ [])) (sym told.0) (0, omega arith, refl)
 tells_known faults status (Err refusal) told = subst (Contains {X = ℕ} (0 ∷ 2 ∷ 3 ∷ 4 ∷ 5 ∷ [])) (sym told.0) (status_known refusal)
 
-pub tells_with_known : (more : List ℕ) (faults : Stream) (status : ℕ) (ended : Result Unit Refusal) → TellsWith more faults status ended → Contains {X = ℕ} (0 ∷ 2 ∷ 3 ∷ 4 ∷ 5 ∷ []) status
+pub tells_with_known : (more : List ℕ) (faults : Stream) (status : ℕ) (ended : Result Unit Refusal) → EprintsWith more faults status ended → Contains {X = ℕ} (0 ∷ 2 ∷ 3 ∷ 4 ∷ 5 ∷ []) status
 tells_with_known more faults status (Ok done) told = subst (Contains {X = ℕ} (0 ∷ 2 ∷ 3 ∷ 4 ∷ 5 ∷ [])) (sym told.0) (0, omega arith, refl)
 tells_with_known more faults status (Err refusal) told = subst (Contains {X = ℕ} (0 ∷ 2 ∷ 3 ∷ 4 ∷ 5 ∷ [])) (sym told.0) (status_known refusal)
 
@@ -51,7 +51,7 @@ ends_unread (Ok (Sim l c e)) old new app_old app_new alone = tt
 ends_unread (Ok (Loop n c e)) old new app_old app_new alone = tt
 ends_unread (Ok (Segment n p d f i c e)) old new app_old app_new alone = tt
 ends_unread (Ok (Master a d m c e)) old new app_old app_new alone = tt
-ends_unread (Err told) old new app_old app_new alone = alone.0
+ends_unread (Err error) old new app_old app_new alone = alone.0
 
 -- a run on the arguments that were given, as texts
 pub given_ends : {R A : Type 0} (given : Result (IntoIter (String Global) Global) Error) (words : IntoIter (String Global) Global) (texts : List (List ℕ))
@@ -64,7 +64,7 @@ given_ends given words texts known old new app_old app_new output faults status 
 
 -- and one for which memory ran out before
 pub given_lost : {R : Type 0} (given : Result (IntoIter (String Global) Global) Error) (words : IntoIter (String Global) Global) (known : Given) (input : R)
-    (output : OutputState) (faults : Stream) (status : ℕ) → given ≡ Ok words → Tells faults status (Err Memory)
+    (output : OutputState) (faults : Stream) (status : ℕ) → given ≡ Ok words → Eprints faults status (Err Memory)
     → EndsGiven given known input input (record { old = output; new = output }) faults status
 given_lost given words known input output faults status is told =
     subst (λ g. EndsGiven g known input input (record { old = output; new = output }) faults status) (sym is) (inr (refl, refl, told))
@@ -80,7 +80,7 @@ owned {R} remaining words stream first last output faults before printed after t
   reads = run.1;
   left = last;
   printed = printed;
-  told = told;
+  stderr = told;
   ends = subst (λ (i : InputState R). Ends run.0 (given_by remaining i last) (record { old = output; new = printed }) (record { old = faults; new = told }) status) input
       (subst (λ (o : OutputState). Ends run.0 (given_by remaining first last) (record { old = o; new = printed }) (record { old = faults; new = told }) status) out
       (subst (λ (f : OutputState). Ends run.0 (given_by remaining first last) (record { old = before; new = printed }) (record { old = f; new = told }) status) err run.2));

@@ -19,15 +19,15 @@ form_of false true = Explained
 form_of false false = Fixed
 
 -- the plan in a form; the text of an explained plan is free
-abbrev pub IsShown : PlanForm → Contents → List ℕ → Type 0
-IsShown Fixed table answer = answer ≡ plan_text table.version (plan_of table)
-IsShown Explained table answer = Unit {0}
-IsShown Header table answer = answer ≡ header_text table.variables
+abbrev pub IsTextOfPlan : PlanForm → Contents → List ℕ → Type 0
+IsTextOfPlan Fixed table answer = answer ≡ plan_text table.version (plan_of table)
+IsTextOfPlan Explained table answer = Unit {0}
+IsTextOfPlan Header table answer = answer ≡ header_text table.variables
 
 -- the text states a machine, and this shows its plan
 abbrev pub IsPlanAnswer : PlanForm → List ℕ → List ℕ → Type 0
 IsPlanAnswer form text answer =
-    (table : Contents) × StatesIn Plain text table × IsShown form table answer
+    (table : Contents) × StatesIn Plain text table × IsTextOfPlan form table answer
 
 -- what `ecat plan` prints, by what the input gives
 abbrev pub AnswersPlan : PlanForm → Given → List ℕ → Type 0

@@ -2,7 +2,7 @@
 use Rattle.std.specs.Prelude.{◌≡◌, ◌⊎◌, ℕ, List, Bool, true, false, Option, Some, None, Result, Ok, Err}
 use Rattle.std.specs.Str.Lines.{lines}
 use Rattle.ec_annotate.specs.declared.names.Names.{Names}
-use Rattle.ec_annotate.specs.declared.names.Names.TheVariants.{Told, Untold}
+use Rattle.ec_annotate.specs.declared.names.Names.TheVariants.{Added, Omitted}
 use Rattle.ec_annotate.specs.Annotating.{Annotates}
 use Rattle.ec_console.specs.declared.refusal.Refusal.{Refusal}
 use Rattle.ec_console.specs.declared.refusal.Refusal.TheVariants.{Memory, BadHex, Input, Output}
@@ -52,6 +52,6 @@ RunsWith (Some file) = RunsByFile
 
 -- `ecat decode`, with remarks if a table is named or the standard's names are wanted
 abbrev pub RunsDecodeWith : (table : Option (List ℕ)) → Names → (given : Given) → (old new : OutputState) → Result Unit Refusal → Type 0
-RunsDecodeWith None Untold = RunsDecode
-RunsDecodeWith None Told = RunsRemarked
+RunsDecodeWith None Omitted = RunsDecode
+RunsDecodeWith None Added = RunsRemarked
 RunsDecodeWith (Some file) names = RunsByFile

@@ -14,11 +14,11 @@ use Rattle.ec_args.specs.declared.request.Notice.TheVariants as notice
 use Rattle.ec_args.specs.declared.request.Request.{Request}
 use Rattle.ec_console.specs.declared.refusal.Refusal.{Refusal}
 use Rattle.ec_console.specs.declared.refusal.Refusal.TheVariants.{Memory}
-use Rattle.ec_loop.specs.Looping.{LoopsOnSockets}
+use Rattle.cmd_loop.specs.Looping.{LoopsOnSockets}
 use Rattle.ec_app.specs.Passing.{RunsPass}
-use Rattle.ec_app.specs.Planning.{RunsPlan, form_of as shown_as}
+use Rattle.ec_app.specs.Planning.{RunsPlan, form_of as plan_form_of}
 use Rattle.ec_console.specs.Given.{Given, given_by}
-use Rattle.ec_console.specs.Printing.{IsTold, OutputState, Shows}
+use Rattle.ec_console.specs.Printing.{IsEprinted, OutputState, PrintsText}
 use Rattle.ec_console.specs.Refusals.{line_of, status_of}
 use Rattle.ec_lines.specs.Inputs.{InputState}
 use Rattle.ec_table.specs.Contents.{Contents}
@@ -30,14 +30,14 @@ use Rattle.ec_console.specs.declared.stated.Source.TheVariants as takes
 use Rattle.ec_console.specs.Stating.{RunsSource, slave_form}
 use Rattle.ec_app.specs.declared.work.Work.{Work}
 use Rattle.ec_app.specs.declared.work.Work.TheVariants as work
-use Rattle.ec_master.specs.Mastering.{RunsMachine}
-use Rattle.ec_segment.specs.Serving.{ServesMachine}
+use Rattle.cmd_master.specs.Mastering.{RunsMachine}
+use Rattle.cmd_segment.specs.Serving.{ServesMachine}
 use Rattle.ec_annotate.specs.Annotating.{names_of}
 use Rattle.ec_app.specs.Remarking.{RunsDecodeWith}
 use Rattle.ec_app.specs.Translating.{RunsEncode}
 use Rattle.ec_console.specs.declared.wanted.Reasons.{Reasons}
 use Rattle.ec_console.specs.Reasons.{reasons_of}
-use Rattle.ec_sim.specs.Simulating.{RunsLines, RunsLive}
+use Rattle.cmd_sim.specs.Simulating.{RunsLines, RunsLive}
 use Rattle.ec_wire.specs.Wires.{Traffic, nothing_sent}
 
 -- what the output, or the fault stream, is before and after
@@ -47,33 +47,33 @@ pub record Stream : Type 0 where
 
 -- a command says nothing while it runs
 abbrev pub IsQuiet : Stream → Type 0
-IsQuiet told = told.new ≡ told.old
+IsQuiet stderr = stderr.new ≡ stderr.old
 
 -- a command writes nothing
-abbrev pub IsSilent : (output told : Stream) → Type 0
-IsSilent output told = (output.new ≡ output.old) × IsQuiet told
+abbrev pub IsSilent : (output stderr : Stream) → Type 0
+IsSilent output stderr = (output.new ≡ output.old) × IsQuiet stderr
 
 -- ---- commands that run a machine
 
 -- `ecat sim`: the lines of the script are run
-abbrev pub RunsScript : Reasons → (output told : Stream) → Given → Contents → List Line → Result Unit Refusal → Type 0
-RunsScript reasons output told input t lines ended = RunsLines reasons t lines output.old output.new ended × IsQuiet told
+abbrev pub RunsScript : Reasons → (output stderr : Stream) → Given → Contents → List Line → Result Unit Refusal → Type 0
+RunsScript reasons output stderr input t lines ended = RunsLines reasons t lines output.old output.new ended × IsQuiet stderr
 
 -- `ecat sim --live`: the lines that the input gives are run as they come
-abbrev pub RunsAsTheyCome : Reasons → (output told : Stream) → Given → Contents → List Line → Result Unit Refusal → Type 0
-RunsAsTheyCome reasons output told input t lines ended = RunsLive reasons t input output.old output.new ended × IsQuiet told
+abbrev pub RunsAsTheyCome : Reasons → (output stderr : Stream) → Given → Contents → List Line → Result Unit Refusal → Type 0
+RunsAsTheyCome reasons output stderr input t lines ended = RunsLive reasons t input output.old output.new ended × IsQuiet stderr
 
 -- `ecat loop`: cycles are run over sockets of this process, over which nothing was sent before
-abbrev pub RunsCycles : ℕ → (output told : Stream) → Given → Contents → List Line → Result Unit Refusal → Type 0
-RunsCycles cycles output told input t lines ended = ((after : Traffic) × LoopsOnSockets cycles t output.old output.new nothing_sent after ended) × IsQuiet told
+abbrev pub RunsCycles : ℕ → (output stderr : Stream) → Given → Contents → List Line → Result Unit Refusal → Type 0
+RunsCycles cycles output stderr input t lines ended = ((after : Traffic) × LoopsOnSockets cycles t output.old output.new nothing_sent after ended) × IsQuiet stderr
 
 -- `ecat segment`: the slaves are served, on a port or the card of a descriptor
-abbrev pub RunsSegment : (descriptor : Option ℕ) → (frames port : ℕ) → (output told : Stream) → Given → Contents → List Line → Result Unit Refusal → Type 0
-RunsSegment descriptor frames port output told input t lines ended = ServesMachine descriptor frames port t output.old output.new told.old told.new ended
+abbrev pub RunsSegment : (descriptor : Option ℕ) → (frames port : ℕ) → (output stderr : Stream) → Given → Contents → List Line → Result Unit Refusal → Type 0
+RunsSegment descriptor frames port output stderr input t lines ended = ServesMachine descriptor frames port t output.old output.new stderr.old stderr.new ended
 
 -- `ecat master`: the lines that the input gives are run with a new master
-abbrev pub RunsMaster : Reasons → (output told : Stream) → Given → Contents → List Line → Result Unit Refusal → Type 0
-RunsMaster reasons output told input t lines ended = RunsMachine reasons t input output.old output.new ended × IsQuiet told
+abbrev pub RunsMaster : Reasons → (output stderr : Stream) → Given → Contents → List Line → Result Unit Refusal → Type 0
+RunsMaster reasons output stderr input t lines ended = RunsMachine reasons t input output.old output.new ended × IsQuiet stderr
 
 -- what some work reads of the input, in which form its slaves are shown, and what it does
 abbrev pub source_of : Work → Source
@@ -90,7 +90,7 @@ form_of (work.Cycles cycles) = Plain
 form_of (work.Segment form endpoint) = form
 form_of (work.Master options) = Plain
 
-abbrev pub does_of : Work → (output told : Stream) → Given → Contents → List Line → Result Unit Refusal → Type 0
+abbrev pub does_of : Work → (output stderr : Stream) → Given → Contents → List Line → Result Unit Refusal → Type 0
 does_of (work.Script reasons) = RunsScript reasons
 does_of (work.Live reasons) = RunsAsTheyCome reasons
 does_of (work.Cycles cycles) = RunsCycles cycles
@@ -98,29 +98,29 @@ does_of (work.Segment form endpoint) = RunsSegment endpoint.descriptor endpoint.
 does_of (work.Master options) = RunsMaster options.reasons
 
 -- the machine that the input states is run, with a capture if its file is named
-abbrev pub RunsWork : Source → SlaveForm → (does : Stream → Stream → Given → Contents → List Line → Result Unit Refusal → Type 0) → (file : Option (List ℕ)) → (given : Given) → (output told : Stream) → Result Unit Refusal → Type 0
-RunsWork source form does file given output told ended = RunsSource source form file (does output told) (IsSilent output told) given ended
+abbrev pub RunsWork : Source → SlaveForm → (does : Stream → Stream → Given → Contents → List Line → Result Unit Refusal → Type 0) → (file : Option (List ℕ)) → (given : Given) → (output stderr : Stream) → Result Unit Refusal → Type 0
+RunsWork source form does file given output stderr ended = RunsSource source form file (does output stderr) (IsSilent output stderr) given ended
 
 -- `ecat sim`, whose lines are run as a script, or as they come, with a capture if its file is named. If it explains, it prints why
 -- they say `no`.
-abbrev pub RunsSim : (live : Bool) → (file : Option (List ℕ)) → (explained : Bool) → (given : Given) → (output told : Stream) → Result Unit Refusal → Type 0
+abbrev pub RunsSim : (live : Bool) → (file : Option (List ℕ)) → (explained : Bool) → (given : Given) → (output stderr : Stream) → Result Unit Refusal → Type 0
 RunsSim false file explained = RunsWork takes.Script Plain (RunsScript (reasons_of explained)) file
 RunsSim true file explained = RunsWork takes.Lines Plain (RunsAsTheyCome (reasons_of explained)) file
 
 -- ---- all commands
 
 -- what a command does with the output, and what it says while it runs, by what the input gives, if that is known
-abbrev pub Runs : Command → (given : Given) → (output told : Stream) → Result Unit Refusal → Type 0
-Runs (PassOf slaves text) given output told ended = RunsPass slaves text output.old output.new ended × IsQuiet told
-Runs (PlanOf header explained) given output told ended = RunsPlan (shown_as header explained) given output.old output.new ended × IsQuiet told
-Runs (DecodeOf table explained) given output told ended = RunsDecodeWith table (names_of explained) given output.old output.new ended × IsQuiet told
-Runs EncodeOf given output told ended = RunsEncode given output.old output.new ended × IsQuiet told
-Runs (SimOf live capture explained) given output told ended = RunsSim live capture explained given output told ended
-Runs (LoopOf cycles capture explained) given output told ended = RunsWork takes.Table Plain (RunsCycles cycles) capture given output told ended
-Runs (SegmentOf frames port descriptor full idle capture explained) given output told ended =
-    RunsWork takes.Table (slave_form full) (RunsSegment descriptor frames port) capture given output told ended
-Runs (MasterOf to descriptor patience capture explained) given output told ended =
-    RunsWork takes.Lines Plain (RunsMaster (reasons_of explained)) capture given output told ended
+abbrev pub Runs : Command → (given : Given) → (output stderr : Stream) → Result Unit Refusal → Type 0
+Runs (PassOf slaves text) given output stderr ended = RunsPass slaves text output.old output.new ended × IsQuiet stderr
+Runs (PlanOf header explained) given output stderr ended = RunsPlan (plan_form_of header explained) given output.old output.new ended × IsQuiet stderr
+Runs (DecodeOf table explained) given output stderr ended = RunsDecodeWith table (names_of explained) given output.old output.new ended × IsQuiet stderr
+Runs EncodeOf given output stderr ended = RunsEncode given output.old output.new ended × IsQuiet stderr
+Runs (SimOf live capture explained) given output stderr ended = RunsSim live capture explained given output stderr ended
+Runs (LoopOf cycles capture explained) given output stderr ended = RunsWork takes.Table Plain (RunsCycles cycles) capture given output stderr ended
+Runs (SegmentOf frames port descriptor full idle capture explained) given output stderr ended =
+    RunsWork takes.Table (slave_form full) (RunsSegment descriptor frames port) capture given output stderr ended
+Runs (MasterOf to descriptor patience capture explained) given output stderr ended =
+    RunsWork takes.Lines Plain (RunsMaster (reasons_of explained)) capture given output stderr ended
 
 -- what a command leaves alone: one that reads no input leaves it as it is, and one with no simulated application steps
 -- none
@@ -143,33 +143,33 @@ LeavesApp (work.Segment form endpoint) old new = Unit {0}
 LeavesApp (work.Master options) old new = new ≡ old
 
 -- what may stand behind the line of a refusal: nothing, unless the refusal is to be explained; then the text is free
-abbrev pub MayTell : Bool → List ℕ → Type 0
-MayTell false more = more ≡ []
-MayTell true more = Unit {0}
+abbrev pub MayExplain : Bool → List ℕ → Type 0
+MayExplain false more = more ≡ []
+MayExplain true more = Unit {0}
 
 -- the exit status of a run, and what it writes to the fault stream: the line of a refusal
-abbrev pub Tells : Stream → ℕ → Result Unit Refusal → Type 0
-Tells faults status (Ok done) = (status ≡ 0) × (faults.new ≡ faults.old)
-Tells faults status (Err refusal) = (status ≡ status_of refusal) × IsTold (line_of refusal) faults.old faults.new
+abbrev pub Eprints : Stream → ℕ → Result Unit Refusal → Type 0
+Eprints faults status (Ok done) = (status ≡ 0) × (faults.new ≡ faults.old)
+Eprints faults status (Err refusal) = (status ≡ status_of refusal) × IsEprinted (line_of refusal) faults.old faults.new
 
--- as `Tells`, for a run that may explain a refusal: it writes the line of the refusal, and `more` behind that
-abbrev pub TellsWith : List ℕ → Stream → ℕ → Result Unit Refusal → Type 0
-TellsWith more faults status (Ok done) = (status ≡ 0) × (faults.new ≡ faults.old)
-TellsWith more faults status (Err refusal) = (status ≡ status_of refusal) × IsTold (line_of refusal ++ more) faults.old faults.new
+-- as `Eprints`, for a run that may explain a refusal: it writes the line of the refusal, and `more` behind that
+abbrev pub EprintsWith : List ℕ → Stream → ℕ → Result Unit Refusal → Type 0
+EprintsWith more faults status (Ok done) = (status ≡ 0) × (faults.new ≡ faults.old)
+EprintsWith more faults status (Err refusal) = (status ≡ status_of refusal) × IsEprinted (line_of refusal ++ more) faults.old faults.new
 
 -- how a run ends that was asked for a command, or that prints a notice in place of one
 abbrev pub Ends : Result Request Notice → (given : Given) → (output faults : Stream) → ℕ → Type 0
 Ends (Ok request) given output faults status =
     (ended : Result Unit Refusal) × (noted : OutputState) × (more : List ℕ) × Runs (command_of request) given output (record { old = faults.old; new = noted }) ended
-    × MayTell (is_explained (command_of request)) more × TellsWith more (record { old = noted; new = faults.new }) status ended
-Ends (Err notice.Memory) given output faults status = (output.new ≡ output.old) × Tells faults status (Err Memory)
-Ends (Err (notice.Help text)) given output faults status = (ended : Result Unit Refusal) × Shows (string_bytes text) output.old output.new ended × Tells faults status ended
-Ends (Err (notice.Usage text)) given output faults status = (status ≡ 2) × (output.new ≡ output.old) × IsTold (string_bytes text) faults.old faults.new
+    × MayExplain (is_explained (command_of request)) more × EprintsWith more (record { old = noted; new = faults.new }) status ended
+Ends (Err notice.Memory) given output faults status = (output.new ≡ output.old) × Eprints faults status (Err Memory)
+Ends (Err (notice.Help text)) given output faults status = (ended : Result Unit Refusal) × PrintsText (string_bytes text) output.old output.new ended × Eprints faults status ended
+Ends (Err (notice.Usage text)) given output faults status = (status ≡ 2) × (output.new ≡ output.old) × IsEprinted (string_bytes text) faults.old faults.new
 
 -- what a run leaves alone
 abbrev pub EndsAlone : {R A : Type 0} → Result Request Notice → (input_old input_new : R) → (app_old app_new : A) → Type 0
 EndsAlone (Ok request) input_old input_new app_old app_new = LeavesAlone (command_of request) input_old input_new app_old app_new
-EndsAlone (Err told) input_old input_new app_old app_new = (input_new ≡ input_old) × (app_new ≡ app_old)
+EndsAlone (Err error) input_old input_new app_old app_new = (input_new ≡ input_old) × (app_new ≡ app_old)
 
 -- ---- a run that owns its streams
 
@@ -180,15 +180,15 @@ unread stream = record { ahead = []; stream = stream; is_refused = false; reads 
 abbrev pub unwritten : Option (List ℕ) → OutputState
 unwritten holds = record { holds = holds; is_refused = false; is_flushed = true; writes = 0 }
 
--- How a run ends to which the words were given, by what its streams are at its end: `left`, `printed` and `told`. It drops them, so they are
+-- How a run ends to which the words were given, by what its streams are at its end: `left`, `printed` and `stderr`. It drops them, so they are
 -- there for the run alone. `remaining` says what a reader has still to give.
 pub record EndsOwning {R A : Type 0} (remaining : R → Option (List ℕ)) (words : List (List ℕ)) (input : R) (output faults : OutputState) (app_old app_new : A) (status : ℕ) : Type 0 where
   pub read : Result Request Notice
   pub reads : Reads words read
   pub left : InputState R
   pub printed : OutputState
-  pub told : OutputState
-  pub ends : Ends read (given_by remaining (unread input) left) (record { old = output; new = printed }) (record { old = faults; new = told }) status
+  pub stderr : OutputState
+  pub ends : Ends read (given_by remaining (unread input) left) (record { old = output; new = printed }) (record { old = faults; new = stderr }) status
   pub alone : EndsAlone read (unread input) left app_old app_new
   pub unprinted : status ≡ 2 → printed ≡ output
 
@@ -208,7 +208,7 @@ LeavesInput (MasterOf to descriptor patience capture explained) old new = Unit {
 -- what a run leaves of the input: all of it, too, if it prints a notice in place of a command
 abbrev pub EndsUnread : {R : Type 0} → Result Request Notice → (old new : R) → Type 0
 EndsUnread (Ok request) old new = LeavesInput (command_of request) old new
-EndsUnread (Err told) old new = new ≡ old
+EndsUnread (Err error) old new = new ≡ old
 
 -- what the fault stream gets if an argument isn't text
 abbrev pub not_text : List ℕ
@@ -219,16 +219,16 @@ abbrev pub given_words : IntoIter (String Global) Global → List (List ℕ)
 given_words given = map string_bytes (into_iter_items given)
 
 -- what the fault stream gets if arguments can't be read, by the system's error: that memory ran out, or that one isn't text
-abbrev pub TellsUnread : Error → (faults : Stream) → ℕ → Type 0
-TellsUnread error faults status =
-    ((error_kind error ≡ OutOfMemory) × Tells faults status (Err Memory))
-    ⊎ ((error_kind error ≢ OutOfMemory) × (status ≡ 2) × IsTold not_text faults.old faults.new)
+abbrev pub EprintsUnread : Error → (faults : Stream) → ℕ → Type 0
+EprintsUnread error faults status =
+    ((error_kind error ≡ OutOfMemory) × Eprints faults status (Err Memory))
+    ⊎ ((error_kind error ≢ OutOfMemory) × (status ≡ 2) × IsEprinted not_text faults.old faults.new)
 
 -- how a run ends to which the system gave these arguments: as with them. If memory runs out before they are read, or they can't be
 -- read, it reads and prints nothing, and the fault stream says so.
 abbrev pub EndsGiven : {R : Type 0} → Result (IntoIter (String Global) Global) Error → (known : Given) → (input_old input_new : R) → (output faults : Stream) → ℕ → Type 0
 EndsGiven (Ok given) known input_old input_new output faults status =
     ((read : Result Request Notice) × Reads (given_words given) read × Ends read known output faults status × EndsUnread read input_old input_new)
-    ⊎ ((input_new ≡ input_old) × (output.new ≡ output.old) × Tells faults status (Err Memory))
+    ⊎ ((input_new ≡ input_old) × (output.new ≡ output.old) × Eprints faults status (Err Memory))
 EndsGiven (Err error) known input_old input_new output faults status =
-    (input_new ≡ input_old) × (output.new ≡ output.old) × TellsUnread error faults status
+    (input_new ≡ input_old) × (output.new ≡ output.old) × EprintsUnread error faults status

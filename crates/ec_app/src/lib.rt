@@ -16,14 +16,14 @@ pub use crate::program::run_program;
 pub use crate::remarked::{print_payloads, print_remarked};
 pub use crate::run::{run_command, run_console};
 pub use crate::translate::{print_decode, print_encode};
+pub use cmd_loop::{run_loop, run_loopback};
+pub use cmd_segment::{Endpoint, print_served_segment, run_segment};
+pub use cmd_sim::{run_live, run_script};
 pub use ec_bringup::{bring_up, identities_of};
 pub use ec_console::{
     Console, Explanation, InputStream, OutputStream, Refusal, SlaveForm, print_text, read_text,
 };
-pub use ec_loop::{run_loop, run_loopback};
 pub use ec_script::{Line, LineAction, ScriptError, read_script};
-pub use ec_segment::{Endpoint, print_served_segment, run_segment};
-pub use ec_sim::{run_live, run_script};
 pub use ec_simulation::run_line;
 pub use ec_text::{Refused, header_text, plan_text};
 pub use ec_wire::{App, MemoryWire, UdpWire, Wire, bring_up_wire, run_cycle, serve_segment};

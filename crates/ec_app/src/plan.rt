@@ -2,7 +2,7 @@
 ghost use Rattle.std.specs.Prelude.{◌≡◌, IfErr, IfOk};
 ghost use Rattle.std.specs.String.{string_bytes};
 ghost use Rattle.ec_console.specs.Explaining.{IsLeft};
-ghost use Rattle.ec_app.specs.Planning.{IsPlanAnswer, IsShown, RunsPlan, form_of};
+ghost use Rattle.ec_app.specs.Planning.{IsPlanAnswer, IsTextOfPlan, RunsPlan, form_of};
 ghost use Rattle.ec_console.specs.Given.{IsTableRefusal, given_by};
 
 use ec_console::{
@@ -83,7 +83,7 @@ pub fn print_plan<R: Read + Drop, W: Write + Drop>(
 /// The plan of a machine in a form.
 #[tactic(auto, using(crate::proofs::PlanLemmas::shown_fixed, crate::proofs::PlanLemmas::shown_explained, crate::proofs::PlanLemmas::shown_header))]
 fn text_of(alloc: Global, form: PlanForm, machine: &Machine) -> Result<String, Refusal>
-    ensures shown { IfOk result (λ answer. IsShown form machine.now (string_bytes answer)) }
+    ensures shown { IfOk result (λ answer. IsTextOfPlan form machine.now (string_bytes answer)) }
     ensures memory { IfErr result (λ refusal. refusal ≡ Refusal.Memory) }
 {
     let (table, plan) = (machine.table(), machine.plan());

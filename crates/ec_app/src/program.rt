@@ -1,7 +1,7 @@
 //! The program over a system, which gives it its arguments and its memory.
 ghost use Rattle.std.specs.Prelude.{◌≡◌, ◌∷◌, [], Contains, IfOk};
 ghost use Rattle.std.specs.Vec.Iter.{into_iter_items};
-ghost use Rattle.ec_app.specs.Running.{EndsGiven, TellsUnread};
+ghost use Rattle.ec_app.specs.Running.{EndsGiven, EprintsUnread};
 ghost use Rattle.ec_console.specs.Given.{given_by};
 
 use crate::run::run_console;
@@ -35,24 +35,24 @@ pub fn run_program<
 {
     let given = match given {
         Ok(given) => given,
-        Err(error) => return tell_unread(&error, &mut console.faults),
+        Err(error) => return eprint_unread(&error, &mut console.faults),
     };
     match collected(rt.alloc(), given) {
         Ok(args) => run_console(rt, args.as_slice(), console, &mut Echo),
-        Err(_) => console.faults.tell_and_end(&Refusal::Memory),
+        Err(_) => console.faults.eprint_refusal(&Refusal::Memory),
     }
 }
 
 /// Writes to `faults` why the arguments can't be read, by the system's error, and returns the exit status.
-fn tell_unread<F: Write + Drop>(error: &io::Error, faults: &mut OutputStream<F>) -> u8
-    ensures tells { TellsUnread error.now
+fn eprint_unread<F: Write + Drop>(error: &io::Error, faults: &mut OutputStream<F>) -> u8
+    ensures eprints { EprintsUnread error.now
         (record { old = faults.old; new = faults.new }) result }
     ensures status { Contains (2 ∷ 3 ∷ []) result }
 {
     if error.kind() == ErrorKind::OutOfMemory {
-        return faults.tell_and_end(&Refusal::Memory);
+        return faults.eprint_refusal(&Refusal::Memory);
     }
-    faults.tell_text(NOT_TEXT.as_bytes());
+    faults.eprint_text(NOT_TEXT.as_bytes());
     2
 }
 

@@ -56,7 +56,7 @@ pub fn print_payloads<H: AllocGlobal + Files, R: Read + Drop, W: Write + Drop>(
         output.old output.new result }
 {
     match (table, names) {
-        (None, Names::Untold) => print_decode(rt.alloc(), input, output),
+        (None, Names::Omitted) => print_decode(rt.alloc(), input, output),
         _ => print_remarked(rt, table, names, input, output),
     }
 }

@@ -4,7 +4,7 @@ ghost use Rattle.ec_args.specs.Requests.{Reads, command_of};
 ghost use Rattle.ec_args.specs.declared.request.Notice.{Notice as NoticeValue};
 ghost use Rattle.ec_args.specs.declared.request.Request.{Request as RequestValue};
 ghost use Rattle.ec_console.specs.Explaining.{IsLeft};
-ghost use Rattle.ec_app.specs.Running.{Ends, EndsAlone, EndsOwning, LeavesAlone, Runs, Tells, TellsWith, unwritten};
+ghost use Rattle.ec_app.specs.Running.{Ends, EndsAlone, EndsOwning, LeavesAlone, Runs, Eprints, EprintsWith, unwritten};
 ghost use Rattle.ec_console.specs.Given.{given_by};
 
 use crate::pass::print_pass;
@@ -12,13 +12,13 @@ use crate::plan::{PlanForm, print_plan};
 use crate::remarked::print_payloads;
 use crate::translate::print_encode;
 use crate::work::{Work, run_work};
+use cmd_master::MasterOptions;
+use cmd_segment::Endpoint;
 use ec_annotate::Names;
 use ec_args::{Notice, Request, read_args};
 use ec_console::{
     Console, Explanation, InputStream, OutputStream, Reasons, Refusal, SlaveForm, print_text,
 };
-use ec_master::MasterOptions;
-use ec_segment::Endpoint;
 use ec_wire::App;
 use std::convert::AsStr;
 use std::fs::Files;
@@ -105,7 +105,7 @@ fn end_run<H: AllocGlobal + Net + Files + Clock, R: Read + Drop, W: Write + Drop
             exit_status(ended, &mut console.faults)
         }
         Err(Notice::Usage(text)) => {
-            console.faults.tell_text(text.as_bytes());
+            console.faults.eprint_text(text.as_bytes());
             2
         }
     }
@@ -117,23 +117,23 @@ fn explained_status<F: Write + Drop>(
     more: &[u8],
     faults: &mut OutputStream<F>,
 ) -> u8
-    ensures { TellsWith more.now (record { old = faults.old; new = faults.new })
+    ensures { EprintsWith more.now (record { old = faults.old; new = faults.new })
         result ended }
 {
     match ended {
         Ok(()) => 0,
-        Err(refusal) => faults.tell_explained(&refusal, more),
+        Err(refusal) => faults.eprint_explained(&refusal, more),
     }
 }
 
 /// The exit status of a run; writes its refusal, if it has one, to `faults`. A fault in writing changes nothing.
 fn exit_status<F: Write + Drop>(ended: Result<(), Refusal>, faults: &mut OutputStream<F>) -> u8
-    ensures { Tells (record { old = faults.old; new = faults.new })
+    ensures { Eprints (record { old = faults.old; new = faults.new })
         result ended }
 {
     match ended {
         Ok(()) => 0,
-        Err(refusal) => faults.tell_and_end(&refusal),
+        Err(refusal) => faults.eprint_refusal(&refusal),
     }
 }
 

@@ -5,14 +5,14 @@ ghost use Rattle.ec_console.specs.Given.{given_by};
 ghost use Rattle.ec_console.specs.Stating.{RunsStated};
 ghost use Rattle.ec_app.specs.Running.{IsSilent, LeavesApp, RunsWork, does_of, form_of, source_of};
 
+use cmd_loop::run_loopback;
+use cmd_master::{MasterOptions, run_connected};
+use cmd_segment::{Endpoint, run_segment};
+use cmd_sim::{run_live, run_script};
 use ec_console::{
     Capture, Console, Interfaces, Reasons, Refusal, SlaveForm, Source, Stated, close_capture,
     open_capture, read_source, read_stated,
 };
-use ec_loop::run_loopback;
-use ec_master::{MasterOptions, run_connected};
-use ec_segment::{Endpoint, run_segment};
-use ec_sim::{run_live, run_script};
 use ec_wire::{App, Loopback};
 use std::fs::Files;
 use std::io::{Read, Write};
@@ -138,7 +138,7 @@ fn run_on<H: AllocGlobal + Net + Files + Clock, R: Read + Drop, W: Write + Drop,
     ensures runs { does_of work.entry (record { old = console.old.output; new = console.new.output })
         (record { old = console.old.faults; new = console.new.faults }) (given_by R.remaining console.old.input console.new.input)
         stated.machine stated.lines result }
-    ensures kept { is_some capture.new ≡ is_some capture.old }
+    ensures still_open { is_some capture.new ≡ is_some capture.old }
     ensures alone { LeavesApp work.entry app.old app.new }
     ensures explanation { console.new.explanation ≡ console.old.explanation }
 {

@@ -289,7 +289,7 @@ only-pass args slaves frame w command met =
 pub none_wrong : (line : App) (args : List Text) → line ≡ ecat → (is_simple_and_free line ≡ true → fault_of line args ≡ []) → fault_of ecat args ≡ []
 none_wrong line args is none = subst (λ (l : App). is_simple_and_free l ≡ true → fault_of l args ≡ []) is none ecat-simple
 
--- what `clap` answers is a fault of these arguments
+-- what `clap` returns is a fault of these arguments
 pub refused_fault : (line : App) (args : List Text) (error : Error) → line ≡ ecat → (is_simple_and_free line ≡ true → HasKind (fault_of line args) error)
     → IsFault args (kind_of error)
 refused_fault line args error is kinds =
@@ -303,7 +303,7 @@ found_asks line args m request is matches asks =
     let same : subcommand_rows_of m ≡ subcommand_of ecat args = (subst (λ (l : App). HasMatchesOf l args m) is matches ecat-is_simple).1 in
     subst (λ (met : Option (Text × List Row)). Asks met request) same asks
 
--- and so is what is answered where it met no command
+-- and so is what it returns where it met no command
 pub missing_fault : (line : App) (args : List Text) (m : ArgMatches) (kind : ErrorKind) → line ≡ ecat → HasMatchesOf line args m
     → (MeetsCommand (subcommand_rows_of m) → ⊥) → (kind ≡ OutOfMemory) ⊎ (kind ≡ MissingSubcommand) → IsFault args kind
 missing_fault line args m kind is matches none told =

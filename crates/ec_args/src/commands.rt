@@ -51,7 +51,7 @@ fn pass_command<'a>(alloc: Global) -> Made<'a>
     ensures { IsMadeAs result (alone pass_shape) }
 {
     let about = "Passes a frame through slaves at power-on and prints it as it comes back";
-    let command = told_of(alloc, "pass", about, PASS_EXAMPLE, PASS_REFUSALS);
+    let command = help_of(alloc, "pass", about, PASS_EXAMPLE, PASS_REFUSALS);
     let help = "How many slaves the ring has, 0 to 64";
     let slaves = required(number(alloc, "slaves", "N", 0, 64, help));
     let command = with_argument(command, slaves);
@@ -182,11 +182,11 @@ fn used_as<'a>(
 ) -> Made<'a>
     ensures { IsMadeAs result (new_app name.now) }
 {
-    Ok(told_of(alloc, name, about, example, lines)?.override_usage(usage))
+    Ok(help_of(alloc, name, about, example, lines)?.override_usage(usage))
 }
 
 /// As [`used_as`], but `clap` makes the usage from the arguments.
-fn told_of<'a>(
+fn help_of<'a>(
     alloc: Global,
     name: &'a str,
     about: &'a str,

@@ -4,7 +4,7 @@ use Rattle.std.specs.Int.{bit_at, from_bool}
 use Rattle.std.specs.Option.{option_or}
 use Rattle.std.proofs.lemmas.Bool.{cases_eq, cases_lt}
 use Rattle.std.proofs.lemmas.Nat.Bits.{bit_at_cat_low, bit_at_cat_high, bit_at_above, bit_at_or}
-use Rattle.ec_bits.specs.Bits.{bit, within, copied, run_told}
+use Rattle.ec_bits.specs.Bits.{bit, within, copied, run_updates}
 use Rattle.ec_bits.proofs.AnyLaws.{if_true, if_false, within_true, within_below, within_above}
 use Rattle.ec_bits.proofs.BitLaws.{bit_number, overlay_alike, overlay_own, length-overlay}
 use Rattle.ec_bits.proofs.Algebra.{overlay-overlay}
@@ -13,8 +13,8 @@ use Rattle.ec_bits.proofs.Shifts.{bit_at-shr, shl_low, shl_high}
 
 -- no bits copied
 pub copied_none : (xs : List ℕ) (to : ℕ) (src : List ℕ) (from : ℕ) → copied xs to src from 0 ≡ xs
-copied_none xs to src from = overlay_own xs (run_told to src from 0) (λ i l.
-    let none : run_told to src from 0 i ≡ None = elim (cases_lt i to) [
+copied_none xs to src from = overlay_own xs (run_updates to src from 0) (λ i l.
+    let none : run_updates to src from 0 i ≡ None = elim (cases_lt i to) [
       | inl x ↦ if_false (within to 0 i) (Some (bit src (from + (i - to)))) None (within_below to 0 i x)
       | inr x ↦ if_false (within to 0 i) (Some (bit src (from + (i - to)))) None (within_above to 0 i (omega arith))
     ] in
@@ -22,7 +22,7 @@ copied_none xs to src from = overlay_own xs (run_told to src from 0) (λ i l.
 
 -- a run, and the run behind it
 pub run_more : (to : ℕ) (src : List ℕ) (from n m i : ℕ)
-    → option_or (run_told (to + n) src (from + n) m i) (run_told to src from n i) ≡ run_told to src from (n + m) i
+    → option_or (run_updates (to + n) src (from + n) m i) (run_updates to src from n i) ≡ run_updates to src from (n + m) i
 run_more to src from n m i = elim (cases_lt i to) [
   | inl x ↦ rw (within_below (to + n) m i (omega arith), within_below to n i x, within_below to (n + m) i x) refl
   | inr x ↦ elim (cases_lt i (to + n)) [
@@ -39,14 +39,14 @@ run_more to src from n m i = elim (cases_lt i to) [
 pub copied_more : (xs : List ℕ) (to : ℕ) (src : List ℕ) (from n m : ℕ)
     → copied (copied xs to src from n) (to + n) src (from + n) m ≡ copied xs to src from (n + m)
 copied_more xs to src from n m =
-    overlay-overlay xs (run_told to src from n) (run_told (to + n) src (from + n) m)
+    overlay-overlay xs (run_updates to src from n) (run_updates (to + n) src (from + n) m)
     ∙ overlay_alike xs _ _ (λ i l. ap (λ (o : Option Bool). unwrap_or o (bit xs i)) (run_more to src from n m i))
 
 -- one byte of eight copied bits
 pub byte_copied : (xs : List ℕ) (k v : ℕ) (src : List ℕ) (from : ℕ) → k < length xs → v < 256 → slice_index xs k < 256
     → ((j : ℕ) → j < 8 → bit_at v j ≡ from_bool (bit src (from + j)))
     → slice_set xs k v ≡ copied xs (8 * k) src from 8
-byte_copied xs k v src from h small was bits = byte_is_overlay xs (run_told (8 * k) src from 8) k v h small was
+byte_copied xs k v src from h small was bits = byte_is_overlay xs (run_updates (8 * k) src from 8) k v h small was
     (λ j l.
     let z : from + (8 * k + j - 8 * k) ≡ from + j = omega arith in
     bits j l ∙ ap (λ (o : Option Bool). from_bool (unwrap_or o (bit xs (8 * k + j))))
@@ -116,7 +116,7 @@ next_byte start now at k src from v inv l small was bits =
     ∙ (copied_more start (8 * at) src from (8 * k) 8 ∙ ap (copied start (8 * at) src from) n)))
 
 pub length-copied : (xs : List ℕ) (to : ℕ) (src : List ℕ) (from n : ℕ) → length (copied xs to src from n) ≡ length xs
-length-copied xs to src from n = length-overlay xs (run_told to src from n)
+length-copied xs to src from n = length-overlay xs (run_updates to src from n)
 
 -- a byte that is set leaves bytes
 pub set_small : (xs : List ℕ) (k v : ℕ) → k < length xs → v < 256 → ((i : ℕ) → slice_index xs i < 256)

@@ -8,7 +8,7 @@ pub mod BitLaws
 pub mod Bytes
 -- the numbers of runs of bits
 pub mod Numbers
--- laws of overlays for bodies that tell bits one after another, or a byte at a time
+-- laws of overlays for bodies that overwrite bits one after another, or a byte at a time
 pub mod Overlays
 -- what the code computes on one byte
 pub mod Shifts

@@ -5,7 +5,7 @@ use Rattle.std.proofs.lemmas.Bool.{cases_lt, cases_Bool}
 use Rattle.std.proofs.lemmas.List.{places, get_or-replicate, length-replicate, get_or_past}
 use Rattle.std.proofs.lemmas.Nat.Bits.{bit_at_above, same_from_bits}
 use borrow.Rule.Slice.PartMut.{put_mid}
-use Rattle.ec_bits.specs.Bits.{bit, within, overlay, copied, run_told, bits_number, with_number, zeros}
+use Rattle.ec_bits.specs.Bits.{bit, within, overlay, copied, run_updates, bits_number, with_number, zeros}
 use Rattle.ec_bits.proofs.AnyLaws.{if_true, if_false, within_true, within_below, within_above, within_parts}
 use Rattle.ec_bits.proofs.BitLaws.{test_from_bool, bit-overlay, bit-zeros, length-overlay, overlay_alike}
 use Rattle.ec_bits.proofs.Numerals.{number_bits, word_bits, sum_small}
@@ -31,7 +31,7 @@ pub slice_copied : (xs ys src : List ℕ) (a b n : ℕ) → a + n ≤ length xs 
     → put_mid a n xs ys ≡ copied xs (8 * a) src (8 * b) (8 * n)
 unfolding bit
 slice_copied xs ys src a b n h e same small other =
-    let f = run_told (8 * a) src (8 * b) (8 * n) in
+    let f = run_updates (8 * a) src (8 * b) (8 * n) in
     let now = put_mid a n xs ys in
     let mid : (k : ℕ) → a ≤ k → k < a + n → get_or now k 0 ≡ get_or src (b + (k - a)) 0
     = λ k l m. in_mid xs ys a n k h e l m ∙ same (k - a) (omega arith) in
@@ -71,7 +71,7 @@ word_written xs ys a word h e small other =
     let len : length ys ≡ 8 = ap length e in
     let eight : put_mid a 8 xs ys ≡ copied xs (8 * a) ys 0 64
     = slice_copied xs ys ys a 0 8 h len (λ k l. let z : k ≡ 0 + k = omega arith in ap (λ (m : ℕ). get_or ys m 0) z) small other in
-    eight ∙ overlay_alike xs (run_told (8 * a) ys 0 64) (λ i. if within (8 * a) 64 i then Some (bit_at word (i - 8 * a) == 1) else None)
+    eight ∙ overlay_alike xs (run_updates (8 * a) ys 0 64) (λ i. if within (8 * a) 64 i then Some (bit_at word (i - 8 * a) == 1) else None)
     (λ i l. ap (λ (o : Option Bool). unwrap_or o (bit xs i)) (elim (cases_Bool (within (8 * a) 64 i)) [
       | inl t ↦
           let w = within_parts (8 * a) 64 i t in
@@ -90,7 +90,7 @@ word_written xs ys a word h e small other =
 -- a number written is a copy, if it has the bits
 pub word_copied : (xs : List ℕ) (a v : ℕ) (src : List ℕ) (from : ℕ) → ((i : ℕ) → i < 64 → bit_at v i ≡ from_bool (bit src (from + i)))
     → with_number xs (8 * a) 64 v ≡ copied xs (8 * a) src from 64
-word_copied xs a v src from bits = overlay_alike xs (λ i. if within (8 * a) 64 i then Some (bit_at v (i - 8 * a) == 1) else None) (run_told (8 * a) src from 64)
+word_copied xs a v src from bits = overlay_alike xs (λ i. if within (8 * a) 64 i then Some (bit_at v (i - 8 * a) == 1) else None) (run_updates (8 * a) src from 64)
     (λ i l. ap (λ (o : Option Bool). unwrap_or o (bit xs i)) (elim (cases_Bool (within (8 * a) 64 i)) [
       | inl t ↦
           let w = within_parts (8 * a) 64 i t in
@@ -106,7 +106,7 @@ word_copied xs a v src from bits = overlay_alike xs (λ i. if within (8 * a) 64 
 
 -- the low bits of a number, copied from its bytes
 pub number_copied : (xs : List ℕ) (from n value : ℕ) → n ≤ 64 → copied xs from (bytes_low_first 0 8 value) 0 n ≡ with_number xs from n value
-number_copied xs from n value few = overlay_alike xs (run_told from (bytes_low_first 0 8 value) 0 n) (λ i. if within from n i then Some (bit_at value (i - from) == 1) else None)
+number_copied xs from n value few = overlay_alike xs (run_updates from (bytes_low_first 0 8 value) 0 n) (λ i. if within from n i then Some (bit_at value (i - from) == 1) else None)
     (λ i l. ap (λ (o : Option Bool). unwrap_or o (bit xs i)) (elim (cases_Bool (within from n i)) [
       | inl t ↦
           let w = within_parts from n i t in
@@ -132,12 +132,12 @@ pub number_of_copy : (bs src : List ℕ) (from n v : ℕ) → n ≤ 64 → bs �
     → v ≡ sum_through (λ m. byte_worth m (slice_index bs m)) 7 → v ≡ bits_number src from n
 number_of_copy bs src from n v few e is =
     let small : (k : ℕ) → slice_index bs k < 256
-    = λ k. subst (λ (ys : List ℕ). slice_index ys k < 256) (sym e) (overlay_small (zeros 8) (run_told 0 src from n) zero_small k) in
-    let low : (i : ℕ) → i < 64 → bit_at v i ≡ from_bool (unwrap_or (run_told 0 src from n i) false)
+    = λ k. subst (λ (ys : List ℕ). slice_index ys k < 256) (sym e) (overlay_small (zeros 8) (run_updates 0 src from n) zero_small k) in
+    let low : (i : ℕ) → i < 64 → bit_at v i ≡ from_bool (unwrap_or (run_updates 0 src from n i) false)
     = λ i l. (let at : 8 * 0 + i ≡ i = omega arith in word_bits bs bs 0 v i is (λ k h. let z : k ≡ 0 + k = omega arith in ap (λ (m : ℕ). get_or bs m 0) z) small l ∙ ap (λ (m : ℕ). from_bool (bit bs m)) at)
     ∙ (ap (λ (ys : List ℕ). from_bool (bit ys i)) e
-    ∙ (ap from_bool (bit-overlay (zeros 8) (run_told 0 src from n) i (let z : length (zeros 8) ≡ 8 = length-replicate {A = ℕ} 8 0 in omega (arith, z)))
-    ∙ ap (λ (b : Bool). from_bool (unwrap_or (run_told 0 src from n i) b)) (bit-zeros 8 i))) in
+    ∙ (ap from_bool (bit-overlay (zeros 8) (run_updates 0 src from n) i (let z : length (zeros 8) ≡ 8 = length-replicate {A = ℕ} 8 0 in omega (arith, z)))
+    ∙ ap (λ (b : Bool). from_bool (unwrap_or (run_updates 0 src from n i) b)) (bit-zeros 8 i))) in
     let word : v < 2 ^ 64 = subst (λ (m : ℕ). m < 2 ^ 64) (sym is) (sum_small bs 7 (λ m l. small m)) in
     same_from_bits v (bits_number src from n) (λ i. elim (cases_lt i n) [
       | inl x ↦
@@ -167,8 +167,8 @@ pub part_copied : (xs ys mid src part : List ℕ) (a b n f : ℕ) → a + n ≤ 
     → put_mid a n xs ys ≡ copied xs (8 * a) src (8 * b + f) (8 * n)
 unfolding bit
 part_copied xs ys mid src part a b n f h lm same other e =
-    let g = run_told 0 part f (8 * n) in
-    let t = run_told (8 * a) src (8 * b + f) (8 * n) in
+    let g = run_updates 0 part f (8 * n) in
+    let t = run_updates (8 * a) src (8 * b + f) (8 * n) in
     let now = put_mid a n xs ys in
     let ly : length ys ≡ n = ap length e ∙ (length-overlay mid g ∙ lm) in
     let al : Alike now xs = record {

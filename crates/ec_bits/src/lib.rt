@@ -12,7 +12,7 @@ mod fields;
 pub mod laws;
 
 ghost use Rattle.std.specs.Prelude.{◌≡◌, ◌<◌, ◌≤◌, ◌*◌, ◌^◌, nat_lt, length, is_some};
-ghost use Rattle.ec_bits.specs.Bits.{bit, put as with_put, put_told as with_put_told, within as is_within};
+ghost use Rattle.ec_bits.specs.Bits.{bit, put as with_put, overwrite as with_overwrite, within as is_within};
 
 pub use crate::by_words::{copy_by_words, copy_slice};
 pub use crate::copying::copy_bits;
@@ -33,36 +33,36 @@ pub fn within(from: usize, count: usize, at: usize) -> bool
     from <= at && at - from < count
 }
 
-/// The bit at a place.
-pub fn get(bytes: &[u8], place: usize) -> bool
-    requires { place < 8 * length bytes.now }
-    ensures { result ≡ bit bytes.now place }
+/// The bit at an index.
+pub fn get(bytes: &[u8], index: usize) -> bool
+    requires { index < 8 * length bytes.now }
+    ensures { result ≡ bit bytes.now index }
 {
-    (bytes[place / 8] >> (place % 8)) & 1 == 1
+    (bytes[index / 8] >> (index % 8)) & 1 == 1
 }
 
-/// Sets the bit at a place.
-pub fn put(bytes: &mut [u8], place: usize, value: bool)
-    requires { place < 8 * length bytes.old }
-    ensures { bytes.new ≡ with_put bytes.old place value }
+/// Sets the bit at an index.
+pub fn put(bytes: &mut [u8], index: usize, value: bool)
+    requires { index < 8 * length bytes.old }
+    ensures { bytes.new ≡ with_put bytes.old index value }
 {
-    let mask = 1u8 << (place % 8);
+    let mask = 1u8 << (index % 8);
     if value {
-        bytes[place / 8] |= mask;
+        bytes[index / 8] |= mask;
     } else {
-        bytes[place / 8] &= !mask;
+        bytes[index / 8] &= !mask;
     }
 }
 
-/// Sets the bit at a place if the overlay has one there, and returns whether it has.
-pub fn put_told(bytes: &mut [u8], place: usize, value: Option<bool>) -> bool
-    requires { place < 8 * length bytes.old }
-    ensures told { result ≡ is_some value }
-    ensures written { bytes.new ≡ with_put_told bytes.old place value }
+/// Sets the bit at an index if the overlay has one there, and returns whether it has.
+pub fn overwrite(bytes: &mut [u8], index: usize, value: Option<bool>) -> bool
+    requires { index < 8 * length bytes.old }
+    ensures updated { result ≡ is_some value }
+    ensures written { bytes.new ≡ with_overwrite bytes.old index value }
 {
     match value {
         Some(value) => {
-            put(bytes, place, value);
+            put(bytes, index, value);
             true
         }
         None => false,

@@ -43,9 +43,9 @@ pub record StaysGenuine (kind : SlaveKind) (s : SlaveState) : Type 0 where
   -- a firmware step
   pub serves : IsGenuine kind (served s)
   -- its application writes or reads a byte, or many
-  pub puts : (place byte : ℕ) → IsGenuine kind (unwrap_or (input_put s place byte) s)
+  pub puts : (offset byte : ℕ) → IsGenuine kind (unwrap_or (input_put s offset byte) s)
   pub puts_all : (inputs : List ℕ) (count : ℕ) → IsGenuine kind (inputs_put s inputs count)
-  pub gets : (place : ℕ) → IsGenuine kind (output_taken s (output_got s place))
+  pub gets : (offset : ℕ) → IsGenuine kind (output_taken s (output_got s offset))
   pub gets_all : (count : ℕ) → IsGenuine kind (outputs_taken s count)
   -- a fault, a reset
   pub faults : IsGenuine kind (faulted s)

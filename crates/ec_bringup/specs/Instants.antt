@@ -8,7 +8,7 @@ use Rattle.ec_link.specs.declared.settings.SlavePlan.{SlavePlan}
 use Rattle.ec_start.specs.declared.action.Action.{Action}
 use Rattle.ec_start.specs.Scripts.{script}
 use Rattle.ec_start.specs.declared.error.StartError.{StartError}
-use Rattle.ec_start.specs.declared.verdict.Verdict.TheVariants.{Next, Shows, Again}
+use Rattle.ec_start.specs.declared.verdict.Verdict.TheVariants.{Next, Word, Again}
 use Rattle.ec_device.specs.declared.slave_type.Device.{Device}
 use Rattle.ec_start.specs.Verdicts.{verdict}
 use Rattle.ec_start.specs.Running.{action_of, type_of}
@@ -104,7 +104,7 @@ abbrev pub TakeLaw : Type 0
 TakeLaw =
     (n step : ℕ) (seen : Device) (ps : List SlavePlan) (a : Action) (d : Datagram)
     → (verdict n step seen (type_of ps) a d ≡ Next → MayEnd a d)
-    × ((value : ℕ) → verdict n step seen (type_of ps) a d ≡ Shows value → MayEnd a d)
+    × ((value : ℕ) → verdict n step seen (type_of ps) a d ≡ Word value → MayEnd a d)
     × (verdict n step seen (type_of ps) a d ≡ Again → MayRepeat a d)
 
 -- what a device of a type is, after any datagram at all

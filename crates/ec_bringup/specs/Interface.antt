@@ -6,8 +6,8 @@ pub use Rattle.ec_bringup.specs.Complete.{IsReachable, CanReach, IsIdentity, IsN
 pub use Rattle.ec_bringup.specs.Devices.{IsGenuine, SwitchedOnLaw, DevicesLaw, RingLaw, IsOfType, AreGenuine, AreOfTypes, IdentitiesLaw, TypedSlavesLaw, SlavesOfLaw}
 pub use Rattle.ec_bringup.specs.Frames.{IsWriting, Arrives, IsOther, MayRepeat, Met, MayEnd, Untouched, ReadsOn, IsBroadcast, ShowsInit}
 pub use Rattle.ec_bringup.specs.Keeping.{FrameLaw, StaysStanding}
-pub use Rattle.ec_bringup.specs.Runs.{is_idle, is_beginning, BeginningLaw, Works, Shown, Working, Faulted, WasReset, with_passed, with_start, with_slave, with_begun, AreStartable, Happens, Sends, Passes, Loses, Returns, Strays, Closes, Serves, Puts, Gets, Faults, Resets, Runs, Stops, Steps, Begins, with_sent, with_empty, with_lost, ends_of, HoldsAll, HasFault, StartUpLaw, IsNew, flags_sent}
-pub use Rattle.ec_bringup.specs.Stages.{Rise, Stays, Climbs, Claim, Talk, Config, Stage, Before, Called, Down, Up, answered, no_claim, claimed, answered_by, talked_over, asked_all, prepared, fresh, told, after, IsLow, slot_claimed, end_of, IsStepUp, Fits, IsUp, CanTell, CanClimb, IsClimbing, climbing, IsClear, if_mine, FitsMine}
+pub use Rattle.ec_bringup.specs.Runs.{is_idle, is_beginning, BeginningLaw, Works, SlaveHealth, Working, Faulted, WasReset, with_passed, with_start, with_slave, with_begun, AreStartable, Happens, Sends, Passes, Loses, Returns, Strays, Closes, Serves, Puts, Gets, Faults, Resets, Runs, Stops, Steps, Begins, with_sent, with_empty, with_lost, ends_of, HoldsAll, HasFault, StartUpLaw, IsNew, flags_sent}
+pub use Rattle.ec_bringup.specs.Stages.{Rise, Stays, Climbs, Claim, Talk, Config, Stage, Before, Called, Down, Up, answered, no_claim, claimed, answered_by, talked_over, asked_all, prepared, fresh, config_after, after, IsLow, slot_claimed, end_of, IsStepUp, Fits, IsUp, CanAct, CanClimb, IsClimbing, climbing, IsClear, if_mine, FitsMine}
 pub use Rattle.ec_bringup.specs.Standing.{IsOfKind, unviewed, HoldsZeros, IsConfigured, IsAssigned, Claims, IsSilent, Talks, IsInInit, IsIn, StaysIn, Rises, IsUpAt, AreClear, IsDownAt, Reached, IsGone, HadFault, Stands, IsAsked, IsFaulted, IsTop, HasAll, IsSent, IsFaultedAt}
 pub use Rattle.ec_bringup.specs.Starting.{Carried, Starting, no_slave, slave_at, trouble_at, kind_at, AreSlaves, no_plan}
 pub use Rattle.ec_bringup.specs.SwitchedOn.{no_identity, switched_on, AreIdentities, AreSlavesOf}

@@ -19,8 +19,8 @@ use Rattle.ec_bringup.specs.Frames.{Arrives, Met}
 -- it stands where it stood after a firmware step and after a byte of its application; a fault or a reset is noted
 pub record StaysStanding (kind : SlaveKind) (i : ℕ) (st : Stage) (trouble : Bool) (s : SlaveState) : Type 0 where
   pub serves : Stands kind i st trouble (served s)
-  pub puts : (place byte : ℕ) → Stands kind i st trouble (unwrap_or (input_put s place byte) s)
-  pub gets : (place : ℕ) → Stands kind i st trouble (output_taken s (output_got s place))
+  pub puts : (offset byte : ℕ) → Stands kind i st trouble (unwrap_or (input_put s offset byte) s)
+  pub gets : (offset : ℕ) → Stands kind i st trouble (output_taken s (output_got s offset))
   pub faults : s.al.state ≡ Op → Stands kind i st true (faulted s)
   pub resets : Stands kind i st true (power_on s.kind s.identity)
 

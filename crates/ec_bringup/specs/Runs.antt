@@ -125,10 +125,10 @@ pub record HasFault (i : ℕ) (p : SlavePlan) (s : SlaveState) : Type 0 where
   pub unlocked : (n : ℕ) → n < 4 → n ≢ 2 → (manager_at s.managers n).locked ≡ false
 
 -- it works, or it had a fault or a reset since the first frame of this start-up was sent
-pub data Shown (i : ℕ) (p : SlavePlan) (trouble : Bool) (s : SlaveState) : Type 0 where
-  Working : Works i p s → Shown i p trouble s
-  Faulted : trouble ≡ true → HasFault i p s → Shown i p trouble s
-  WasReset : trouble ≡ true → s ≡ power_on s.kind s.identity → Shown i p trouble s
+pub data SlaveHealth (i : ℕ) (p : SlavePlan) (trouble : Bool) (s : SlaveState) : Type 0 where
+  Working : Works i p s → SlaveHealth i p trouble s
+  Faulted : trouble ≡ true → HasFault i p s → SlaveHealth i p trouble s
+  WasReset : trouble ≡ true → s ≡ power_on s.kind s.identity → SlaveHealth i p trouble s
 
 -- a new segment (`Starting`)
 pub record IsNew (ps : List SlavePlan) (w : Starting) : Type 0 where
@@ -141,4 +141,4 @@ pub record IsNew (ps : List SlavePlan) (w : Starting) : Type 0 where
 abbrev pub StartUpLaw : Type 0
 StartUpLaw =
     (ps : List SlavePlan) → AreStartable ps → (w v : Starting) → IsNew ps w → Runs w v → v.start.phase ≡ Ready → (i : ℕ) → i < length ps
-    → Shown i (get_or ps i no_plan) (trouble_at v.troubles i) (slave_at v.slaves i)
+    → SlaveHealth i (get_or ps i no_plan) (trouble_at v.troubles i) (slave_at v.slaves i)

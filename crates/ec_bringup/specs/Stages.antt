@@ -97,20 +97,20 @@ climbing (Stays state) wanted = Climbs state wanted
 climbing (Climbs state other) wanted = Climbs state wanted
 
 -- what an action does to the slave that it is for
-abbrev pub told : Config → Action → Config
-told c (AskWord i which) = record c { idle = false }
-told c (AwaitWord i which) = record c { idle = true }
-told c (SetManager i n m) = record c { managers = set c.managers n m }
-told c (SetFmmu i n f) = record c { fmmus = set c.fmmus n f }
-told c (AskState i state) = record c { rise = climbing c.rise state }
-told c (AwaitState i state) = record c { rise = Stays state }
-told c (SendRequest i counter b r) = record c { talk = Some (record { mailbox = b; counter = counter; request = r }) }
-told c (AwaitReply i b r) = answered c r
-told c _ = c
+abbrev pub config_after : Config → Action → Config
+config_after c (AskWord i which) = record c { idle = false }
+config_after c (AwaitWord i which) = record c { idle = true }
+config_after c (SetManager i n m) = record c { managers = set c.managers n m }
+config_after c (SetFmmu i n f) = record c { fmmus = set c.fmmus n f }
+config_after c (AskState i state) = record c { rise = climbing c.rise state }
+config_after c (AwaitState i state) = record c { rise = Stays state }
+config_after c (SendRequest i counter b r) = record c { talk = Some (record { mailbox = b; counter = counter; request = r }) }
+config_after c (AwaitReply i b r) = answered c r
+config_after c _ = c
 
-abbrev pub told_at : Stage → Action → Stage
-told_at (Up c) a = Up (told c a)
-told_at st a = st
+abbrev pub up_after : Stage → Action → Stage
+up_after (Up c) a = Up (config_after c a)
+up_after st a = st
 
 abbrev pub if_mine : ℕ → ℕ → Stage → Stage → Stage
 if_mine t i mine others = if t == i then mine else others
@@ -125,14 +125,14 @@ after i st ClearFmmus = st
 after i st ClearManagers = st
 after i st ClearStations = st
 after i st (NameSlave t) = if_mine t i (Up fresh) st
-after i st (AskWord t which) = if_mine t i (told_at st (AskWord t which)) st
-after i st (AwaitWord t which) = if_mine t i (told_at st (AwaitWord t which)) st
-after i st (SetManager t n m) = if_mine t i (told_at st (SetManager t n m)) st
-after i st (SetFmmu t n f) = if_mine t i (told_at st (SetFmmu t n f)) st
-after i st (AskState t state) = if_mine t i (told_at st (AskState t state)) st
-after i st (AwaitState t state) = if_mine t i (told_at st (AwaitState t state)) st
-after i st (SendRequest t counter b r) = if_mine t i (told_at st (SendRequest t counter b r)) st
-after i st (AwaitReply t b r) = if_mine t i (told_at st (AwaitReply t b r)) st
+after i st (AskWord t which) = if_mine t i (up_after st (AskWord t which)) st
+after i st (AwaitWord t which) = if_mine t i (up_after st (AwaitWord t which)) st
+after i st (SetManager t n m) = if_mine t i (up_after st (SetManager t n m)) st
+after i st (SetFmmu t n f) = if_mine t i (up_after st (SetFmmu t n f)) st
+after i st (AskState t state) = if_mine t i (up_after st (AskState t state)) st
+after i st (AwaitState t state) = if_mine t i (up_after st (AwaitState t state)) st
+after i st (SendRequest t counter b r) = if_mine t i (up_after st (SendRequest t counter b r)) st
+after i st (AwaitReply t b r) = if_mine t i (up_after st (AwaitReply t b r)) st
 
 -- ---- which action may come at a stage
 
@@ -157,23 +157,23 @@ IsLow (Stays Init) = Unit {0}
 IsLow (Stays PreOp) = Unit {0}
 IsLow _ = ⊥
 
-abbrev pub CanTell : Config → Action → Type 0
-CanTell c (AskWord i which) = IsLow c.rise × (c.talk ≡ None)
-CanTell c (AwaitWord i which) = IsLow c.rise × (c.talk ≡ None)
-CanTell c (SetManager i n m) = IsLow c.rise × (n < length c.managers) × (length c.managers ≡ 4) × (c.talk ≡ None)
-CanTell c (SetFmmu i n f) = IsLow c.rise × (n < length c.fmmus) × (length c.fmmus ≡ 4) × (c.talk ≡ None)
-CanTell c (AskState i state) = (c.talk ≡ None) × CanClimb c.rise state
-CanTell c (AwaitState i state) = (c.talk ≡ None) × IsClimbing c.rise state
-CanTell c (SendRequest i counter b r) = IsLow c.rise × (c.talk ≡ None) × AreMailboxes b c.managers × IsRequest r
-CanTell c (AwaitReply i b r) = IsLow c.rise × ((counter : ℕ) × (c.talk ≡ Some (record { mailbox = b; counter = counter; request = r }))) × AreMailboxes b c.managers
-CanTell c _ = ⊥
+abbrev pub CanAct : Config → Action → Type 0
+CanAct c (AskWord i which) = IsLow c.rise × (c.talk ≡ None)
+CanAct c (AwaitWord i which) = IsLow c.rise × (c.talk ≡ None)
+CanAct c (SetManager i n m) = IsLow c.rise × (n < length c.managers) × (length c.managers ≡ 4) × (c.talk ≡ None)
+CanAct c (SetFmmu i n f) = IsLow c.rise × (n < length c.fmmus) × (length c.fmmus ≡ 4) × (c.talk ≡ None)
+CanAct c (AskState i state) = (c.talk ≡ None) × CanClimb c.rise state
+CanAct c (AwaitState i state) = (c.talk ≡ None) × IsClimbing c.rise state
+CanAct c (SendRequest i counter b r) = IsLow c.rise × (c.talk ≡ None) × AreMailboxes b c.managers × IsRequest r
+CanAct c (AwaitReply i b r) = IsLow c.rise × ((counter : ℕ) × (c.talk ≡ Some (record { mailbox = b; counter = counter; request = r }))) × AreMailboxes b c.managers
+CanAct c _ = ⊥
 
 abbrev pub IsUp : Stage → Type 0
 IsUp (Up c) = Unit {0}
 IsUp _ = ⊥
 
 abbrev pub FitsMine : Stage → Action → Type 0
-FitsMine (Up c) a = CanTell c a
+FitsMine (Up c) a = CanAct c a
 FitsMine _ a = ⊥
 
 -- an action for one slave: every slave has its station address, and this slave is ready for the action if it is the one

@@ -1,7 +1,7 @@
 -- That a slave stands at a stage of a start-up.
 use Rattle.std.specs.Prelude.{ℕ, ◌+◌, ◌<◌, ◌≤◌, ◌≡◌, ◌≢◌, ◌⊎◌, List, length, take, slice_index, Bool, true, false, Option, Some, None}
 use Rattle.std.specs.Option.{ForSome}
-use Rattle.ec_regs.specs.Memory.{fmmus, fmmu_place, ram_end}
+use Rattle.ec_regs.specs.Memory.{fmmus, fmmu_start, ram_end}
 use Rattle.ec_regs.specs.Words.{al_word}
 use Rattle.ec_regs.specs.Managers.{no_settings}
 use Rattle.ec_regs.specs.Fmmus.{fmmu_bytes}
@@ -52,7 +52,7 @@ HoldsZeros m = unviewed m.buffer ≡ emptied_buffer (buffer_length m.settings)
 pub record IsConfigured (i : ℕ) (c : Config) (s : SlaveState) : Type 0 where
   pub station_is : station_of s ≡ station i
   pub settings : (n : ℕ) → n < 4 → (manager_at s.managers n).settings ≡ settings_at c.managers n
-  pub fmmus : (n k : ℕ) → n < 4 → k < 16 → slice_index s.memory (fmmu_place n + k) ≡ slice_index (fmmu_bytes (fmmu_at c.fmmus n)) k
+  pub fmmus : (n k : ℕ) → n < 4 → k < 16 → slice_index s.memory (fmmu_start n + k) ≡ slice_index (fmmu_bytes (fmmu_at c.fmmus n)) k
   pub idle : c.idle ≡ true → s.sii.busy ≡ false
   pub no_messages : (n : ℕ) → 2 ≤ n → n < 4 → (manager_at s.managers n).mail ≡ None
   pub outputs : HoldsZeros (manager_at s.managers 2)

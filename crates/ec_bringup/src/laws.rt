@@ -25,7 +25,7 @@ pub fn comes_up()
 {}
 
 /// This also holds whatever the slaves' applications read and write between the frames of the start-up.
-#[tactic(auto, using(crate::proofs::ComesUp::applied_up))]
+#[tactic(auto, using(crate::proofs::StartUp::ComesUpLaw::applied_up))]
 pub fn comes_up_beside_applications()
     ensures { AppliedUpLaw }
 {}
@@ -36,7 +36,7 @@ pub fn again()
 {}
 
 /// A start-up's frame that passed all slaves answers the frame that was sent: only its second datagram has changed.
-#[tactic(auto, using(crate::proofs::Rounds::round))]
+#[tactic(auto, using(crate::proofs::AllSlaves::RoundLaw::round))]
 pub fn round()
     ensures { RoundLaw }
 {}
@@ -88,7 +88,7 @@ pub fn devices_stay_devices()
 
 /// The slaves of a ring stay devices, whatever frame passes all of them and whatever happens to one of them. A start-up may find
 /// them in the state that this leaves.
-#[tactic(auto, using(crate::proofs::Genuine::stay))]
+#[tactic(auto, using(crate::proofs::OneSlave::DevicesLaw::stay))]
 pub fn rings_stay_devices()
     ensures { RingLaw }
 {}

@@ -56,7 +56,7 @@ fn turn(startup: &mut Startup<'_>, ring: &mut Ring, frame: &mut Frame) -> bool
     ensures answer { IsTrue result ↔ (next_frame startup.old ≡ Send) }
     ensures made { IsTrue result → rising startup.new ring.new ≡ turned (rising startup.old ring.old) }
     ensures none { next_frame startup.old ≢ Send → startup.new ≡ asked startup.old }
-    ensures ring_kept { next_frame startup.old ≢ Send → ring.new ≡ ring.old }
+    ensures ring_unchanged { next_frame startup.old ≢ Send → ring.new ≡ ring.old }
 {
     match startup.next(frame) {
         NextFrame::Send => {}
@@ -73,7 +73,7 @@ fn turn(startup: &mut Startup<'_>, ring: &mut Ring, frame: &mut Frame) -> bool
 fn serve_all(ring: &mut Ring)
     ensures { ring.new ≡ map served ring.old }
 {
-    for place in 0..ring.len() {
-        ring.slave_mut(place).serve();
+    for index in 0..ring.len() {
+        ring.slave_mut(index).serve();
     }
 }

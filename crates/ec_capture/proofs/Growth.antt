@@ -13,5 +13,5 @@ pub captures_grow : CapturesGrow
 captures_grow c s =
     block_more (blocks_of c) (packet_block s)
     ∙ ap (λ (bs : List Block). blocks_bytes (section_block ∷ bs))
-    (append_assoc (map interface_block c.names) (map packet_block c.seen) (packet_block s ∷ [])
-    ∙ ap (λ (bs : List Block). map interface_block c.names ++ bs) (sym (map-append packet_block c.seen (s ∷ []))))
+    (append_assoc (map interface_block c.names) (map packet_block c.packets) (packet_block s ∷ [])
+    ∙ ap (λ (bs : List Block). map interface_block c.names ++ bs) (sym (map-append packet_block c.packets (s ∷ []))))

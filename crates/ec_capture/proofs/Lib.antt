@@ -1,7 +1,7 @@
 -- files that grow by bytes in steps
-pub mod Growing
+pub mod AppendedBytes
 -- what is written is the spelling
-pub mod Spelled
+pub mod BlockBytes
 -- a capture is read back from its file
 pub mod ReadBack
 -- a capture grows by a packet

@@ -3,16 +3,16 @@ use Rattle.std.proofs.Common.{ℕ, ◌≡◌, ◌∙◌, refl, sym, ap, subst, L
 use Rattle.std.proofs.lemmas.List.{map-append}
 use Rattle.std.specs.Io.KnownBytes.{Appends}
 use Rattle.ec_capture.specs.Blocks.{Block, block_bytes, blocks_bytes}
-use Rattle.ec_capture.specs.Captures.{Seen, packet_block}
+use Rattle.ec_capture.specs.Captures.{Captured, packet_block}
 use Rattle.ec_capture.specs.Recordings.{Notes, Recording, packets_bytes}
 use Rattle.ec_capture.specs.Writing.{AppendsPart}
-use Rattle.ec_capture.proofs.Growing.{appends_more, appends_nothing, part_first, part_then}
+use Rattle.ec_capture.proofs.AppendedBytes.{appends_more, appends_nothing, part_first, part_then}
 
 blocks-append : (bs ds : List Block) → blocks_bytes (bs ++ ds) ≡ blocks_bytes bs ++ blocks_bytes ds
 blocks-append [] ds = refl
 blocks-append (b ∷ bs) ds = ap (λ (xs : List ℕ). block_bytes b ++ xs) (blocks-append bs ds) ∙ sym (append_assoc (block_bytes b) (blocks_bytes bs) (blocks_bytes ds))
 
-packets-append : (ss ts : List Seen) → packets_bytes ss ++ packets_bytes ts ≡ packets_bytes (ss ++ ts)
+packets-append : (ss ts : List Captured) → packets_bytes ss ++ packets_bytes ts ≡ packets_bytes (ss ++ ts)
 packets-append ss ts = sym (ap (λ (bs : List Block). blocks_bytes bs) (map-append packet_block ss ts) ∙ blocks-append (map packet_block ss) (map packet_block ts))
 
 -- none
@@ -26,7 +26,7 @@ notes_nothing r = record {
 }
 
 -- whatever was to be noted, where the capture is cut short
-pub notes_cut : (ss : List Seen) (r : Recording) → Notes ss r (record r { is_whole = false })
+pub notes_cut : (ss : List Captured) (r : Recording) → Notes ss r (record r { is_whole = false })
 notes_cut ss r = record {
   interfaces = refl;
   all = λ whole. cc;
@@ -36,7 +36,7 @@ notes_cut ss r = record {
 }
 
 -- by whether it was whole in between
-then_part : (mid_whole : Bool) (ss ts : List Seen) (a b c : Recording) → b.is_whole ≡ mid_whole → Notes ss a b → Notes ts b c → c.is_whole ≡ false → AppendsPart a.file c.file (packets_bytes (ss ++ ts))
+then_part : (mid_whole : Bool) (ss ts : List Captured) (a b c : Recording) → b.is_whole ≡ mid_whole → Notes ss a b → Notes ts b c → c.is_whole ≡ false → AppendsPart a.file c.file (packets_bytes (ss ++ ts))
 then_part true ss ts a b c is first then cut =
     subst (λ (xs : List ℕ). AppendsPart a.file c.file xs) (packets-append ss ts)
     (part_then (packets_bytes ss) (packets_bytes ts) a.file b.file c.file (first.all is) (then.part cut))
@@ -46,7 +46,7 @@ then_part false ss ts a b c is first then cut =
     (part_first (packets_bytes ss) (packets_bytes ts) a.file c.file
     (subst (λ (r : Recording). AppendsPart a.file r.file (packets_bytes ss)) (sym same) (first.part is)))
 
-pub notes_then : (ss ts : List Seen) (a b c : Recording) → Notes ss a b → Notes ts b c → Notes (ss ++ ts) a c
+pub notes_then : (ss ts : List Captured) (a b c : Recording) → Notes ss a b → Notes ts b c → Notes (ss ++ ts) a c
 notes_then ss ts a b c first then = record {
   interfaces = then.interfaces ∙ first.interfaces;
   all = λ whole. subst (λ (xs : List ℕ). Appends a.file c.file xs) (packets-append ss ts)

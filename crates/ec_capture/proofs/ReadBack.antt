@@ -7,9 +7,9 @@ use Rattle.std.proofs.Math.Seq.{take-append_seam, drop-append_seam}
 use Rattle.std.specs.List.{filter_map}
 use Rattle.std.specs.Prelude.{slice_index}
 use Rattle.ec_capture.specs.Blocks.{Block, IsBlock, behind_block, block_bytes, block_size, blocks_bytes, blocks_from, blocks_in, first_block, half, half_at, number, number_at, option_in, options_bytes, padding, zeros}
-use Rattle.ec_capture.specs.Captures.{Capture, IsCapture, IsComment, IsSeen, IsText, Seen, blocks_of, capture_in, comment_bytes, ethernet, ethernet_head, ethernet_size, file_of, interface_block, kept_in, name_in, name_of, packet_block, section_block, seen_in, seen_of}
+use Rattle.ec_capture.specs.Captures.{Capture, IsCapture, IsComment, IsCaptured, IsText, Captured, blocks_of, capture_in, comment_bytes, ethernet, ethernet_head, ethernet_size, file_of, interface_block, kept_in, name_in, name_of, packet_block, section_block, captured_in, captured_of}
 use Rattle.ec_capture.specs.Laws.{CapturesReadBack}
-use Rattle.ec_capture.proofs.Spelled.{ethernet-length, interface-length, options-length, packet-length, padding-few, zeros-length}
+use Rattle.ec_capture.proofs.BlockBytes.{ethernet-length, interface-length, options-length, packet-length, padding-few, zeros-length}
 
 -- ---- blocks
 
@@ -105,27 +105,27 @@ name_read : (name : List ℕ) → IsText name → name_in (interface_block name)
 name_read name short = ap (λ (xs : List ℕ). unwrap_or (option_in 2 xs) []) (options_behind name) ∙ ap (λ (o : Option (List ℕ)). unwrap_or o []) (option_read 2 name refl (omega arith) short)
 
 -- the numbers of a packet
-interface_read : (s : Seen) → IsSeen s → number_at 0 (packet_block s).body ≡ s.interface
+interface_read : (s : Captured) → IsCaptured s → number_at 0 (packet_block s).body ≡ s.interface
 unfolding number
 interface_read s ok = from_le_bytes-to_le_bytes_4 s.interface ok.interface
 
-high_read : (s : Seen) → IsSeen s → number_at 4 (packet_block s).body ≡ s.time / 2 ^ 32
+high_read : (s : Captured) → IsCaptured s → number_at 4 (packet_block s).body ≡ s.time / 2 ^ 32
 unfolding number
 high_read s ok = let l = ok.time in from_le_bytes-to_le_bytes_4 (s.time / 2 ^ 32) (omega (arith, l))
 
-low_read : (s : Seen) → number_at 8 (packet_block s).body ≡ s.time % 2 ^ 32
+low_read : (s : Captured) → number_at 8 (packet_block s).body ≡ s.time % 2 ^ 32
 unfolding number
 low_read s = from_le_bytes-to_le_bytes_4 (s.time % 2 ^ 32) (omega arith)
 
-count_read : (s : Seen) → IsSeen s → number_at 12 (packet_block s).body ≡ ethernet_size s.payload
+count_read : (s : Captured) → IsCaptured s → number_at 12 (packet_block s).body ≡ ethernet_size s.payload
 unfolding number
 count_read s ok = let l = ok.payload in from_le_bytes-to_le_bytes_4 (ethernet_size s.payload) (omega (arith, l))
 
-frame_behind : (s : Seen) → drop 20 (packet_block s).body ≡ (ethernet s.passed s.payload ++ zeros (padding (length (ethernet s.passed s.payload)))) ++ comment_bytes s.comment
+frame_behind : (s : Captured) → drop 20 (packet_block s).body ≡ (ethernet s.passed s.payload ++ zeros (padding (length (ethernet s.passed s.payload)))) ++ comment_bytes s.comment
 unfolding number
 frame_behind s = refl
 
-kept_read : (s : Seen) → IsSeen s → kept_in (packet_block s).body ≡ ethernet s.passed s.payload
+kept_read : (s : Captured) → IsCaptured s → kept_in (packet_block s).body ≡ ethernet s.passed s.payload
 kept_read s ok =
     let e = ethernet s.passed s.payload in let z = zeros (padding (length e)) in
     let size : number_at 12 (packet_block s).body ≡ length e = count_read s ok ∙ sym (ethernet-length s.passed s.payload) in
@@ -147,7 +147,7 @@ unfolding option_in
 comment_of None ok = refl
 comment_of (Some text) ok = option_read 1 text refl (omega arith) ok
 
-comment_behind : (s : Seen) → IsSeen s → drop (20 + (number_at 12 (packet_block s).body + padding (number_at 12 (packet_block s).body))) (packet_block s).body ≡ comment_bytes s.comment
+comment_behind : (s : Captured) → IsCaptured s → drop (20 + (number_at 12 (packet_block s).body + padding (number_at 12 (packet_block s).body))) (packet_block s).body ≡ comment_bytes s.comment
 comment_behind s ok =
     let e = ethernet s.passed s.payload in let z = zeros (padding (length e)) in
     let size : number_at 12 (packet_block s).body ≡ length e = count_read s ok ∙ sym (ethernet-length s.passed s.payload) in
@@ -157,7 +157,7 @@ comment_behind s ok =
     ∙ (ap (λ (xs : List ℕ). drop (length e + padding (length e)) xs) (frame_behind s)
     ∙ (ap (λ (n : ℕ). drop n ((e ++ z) ++ comment_bytes s.comment)) (sym far) ∙ drop-append_seam (e ++ z) (comment_bytes s.comment))))
 
-alike : (s t : Seen) → s.interface ≡ t.interface → s.time ≡ t.time → s.passed ≡ t.passed → s.payload ≡ t.payload → s.comment ≡ t.comment → s ≡ t
+alike : (s t : Captured) → s.interface ≡ t.interface → s.time ≡ t.time → s.passed ≡ t.passed → s.payload ≡ t.payload → s.comment ≡ t.comment → s ≡ t
 alike s t a b c d e =
     ap (λ (x : ℕ). record s { interface = x }) a
     ∙ (ap (λ (x : ℕ). record s { interface = t.interface; time = x }) b
@@ -165,21 +165,21 @@ alike s t a b c d e =
     ∙ (ap (λ (x : List ℕ). record s { interface = t.interface; time = t.time; passed = t.passed; payload = x }) d
     ∙ ap (λ (x : Option (List ℕ)). record t { comment = x }) e)))
 
-seen_read : (s : Seen) → IsSeen s → seen_in (packet_block s).body ≡ s
+seen_read : (s : Captured) → IsCaptured s → captured_in (packet_block s).body ≡ s
 seen_read s ok =
     let body = (packet_block s).body in
     let high = high_read s ok in let low = low_read s in
     let time : 2 ^ 32 * number_at 4 body + number_at 8 body ≡ s.time = omega (arith, high, low) in
     let kept = kept_read s ok in
-    alike (seen_in body) s (interface_read s ok) time
+    alike (captured_in body) s (interface_read s ok) time
     (ap (λ (xs : List ℕ). slice_index xs 6 / 2 % 2 == 1) kept ∙ passed_read s.passed s.payload)
     (ap (λ (xs : List ℕ). drop 14 xs) kept ∙ payload_read s.passed s.payload)
     (ap (λ (xs : List ℕ). option_in 1 xs) (comment_behind s ok) ∙ comment_of s.comment ok.comment)
 
 -- ---- captures
 
-alike_captures : (c d : Capture) → c.names ≡ d.names → c.seen ≡ d.seen → c ≡ d
-alike_captures c d p q = ap (λ (x : List (List ℕ)). record { names = x; seen = c.seen }) p ∙ ap (λ (x : List Seen). record { names = d.names; seen = x }) q
+alike_captures : (c d : Capture) → c.names ≡ d.names → c.packets ≡ d.packets → c ≡ d
+alike_captures c d p q = ap (λ (x : List (List ℕ)). record { names = x; packets = c.packets }) p ∙ ap (λ (x : List Captured). record { names = d.names; packets = x }) q
 
 names_read : (names : List (List ℕ)) → All IsText names → filter_map name_of (map interface_block names) ≡ names
 names_read [] all = refl
@@ -187,19 +187,19 @@ names_read (name ∷ names) all =
     ap (λ (n : List ℕ). n ∷ filter_map name_of (map interface_block names)) (name_read name (all 0 name (omega arith)))
     ∙ ap (λ (ns : List (List ℕ)). name ∷ ns) (names_read names (λ k d below. all (suc k) d (omega (arith, below))))
 
-no_names : (ss : List Seen) → filter_map name_of (map packet_block ss) ≡ []
+no_names : (ss : List Captured) → filter_map name_of (map packet_block ss) ≡ []
 no_names [] = refl
 no_names (s ∷ ss) = no_names ss
 
-no_seen : (names : List (List ℕ)) → filter_map seen_of (map interface_block names) ≡ []
-no_seen [] = refl
-no_seen (name ∷ names) = no_seen names
+none_captured : (names : List (List ℕ)) → filter_map captured_of (map interface_block names) ≡ []
+none_captured [] = refl
+none_captured (name ∷ names) = none_captured names
 
-all_read : (ss : List Seen) → All IsSeen ss → filter_map seen_of (map packet_block ss) ≡ ss
+all_read : (ss : List Captured) → All IsCaptured ss → filter_map captured_of (map packet_block ss) ≡ ss
 all_read [] all = refl
 all_read (s ∷ ss) all =
-    ap (λ (x : Seen). x ∷ filter_map seen_of (map packet_block ss)) (seen_read s (all 0 s (omega arith)))
-    ∙ ap (λ (xs : List Seen). s ∷ xs) (all_read ss (λ k d below. all (suc k) d (omega (arith, below))))
+    ap (λ (x : Captured). x ∷ filter_map captured_of (map packet_block ss)) (seen_read s (all 0 s (omega arith)))
+    ∙ ap (λ (xs : List Captured). s ∷ xs) (all_read ss (λ k d below. all (suc k) d (omega (arith, below))))
 
 few_comment : (comment : Option (List ℕ)) → IsComment comment → length (comment_bytes comment) ≤ 65546
 few_comment None ok = omega arith
@@ -208,7 +208,7 @@ few_comment (Some text) ok = omega (arith, options-length 1 text, padding-few (l
 is_interface : (name : List ℕ) → IsText name → IsBlock (interface_block name)
 is_interface name short = record { kind = omega arith; size = omega (arith, interface-length name, padding-few (length name), short) }
 
-is_packet : (s : Seen) → IsSeen s → IsBlock (packet_block s)
+is_packet : (s : Captured) → IsCaptured s → IsBlock (packet_block s)
 is_packet s ok =
     let l = ok.payload in
     record { kind = omega arith; size = omega (arith, packet-length s, padding-few (ethernet_size s.payload), few_comment s.comment ok.comment, l) }
@@ -219,19 +219,19 @@ is_section = record { kind = omega arith; size = omega arith }
 
 are_blocks : (c : Capture) → IsCapture c → All IsBlock (blocks_of c)
 are_blocks c ok =
-    All-cons IsBlock section_block (map interface_block c.names ++ map packet_block c.seen) is_section
-    (All-append IsBlock (map interface_block c.names) (map packet_block c.seen)
+    All-cons IsBlock section_block (map interface_block c.names ++ map packet_block c.packets) is_section
+    (All-append IsBlock (map interface_block c.names) (map packet_block c.packets)
     (All-map IsBlock interface_block c.names (λ k d below. is_interface (get_or c.names k d) (ok.names k d below)))
-    (All-map IsBlock packet_block c.seen (λ k d below. is_packet (get_or c.seen k d) (ok.seen k d below))))
+    (All-map IsBlock packet_block c.packets (λ k d below. is_packet (get_or c.packets k d) (ok.packets k d below))))
 
 pub captures_read_back : CapturesReadBack
 captures_read_back c ok =
     let blocks = blocks_read_back (blocks_of c) (are_blocks c ok) in
     let names : filter_map name_of (blocks_of c) ≡ c.names =
-    filter_map-append name_of (map interface_block c.names) (map packet_block c.seen)
-    ∙ (ap (λ (xs : List (List ℕ)). filter_map name_of (map interface_block c.names) ++ xs) (no_names c.seen)
+    filter_map-append name_of (map interface_block c.names) (map packet_block c.packets)
+    ∙ (ap (λ (xs : List (List ℕ)). filter_map name_of (map interface_block c.names) ++ xs) (no_names c.packets)
     ∙ (append-nil (filter_map name_of (map interface_block c.names)) ∙ names_read c.names ok.names)) in
-    let seen : filter_map seen_of (blocks_of c) ≡ c.seen =
-    filter_map-append seen_of (map interface_block c.names) (map packet_block c.seen)
-    ∙ (ap (λ (xs : List Seen). xs ++ filter_map seen_of (map packet_block c.seen)) (no_seen c.names) ∙ all_read c.seen ok.seen) in
-    alike_captures (capture_in (file_of c)) c (ap (λ (bs : List Block). filter_map name_of bs) blocks ∙ names) (ap (λ (bs : List Block). filter_map seen_of bs) blocks ∙ seen)
+    let packets : filter_map captured_of (blocks_of c) ≡ c.packets =
+    filter_map-append captured_of (map interface_block c.names) (map packet_block c.packets)
+    ∙ (ap (λ (xs : List Captured). xs ++ filter_map captured_of (map packet_block c.packets)) (none_captured c.names) ∙ all_read c.packets ok.packets) in
+    alike_captures (capture_in (file_of c)) c (ap (λ (bs : List Block). filter_map name_of bs) blocks ∙ names) (ap (λ (bs : List Block). filter_map captured_of bs) blocks ∙ packets)

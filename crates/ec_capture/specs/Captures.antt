@@ -7,8 +7,8 @@ use Rattle.ec_capture.specs.declared.packet.Packet.{Packet}
 
 -- ---- what it is
 
--- A payload that was seen: its interface, its time in microseconds, whether it had passed a slave, and a comment if there is one.
-pub record Seen : Type 0 where
+-- A payload that was captured: its interface, its time in microseconds, whether it had passed a slave, and a comment if there is one.
+pub record Captured : Type 0 where
   pub interface : ℕ
   pub time : ℕ
   pub passed : Bool
@@ -18,7 +18,7 @@ pub record Seen : Type 0 where
 -- the interfaces by their names, and what was seen there, in order
 pub record Capture : Type 0 where
   pub names : List (List ℕ)
-  pub seen : List Seen
+  pub packets : List Captured
 
 -- ---- how it stands in a file
 
@@ -56,16 +56,16 @@ comment_bytes (Some text) = options_bytes 1 text
 
 -- a packet: its interface, the two halves of its time, how many bytes are kept and how many there were, the frame, and the
 -- comment
-abbrev pub packet_body : Seen → List ℕ
+abbrev pub packet_body : Captured → List ℕ
 packet_body s =
     number s.interface ++ (number (s.time / 2 ^ 32) ++ (number (s.time % 2 ^ 32) ++ (number (ethernet_size s.payload) ++ (number (ethernet_size s.payload)
     ++ (padded (ethernet s.passed s.payload) ++ comment_bytes s.comment)))))
 
-abbrev pub packet_block : Seen → Block
+abbrev pub packet_block : Captured → Block
 packet_block s = record { kind = 6; body = packet_body s }
 
 abbrev pub blocks_of : Capture → List Block
-blocks_of c = section_block ∷ (map interface_block c.names ++ map packet_block c.seen)
+blocks_of c = section_block ∷ (map interface_block c.names ++ map packet_block c.packets)
 
 -- the file of a capture
 abbrev pub file_of : Capture → List ℕ
@@ -82,7 +82,7 @@ abbrev pub IsComment : Option (List ℕ) → Type 0
 IsComment None = Unit {0}
 IsComment (Some text) = IsText text
 
-pub record IsSeen (s : Seen) : Type 0 where
+pub record IsCaptured (s : Captured) : Type 0 where
   pub interface : s.interface < 2 ^ 32
   pub time : s.time < 2 ^ 64
   -- the payload of an Ethernet frame
@@ -91,7 +91,7 @@ pub record IsSeen (s : Seen) : Type 0 where
 
 pub record IsCapture (c : Capture) : Type 0 where
   pub names : All IsText c.names
-  pub seen : All IsSeen c.seen
+  pub packets : All IsCaptured c.packets
 
 -- ---- what is read of a file
 
@@ -106,8 +106,8 @@ name_of b = if b.kind == 1 then Some (name_in b.body) else None
 abbrev pub kept_in : List ℕ → List ℕ
 kept_in body = take (number_at 12 body) (drop 20 body)
 
-abbrev pub seen_in : List ℕ → Seen
-seen_in body = record {
+abbrev pub captured_in : List ℕ → Captured
+captured_in body = record {
   interface = number_at 0 body;
   time = 2 ^ 32 * number_at 4 body + number_at 8 body;
   passed = slice_index (kept_in body) 6 / 2 % 2 == 1;
@@ -115,14 +115,14 @@ seen_in body = record {
   comment = option_in 1 (drop (20 + (number_at 12 body + padding (number_at 12 body))) body);
 }
 
-abbrev pub seen_of : Block → Option Seen
-seen_of b = if b.kind == 6 then Some (seen_in b.body) else None
+abbrev pub captured_of : Block → Option Captured
+captured_of b = if b.kind == 6 then Some (captured_in b.body) else None
 
 -- the capture that a file holds: its interfaces and its packets, in order; other blocks are skipped
 abbrev pub capture_in : List ℕ → Capture
-capture_in file = record { names = filter_map name_of (blocks_in file); seen = filter_map seen_of (blocks_in file) }
+capture_in file = record { names = filter_map name_of (blocks_in file); packets = filter_map captured_of (blocks_in file) }
 
 -- ---- a packet of the program
 
-abbrev pub seen_as : Packet → Seen
-seen_as p = record { interface = p.interface; time = p.time; passed = p.passed; payload = p.payload.now; comment = option_map (λ t. t.now) p.comment }
+abbrev pub captured_as : Packet → Captured
+captured_as p = record { interface = p.interface; time = p.time; passed = p.passed; payload = p.payload.now; comment = option_map (λ t. t.now) p.comment }

@@ -2,7 +2,7 @@
 ghost use Rattle.std.specs.Prelude.{◌≡◌, ◌≤◌, ◌<◌, ◌+◌, ◌^◌, ◌++◌, length, option_map};
 ghost use Rattle.std.specs.List.{flat_map};
 ghost use Rattle.ec_capture.specs.Blocks.{block_bytes, number, options_bytes, padding, zeros};
-ghost use Rattle.ec_capture.specs.Captures.{IsComment, IsSeen, IsText, comment_bytes, ethernet_head, ethernet_size, interface_block, packet_block, section_block, seen_as};
+ghost use Rattle.ec_capture.specs.Captures.{IsComment, IsCaptured, IsText, comment_bytes, ethernet_head, ethernet_size, interface_block, packet_block, section_block, captured_as};
 ghost use Rattle.ec_capture.specs.Writing.{Writes};
 
 use crate::packet::Packet;
@@ -78,8 +78,8 @@ pub fn write_interface<W: Write>(name: &str, file: &mut W) -> Result<(), WriteFa
 ///
 /// `WriteFault` if a write was refused. A first part of the block is written then.
 pub fn write_packet<W: Write>(packet: &Packet<'_>, file: &mut W) -> Result<(), WriteFault>
-    requires { IsSeen (seen_as packet.now) }
-    ensures { Writes (block_bytes (packet_block (seen_as packet.now))) (W.contents file.old) (W.contents file.new) result }
+    requires { IsCaptured (captured_as packet.now) }
+    ensures { Writes (block_bytes (packet_block (captured_as packet.now))) (W.contents file.old) (W.contents file.new) result }
 {
     let count = ETHERNET_HEADER + packet.payload.len();
     let size = 32 + (count + padding(count)) as u32 + comment_size(packet.comment);
@@ -124,7 +124,7 @@ fn write_numbers<W: Write>(numbers: &[u32], file: &mut W) -> Result<(), WriteFau
 }
 
 /// Writes `count` zeros, at most four.
-#[tactic(auto, using(crate::proofs::Growing::few_zeros))]
+#[tactic(auto, using(crate::proofs::AppendedBytes::few_zeros))]
 fn write_zeros<W: Write>(count: usize, file: &mut W) -> Result<(), WriteFault>
     requires { count ≤ 4 }
     ensures { Writes (zeros count) (W.contents file.old) (W.contents file.new) result }
@@ -152,7 +152,7 @@ fn write_frame<W: Write>(passed: bool, payload: &[u8], file: &mut W) -> Result<(
 }
 
 /// The Ethernet header of a frame that has passed a slave, or hasn't.
-#[tactic(auto, using(crate::proofs::Spelled::sent_spelled, crate::proofs::Spelled::passed_spelled))]
+#[tactic(auto, using(crate::proofs::BlockBytes::sent_spelled, crate::proofs::BlockBytes::passed_spelled))]
 fn ethernet_head(passed: bool) -> &'static [u8; ETHERNET_HEADER]
     ensures { result.now ≡ ethernet_head passed }
 {

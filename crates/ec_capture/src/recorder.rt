@@ -1,7 +1,7 @@
 //! A capture that is being written.
 ghost use Rattle.std.specs.Prelude.{◌≡◌, ◌∷◌, [], All, IfOk, false, length, map, option_map, true};
 ghost use Rattle.std.specs.Io.KnownBytes.{Appends};
-ghost use Rattle.ec_capture.specs.Captures.{IsComment, IsText, file_of, interface_block, packet_block, seen_as};
+ghost use Rattle.ec_capture.specs.Captures.{IsComment, IsText, file_of, interface_block, packet_block, captured_as};
 ghost use Rattle.ec_capture.specs.Blocks.{block_bytes, blocks_bytes};
 ghost use Rattle.ec_capture.specs.Recordings.{Notes, Recording};
 ghost use Rattle.ec_capture.specs.Writing.{AppendsPart, Writes};
@@ -40,11 +40,11 @@ impl<W: Write + Drop> Recorder<W> {
     /// # Errors
     ///
     /// `WriteFault` if a write or the flush was refused.
-    #[tactic(auto, using(crate::proofs::Growing::appends_kept))]
+    #[tactic(auto, using(crate::proofs::AppendedBytes::appends_kept))]
     pub fn open<S: AsStr>(file: W, names: &[S]) -> Result<Recorder<W>, WriteFault>
         requires { All IsText (map S.text names.now) }
         ensures { IfOk result (λ r. (r.is_whole ≡ true) × (r.interfaces ≡ length names.now)
-            × Appends (W.contents file) r.file (file_of (record { names = map S.text names.now; seen = [] }))) }
+            × Appends (W.contents file) r.file (file_of (record { names = map S.text names.now; packets = [] }))) }
     {
         let mut file = CaptureFile::new(file);
         write_section(&mut file)?;
@@ -77,7 +77,7 @@ impl<W: Write + Drop> Recorder<W> {
     /// packet at an interface that doesn't exist, and one with a payload of more than 1500 bytes.
     pub fn note(&mut self, packet: &Packet<'_>)
         requires { IsComment (option_map (λ t. t.now) packet.now.comment) }
-        ensures { Notes (seen_as packet.now ∷ []) self.old self.new }
+        ensures { Notes (captured_as packet.now ∷ []) self.old self.new }
     {
         if self.is_whole && !write_through(packet, self.interfaces, &mut self.file) {
             self.is_whole = false;
@@ -86,7 +86,7 @@ impl<W: Write + Drop> Recorder<W> {
 }
 
 /// Writes a packet as [`write_fitting`] does, and hands it on. Returns whether both were done.
-#[tactic(auto, using(crate::proofs::Growing::appends_kept))]
+#[tactic(auto, using(crate::proofs::AppendedBytes::appends_kept))]
 fn write_through<W: Write + Drop>(
     packet: &Packet<'_>,
     interfaces: usize,
@@ -94,23 +94,23 @@ fn write_through<W: Write + Drop>(
 ) -> bool
     requires { IsComment (option_map (λ t. t.now) packet.now.comment) }
     ensures all { result ≡ true
-        → Appends file.old.holds file.new.holds (block_bytes (packet_block (seen_as packet.now))) }
+        → Appends file.old.holds file.new.holds (block_bytes (packet_block (captured_as packet.now))) }
     ensures flushed { result ≡ true → file.new.is_flushed ≡ true }
     ensures part { result ≡ false
-        → AppendsPart file.old.holds file.new.holds (block_bytes (packet_block (seen_as packet.now))) }
+        → AppendsPart file.old.holds file.new.holds (block_bytes (packet_block (captured_as packet.now))) }
 {
     write_fitting(packet, interfaces, file) && file.flush().is_ok()
 }
 
 /// Writes a packet, if its interface is one of `interfaces` and its payload has at most 1500 bytes. Returns whether it was
 /// written.
-#[tactic(auto, using(crate::proofs::Growing::no_part))]
+#[tactic(auto, using(crate::proofs::AppendedBytes::no_part))]
 fn write_fitting<W: Write>(packet: &Packet<'_>, interfaces: usize, file: &mut W) -> bool
     requires { IsComment (option_map (λ t. t.now) packet.now.comment) }
     ensures all { result ≡ true
-        → Appends (W.contents file.old) (W.contents file.new) (block_bytes (packet_block (seen_as packet.now))) }
+        → Appends (W.contents file.old) (W.contents file.new) (block_bytes (packet_block (captured_as packet.now))) }
     ensures part { result ≡ false
-        → AppendsPart (W.contents file.old) (W.contents file.new) (block_bytes (packet_block (seen_as packet.now))) }
+        → AppendsPart (W.contents file.old) (W.contents file.new) (block_bytes (packet_block (captured_as packet.now))) }
 {
     // the proof learns that the time has 64 bits where the code reads it
     let _time = packet.time;

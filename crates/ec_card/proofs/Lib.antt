@@ -1,2 +1,2 @@
 -- what comes through in Ethernet frames
-pub mod Through
+pub mod PayloadsComeThrough

@@ -23,5 +23,5 @@ abbrev pub FramesAreLongEnough : Type 0
 FramesAreLongEnough = (sender : Sender) (payload : List ℕ) → 60 ≤ length (framed sender payload)
 
 -- a frame has at most one payload
-abbrev pub PayloadsAreReadOneWay : Type 0
-PayloadsAreReadOneWay = (one other : Sender) (frame payload handed : List ℕ) → HandsOn one frame payload → HandsOn other frame handed → handed ≡ payload
+abbrev pub PayloadsHaveOneReading : Type 0
+PayloadsHaveOneReading = (one other : Sender) (frame payload handed : List ℕ) → HandsOn one frame payload → HandsOn other frame handed → handed ≡ payload

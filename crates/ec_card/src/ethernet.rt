@@ -57,7 +57,7 @@ pub fn framed(sender: Sender, payload: &[u8]) -> EthernetFrame
 
 /// The payload of a received frame: all bytes behind its type. It is `None` if the frame has another
 /// type, fewer than 14 bytes, or the source address of `own`.
-#[tactic(auto, using(crate::proofs::Through::handed_on, crate::proofs::Through::not_handed_on))]
+#[tactic(auto, using(crate::proofs::PayloadsComeThrough::handed_on, crate::proofs::PayloadsComeThrough::not_handed_on))]
 pub fn payload_of<'a>(own: Sender, frame: &'a [u8]) -> Option<&'a [u8]>
     ensures some { IfSome result (λ payload. HandsOn own frame.entry.now payload.now) }
     ensures none { IfNone result ((payload : List ℕ) → HandsOn own frame.entry.now payload → ⊥) }

@@ -18,7 +18,7 @@ use Rattle.ec_coe.specs.Messages.{size_number}
 use Rattle.ec_coe.specs.Objects.{Assignment, Dictionary, output_assignment, input_assignment, device_name_object, object_values}
 use Rattle.ec_coe.specs.Transfers.{abort_number, value_or_abort, value_at, uploaded, contains, distinct, max_bits, takes_count, takes_value, with_value, is_open, assignment_written, with_outs, with_ins, is_assignment, written_over, downloaded}
 use Rattle.ec_coe.specs.Answers.{Answer, abort_to, has_long_name, upload_reply, download_answer, value_of, invalid_answer, answer_by, answered}
-use Rattle.ec_coe.specs.AbortLaw.{pdos_at, assignment_at, Downloads, HasTwice, IsBadCount, IsBadIndex, HasInvalidValue, Causes, place_in_order, IsFirstAbort, FirstAbort}
+use Rattle.ec_coe.specs.AbortLaw.{pdos_at, assignment_at, Downloads, HasTwice, IsBadCount, IsBadIndex, HasInvalidValue, Causes, rank_of, IsFirstAbort, FirstAbort}
 use Rattle.ec_coe.specs.AbortLaw.IsBadCount.{TooMany, Double, TooLong}
 
 -- ---- in order
@@ -33,7 +33,7 @@ code_at n =
     else (if n == 5 then WrongState
     else InvalidValue)))))
 
-at_own_place : (code : AbortCode) → code_at (place_in_order code) ≡ code
+at_own_place : (code : AbortCode) → code_at (rank_of code) ≡ code
 at_own_place InvalidCommand = refl
 at_own_place NoObject = refl
 at_own_place NoSubindex = refl
@@ -42,7 +42,7 @@ at_own_place WrongLength = refl
 at_own_place WrongState = refl
 at_own_place InvalidValue = refl
 
-low_place : (code : AbortCode) → place_in_order code < 7
+low_place : (code : AbortCode) → rank_of code < 7
 low_place InvalidCommand = omega arith
 low_place NoObject = omega arith
 low_place NoSubindex = omega arith
@@ -53,17 +53,17 @@ low_place InvalidValue = omega arith
 
 -- no cause of the first n holds
 record Clean (p : Bool) (d : Dictionary) (m : Message) (n : ℕ) : Type 0 where
-  none : (other : AbortCode) → Causes p d m other → place_in_order other < n → ⊥
+  none : (other : AbortCode) → Causes p d m other → rank_of other < n → ⊥
 
 clean_none : (p : Bool) (d : Dictionary) (m : Message) → Clean p d m 0
 clean_none p d m = record { none = λ other h lt. omega arith }
 
 clean_more : (p : Bool) (d : Dictionary) (m : Message) (n : ℕ) → Clean p d m n → (Causes p d m (code_at n) → ⊥) → Clean p d m (n + 1)
 clean_more p d m n clean off = record {
-  none = λ other h lt. elim (cases_lt (place_in_order other) n) [
+  none = λ other h lt. elim (cases_lt (rank_of other) n) [
     | inl less ↦ clean.none other h less
     | inr more ↦
-        let same : place_in_order other ≡ n = omega arith in
+        let same : rank_of other ≡ n = omega arith in
         off (subst (Causes p d m) (sym (ap code_at (sym same) ∙ at_own_place other)) h)
   ];
 }
@@ -73,7 +73,7 @@ data Verdict (p : Bool) (d : Dictionary) (m : Message) : Type 0 where
   Aborts : (code : AbortCode) → IsFirstAbort p d m code → ((counter : ℕ) → answered p d m counter ≡ record { reply = abort_to m counter code; dictionary = d }) → Verdict p d m
   Answers : Clean p d m 7 → ((counter : ℕ) → (answered p d m counter).reply.service ≡ Response) → Verdict p d m
 
-aborts : (p : Bool) (d : Dictionary) (m : Message) (code : AbortCode) → Clean p d m (place_in_order code) → Causes p d m code
+aborts : (p : Bool) (d : Dictionary) (m : Message) (code : AbortCode) → Clean p d m (rank_of code) → Causes p d m code
     → ((counter : ℕ) → answered p d m counter ≡ record { reply = abort_to m counter code; dictionary = d }) → Verdict p d m
 aborts p d m code clean holds is = Aborts code (record { holds = holds; first = λ other h lt. clean.none other h lt }) is
 
@@ -97,7 +97,7 @@ own_number InvalidValue = refl
 own_number WrongState = refl
 
 one_first : (p : Bool) (d : Dictionary) (m : Message) (a b : AbortCode) → IsFirstAbort p d m a → IsFirstAbort p d m b → a ≡ b
-one_first p d m a b f g = elim (cases_order (place_in_order a) (place_in_order b)) [
+one_first p d m a b f g = elim (cases_order (rank_of a) (rank_of b)) [
   | inl same ↦ sym (at_own_place a) ∙ ap code_at same ∙ at_own_place b
   | inr apart ↦ elim apart [ inl less ↦ absurd (g.first a f.holds less) | inr more ↦ absurd (f.first b g.holds more) ]
 ]

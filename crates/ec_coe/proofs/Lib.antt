@@ -9,16 +9,16 @@ pub mod Distinct
 -- slots that get the indices of PDOs
 pub mod Assigning
 -- what a download finds in an assignment object
-pub mod Written
+pub mod AssignmentWrites
 -- what a download that is done has changed
-pub mod Effects
+pub mod DownloadEffects
 -- assignments stay lists of the type's own PDOs, without a double and of few enough bits
-pub mod Keeping
+pub mod AssignmentsStay
 -- the abort that a slave answers with is the first whose cause holds
 pub mod Aborts
 -- what a full slave answers, and how its name lies in a reply
 pub mod Names
 -- what a refusal is, and what is read from it
-pub mod Refusing
+pub mod RefusalBytes
 -- the bytes of a reply are those of a message, or, where the letters of a name follow it, read back as none
-pub mod Letters
+pub mod ReplyLetters

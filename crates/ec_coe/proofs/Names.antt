@@ -15,11 +15,11 @@ use Rattle.ec_coe.specs.declared.message.SdoCommand.TheVariants.{DownloadRequest
 use Rattle.ec_coe.specs.declared.message.Service.TheVariants.{Response}
 use Rattle.ec_coe.specs.declared.message.Message.{Message}
 use Rattle.ec_coe.specs.Messages.{message_bytes, message_length, normal_upload}
-use Rattle.ec_coe.specs.Objects.{Dictionary, identity_object, output_assignment, input_assignment, device_name_object, size_of, max_expedited, is_long, letters_number, name_value, name_fits, name_values, long_value, pdo_values, send_room, shown_values, object_values}
+use Rattle.ec_coe.specs.Objects.{Dictionary, identity_object, output_assignment, input_assignment, device_name_object, size_of, max_expedited, is_long, letters_number, name_value, name_fits, name_values, long_value, pdo_values, send_room, face_values_of, object_values}
 use Rattle.ec_coe.specs.Transfers.{value_at, uploaded}
 use Rattle.ec_coe.specs.Answers.{reply_to, has_long_name, normal_answer, upload_answer, upload_reply, answer_by, answered}
 use Rattle.ec_coe.specs.ReplyBytes.{fitting_name, letters_behind, message_with, bytes_with, reply_bytes}
-use Rattle.ec_coe.specs.NameLaws.{UploadsAreExpedited, FacelessObjects, RepliesStandAlone, RepliesFit, TellsName, AsksForName, NamesComeBack}
+use Rattle.ec_coe.specs.NameLaws.{UploadsAreExpedited, FacelessObjects, RepliesStandAlone, RepliesFit, HasName, AsksForName, NamesComeBack}
 use Rattle.ec_coe.proofs.ReadBack.{length-message}
 
 -- ---- uploads
@@ -55,13 +55,13 @@ or-none (Some x) p e = refl
 
 -- behind the identity and the assignments
 pub object-behind : (d : Dictionary) (index : ℕ) → index ≢ identity_object → index ≢ output_assignment → index ≢ input_assignment
-    → object_values d index ≡ option_or (option_map pdo_values (pdo_at (d.kind.outputs ++ d.kind.inputs) index)) (shown_values d.kind.face (send_room d.kind.mailbox) index)
+    → object_values d index ≡ option_or (option_map pdo_values (pdo_at (d.kind.outputs ++ d.kind.inputs) index)) (face_values_of d.kind.face (send_room d.kind.mailbox) index)
 unfolding object_values
 object-behind d index a b c = if_false _ _ _ (ne_eqb index identity_object a) ∙ (if_false _ _ _ (ne_eqb index output_assignment b) ∙ if_false _ _ _ (ne_eqb index input_assignment c))
 
 pub faceless_objects : FacelessObjects
 faceless_objects d index e a b c =
-    object-behind d index a b c ∙ or-none _ _ (ap (λ (f : Option Face). shown_values f (send_room d.kind.mailbox) index) e)
+    object-behind d index a b c ∙ or-none _ _ (ap (λ (f : Option Face). face_values_of f (send_room d.kind.mailbox) index) e)
 
 -- no PDO has an index below those of its direction
 none-below : (first : ℕ) (ps : List Pdo) (index : ℕ) → All (IsPdo first) ps → index < first → pdo_at ps index ≡ None
@@ -72,14 +72,14 @@ none-below first (p ∷ ps) index h l =
     if_false _ _ _ (ne_eqb p.index index ne) ∙ none-below first ps index (λ k q m. h (suc k) q (omega arith)) l
 
 -- the objects that the face shows, behind the PDOs of a type within its limits
-pub object-shown : (d : Dictionary) (index : ℕ) → IsWithinLimits d.kind.mailbox d.kind.outputs d.kind.inputs → index < identity_object → object_values d index ≡ shown_values d.kind.face (send_room d.kind.mailbox) index
+pub object-shown : (d : Dictionary) (index : ℕ) → IsWithinLimits d.kind.mailbox d.kind.outputs d.kind.inputs → index < identity_object → object_values d index ≡ face_values_of d.kind.face (send_room d.kind.mailbox) index
 object-shown d index h l =
     let outs : pdo_at d.kind.outputs index ≡ None = none-below first_output_index d.kind.outputs index h.outputs.each (omega (arith, l)) in
     let ins : pdo_at d.kind.inputs index ≡ None = none-below first_input_index d.kind.inputs index h.inputs.each (omega (arith, l)) in
     let none : pdo_at (d.kind.outputs ++ d.kind.inputs) index ≡ None
     = find-append (λ (q : Pdo). q.index == index) d.kind.outputs d.kind.inputs ∙ (ap (λ (o : Option Pdo). option_or o (pdo_at d.kind.inputs index)) outs ∙ ins) in
     object-behind d index (omega arith) (omega arith) (omega arith)
-    ∙ ap (λ (o : Option Pdo). option_or (option_map pdo_values o) (shown_values d.kind.face (send_room d.kind.mailbox) index)) none
+    ∙ ap (λ (o : Option Pdo). option_or (option_map pdo_values o) (face_values_of d.kind.face (send_room d.kind.mailbox) index)) none
 
 -- ---- the bytes of a reply
 
@@ -151,7 +151,7 @@ replies_alone = record {
 
 -- ---- the name comes back
 
-told : (m : Message) (name : List ℕ) → m.command ≡ OtherCommand normal_upload → m.value ≡ length name → TellsName name (message_with m name)
+told : (m : Message) (name : List ℕ) → m.command ≡ OtherCommand normal_upload → m.value ≡ length name → HasName name (message_with m name)
 unfolding message_bytes
 told m name c v =
     let number : m.value % 256 + 256 * (m.value / 256 % 256) + 65536 * (m.value / 65536 % 256) + 16777216 * (m.value / 16777216) ≡ m.value = omega arith in
@@ -168,7 +168,7 @@ named-bytes d face room m f l c =
 -- what the object of the name is
 name-object : (d : Dictionary) (face : Face) (m : Message) → AsksForName d face m → object_values d m.index ≡ name_values face.name (send_room d.kind.mailbox)
 name-object d face m h =
-    ap (object_values d) h.index ∙ (object-shown d device_name_object h.limits (omega arith) ∙ ap (λ (f : Option Face). shown_values f (send_room d.kind.mailbox) device_name_object) h.full)
+    ap (object_values d) h.index ∙ (object-shown d device_name_object h.limits (omega arith) ∙ ap (λ (f : Option Face). face_values_of f (send_room d.kind.mailbox) device_name_object) h.full)
 
 either-true : (a b : Bool) → b ≡ true → (a || b) ≡ true
 either-true true b e = refl
@@ -249,7 +249,7 @@ names_back = record {
       let r : (answered in_preop d m counter).reply ≡ reply_to m counter Response (OtherCommand normal_upload) (length face.name) = long-replied in_preop d face m counter h l sends in
       let b : reply_bytes d room (answered in_preop d m counter).reply ≡ message_with (answered in_preop d m counter).reply face.name
       = named-bytes d face room (answered in_preop d m counter).reply h.full fits (ap (λ (x : Message). x.command) r) in
-      subst (TellsName face.name) (sym b) (told (answered in_preop d m counter).reply face.name (ap (λ (x : Message). x.command) r) (ap (λ (x : Message). x.value) r));
+      subst (HasName face.name) (sym b) (told (answered in_preop d m counter).reply face.name (ap (λ (x : Message). x.command) r) (ap (λ (x : Message). x.value) r));
   short_size = λ in_preop d face m counter h l. ap (λ (x : Message). x.command) (short-replied in_preop d face m counter h l);
   short = λ in_preop d face m counter h l small. letters-back (answered in_preop d m counter).reply face.name l small (ap (λ (x : Message). x.value) (short-replied in_preop d face m counter h l));
 }

@@ -101,19 +101,19 @@ Causes in_preop d m WrongLength = HasWrongLength d m
 Causes in_preop d m WrongState = IsWrongState in_preop d m
 Causes in_preop d m InvalidValue = HasInvalidValue d m
 
-abbrev pub place_in_order : AbortCode → ℕ
-place_in_order InvalidCommand = 0
-place_in_order NoObject = 1
-place_in_order NoSubindex = 2
-place_in_order ReadOnly = 3
-place_in_order WrongLength = 4
-place_in_order WrongState = 5
-place_in_order InvalidValue = 6
+abbrev pub rank_of : AbortCode → ℕ
+rank_of InvalidCommand = 0
+rank_of NoObject = 1
+rank_of NoSubindex = 2
+rank_of ReadOnly = 3
+rank_of WrongLength = 4
+rank_of WrongState = 5
+rank_of InvalidValue = 6
 
 -- its cause holds, and that of none before it
 pub record IsFirstAbort (in_preop : Bool) (d : Dictionary) (m : Message) (code : AbortCode) : Type 0 where
   pub holds : Causes in_preop d m code
-  pub first : (other : AbortCode) → Causes in_preop d m other → place_in_order other < place_in_order code → ⊥
+  pub first : (other : AbortCode) → Causes in_preop d m other → rank_of other < rank_of code → ⊥
 
 -- ---- the law
 

@@ -54,7 +54,7 @@ data_number raw = slice_index raw 12 + 256 * slice_index raw 13 + 65536 * slice_
 
 -- Bytes with a name by a normal transfer: the mailbox header counts the ten bytes behind it and the letters, the command
 -- is that of a normal upload response, the data are how many letters there are, and these end the bytes.
-pub record TellsName (name bytes : List ℕ) : Type 0 where
+pub record HasName (name bytes : List ℕ) : Type 0 where
   pub header : slice_index bytes 0 + 256 * slice_index bytes 1 ≡ 10 + length name
   pub command : slice_index bytes 8 ≡ normal_upload
   pub size : data_number bytes ≡ length name
@@ -72,7 +72,7 @@ pub record AsksForName (d : Dictionary) (face : Face) (m : Message) : Type 0 whe
 -- bytes as its size says.
 pub record NamesComeBack : Type 0 where
   pub long : (in_preop : Bool) (d : Dictionary) (face : Face) (m : Message) (counter room : ℕ) → AsksForName d face m → max_expedited < length face.name
-      → message_length + length face.name ≤ send_room d.kind.mailbox → message_length + length face.name ≤ room → TellsName face.name (reply_bytes d room (answered in_preop d m counter).reply)
+      → message_length + length face.name ≤ send_room d.kind.mailbox → message_length + length face.name ≤ room → HasName face.name (reply_bytes d room (answered in_preop d m counter).reply)
   pub short_size : (in_preop : Bool) (d : Dictionary) (face : Face) (m : Message) (counter : ℕ) → AsksForName d face m → length face.name ≤ max_expedited
       → (answered in_preop d m counter).reply.command ≡ UploadResponse (size_of (length face.name))
   pub short : (in_preop : Bool) (d : Dictionary) (face : Face) (m : Message) (counter : ℕ) → AsksForName d face m → length face.name ≤ max_expedited → All (λ letter. letter < 256) face.name

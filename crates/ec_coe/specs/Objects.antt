@@ -156,9 +156,9 @@ abbrev pub send_room : Option Mailbox → ℕ
 send_room None = 0
 send_room (Some mailbox) = mailbox.send_size
 
-abbrev pub shown_values : Option Face → ℕ → ℕ → Option (List SdoValue)
-shown_values None room index = None
-shown_values (Some face) room index = face_values face room index
+abbrev pub face_values_of : Option Face → ℕ → ℕ → Option (List SdoValue)
+face_values_of None room index = None
+face_values_of (Some face) room index = face_values face room index
 
 -- ---- all of them
 
@@ -169,4 +169,4 @@ object_values d index =
     if index == identity_object then Some (identity_values d.identity)
     else (if index == output_assignment then (if has_some d.kind.outputs then Some (assignment_values d.outs) else None)
     else (if index == input_assignment then (if has_some d.kind.inputs then Some (assignment_values d.ins) else None)
-    else option_or (option_map pdo_values (pdo_at (d.kind.outputs ++ d.kind.inputs) index)) (shown_values d.kind.face (send_room d.kind.mailbox) index)))
+    else option_or (option_map pdo_values (pdo_at (d.kind.outputs ++ d.kind.inputs) index)) (face_values_of d.kind.face (send_room d.kind.mailbox) index)))

@@ -4,7 +4,7 @@ use Rattle.ec_coe.specs.declared.reply.Reply.TheVariants.{Unexpected, Aborted}
 use Rattle.ec_coe.specs.declared.refusal.MailboxError.{MailboxError}
 use Rattle.ec_coe.specs.Messages.{message_length, message_in, message_read}
 use Rattle.ec_coe.specs.Replies.{reply_of}
-use Rattle.ec_coe.specs.Refusals.{length_told, type_told, service_told, coe_type, sdo_request, expedited_length, error_reply, information_error, transfer_abort, refusal_bytes}
+use Rattle.ec_coe.specs.Refusals.{length_in, type_in, service_in, coe_type, sdo_request, expedited_length, error_reply, information_error, transfer_abort, refusal_bytes}
 
 -- A refusal is never empty, and fits if a message does.
 pub record RefusalsFit : Type 0 where
@@ -13,9 +13,9 @@ pub record RefusalsFit : Type 0 where
 
 -- a request for an SDO transfer of another kind than the expedited one
 pub record AsksForTransfer (raw : List ℕ) : Type 0 where
-  pub protocol : type_told raw ≡ coe_type
-  pub service : service_told raw ≡ sdo_request
-  pub long : expedited_length < length_told raw
+  pub protocol : type_in raw ≡ coe_type
+  pub service : service_in raw ≡ sdo_request
+  pub long : expedited_length < length_in raw
 
 -- Whatever follows a refusal in the mailbox: an abort reads back as a message, which is the reply to the index and the subindex
 -- of the request; a mailbox error is no message; and it and an SDO information error are no reply to an SDO request.

@@ -11,14 +11,14 @@ use Rattle.ec_coe.specs.Answers.{abort_to}
 -- ---- what the message is, by its mailbox header and its CoE header; bytes past the end read 0
 
 -- how many bytes follow the mailbox header
-abbrev pub length_told : List ℕ → ℕ
-length_told raw = slice_index raw 0 + 256 * slice_index raw 1
+abbrev pub length_in : List ℕ → ℕ
+length_in raw = slice_index raw 0 + 256 * slice_index raw 1
 
-abbrev pub type_told : List ℕ → ℕ
-type_told raw = slice_index raw 5 % 16
+abbrev pub type_in : List ℕ → ℕ
+type_in raw = slice_index raw 5 % 16
 
-abbrev pub service_told : List ℕ → ℕ
-service_told raw = slice_index raw 7 / 16
+abbrev pub service_in : List ℕ → ℕ
+service_in raw = slice_index raw 7 / 16
 
 -- the mailbox type of CoE
 abbrev pub coe_type : ℕ
@@ -64,8 +64,8 @@ transfer_abort raw counter = abort_to (message_in raw) counter InvalidCommand
 -- error; so are a CoE message of another service than SDO requests and SDO information, and an SDO request that is too short.
 unfoldable pub refusal_bytes : List ℕ → ℕ → List ℕ
 refusal_bytes raw counter =
-    if not (type_told raw == coe_type) then error_reply UnsupportedProtocol counter
-    else (if service_told raw == sdo_information then information_error counter
-    else (if not (service_told raw == sdo_request) then error_reply UnsupportedService counter
-    else (if nat_lt expedited_length (length_told raw) then message_bytes (transfer_abort raw counter)
+    if not (type_in raw == coe_type) then error_reply UnsupportedProtocol counter
+    else (if service_in raw == sdo_information then information_error counter
+    else (if not (service_in raw == sdo_request) then error_reply UnsupportedService counter
+    else (if nat_lt expedited_length (length_in raw) then message_bytes (transfer_abort raw counter)
     else error_reply TooShort counter)))

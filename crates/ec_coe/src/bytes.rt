@@ -4,19 +4,19 @@ ghost use Rattle.std.specs.Prelude.{◌≡◌, ◌≤◌, ◌<◌, ◌+◌, ◌*
 
 use arrayvec::ArrayVec;
 
-/// The byte at a place, 0 past the end.
-pub(crate) fn byte_at(bytes: &[u8], place: usize) -> u8
-    ensures { result ≡ slice_index bytes.now place }
+/// The byte at an offset, 0 past the end.
+pub(crate) fn byte_at(bytes: &[u8], offset: usize) -> u8
+    ensures { result ≡ slice_index bytes.now offset }
 {
-    bytes.get(place).copied().unwrap_or(0)
+    bytes.get(offset).copied().unwrap_or(0)
 }
 
-/// The little-endian word at a place, whose bytes past the end are 0.
-pub(crate) fn word_at(bytes: &[u8], place: usize) -> u16
-    requires { place < 2 ^ 16 }
-    ensures { result ≡ slice_index bytes.now place + 256 * slice_index bytes.now (place + 1) }
+/// The little-endian word at an offset, whose bytes past the end are 0.
+pub(crate) fn word_at(bytes: &[u8], offset: usize) -> u16
+    requires { offset < 2 ^ 16 }
+    ensures { result ≡ slice_index bytes.now offset + 256 * slice_index bytes.now (offset + 1) }
 {
-    byte_at(bytes, place) as u16 + 0x100 * byte_at(bytes, place + 1) as u16
+    byte_at(bytes, offset) as u16 + 0x100 * byte_at(bytes, offset + 1) as u16
 }
 
 /// Puts bytes behind others, if there is room for them.

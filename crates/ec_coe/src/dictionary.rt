@@ -4,7 +4,7 @@ ghost use Rattle.std.specs.Prelude.{◌≡◌, ◌++◌, ◌≤◌, ◌<◌, ◌
 ghost use Rattle.std.specs.Option.{option_copied};
 ghost use Rattle.ec_coe.specs.declared.message.SdoCommand.TheVariants.{UploadResponse, Other as OtherCommand};
 ghost use Rattle.ec_device.specs.Objects.{pdo_at, bits_assigned};
-ghost use Rattle.ec_coe.specs.Objects.{HasSlots, new_dictionary, assigned, entry_number as number_of_entry, identity_values, pdo_values, send_room, shown_values};
+ghost use Rattle.ec_coe.specs.Objects.{HasSlots, new_dictionary, assigned, entry_number as number_of_entry, identity_values, pdo_values, send_room, face_values_of};
 ghost use Rattle.ec_coe.specs.Messages.{size_number, normal_upload, IsMessage};
 ghost use Rattle.ec_coe.specs.Transfers.{value_or_abort, value_at, uploaded, downloaded};
 ghost use Rattle.ec_coe.specs.Answers.{answered, has_long_name};
@@ -148,7 +148,7 @@ impl Dictionary {
             INPUT_ASSIGNMENT => found(self.ins.value(subindex)),
             _ => match self.pdo(index) {
                 Some(pdo) => found(pdo_value(pdo, subindex)),
-                None => self.shown(index, subindex),
+                None => self.value_of_face(index, subindex),
             },
         }
     }
@@ -265,8 +265,8 @@ impl Dictionary {
     /// # Errors
     ///
     /// As those of `upload`; each index has no object if the slave isn't full.
-    fn shown(&self, index: u16, subindex: u8) -> Result<SdoValue, AbortCode>
-        ensures { result ≡ value_at (shown_values self.now.kind.face (send_room self.now.kind.mailbox) index) subindex }
+    fn value_of_face(&self, index: u16, subindex: u8) -> Result<SdoValue, AbortCode>
+        ensures { result ≡ value_at (face_values_of self.now.kind.face (send_room self.now.kind.mailbox) index) subindex }
     {
         match self.kind.face() {
             Some(face) => face_value(face, self.room(), index, subindex),

@@ -12,14 +12,14 @@ pub fn messages_read_back()
 {}
 
 /// An answer changes an assignment only in PREOP.
-#[tactic(auto, using(crate::proofs::Keeping::preop_alone))]
+#[tactic(auto, using(crate::proofs::AssignmentsStay::preop_alone))]
 pub fn assignments_change_in_preop()
     ensures { ChangesInPreopAlone }
 {}
 
 /// Whatever is downloaded, an assignment stays a list of the type's own PDOs of its direction, with none of them twice
 /// and with at most 2048 bits.
-#[tactic(auto, using(crate::proofs::Keeping::assignments_kept))]
+#[tactic(auto, using(crate::proofs::AssignmentsStay::assignments_kept))]
 pub fn answers_keep_assignments()
     ensures { AnswersKeepAssignments }
 {}
@@ -51,7 +51,7 @@ pub fn replies_stand_alone()
 {}
 
 /// A reply with letters behind it is read back as no message.
-#[tactic(auto, using(crate::proofs::Letters::message_or_none))]
+#[tactic(auto, using(crate::proofs::ReplyLetters::message_or_none))]
 pub fn replies_read_alone()
     ensures { RepliesReadAlone }
 {}
@@ -69,14 +69,14 @@ pub fn names_come_back()
 {}
 
 /// A refusal has 10 to 16 bytes.
-#[tactic(auto, using(crate::proofs::Refusing::refusals_fit))]
+#[tactic(auto, using(crate::proofs::RefusalBytes::refusals_fit))]
 pub fn refusals_fit()
     ensures { RefusalsFit }
 {}
 
 /// An abort among the refusals is read back, with the index and the subindex of the request; a mailbox error is no message,
 /// and neither it nor an SDO information error is a reply to an SDO request.
-#[tactic(auto, using(crate::proofs::Refusing::refusals_read))]
+#[tactic(auto, using(crate::proofs::RefusalBytes::refusals_read))]
 pub fn refusals_read()
     ensures { RefusalsRead }
 {}

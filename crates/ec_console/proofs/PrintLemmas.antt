@@ -7,7 +7,7 @@ use Rattle.std.specs.contracts.io.ErrorKind.{the_type}
 use Rattle.std.specs.declared.io.ErrorKind.{ErrorKind}
 use Rattle.std.specs.declared.io.ErrorKind.TheVariants.{Interrupted}
 use Rattle.ec_console.specs.Laws.{TextsLaw}
-use Rattle.ec_console.specs.Printing.{is_refusal, IsCutOff, IsPartPrinted, IsPrinted, IsTold, OutputState, Shows}
+use Rattle.ec_console.specs.Printing.{is_refusal, IsCutOff, IsPartPrinted, IsPrinted, IsEprinted, OutputState, PrintsText}
 use Rattle.ec_console.specs.declared.refusal.Refusal.{Refusal}
 use Rattle.ec_console.specs.declared.refusal.Refusal.TheVariants.{Output}
 
@@ -127,7 +127,7 @@ texts = record {
 
 -- what a write says of it, as one fact
 pub shown : (r : Result Unit Refusal) (old new : OutputState) (text : List ℕ) → OnOk r (IsPrinted old new text) → OnErr r (IsCutOff old new text)
-    → IfErr r (λ e. e ≡ Output) → Shows text old new r
+    → IfErr r (λ e. e ≡ Output) → PrintsText text old new r
 shown (Ok done) old new text all part fault = all
 shown (Err refusal) old new text all part fault = (fault, part)
 
@@ -135,7 +135,7 @@ pub if_err : {T E P : Type 0} (r : Result T E) → P → OnErr r P
 if_err (Ok x) p = tt
 if_err (Err e) p = p
 
--- a text with more behind it: where a first part of it is told, that is a first part of both
+-- a text with more behind it: where a first part of it is written, that is a first part of both
 part_of_both : (count : ℕ) (text more : List ℕ) → (k : ℕ) × (take k (text ++ more) ≡ take count text)
 part_of_both zero text more = (0, refl)
 part_of_both (suc n) [] more = (0, refl)
@@ -143,12 +143,12 @@ part_of_both (suc n) (x ∷ xs) more =
     let rest = part_of_both n xs more in
     (suc rest.0, ap (λ l. x ∷ l) rest.1)
 
-pub part_of_more : (old new : OutputState) (text more : List ℕ) → IsCutOff old new text → IsTold (text ++ more) old new
+pub part_of_more : (old new : OutputState) (text more : List ℕ) → IsCutOff old new text → IsEprinted (text ++ more) old new
 part_of_more old new text more cut =
     let part = part_of_both cut.part.0 text more in
     inr (record { refused = cut.refused; part = (part.0, subst (Appends old.holds new.holds) (sym part.1) cut.part.1) })
 
--- and where all of it is told, what becomes of the rest becomes of both
-pub told_both : (old mid new : OutputState) (text more : List ℕ) → IsPrinted old mid text → IsTold more mid new → IsTold (text ++ more) old new
+-- and where all of it is written, what becomes of the rest becomes of both
+pub told_both : (old mid new : OutputState) (text more : List ℕ) → IsPrinted old mid text → IsEprinted more mid new → IsEprinted (text ++ more) old new
 told_both old mid new text more first (inl then) = inl (printed_more old mid new text more first then)
 told_both old mid new text more first (inr then) = inr (cut_more old mid new text more first then)

@@ -6,7 +6,7 @@ use Rattle.ec_lines.specs.Taking.{RefusesText}
 use Rattle.ec_table.specs.Contents.{Contents}
 use Rattle.ec_table.specs.Reading.{table_of}
 use Rattle.ec_link.specs.Faults.{Fails as LinkFails, compile_fault}
-use Rattle.ec_link.proofs.FacesShown.{faces}
+use Rattle.ec_link.proofs.AdvertisedFull.{faces}
 use Rattle.ec_script.specs.declared.error.ScriptError.{ScriptError}
 use Rattle.ec_script.specs.Halves.{Splits}
 use Rattle.ec_script.specs.Scripts.{Fails as ScriptFails, script_of}
@@ -18,7 +18,7 @@ use Rattle.ec_console.specs.declared.stated.Source.{Source}
 use Rattle.ec_console.specs.declared.stated.Source.TheVariants as takes
 use Rattle.ec_console.specs.declared.stated.Stated.{Stated}
 use Rattle.ec_console.specs.Given.{Given, IsLinkRefusal, IsTableRefusal, lines_refusal}
-use Rattle.ec_console.specs.Stating.{IsNeverRun, RefusesHalves, RefusesSource, RefusesStated, States, StatesIn, shown_in}
+use Rattle.ec_console.specs.Stating.{IsNeverRun, RefusesHalves, RefusesSource, RefusesStated, States, StatesIn, advertised_in}
 
 -- ---- the input
 
@@ -30,12 +30,12 @@ front_refused (Err e) given left error is why = (error, left, why, is)
 
 -- ---- the table, in a form
 
--- a table shown in full is refused as the table is
-shown_fault : (form : SlaveForm) (t : Contents) → compile_fault (shown_in form t) ≡ compile_fault t
+-- a table advertised in full is refused as the table is
+shown_fault : (form : SlaveForm) (t : Contents) → compile_fault (advertised_in form t) ≡ compile_fault t
 shown_fault Full t = faces.fault t
 shown_fault Plain t = refl
 
-pub states_in : {T : Type 0} (r : Result Contents T) (form : SlaveForm) (text : List ℕ) (t u : Contents) → table_of text ≡ Ok t → u ≡ shown_in form t → IfOk r (λ m. m ≡ u) → OnOk r (compile_fault u ≡ None)
+pub states_in : {T : Type 0} (r : Result Contents T) (form : SlaveForm) (text : List ℕ) (t u : Contents) → table_of text ≡ Ok t → u ≡ advertised_in form t → IfOk r (λ m. m ≡ u) → OnOk r (compile_fault u ≡ None)
     → IfOk r (StatesIn form text)
 states_in (Ok m) form text t u read shown is accepted = (t, (read, sym (shown_fault form t) ∙ (ap compile_fault (sym shown) ∙ accepted)), is ∙ shown)
 states_in (Err e) form text t u read shown is accepted = tt
@@ -54,7 +54,7 @@ same_refusal text t u refusal.Output read e h = absurd h
 same_refusal text t u refusal.Input read e h = absurd h
 same_refusal text t u (refusal.Unmet n) read e h = absurd h
 
-pub shown_refused : {T : Type 0} (r : Result T Refusal) (form : SlaveForm) (text : List ℕ) (t u : Contents) → table_of text ≡ Ok t → u ≡ shown_in form t → IfErr r (IsLinkRefusal u)
+pub shown_refused : {T : Type 0} (r : Result T Refusal) (form : SlaveForm) (text : List ℕ) (t u : Contents) → table_of text ≡ Ok t → u ≡ advertised_in form t → IfErr r (IsLinkRefusal u)
     → IfErr r (IsTableRefusal text)
 shown_refused (Ok x) form text t u read shown h = tt
 shown_refused (Err x) form text t u read shown h = same_refusal text t u x read (ap compile_fault shown ∙ shown_fault form t) h

@@ -60,9 +60,9 @@ pub record IsCutOff (old new : OutputState) (text : List ℕ) : Type 0 where
 -- ---- the output
 
 -- a text is printed once; or a write was refused, and a first part of it is printed
-abbrev pub Shows : List ℕ → (old new : OutputState) → Result Unit Refusal → Type 0
-Shows text old new (Ok done) = IsPrinted old new text
-Shows text old new (Err refusal) = (refusal ≡ Output) × IsCutOff old new text
+abbrev pub PrintsText : List ℕ → (old new : OutputState) → Result Unit Refusal → Type 0
+PrintsText text old new (Ok done) = IsPrinted old new text
+PrintsText text old new (Err refusal) = (refusal ≡ Output) × IsCutOff old new text
 
 -- how a command ends that prints a text as a whole. It is printed; or a write was refused, and a first part of it is printed;
 -- or the command is refused, and nothing is printed
@@ -74,5 +74,5 @@ Prints Answers Refuses old new (Err refusal) =
 -- ---- the fault stream
 
 -- A text is printed on the fault stream: all of it, unless a write was refused. A refused write changes nothing else.
-abbrev pub IsTold : (text : List ℕ) → (old new : OutputState) → Type 0
-IsTold text old new = IsPrinted old new text ⊎ IsCutOff old new text
+abbrev pub IsEprinted : (text : List ℕ) → (old new : OutputState) → Type 0
+IsEprinted text old new = IsPrinted old new text ⊎ IsCutOff old new text

@@ -3,13 +3,13 @@ use Rattle.std.specs.Prelude.{◌≡◌, ◌⊎◌, ℕ, Bool, true, false, List
 use Rattle.ec_diagnostic.specs.Reason.{IsReason}
 use Rattle.ec_script.specs.declared.line.Line.{Line}
 use Rattle.ec_console.specs.declared.wanted.Reasons.{Reasons}
-use Rattle.ec_console.specs.declared.wanted.Reasons.TheVariants.{Told, Untold}
+use Rattle.ec_console.specs.declared.wanted.Reasons.TheVariants.{Added, Omitted}
 use Rattle.ec_console.specs.Saying.{Says}
 
 -- reasons are printed if an explanation is wanted
 abbrev pub reasons_of : Bool → Reasons
-reasons_of true = Told
-reasons_of false = Untold
+reasons_of true = Added
+reasons_of false = Omitted
 
 -- a reason, or nothing
 abbrev pub ReasonIf : Bool → List ℕ → Type 0

@@ -1,35 +1,35 @@
 -- The refusals of the program: the number, name and values of each, and how it ends the program (this project's profile).
 use Rattle.std.specs.Prelude.{ℕ, ◌==◌, ◌||◌, List, [], ◌∷◌, if◌then◌else◌, codes}
-use Rattle.ec_text.specs.RefusalText.{Told, frame_told, link_told, plain_told, start_told, table_told, told_line, told_text}
+use Rattle.ec_text.specs.RefusalText.{RefusalRow, frame_row, link_row, plain_row, start_row, table_row, row_line, row_text}
 use Rattle.ec_wire.specs.Errors.{run_number, run_name}
 use Rattle.ec_script.specs.Scripts as script
 use Rattle.ec_console.specs.declared.refusal.Refusal.{Refusal}
 use Rattle.ec_console.specs.declared.refusal.Refusal.TheVariants.{Memory, Frame, Table, Link, Start, Run, Socket, Script, BadHex, Output, Input, Unmet}
 
-abbrev pub told_of : Refusal → Told
-told_of Memory = plain_told 1 (codes "Memory")
-told_of (Frame error) = frame_told error
-told_of (Table error) = table_told error
-told_of (Link error) = link_told error
-told_of (Start error) = start_told error
-told_of (Run error) = plain_told (run_number error) (run_name error)
-told_of Socket = plain_told 43 (codes "Socket")
-told_of (Script error) = script.error_told error
-told_of BadHex = plain_told 40 (codes "BadHex")
-told_of Output = plain_told 41 (codes "Output")
-told_of Input = plain_told 42 (codes "Input")
-told_of (Unmet count) = record { number = 45; name = codes "Unmet"; values = count ∷ [] }
+abbrev pub refusal_row : Refusal → RefusalRow
+refusal_row Memory = plain_row 1 (codes "Memory")
+refusal_row (Frame error) = frame_row error
+refusal_row (Table error) = table_row error
+refusal_row (Link error) = link_row error
+refusal_row (Start error) = start_row error
+refusal_row (Run error) = plain_row (run_number error) (run_name error)
+refusal_row Socket = plain_row 43 (codes "Socket")
+refusal_row (Script error) = script.error_row error
+refusal_row BadHex = plain_row 40 (codes "BadHex")
+refusal_row Output = plain_row 41 (codes "Output")
+refusal_row Input = plain_row 42 (codes "Input")
+refusal_row (Unmet count) = record { number = 45; name = codes "Unmet"; values = count ∷ [] }
 
 abbrev pub number_of : Refusal → ℕ
-number_of refusal = (told_of refusal).number
+number_of refusal = (refusal_row refusal).number
 
 -- the number, the name and the values, with blanks between
 abbrev pub text_of : Refusal → List ℕ
-text_of refusal = told_text (told_of refusal)
+text_of refusal = row_text (refusal_row refusal)
 
 -- the line of a refusal
 abbrev pub line_of : Refusal → List ℕ
-line_of refusal = told_line (told_of refusal)
+line_of refusal = row_line (refusal_row refusal)
 
 -- the exit status: 4 for a fault of a wire, the output, the input or a socket, 5 for unmet expectations, else 3
 abbrev pub status_of_number : ℕ → ℕ

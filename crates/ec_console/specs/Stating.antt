@@ -2,7 +2,7 @@
 use Rattle.std.specs.Prelude.{◌≡◌, ◌⊎◌, ℕ, Bool, true, false, List, [], IfSome, Option, Result, Ok, Err}
 use Rattle.ec_lines.specs.declared.error.LinesError.{LinesError}
 use Rattle.ec_lines.specs.Taking.{RefusesText, TakesText}
-use Rattle.ec_table.specs.Contents.{Contents, shown_full}
+use Rattle.ec_table.specs.Contents.{Contents, advertised_full}
 use Rattle.ec_link.specs.Machine.{StatesMachine}
 use Rattle.ec_script.specs.declared.line.Line.{Line}
 use Rattle.ec_script.specs.Halves.{Splits}
@@ -39,13 +39,13 @@ slave_form false = Plain
 slave_form true = Full
 
 -- a table whose slaves are shown in a form
-abbrev pub shown_in : SlaveForm → Contents → Contents
-shown_in Plain t = t
-shown_in Full t = shown_full t
+abbrev pub advertised_in : SlaveForm → Contents → Contents
+advertised_in Plain t = t
+advertised_in Full t = advertised_full t
 
 -- the machine that a text states, with its slaves in a form
 abbrev pub StatesIn : SlaveForm → List ℕ → Contents → Type 0
-StatesIn form text t = (table : Contents) × StatesMachine text table × (t ≡ shown_in form table)
+StatesIn form text t = (table : Contents) × StatesMachine text table × (t ≡ advertised_in form table)
 
 -- that machine, and the lines of the script behind it, if there is to be one
 abbrev pub States : Source → SlaveForm → List ℕ → Contents → List Line → Type 0

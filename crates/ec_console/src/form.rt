@@ -1,6 +1,6 @@
 //! The form in which masters see slaves.
 ghost use Rattle.std.specs.Prelude.{◌≡◌};
-ghost use Rattle.ec_console.specs.Stating.{shown_in, slave_form};
+ghost use Rattle.ec_console.specs.Stating.{advertised_in, slave_form};
 
 use ec_table::Table;
 
@@ -27,11 +27,11 @@ impl SlaveForm {
 }
 
 /// Shows the slaves of a table in a form.
-pub(crate) fn show_in(table: &mut Table, form: SlaveForm)
-    ensures { table.new ≡ shown_in form table.old }
+pub(crate) fn advertise_in(table: &mut Table, form: SlaveForm)
+    ensures { table.new ≡ advertised_in form table.old }
 {
     match form {
         SlaveForm::Plain => {}
-        SlaveForm::Full => table.show_full(),
+        SlaveForm::Full => table.advertise_full(),
     }
 }

@@ -21,7 +21,7 @@ pub fn read_text<R: Read + Drop>(
     ensures whole { IfOk result (λ text. GivesText (given_by R.remaining input.old input.new) (string_bytes text)) }
     ensures short { IfOk result (λ text. length (string_bytes text) ≤ 2 ^ 20) }
     ensures refused { IfErr result (IsInputRefusal (given_by R.remaining input.old input.new)) }
-    ensures kept { OnOk result (input.new.is_refused ≡ input.old.is_refused) }
+    ensures unchanged { OnOk result (input.new.is_refused ≡ input.old.is_refused) }
 {
     let bytes = read_bytes(alloc, input)?;
     text_of(bytes)
@@ -44,7 +44,7 @@ fn read_bytes<R: Read + Drop>(alloc: Global, input: &mut InputStream<R>) -> Resu
     ensures known { IfOk result (λ bytes.
         IfSome (bytes_left R.remaining input.old) (λ all. bytes.items ≡ take (2 ^ 20 + 1) all)) }
     ensures refused { IfErr result (IsReadRefusal input.new.is_refused) }
-    ensures kept { OnOk result (input.new.is_refused ≡ input.old.is_refused) }
+    ensures unchanged { OnOk result (input.new.is_refused ≡ input.old.is_refused) }
 {
     let mut bytes = Vec::new(alloc);
     match input.read_first(MAX_INPUT as u64 + 1, &mut bytes) {

@@ -6,6 +6,7 @@
 mod captures;
 mod console;
 mod explain;
+mod fault_stream;
 mod form;
 mod input;
 pub mod laws;
@@ -18,7 +19,6 @@ mod remarks;
 mod running;
 mod stated;
 mod target;
-mod telling;
 mod wanted;
 
 pub use crate::captures::{Capture, Interfaces, Recording, close_capture, open_capture};

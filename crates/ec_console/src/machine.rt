@@ -4,7 +4,7 @@ ghost use Rattle.ec_link.specs.Faults.{compile_fault};
 ghost use Rattle.ec_console.specs.Given.{IsLinkRefusal, IsTableRefusal};
 ghost use Rattle.ec_console.specs.Stating.{StatesIn};
 
-use crate::form::show_in;
+use crate::form::advertise_in;
 use crate::{Refusal, SlaveForm};
 use ec_link::Machine;
 use ec_table::{Table, read_table};
@@ -20,7 +20,7 @@ pub fn read_machine(alloc: Global, form: SlaveForm, text: &str) -> Result<Machin
     ensures refused { IfErr result (IsTableRefusal text.now) }
 {
     let mut table = read_table(alloc, text)?;
-    show_in(&mut table, form);
+    advertise_in(&mut table, form);
     machine_of(alloc, table)
 }
 

@@ -23,7 +23,7 @@ pub fn print_text<W: Write + Drop>(text: &[u8], output: &mut OutputStream<W>) ->
 /// Writes all of a text. `Refusal::Output` if a write was refused; a first part of the text is written then.
 fn write_text<W: Write + Drop>(text: &[u8], output: &mut OutputStream<W>) -> Result<(), Refusal>
     ensures all { OnOk result (Appends output.old.holds output.new.holds text.now) }
-    ensures kept { OnOk result (output.new.is_refused ≡ output.old.is_refused) }
+    ensures unchanged { OnOk result (output.new.is_refused ≡ output.old.is_refused) }
     ensures part { OnErr result (IsCutOff output.old output.new text.now) }
     ensures fault { IfErr result (λ refusal. refusal ≡ Refusal.Output) }
 {

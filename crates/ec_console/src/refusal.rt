@@ -45,9 +45,9 @@ pub enum Refusal {
 }
 
 impl Refused for Refusal {
-    ghost use Rattle.ec_console.specs.Refusals.{told_of};
+    ghost use Rattle.ec_console.specs.Refusals.{refusal_row};
 
-    ghost told = { told_of };
+    ghost row_of = { refusal_row };
 
     fn number(&self) -> u8 {
         match self {

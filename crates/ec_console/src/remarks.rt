@@ -4,11 +4,11 @@ ghost use Rattle.ec_diagnostic.specs.Remarks.{StandsIn};
 ghost use Rattle.ec_diagnostic.specs.Texts.{IsUnmarked};
 
 use crate::Refusal;
-use ec_diagnostic::{Remarks, Telling, without_mark};
-use ec_explain_plan::tell_link_fault;
-use ec_explain_script::{tell_bad_line, tell_unmet};
-use ec_explain_start::{tell_cycle_error, tell_start_error, tell_wire_fault};
-use ec_explain_table::tell_fault;
+use ec_diagnostic::{Diagnosis, Remarks, without_mark};
+use ec_explain_plan::explain_link_fault;
+use ec_explain_script::{explain_bad_line, explain_unmet};
+use ec_explain_start::{explain_cycle_error, explain_start_error, explain_wire_fault};
+use ec_explain_table::explain_fault;
 use ec_link::LinkError;
 use ec_script::ScriptError;
 use ec_table::{TableError, read_table};
@@ -32,10 +32,15 @@ pub fn remarks_on<'a>(
     ensures lie { IfOk result (λ remarks. All (StandsIn remarks.text) remarks.remarks) }
 {
     let rest = without_mark(text);
-    let mut telling = Telling::new(alloc, rest)?;
+    let mut diagnosis = Diagnosis::new(alloc, rest)?;
     let skipped = text.len().saturating_sub(rest.len());
-    tell(&mut telling, rest, script.saturating_sub(skipped), refusal);
-    telling.into_remarks(rest)
+    explain(
+        &mut diagnosis,
+        rest,
+        script.saturating_sub(skipped),
+        refusal,
+    );
+    diagnosis.into_remarks(rest)
 }
 
 /// The remarks on a text and its refusal, as one text, which is printed behind the refusal's line. `AllocError` if there is no memory.
@@ -46,30 +51,32 @@ pub fn remarks_text(
     refusal: &Refusal,
 ) -> Result<String, AllocError> {
     let remarks = remarks_on(alloc, text, script, refusal)?;
-    remarks.told(alloc)
+    remarks.to_text(alloc)
 }
 
 /// Adds the remarks on a refusal, in a text whose script begins at byte `script`.
-fn tell(telling: &mut Telling<'_>, text: &str, script: usize, refusal: &Refusal) {
+fn explain(diagnosis: &mut Diagnosis<'_>, text: &str, script: usize, refusal: &Refusal) {
     match *refusal {
-        Refusal::Table(TableError::Refused(fault)) => tell_fault(telling, text, fault),
-        Refusal::Link(_) | Refusal::Start(_) => tell_of_table(telling, text, refusal),
-        Refusal::Run(RunError::Refused(error)) => tell_cycle_error(telling, error),
-        Refusal::Run(RunError::Wire) => tell_wire_fault(telling),
-        Refusal::Script(ScriptError::BadScript(line)) => tell_bad_line(telling, text, script, line),
-        Refusal::Unmet(count) => tell_unmet(telling, count),
+        Refusal::Table(TableError::Refused(fault)) => explain_fault(diagnosis, text, fault),
+        Refusal::Link(_) | Refusal::Start(_) => explain_by_table(diagnosis, text, refusal),
+        Refusal::Run(RunError::Refused(error)) => explain_cycle_error(diagnosis, error),
+        Refusal::Run(RunError::Wire) => explain_wire_fault(diagnosis),
+        Refusal::Script(ScriptError::BadScript(line)) => explain_bad_line(
+            diagnosis, text, script, line,
+        ),
+        Refusal::Unmet(count) => explain_unmet(diagnosis, count),
         _ => (),
     }
 }
 
 /// Adds the remarks on a refusal of the table that a text states.
-fn tell_of_table(telling: &mut Telling<'_>, text: &str, refusal: &Refusal) {
-    match (read_table(telling.alloc, text), *refusal) {
+fn explain_by_table(diagnosis: &mut Diagnosis<'_>, text: &str, refusal: &Refusal) {
+    match (read_table(diagnosis.alloc, text), *refusal) {
         (Ok(table), Refusal::Link(LinkError::Refused(fault))) => {
-            tell_link_fault(telling, &table, fault);
+            explain_link_fault(diagnosis, &table, fault);
         }
-        (Ok(table), Refusal::Start(error)) => tell_start_error(telling, &table, error),
-        (Err(error), _) if error.number() == 1 => telling.fall_short(),
+        (Ok(table), Refusal::Start(error)) => explain_start_error(diagnosis, &table, error),
+        (Err(error), _) if error.number() == 1 => diagnosis.fall_short(),
         _ => (),
     }
 }

@@ -6,20 +6,20 @@ ghost use Rattle.ec_console.specs.Reasons.{reasons_of};
 #[derive(Clone, Copy, Drop)]
 pub enum Reasons {
     /// It does.
-    Told,
+    Added,
     /// It doesn't.
-    Untold,
+    Omitted,
 }
 
 impl Reasons {
-    /// `Told` if an explanation is wanted, else `Untold`.
+    /// `Added` if an explanation is wanted, else `Omitted`.
     pub fn of(explained: bool) -> Reasons
         ensures { result ≡ reasons_of explained }
     {
         if explained {
-            Reasons::Told
+            Reasons::Added
         } else {
-            Reasons::Untold
+            Reasons::Omitted
         }
     }
 }

@@ -5,18 +5,18 @@ use Rattle.ec_bits.specs.Bits.{zeros}
 use Rattle.ec_frame.specs.Building.{bare_payload}
 use Rattle.ec_frame.specs.Datagram.{Datagram}
 use Rattle.ec_frame.specs.Frame.{Payload, IsFrame}
-use Rattle.ec_frame.proofs.Verdict.{one_payload}
+use Rattle.ec_frame.proofs.FrameOrFault.{one_payload}
 use Rattle.ec_link.specs.Plan.{PlanState, part_at}
 use Rattle.ec_link.specs.declared.plan.PartPlan.{PartPlan}
 use Rattle.ec_frame.specs.declared.command.Command.TheVariants.{Lrd, Lwr, Lrw}
 use Rattle.ec_link.specs.Shares.{sum_of, lwr_count, lrd_count, lrw_count}
 use Rattle.ec_cycle.specs.Frames.{name_datagram, status_datagram, process_datagram, process_bytes, returned_first, sent_datagrams}
-use Rattle.ec_cycle.specs.Closing.{KeptPart, bytes_at, input_place, kept_of}
+use Rattle.ec_cycle.specs.Closing.{ReturnedPart, bytes_at, input_index, returned_part_of}
 use Rattle.ec_cycle.specs.Interface.{MastersKeepTheirPlan}
-use Rattle.ec_cycle.specs.Master.{MasterState, OpenCycle, Shape, shape, Answers, IsAnswer, IsTaken, with_kept}
+use Rattle.ec_cycle.specs.Master.{MasterState, OpenCycle, Shape, shape, Answers, IsAnswer, IsTaken, with_returned}
 use Rattle.ec_cycle.specs.Matching.{SameFrom, AnswersPart, Answered, Names}
-use Rattle.ec_cycle.specs.Kept.{IsUnderWay}
-use Rattle.ec_cycle.proofs.Answering.{answers_by_sent, sent_by_answers, length-returned_first}
+use Rattle.ec_cycle.specs.MasterFields.{IsUnderWay}
+use Rattle.ec_cycle.proofs.AnswersFrame.{answers_by_sent, sent_by_answers, length-returned_first}
 use Rattle.ec_cycle.proofs.Comparing.{same_answers, answers_same, names_part, named_of}
 
 -- ---- the data that holds the inputs is as long as the part
@@ -34,7 +34,7 @@ bytes_alike (d ∷ ds) (y ∷ es) n e =
     let ss : map shape ds ≡ map shape es = cc in
     either_length (n == 0) d.data_bytes y.data_bytes (bytes_at ds (n - 1)) (bytes_at es (n - 1)) (ap (λ (q : Shape). q.bytes) s) (bytes_alike ds es (n - 1) ss)
 
-sent_size : (p : PlanState) (number k : ℕ) (image : List ℕ) → length (bytes_at (sent_datagrams p number k image) (input_place (part_at p.parts k).split)) ≡ (part_at p.parts k).bytes
+sent_size : (p : PlanState) (number k : ℕ) (image : List ℕ) → length (bytes_at (sent_datagrams p number k image) (input_index (part_at p.parts k).split)) ≡ (part_at p.parts k).bytes
 sent_size p number k image = go ((part_at p.parts k).bytes == 0) (part_at p.parts k).split refl
   where
     part : PartPlan
@@ -52,12 +52,12 @@ sent_size p number k image = go ((part_at p.parts k).bytes == 0) (part_at p.part
     go false true e = length-returned_first p k image
     go false false e = length-returned_first p k image
 
-pub answer_size : (p : PlanState) (number k : ℕ) (ds : List Datagram) → Answers p number k ds → length (bytes_at ds (input_place (part_at p.parts k).split)) ≡ (part_at p.parts k).bytes
-answer_size p number k ds h = bytes_alike ds (sent_datagrams p number k []) (input_place (part_at p.parts k).split) h.shapes ∙ sent_size p number k []
+pub answer_size : (p : PlanState) (number k : ℕ) (ds : List Datagram) → Answers p number k ds → length (bytes_at ds (input_index (part_at p.parts k).split)) ≡ (part_at p.parts k).bytes
+answer_size p number k ds h = bytes_alike ds (sent_datagrams p number k []) (input_index (part_at p.parts k).split) h.shapes ∙ sent_size p number k []
 
 -- ---- what was compared, and what answers
 
-pub part_answers : (p : PlanState) (number : ℕ) (frames : List (List ℕ)) (kept : List (Option KeptPart)) (k : ℕ) (ds : List Datagram) → IsUnderWay p number frames kept
+pub part_answers : (p : PlanState) (number : ℕ) (frames : List (List ℕ)) (kept : List (Option ReturnedPart)) (k : ℕ) (ds : List Datagram) → IsUnderWay p number frames kept
     → length frames ≡ length p.parts → AnswersPart ds frames kept k → Answers p number k ds
 part_answers p number frames kept k ds way count h =
     let there = h.there in
@@ -65,7 +65,7 @@ part_answers p number frames kept k ds way count h =
     let r = same_answers ds (sent_datagrams p number k sent.0) (h.same (bare_payload (sent_datagrams p number k sent.0)) sent.1) in
     answers_by_sent p number k sent.0 ds r.0 r.1 r.2
 
-pub answers_part : (p : PlanState) (number : ℕ) (frames : List (List ℕ)) (kept : List (Option KeptPart)) (k : ℕ) (ds : List Datagram) → IsUnderWay p number frames kept
+pub answers_part : (p : PlanState) (number : ℕ) (frames : List (List ℕ)) (kept : List (Option ReturnedPart)) (k : ℕ) (ds : List Datagram) → IsUnderWay p number frames kept
     → length frames ≡ length p.parts → length p.parts ≤ 32 → k < length p.parts → get_or kept k None ≡ None → Answers p number k ds → AnswersPart ds frames kept k
 answers_part p number frames kept k ds way count few there none h =
     let sent = way.sent k there in
@@ -101,7 +101,7 @@ foreign m c payload p is spelled way count few none = record {
 
 -- one that answers part k
 pub taken : (m : MasterState) (c : OpenCycle) (payload : List ℕ) (p : Payload) (k : ℕ) → m.cycle ≡ Some c → IsFrame payload p → IsUnderWay m.plan c.number c.frames c.kept → length c.frames ≡ length m.plan.parts → length m.plan.parts ≤ 32
-    → AnswersPart p.datagrams c.frames c.kept k → IsTaken m payload true (with_kept m c k (kept_of (part_at m.plan.parts k) p.datagrams))
+    → AnswersPart p.datagrams c.frames c.kept k → IsTaken m payload true (with_returned m c k (returned_part_of (part_at m.plan.parts k) p.datagrams))
 taken m c payload p k is spelled way count few h = record {
   kept = λ d j q a. (refl, told d j q a);
   foreign = λ f. absurd (f c k p answer);
@@ -111,7 +111,7 @@ taken m c payload p k is spelled way count few h = record {
     answer : IsAnswer m c payload k p
     answer = record { is_open = is; there = (let x = h.there in omega arith); not_kept = h.not_kept; spelled = spelled; answers = part_answers m.plan c.number c.frames c.kept k p.datagrams way count h }
 
-    told : (d : OpenCycle) (j : ℕ) (q : Payload) → IsAnswer m d payload j q → with_kept m c k (kept_of (part_at m.plan.parts k) p.datagrams) ≡ with_kept m d j (kept_of (part_at m.plan.parts j) q.datagrams)
+    told : (d : OpenCycle) (j : ℕ) (q : Payload) → IsAnswer m d payload j q → with_returned m c k (returned_part_of (part_at m.plan.parts k) p.datagrams) ≡ with_returned m d j (returned_part_of (part_at m.plan.parts j) q.datagrams)
     told d j q a =
         let same : c ≡ d = let x = a.is_open in cc in
         let this : p ≡ q = one_payload payload p q spelled a.spelled in
@@ -119,13 +119,13 @@ taken m c payload p k is spelled way count few h = record {
         let few_j : j < 2 ^ 16 = omega arith in
         let name : Some k ≡ Some j = names_part d.number j q.datagrams (Some k) few_j a.answers.named (subst (λ (y : Payload). Names (slice_get y.datagrams 0) (Some k)) this h.named) in
         let place : k ≡ j = cc in
-        ap (λ (y : OpenCycle). with_kept m y k (kept_of (part_at m.plan.parts k) p.datagrams)) same
-        ∙ (ap (λ (n : ℕ). with_kept m d n (kept_of (part_at m.plan.parts n) p.datagrams)) place
-        ∙ ap (λ (y : Payload). with_kept m d j (kept_of (part_at m.plan.parts j) y.datagrams)) this)
+        ap (λ (y : OpenCycle). with_returned m y k (returned_part_of (part_at m.plan.parts k) p.datagrams)) same
+        ∙ (ap (λ (n : ℕ). with_returned m d n (returned_part_of (part_at m.plan.parts n) p.datagrams)) place
+        ∙ ap (λ (y : Payload). with_returned m d j (returned_part_of (part_at m.plan.parts j) y.datagrams)) this)
 
 -- what stays true of the cycle
-pub kept_on : (p : PlanState) (number : ℕ) (frames : List (List ℕ)) (kept : List (Option KeptPart)) (k : ℕ) (ds : List Datagram) → IsUnderWay p number frames kept → length frames ≡ length p.parts → length kept ≡ length p.parts
-    → AnswersPart ds frames kept k → IsUnderWay p number frames (set kept k (Some (kept_of (part_at p.parts k) ds)))
+pub kept_on : (p : PlanState) (number : ℕ) (frames : List (List ℕ)) (kept : List (Option ReturnedPart)) (k : ℕ) (ds : List Datagram) → IsUnderWay p number frames kept → length frames ≡ length p.parts → length kept ≡ length p.parts
+    → AnswersPart ds frames kept k → IsUnderWay p number frames (set kept k (Some (returned_part_of (part_at p.parts k) ds)))
 kept_on p number frames kept k ds way count kept_count h = record {
   small = way.small;
   sent = way.sent;
@@ -133,11 +133,11 @@ kept_on p number frames kept k ds way count kept_count h = record {
     | inl same ↦
         let there = h.there in
         let l : k < length kept = omega arith in
-        let e2 : get_or (set kept k (Some (kept_of (part_at p.parts k) ds))) k None ≡ Some q = subst (λ (i : ℕ). get_or (set kept k (Some (kept_of (part_at p.parts k) ds))) i None ≡ Some q) same e in
-        let is : Some (kept_of (part_at p.parts k) ds) ≡ Some q = sym (get_or-set_same kept k (Some (kept_of (part_at p.parts k) ds)) None l) ∙ e2 in
-        let kept_is : kept_of (part_at p.parts k) ds ≡ q = cc in
-        subst (λ (i : ℕ). length q.bytes ≡ (part_at p.parts i).bytes) (sym same) (subst (λ (y : KeptPart). length y.bytes ≡ (part_at p.parts k).bytes) kept_is (answer_size p number k ds (part_answers p number frames kept k ds way count h)))
-    | inr ne ↦ way.sizes j q (sym (get_or-set_other kept k j (Some (kept_of (part_at p.parts k) ds)) None ne) ∙ e)
+        let e2 : get_or (set kept k (Some (returned_part_of (part_at p.parts k) ds))) k None ≡ Some q = subst (λ (i : ℕ). get_or (set kept k (Some (returned_part_of (part_at p.parts k) ds))) i None ≡ Some q) same e in
+        let is : Some (returned_part_of (part_at p.parts k) ds) ≡ Some q = sym (get_or-set_same kept k (Some (returned_part_of (part_at p.parts k) ds)) None l) ∙ e2 in
+        let kept_is : returned_part_of (part_at p.parts k) ds ≡ q = cc in
+        subst (λ (i : ℕ). length q.bytes ≡ (part_at p.parts i).bytes) (sym same) (subst (λ (y : ReturnedPart). length y.bytes ≡ (part_at p.parts k).bytes) kept_is (answer_size p number k ds (part_answers p number frames kept k ds way count h)))
+    | inr ne ↦ way.sizes j q (sym (get_or-set_other kept k j (Some (returned_part_of (part_at p.parts k) ds)) None ne) ∙ e)
   ];
 }
 

@@ -7,11 +7,11 @@ use Rattle.ec_frame.specs.Datagram.{Datagram}
 use Rattle.ec_link.specs.Shares.{Gave, counters_of, sum_of, lwr_count, lrd_count, lrw_count}
 use Rattle.ec_link.specs.declared.plan.PartPlan.{PartPlan}
 use Rattle.ec_link.specs.Plan.{part_at}
-use Rattle.ec_cycle.specs.Closing.{kept_by}
+use Rattle.ec_cycle.specs.Closing.{returned_part_by}
 use Rattle.ec_cycle.specs.Frames.{name_datagram, status_datagram, process_datagram, process_datagrams, cyclic_datagrams, process_bytes, returned_first}
-use Rattle.ec_cycle.specs.Interface.{IsKept, ProcessDataFillTheirPart, FramesOnTheirWayAnswer, FramesAreKept}
+use Rattle.ec_cycle.specs.Interface.{IsReturned, ProcessDataFillTheirPart, FramesOnTheirWayAnswer, FramesAreReturned}
 use Rattle.ec_cycle.specs.Master.{Shape, shape}
-use Rattle.ec_cycle.proofs.Answering.{same_shapes, same_addresses, length-process_bytes, length-returned_first}
+use Rattle.ec_cycle.proofs.AnswersFrame.{same_shapes, same_addresses, length-process_bytes, length-returned_first}
 
 pub data_fill_their_part : ProcessDataFillTheirPart
 data_fill_their_part p k image = record { sent = length-process_bytes p k image; returned = length-returned_first p k image }
@@ -32,7 +32,7 @@ answer_on_their_way p number k passed al sent returned gave word outs ins =
 
 -- ---- what is kept
 
-kept_counted : (part : PartPlan) (number k passed : ℕ) (al sent returned : List ℕ) (gave : List Gave) → IsKept part passed returned gave (kept_by part.split (cyclic_datagrams part number k passed al sent returned gave))
+kept_counted : (part : PartPlan) (number k passed : ℕ) (al sent returned : List ℕ) (gave : List Gave) → IsReturned part passed returned gave (returned_part_by part.split (cyclic_datagrams part number k passed al sent returned gave))
 kept_counted part number k passed al sent returned gave = record {
   broadcast = refl;
   counters = λ ne. go part.split (there ne);
@@ -49,17 +49,17 @@ kept_counted part number k passed al sent returned gave = record {
     there : part.bytes ≢ 0 → process_datagrams part number sent returned gave ≡ both part.split
     there ne = if_false _ _ _ (ne_eqb part.bytes 0 ne)
 
-    go : (y : Bool) → process_datagrams part number sent returned gave ≡ both y → (kept_by y (front (process_datagrams part number sent returned gave))).counters ≡ counters_of y gave
-    go true e = ap (λ ds. (kept_by true (front ds)).counters) e
-    go false e = ap (λ ds. (kept_by false (front ds)).counters) e
+    go : (y : Bool) → process_datagrams part number sent returned gave ≡ both y → (returned_part_by y (front (process_datagrams part number sent returned gave))).counters ≡ counters_of y gave
+    go true e = ap (λ ds. (returned_part_by true (front ds)).counters) e
+    go false e = ap (λ ds. (returned_part_by false (front ds)).counters) e
 
-    back : (y : Bool) → process_datagrams part number sent returned gave ≡ both y → (kept_by y (front (process_datagrams part number sent returned gave))).bytes ≡ returned
-    back true e = ap (λ ds. (kept_by true (front ds)).bytes) e
-    back false e = ap (λ ds. (kept_by false (front ds)).bytes) e
+    back : (y : Bool) → process_datagrams part number sent returned gave ≡ both y → (returned_part_by y (front (process_datagrams part number sent returned gave))).bytes ≡ returned
+    back true e = ap (λ ds. (returned_part_by true (front ds)).bytes) e
+    back false e = ap (λ ds. (returned_part_by false (front ds)).bytes) e
 
-    none : (y : Bool) → process_datagrams part number sent returned gave ≡ [] → (kept_by y (front (process_datagrams part number sent returned gave))).counters ≡ counters_of y []
-    none true e = ap (λ ds. (kept_by true (front ds)).counters) e
-    none false e = ap (λ ds. (kept_by false (front ds)).counters) e
+    none : (y : Bool) → process_datagrams part number sent returned gave ≡ [] → (returned_part_by y (front (process_datagrams part number sent returned gave))).counters ≡ counters_of y []
+    none true e = ap (λ ds. (returned_part_by true (front ds)).counters) e
+    none false e = ap (λ ds. (returned_part_by false (front ds)).counters) e
 
-pub frames_are_kept : FramesAreKept
-frames_are_kept = kept_counted
+pub frames_are_returned : FramesAreReturned
+frames_are_returned = kept_counted

@@ -10,7 +10,7 @@ use Rattle.ec_link.specs.Plan.{PlanState, part_at}
 use Rattle.ec_link.specs.Meaning.{slave_at, area_at, out_source}
 use Rattle.ec_cycle.specs.Laws.{OutputsBySource}
 use Rattle.ec_cycle.specs.Frames.{image_bit, process_bytes}
-use Rattle.ec_cycle.proofs.Placing.{image_bit_is, nobody_bit}
+use Rattle.ec_cycle.proofs.OutputBits.{image_bit_is, nobody_bit}
 
 told : (image : List ℕ) (o : Option ℕ) → unwrap_or (option_map (bit image) o) false ≡ option_map_or (bit image) o false
 told image None = refl

@@ -13,23 +13,23 @@ use Rattle.ec_link.specs.Meaning.{slave_at, area_at}
 use Rattle.ec_link.specs.Usable.{IsUsable, IsOutLink, IsInLink}
 use Rattle.ec_cycle.specs.declared.run.BitRun.{BitRun}
 use Rattle.ec_cycle.specs.declared.run.InputRun.{InputRun}
-use Rattle.ec_cycle.specs.Closing.{KeptPart, all_from, is_good, unit_taken, bytes_of, part_of_slave, inputs_closed}
+use Rattle.ec_cycle.specs.Closing.{ReturnedPart, all_from, is_good, unit_taken, bytes_of, part_of_slave, inputs_closed}
 use Rattle.ec_cycle.specs.Copies.{output_run, run_copied, runs_copied, outputs_copied, is_of_part, part_runs, FitsRun, input_run, input_copied, inputs_copied, adjoin, both, inputs_adjoin, both_inputs, merged, merged_from, output_runs, input_runs}
 use Rattle.ec_cycle.specs.Frames.{process_bytes}
 use Rattle.ec_cycle.proofs.Copying.{area_inside, inputs_by_links}
-use Rattle.ec_cycle.proofs.Answering.{length-process_bytes}
-use Rattle.ec_cycle.proofs.Placing.{process_by_links, process_again}
+use Rattle.ec_cycle.proofs.AnswersFrame.{length-process_bytes}
+use Rattle.ec_cycle.proofs.OutputBits.{process_by_links, process_again}
 
 -- run after run of those whose unit is taken
-abbrev pub input_taken : PlanState → List (Option KeptPart) → InputRun → List ℕ → List ℕ
+abbrev pub input_taken : PlanState → List (Option ReturnedPart) → InputRun → List ℕ → List ℕ
 input_taken p kept r image = if unit_taken p kept r.unit then run_copied (bytes_of (get_or kept r.part None)) r.run image else image
 
-abbrev pub inputs_taken : PlanState → List (Option KeptPart) → List InputRun → List ℕ → List ℕ
+abbrev pub inputs_taken : PlanState → List (Option ReturnedPart) → List InputRun → List ℕ → List ℕ
 inputs_taken p kept [] image = image
 inputs_taken p kept (r ∷ rs) image = inputs_taken p kept rs (input_taken p kept r image)
 
 -- such a run lies inside what was brought and inside the image
-abbrev FitsInput : PlanState → List (Option KeptPart) → ℕ → InputRun → Type 0
+abbrev FitsInput : PlanState → List (Option ReturnedPart) → ℕ → InputRun → Type 0
 FitsInput p kept bytes r = unit_taken p kept r.unit ≡ true → (r.part < length kept) × FitsRun bytes (length (bytes_of (get_or kept r.part None))) r.run
 
 -- ---- a loop over runs
@@ -194,13 +194,13 @@ abbrev pub no_input : InputRun
 no_input = record { part = 0; unit = 0; run = record { to = 0; from = 0; count = 0 } }
 
 -- what the truth values say of a run's unit
-pub is_on : (p : PlanState) (kept : List (Option KeptPart)) (taken : List Bool) (u : ℕ) → length taken ≡ 256 → ((v : ℕ) → v < 256 → get_or taken v false ≡ unit_taken p kept v) → get_or taken u false ≡ true → unit_taken p kept u ≡ true
+pub is_on : (p : PlanState) (kept : List (Option ReturnedPart)) (taken : List Bool) (u : ℕ) → length taken ≡ 256 → ((v : ℕ) → v < 256 → get_or taken v false ≡ unit_taken p kept v) → get_or taken u false ≡ true → unit_taken p kept u ≡ true
 is_on p kept taken u size each on = elim (cases_lt u 256) [
   | inl l ↦ sym (each u l) ∙ on
   | inr far ↦ absurd (let e = get_or_past taken u false (omega arith) in let f : false ≡ true = sym e ∙ on in cc)
 ]
 
-pub input_more : (p : PlanState) (kept : List (Option KeptPart)) (runs : List InputRun) (i : ℕ) (r : InputRun) (dst new whole : List ℕ) → i < length runs → r ≡ get_or runs i r
+pub input_more : (p : PlanState) (kept : List (Option ReturnedPart)) (runs : List InputRun) (i : ℕ) (r : InputRun) (dst new whole : List ℕ) → i < length runs → r ≡ get_or runs i r
     → new ≡ input_taken p kept r dst
     → inputs_taken p kept (drop i runs) dst ≡ whole → inputs_taken p kept (drop (i + 1) runs) new ≡ whole
 input_more p kept runs i r dst new whole l at e h =
@@ -208,7 +208,7 @@ input_more p kept runs i r dst new whole l at e h =
     ap (inputs_taken p kept (drop (i + 1) runs)) e ∙ (sym (ap (λ rs. inputs_taken p kept rs dst) cut) ∙ h)
 
 -- the runs of the links, one by one
-taken_by_links : (p : PlanState) (kept : List (Option KeptPart)) (ls : List Link) (image : List ℕ) → inputs_taken p kept (map (input_run p) ls) image ≡ inputs_copied p kept ls image
+taken_by_links : (p : PlanState) (kept : List (Option ReturnedPart)) (ls : List Link) (image : List ℕ) → inputs_taken p kept (map (input_run p) ls) image ≡ inputs_copied p kept ls image
 taken_by_links p kept [] image = refl
 taken_by_links p kept (l ∷ ls) image = taken_by_links p kept ls (input_copied p kept l image)
 
@@ -218,7 +218,7 @@ input_parts r n h =
     let b = and_parts (r.unit == n.unit) (adjoin r.run n.run) a.1 in
     (eqb-true r.part n.part a.0, eqb-true r.unit n.unit b.0, b.1)
 
-both_taken : (p : PlanState) (kept : List (Option KeptPart)) (r n : InputRun) (image : List ℕ) → inputs_adjoin r n ≡ true → input_taken p kept (both_inputs r n) image ≡ input_taken p kept n (input_taken p kept r image)
+both_taken : (p : PlanState) (kept : List (Option ReturnedPart)) (r n : InputRun) (image : List ℕ) → inputs_adjoin r n ≡ true → input_taken p kept (both_inputs r n) image ≡ input_taken p kept n (input_taken p kept r image)
 both_taken p kept r n image h =
     let e = input_parts r n h in
     go (unit_taken p kept r.unit)
@@ -230,7 +230,7 @@ both_taken p kept r n image h =
     go true = both_copied (bytes_of (get_or kept r.part None)) r.run n.run image (input_parts r n h).2
     go false = refl
 
-merged_taken_from : (p : PlanState) (kept : List (Option KeptPart)) (r : InputRun) (rs : List InputRun) (image : List ℕ) → inputs_taken p kept (merged_from inputs_adjoin both_inputs r rs) image ≡ inputs_taken p kept rs (input_taken p kept r image)
+merged_taken_from : (p : PlanState) (kept : List (Option ReturnedPart)) (r : InputRun) (rs : List InputRun) (image : List ℕ) → inputs_taken p kept (merged_from inputs_adjoin both_inputs r rs) image ≡ inputs_taken p kept rs (input_taken p kept r image)
 merged_taken_from p kept r [] image = refl
 merged_taken_from p kept r (n ∷ rs) image = go (λ x d. merged_taken_from p kept x rs d) (inputs_adjoin r n) refl
   where
@@ -238,11 +238,11 @@ merged_taken_from p kept r (n ∷ rs) image = go (λ x d. merged_taken_from p ke
     go f true h = f (both_inputs r n) image ∙ ap (inputs_taken p kept rs) (both_taken p kept r n image h)
     go f false h = f n (input_taken p kept r image)
 
-merged_taken : (p : PlanState) (kept : List (Option KeptPart)) (rs : List InputRun) (image : List ℕ) → inputs_taken p kept (merged inputs_adjoin both_inputs rs) image ≡ inputs_taken p kept rs image
+merged_taken : (p : PlanState) (kept : List (Option ReturnedPart)) (rs : List InputRun) (image : List ℕ) → inputs_taken p kept (merged inputs_adjoin both_inputs rs) image ≡ inputs_taken p kept rs image
 merged_taken p kept [] image = refl
 merged_taken p kept (r ∷ rs) image = merged_taken_from p kept r rs image
 
-pub input_all : (p : PlanState) (kept : List (Option KeptPart)) (runs : List InputRun) (i : ℕ) (dst image : List ℕ) → IsUsable p → runs ≡ input_runs p → length runs ≤ i
+pub input_all : (p : PlanState) (kept : List (Option ReturnedPart)) (runs : List InputRun) (i : ℕ) (dst image : List ℕ) → IsUsable p → runs ≡ input_runs p → length runs ≤ i
     → inputs_taken p kept (drop i runs) dst ≡ inputs_taken p kept runs image → dst ≡ inputs_closed p kept image
 input_all p kept runs i dst image usable is l h =
     sym (ap (λ rs. inputs_taken p kept rs dst) (drop_all i runs l))
@@ -250,12 +250,12 @@ input_all p kept runs i dst image usable is l h =
     ∙ (taken_by_links p kept p.in_links image ∙ inputs_by_links p kept image usable))))
 
 -- a part of a unit that is taken was kept
-all_from_at : (f : ℕ → Option KeptPart → Bool) (k : ℕ) (os : List (Option KeptPart)) (i : ℕ) → i < length os → all_from f k os ≡ true → f (k + i) (get_or os i None) ≡ true
+all_from_at : (f : ℕ → Option ReturnedPart → Bool) (k : ℕ) (os : List (Option ReturnedPart)) (i : ℕ) → i < length os → all_from f k os ≡ true → f (k + i) (get_or os i None) ≡ true
 all_from_at f k [] i l h = absurd (omega arith)
 all_from_at f k (o ∷ os) zero l h = let z : k + 0 ≡ k = omega arith in ap (λ (j : ℕ). f j o) z ∙ (and_parts (f k o) (all_from f (k + 1) os) h).0
 all_from_at f k (o ∷ os) (suc i) l h = let s : k + suc i ≡ k + 1 + i = omega arith in ap (λ (j : ℕ). f j (get_or os i None)) s ∙ all_from_at f (k + 1) os i (omega arith) (and_parts (f k o) (all_from f (k + 1) os) h).1
 
-pub taken_is_kept : (p : PlanState) (kept : List (Option KeptPart)) (k : ℕ) → k < length kept → unit_taken p kept (part_at p.parts k).unit ≡ true → (q : KeptPart) × (get_or kept k None ≡ Some q)
+pub taken_is_kept : (p : PlanState) (kept : List (Option ReturnedPart)) (k : ℕ) → k < length kept → unit_taken p kept (part_at p.parts k).unit ≡ true → (q : ReturnedPart) × (get_or kept k None ≡ Some q)
 taken_is_kept p kept k l h = some (get_or kept k None) (sym (if_true ((part_at p.parts k).unit == (part_at p.parts k).unit) (is_good p k (get_or kept k None)) true (eq-eqb _ _ refl)) ∙ here)
   where
     unit : ℕ
@@ -267,11 +267,11 @@ taken_is_kept p kept k l h = some (get_or kept k None) (sym (if_true ((part_at p
         ap (λ (j : ℕ). if (part_at p.parts j).unit == (part_at p.parts k).unit then is_good p j (get_or kept k None) else true) (sym z)
         ∙ all_from_at (λ j q. if (part_at p.parts j).unit == (part_at p.parts k).unit then is_good p j q else true) 0 kept k l h
 
-    some : (o : Option KeptPart) → is_good p k o ≡ true → (q : KeptPart) × (o ≡ Some q)
+    some : (o : Option ReturnedPart) → is_good p k o ≡ true → (q : ReturnedPart) × (o ≡ Some q)
     some None e = absurd (let f : false ≡ true = e in cc)
     some (Some q) e = (q, refl)
 
-both_fit_input : (p : PlanState) (kept : List (Option KeptPart)) (bytes : ℕ) (r n : InputRun) → inputs_adjoin r n ≡ true → FitsInput p kept bytes r → FitsInput p kept bytes n → FitsInput p kept bytes (both_inputs r n)
+both_fit_input : (p : PlanState) (kept : List (Option ReturnedPart)) (bytes : ℕ) (r n : InputRun) → inputs_adjoin r n ≡ true → FitsInput p kept bytes r → FitsInput p kept bytes n → FitsInput p kept bytes (both_inputs r n)
 both_fit_input p kept bytes r n h x y = λ on.
     let e = input_parts r n h in
     let a = x on in
@@ -279,7 +279,7 @@ both_fit_input p kept bytes r n h x y = λ on.
     let c : FitsRun bytes (length (bytes_of (get_or kept r.part None))) n.run = subst (λ (k : ℕ). FitsRun bytes (length (bytes_of (get_or kept k None))) n.run) (sym e.0) b.1 in
     (a.0, both_fit bytes (length (bytes_of (get_or kept r.part None))) r.run n.run e.2 a.1 c)
 
-merged_fit_inputs_from : (p : PlanState) (kept : List (Option KeptPart)) (bytes : ℕ) (r : InputRun) (rs : List InputRun) → FitsInput p kept bytes r → AllByRecursion (FitsInput p kept bytes) rs → AllByRecursion (FitsInput p kept bytes) (merged_from inputs_adjoin both_inputs r rs)
+merged_fit_inputs_from : (p : PlanState) (kept : List (Option ReturnedPart)) (bytes : ℕ) (r : InputRun) (rs : List InputRun) → FitsInput p kept bytes r → AllByRecursion (FitsInput p kept bytes) rs → AllByRecursion (FitsInput p kept bytes) (merged_from inputs_adjoin both_inputs r rs)
 merged_fit_inputs_from p kept bytes r [] x all = (x, tt)
 merged_fit_inputs_from p kept bytes r (n ∷ rs) x all = go (λ y f. merged_fit_inputs_from p kept bytes y rs f all.1) (inputs_adjoin r n) refl
   where
@@ -287,7 +287,7 @@ merged_fit_inputs_from p kept bytes r (n ∷ rs) x all = go (λ y f. merged_fit_
     go f true h = f (both_inputs r n) (both_fit_input p kept bytes r n h x all.0)
     go f false h = (x, f n all.0)
 
-merged_fit_inputs : (p : PlanState) (kept : List (Option KeptPart)) (bytes : ℕ) (rs : List InputRun) → AllByRecursion (FitsInput p kept bytes) rs → AllByRecursion (FitsInput p kept bytes) (merged inputs_adjoin both_inputs rs)
+merged_fit_inputs : (p : PlanState) (kept : List (Option ReturnedPart)) (bytes : ℕ) (rs : List InputRun) → AllByRecursion (FitsInput p kept bytes) rs → AllByRecursion (FitsInput p kept bytes) (merged inputs_adjoin both_inputs rs)
 merged_fit_inputs p kept bytes [] all = tt
 merged_fit_inputs p kept bytes (r ∷ rs) all = merged_fit_inputs_from p kept bytes r rs all.0 all.1
 
@@ -296,8 +296,8 @@ input_at P [] i r all l at = absurd (omega arith)
 input_at P (x ∷ rs) zero r all l at = subst P (sym at) all.0
 input_at P (x ∷ rs) (suc i) r all l at = input_at P rs i r all.1 (omega arith) at
 
-pub input_fits : (p : PlanState) (kept : List (Option KeptPart)) (runs : List InputRun) (i : ℕ) (r : InputRun) (inputs : List ℕ) → IsUsable p → runs ≡ input_runs p → i < length runs → r ≡ get_or runs i r
-    → length kept ≡ length p.parts → ((k : ℕ) (q : KeptPart) → get_or kept k None ≡ Some q → length q.bytes ≡ (part_at p.parts k).bytes) → length inputs ≡ bytes_of_bits p.in_bits → p.in_bits < 2 ^ 64
+pub input_fits : (p : PlanState) (kept : List (Option ReturnedPart)) (runs : List InputRun) (i : ℕ) (r : InputRun) (inputs : List ℕ) → IsUsable p → runs ≡ input_runs p → i < length runs → r ≡ get_or runs i r
+    → length kept ≡ length p.parts → ((k : ℕ) (q : ReturnedPart) → get_or kept k None ≡ Some q → length q.bytes ≡ (part_at p.parts k).bytes) → length inputs ≡ bytes_of_bits p.in_bits → p.in_bits < 2 ^ 64
     → FitsInput p kept (length inputs) r
 input_fits p kept runs i r inputs usable is l at count sizes room few =
     input_at (FitsInput p kept (length inputs)) runs i r
@@ -308,7 +308,7 @@ input_fits p kept runs i r inputs usable is l at count sizes room few =
         let part = usable.in_parts x.slave inside.slave in
         let there : part_of_slave p x.slave < length kept = omega arith in
         let q = taken_is_kept p kept (part_of_slave p x.slave) there taken in
-        let bytes : length (bytes_of (get_or kept (part_of_slave p x.slave) None)) ≡ (part_at p.parts (part_of_slave p x.slave)).bytes = ap (λ (o : Option KeptPart). length (bytes_of o)) q.1 ∙ sizes (part_of_slave p x.slave) q.0 q.1 in
+        let bytes : length (bytes_of (get_or kept (part_of_slave p x.slave) None)) ≡ (part_at p.parts (part_of_slave p x.slave)).bytes = ap (λ (o : Option ReturnedPart). length (bytes_of o)) q.1 ∙ sizes (part_of_slave p x.slave) q.0 q.1 in
         let span = area_inside p x.slave usable inside.slave in
         let from = span.in_from in
         let to = span.in_to in

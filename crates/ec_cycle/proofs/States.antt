@@ -4,38 +4,38 @@ use Rattle.ec_frame.specs.Building.{bare_payload}
 use Rattle.ec_frame.specs.Frame.{Payload, IsFrame}
 use Rattle.ec_link.specs.Plan.{PlanState, part_at}
 use Rattle.ec_cycle.specs.Frames.{sent_datagrams}
-use Rattle.ec_cycle.specs.Closing.{KeptPart, ReportState, kept_of, nones, or_words, unit_taken, inputs_closed, report_of}
+use Rattle.ec_cycle.specs.Closing.{ReturnedPart, ReportState, returned_part_of, nones, or_words, unit_taken, inputs_closed, report_of}
 use Rattle.ec_cycle.specs.Master.{MasterState, OpenCycle, Begun, IsTaken, IsClosed}
 use Rattle.ec_cycle.specs.Matching.{AnswersPart, Answered}
-use Rattle.ec_cycle.specs.Kept.{IsUnderWay}
-use Rattle.ec_cycle.proofs.Judging.{all_none}
+use Rattle.ec_cycle.specs.MasterFields.{IsUnderWay}
+use Rattle.ec_cycle.proofs.UnitLoops.{all_none}
 use Rattle.ec_cycle.proofs.Matches.{foreign, taken}
 
 pub number_open : (o : Option ℕ) (r : Bool) → is_some o ≡ not r → r ≡ false → (n : ℕ) × (o ≡ Some n)
 number_open (Some n) r e f = (n, refl)
 number_open None r e f = absurd (let g : false ≡ true = e ∙ ap not f in cc)
 
-abbrev pub cycle_of : List (List ℕ) → List (Option KeptPart) → ℕ → OpenCycle
+abbrev pub cycle_of : List (List ℕ) → List (Option ReturnedPart) → ℕ → OpenCycle
 cycle_of fs ks n = record { number = n; frames = fs; kept = ks }
 
-abbrev pub state_of : PlanState → Bool → ℕ → List ℕ → List ℕ → List (List ℕ) → List (Option KeptPart) → Option ℕ → MasterState
+abbrev pub state_of : PlanState → Bool → ℕ → List ℕ → List ℕ → List (List ℕ) → List (Option ReturnedPart) → Option ℕ → MasterState
 state_of p r x o i fs ks number = record { plan = p; is_ready = r; next = x; outputs = o; inputs = i; cycle = option_map (λ (n : ℕ). record { number = n; frames = fs; kept = ks }) number }
 
-pub foreign_state : (p : PlanState) (r : Bool) (x : ℕ) (o i : List ℕ) (fs : List (List ℕ)) (ks : List (Option KeptPart)) (number : Option ℕ) (n : ℕ) (payload : List ℕ) (pl : Payload) → number ≡ Some n → IsFrame payload pl → IsUnderWay p n fs ks
+pub foreign_state : (p : PlanState) (r : Bool) (x : ℕ) (o i : List ℕ) (fs : List (List ℕ)) (ks : List (Option ReturnedPart)) (number : Option ℕ) (n : ℕ) (payload : List ℕ) (pl : Payload) → number ≡ Some n → IsFrame payload pl → IsUnderWay p n fs ks
     → length fs ≡ length p.parts → length p.parts ≤ 32 → Answered pl.datagrams fs ks None → IsTaken (state_of p r x o i fs ks number) payload false (state_of p r x o i fs ks number)
 foreign_state p r x o i fs ks number n payload pl e h way count few none =
     subst (λ (y : Option ℕ). IsTaken (state_of p r x o i fs ks y) payload false (state_of p r x o i fs ks y)) (sym e)
     (foreign (state_of p r x o i fs ks (Some n)) (cycle_of fs ks n) payload pl refl h way count few none)
 
-pub taken_state : (p : PlanState) (r : Bool) (x : ℕ) (o i : List ℕ) (fs : List (List ℕ)) (ks : List (Option KeptPart)) (number : Option ℕ) (n : ℕ) (payload : List ℕ) (pl : Payload) (part : ℕ) (new : Option KeptPart) → number ≡ Some n → IsFrame payload pl → IsUnderWay p n fs ks
-    → length fs ≡ length p.parts → length p.parts ≤ 32 → AnswersPart pl.datagrams fs ks part → new ≡ Some (kept_of (part_at p.parts part) pl.datagrams)
+pub taken_state : (p : PlanState) (r : Bool) (x : ℕ) (o i : List ℕ) (fs : List (List ℕ)) (ks : List (Option ReturnedPart)) (number : Option ℕ) (n : ℕ) (payload : List ℕ) (pl : Payload) (part : ℕ) (new : Option ReturnedPart) → number ≡ Some n → IsFrame payload pl → IsUnderWay p n fs ks
+    → length fs ≡ length p.parts → length p.parts ≤ 32 → AnswersPart pl.datagrams fs ks part → new ≡ Some (returned_part_of (part_at p.parts part) pl.datagrams)
     → IsTaken (state_of p r x o i fs ks number) payload true (state_of p r x o i fs (set ks part new) number)
 taken_state p r x o i fs ks number n payload pl part new e h way count few a is =
     subst (λ (y : Option ℕ). IsTaken (state_of p r x o i fs ks y) payload true (state_of p r x o i fs (set ks part new) y)) (sym e)
-    (subst (λ (q : Option KeptPart). IsTaken (state_of p r x o i fs ks (Some n)) payload true (state_of p r x o i fs (set ks part q) (Some n))) (sym is)
+    (subst (λ (q : Option ReturnedPart). IsTaken (state_of p r x o i fs ks (Some n)) payload true (state_of p r x o i fs (set ks part q) (Some n))) (sym is)
     (taken (state_of p r x o i fs ks (Some n)) (cycle_of fs ks n) payload pl part refl h way count few a))
 
-pub begun_state : (p : PlanState) (r : Bool) (x : ℕ) (o i : List ℕ) (fs0 fs : List (List ℕ)) (ks0 ks : List (Option KeptPart)) (number : Option ℕ) → length fs ≡ length p.parts → length ks ≡ length p.parts
+pub begun_state : (p : PlanState) (r : Bool) (x : ℕ) (o i : List ℕ) (fs0 fs : List (List ℕ)) (ks0 ks : List (Option ReturnedPart)) (number : Option ℕ) → length fs ≡ length p.parts → length ks ≡ length p.parts
     → ((k : ℕ) → k < length ks → get_or ks k None ≡ None) → ((k : ℕ) → k < length p.parts → IsFrame (get_or fs k []) (bare_payload (sent_datagrams p x k o)))
     → Begun (state_of p r x o i fs0 ks0 number) (state_of p r (x + 1) o i fs ks (Some x)) (cycle_of fs ks x)
 begun_state p r x o i fs0 fs ks0 ks number count kept_count none frames = record {
@@ -46,7 +46,7 @@ begun_state p r x o i fs0 fs ks0 ks number count kept_count none frames = record
   frames = frames;
 }
 
-pub closed_state : (p : PlanState) (r : Bool) (x : ℕ) (o i j : List ℕ) (fs : List (List ℕ)) (ks : List (Option KeptPart)) (number : Option ℕ) (n : ℕ) (report : ReportState) → number ≡ Some n → j ≡ inputs_closed p ks i → report ≡ report_of p ks
+pub closed_state : (p : PlanState) (r : Bool) (x : ℕ) (o i j : List ℕ) (fs : List (List ℕ)) (ks : List (Option ReturnedPart)) (number : Option ℕ) (n : ℕ) (report : ReportState) → number ≡ Some n → j ≡ inputs_closed p ks i → report ≡ report_of p ks
     → IsClosed (state_of p r x o i fs ks number) (state_of p r x o j fs ks None) report
 closed_state p r x o i j fs ks number n report e is said = record {
   cycle = cycle_of fs ks n;
@@ -61,17 +61,17 @@ map_units : (us : List ℕ) (f g : ℕ → Bool) → ((i : ℕ) → get_or us i 
 map_units [] f g small same = refl
 map_units (u ∷ us) f g small same = ap (λ (b : Bool). b ∷ map f us) (same u (small 0)) ∙ ap (λ (bs : List Bool). g u ∷ bs) (map_units us f g (λ i. small (suc i)) same)
 
-abbrev reported : List ℕ → List Bool → ℕ → List (Option KeptPart) → ReportState
-reported us taken n ks = record { units = us; taken = taken; missing = n; counters = map (λ (o : Option KeptPart). option_map (λ (q : KeptPart). q.counters) o) ks; al_word = or_words ks }
+abbrev reported : List ℕ → List Bool → ℕ → List (Option ReturnedPart) → ReportState
+reported us taken n ks = record { units = us; taken = taken; missing = n; counters = map (λ (o : Option ReturnedPart). option_map (λ (q : ReturnedPart). q.counters) o) ks; al_word = or_words ks }
 
-pub report_is : (p : PlanState) (ks k1 k2 k3 : List (Option KeptPart)) (n : ℕ) (taken : List Bool) (us : List ℕ) (r : ReportState) → us ≡ p.units → k1 ≡ ks → k2 ≡ ks → k3 ≡ ks → n ≡ nones k3 → ((i : ℕ) → get_or us i 0 < 256)
+pub report_is : (p : PlanState) (ks k1 k2 k3 : List (Option ReturnedPart)) (n : ℕ) (taken : List Bool) (us : List ℕ) (r : ReportState) → us ≡ p.units → k1 ≡ ks → k2 ≡ ks → k3 ≡ ks → n ≡ nones k3 → ((i : ℕ) → get_or us i 0 < 256)
     → ((u : ℕ) → u < 256 → get_or taken u false ≡ unit_taken p k1 u)
-    → r ≡ record { units = us; taken = map (λ (u : ℕ). get_or taken u false) us; missing = n; counters = map (λ (o : Option KeptPart). option_map (λ (q : KeptPart). q.counters) o) k2; al_word = or_words k2 }
+    → r ≡ record { units = us; taken = map (λ (u : ℕ). get_or taken u false) us; missing = n; counters = map (λ (o : Option ReturnedPart). option_map (λ (q : ReturnedPart). q.counters) o) k2; al_word = or_words k2 }
     → r ≡ report_of p ks
 report_is p ks k1 k2 k3 n taken us r e a b d count small judged is =
-    is ∙ (ap (λ (bs : List Bool). reported us bs n k2) (map_units us (λ u. get_or taken u false) (unit_taken p ks) small (λ u l. judged u l ∙ ap (λ (z : List (Option KeptPart)). unit_taken p z u) a))
+    is ∙ (ap (λ (bs : List Bool). reported us bs n k2) (map_units us (λ u. get_or taken u false) (unit_taken p ks) small (λ u l. judged u l ∙ ap (λ (z : List (Option ReturnedPart)). unit_taken p z u) a))
     ∙ (ap (λ (m : ℕ). reported us (map (unit_taken p ks) us) m k2) (count ∙ ap nones d)
-    ∙ (ap (λ (z : List (Option KeptPart)). reported us (map (unit_taken p ks) us) (nones ks) z) b ∙ ap (λ (vs : List ℕ). reported vs (map (unit_taken p ks) vs) (nones ks) ks) e)))
+    ∙ (ap (λ (z : List (Option ReturnedPart)). reported us (map (unit_taken p ks) us) (nones ks) z) b ∙ ap (λ (vs : List ℕ). reported vs (map (unit_taken p ks) vs) (nones ks) ks) e)))
 
 pub all_on : (n u : ℕ) → u < n → get_or (replicate n true) u false ≡ true
 all_on zero u l = absurd (omega arith)

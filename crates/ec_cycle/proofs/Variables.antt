@@ -17,7 +17,7 @@ use Rattle.ec_link.specs.Usable.{IsUsable, IsInImage}
 use Rattle.ec_link.specs.Variables.{AreApart}
 use Rattle.ec_cycle.specs.Master.{MasterState, holds_value, value_at, variable_set, value_put}
 
--- ---- bits of an overlay that it doesn't tell
+-- ---- bits that an overlay leaves
 
 bit_kept : (xs : List ℕ) (f : ℕ → Option Bool) (j : ℕ) → f j ≡ None → bit (overlay xs f) j ≡ bit xs j
 unfolding bit

@@ -28,7 +28,7 @@ all_from p k (x ∷ xs) = p k x && all_from p (k + 1) xs
 
 -- What is kept of a part that came back: the broadcast's working counter and word, the working counters of its process
 -- datagrams, and the data that holds the inputs.
-pub record KeptPart : Type 0 where
+pub record ReturnedPart : Type 0 where
   pub broadcast : ℕ
   pub al_word : ℕ
   pub counters : ExpectedCounters
@@ -45,43 +45,43 @@ bytes_at [] n = []
 bytes_at (d ∷ ds) n = if n == 0 then d.data_bytes else bytes_at ds (n - 1)
 
 -- which datagram brings the inputs: the LRD of a split part, else the LRW
-abbrev pub input_place : Bool → ℕ
-input_place split = if split then 3 else 2
+abbrev pub input_index : Bool → ℕ
+input_index split = if split then 3 else 2
 
 -- the working counters of the process datagrams
 abbrev pub counters_by : Bool → List Datagram → ExpectedCounters
 counters_by split ds = if split then Split (counter_at ds 2) (counter_at ds 3) else Lrw (counter_at ds 2)
 
-abbrev pub kept_by : Bool → List Datagram → KeptPart
-kept_by split ds = record {
+abbrev pub returned_part_by : Bool → List Datagram → ReturnedPart
+returned_part_by split ds = record {
   broadcast = counter_at ds 1;
   al_word = slice_index (bytes_at ds 1) 0 + 256 * slice_index (bytes_at ds 1) 1;
   counters = counters_by split ds;
-  bytes = bytes_at ds (input_place split);
+  bytes = bytes_at ds (input_index split);
 }
 
 -- what is kept of a frame of the part
-abbrev pub kept_of : PartPlan → List Datagram → KeptPart
-kept_of part ds = kept_by part.split ds
+abbrev pub returned_part_of : PartPlan → List Datagram → ReturnedPart
+returned_part_of part ds = returned_part_by part.split ds
 
-abbrev pub bytes_of : Option KeptPart → List ℕ
+abbrev pub bytes_of : Option ReturnedPart → List ℕ
 bytes_of None = []
 bytes_of (Some q) = q.bytes
 
 -- ---- judging
 
 -- so many slaves answered the broadcast, and the working counters are these
-abbrev pub came_back_as : ℕ → ExpectedCounters → Option KeptPart → Bool
+abbrev pub came_back_as : ℕ → ExpectedCounters → Option ReturnedPart → Bool
 came_back_as slaves counters None = false
 came_back_as slaves counters (Some q) = (q.broadcast == slaves) && same_counters q.counters counters
 
 -- Part k was kept and is good: every slave answered the broadcast, and the working counters are the predicted ones, each by
 -- itself.
-abbrev pub is_good : PlanState → ℕ → Option KeptPart → Bool
+abbrev pub is_good : PlanState → ℕ → Option ReturnedPart → Bool
 is_good p k o = came_back_as (length p.slaves) (predicted p k) o
 
 -- A unit is taken if each of its own parts was kept and is good.
-abbrev pub unit_taken : PlanState → List (Option KeptPart) → ℕ → Bool
+abbrev pub unit_taken : PlanState → List (Option ReturnedPart) → ℕ → Bool
 unit_taken p kept u = all_from (λ k q. if (part_at p.parts k).unit == u then is_good p k q else true) 0 kept
 
 -- ---- closing
@@ -91,7 +91,7 @@ abbrev pub part_of_slave : PlanState → ℕ → ℕ
 part_of_slave p s = (slave_at p s).share.part
 
 -- The bit that was returned for an input bit of a slave, if its unit is taken.
-abbrev pub returned_bit : PlanState → List (Option KeptPart) → Linked → Option Bool
+abbrev pub returned_bit : PlanState → List (Option ReturnedPart) → Linked → Option Bool
 returned_bit p kept i =
     let k = part_of_slave p i.slave in
     if unit_taken p kept (part_at p.parts k).unit
@@ -99,23 +99,23 @@ returned_bit p kept i =
     else None
 
 -- The image of the inputs: each linked bit of a taken unit becomes the returned one, all others stay.
-abbrev pub inputs_closed : PlanState → List (Option KeptPart) → List ℕ → List ℕ
+abbrev pub inputs_closed : PlanState → List (Option ReturnedPart) → List ℕ → List ℕ
 inputs_closed p kept image = overlay image (λ b. option_and_then (returned_bit p kept) (in_source p.in_links b))
 
 -- ---- the report
 
 -- the AL word that came back, 0 if none did
-abbrev pub word_of_kept : Option KeptPart → ℕ
-word_of_kept None = 0
-word_of_kept (Some q) = q.al_word
+abbrev pub word_of_returned : Option ReturnedPart → ℕ
+word_of_returned None = 0
+word_of_returned (Some q) = q.al_word
 
 -- words joined by OR
 abbrev pub joined : List ℕ → ℕ
 joined words = fold bit_or 0 words
 
 -- the AL words that came back
-abbrev pub or_words : List (Option KeptPart) → ℕ
-or_words kept = joined (map word_of_kept kept)
+abbrev pub or_words : List (Option ReturnedPart) → ℕ
+or_words kept = joined (map word_of_returned kept)
 
 -- the value of a `Report`
 pub record ReportState : Type 0 where
@@ -128,7 +128,7 @@ pub record ReportState : Type 0 where
   pub counters : List (Option ExpectedCounters)
   pub al_word : ℕ
 
-abbrev pub report_of : PlanState → List (Option KeptPart) → ReportState
+abbrev pub report_of : PlanState → List (Option ReturnedPart) → ReportState
 report_of p kept = record {
   units = p.units;
   taken = map (unit_taken p kept) p.units;

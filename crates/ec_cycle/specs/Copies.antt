@@ -7,7 +7,7 @@ use Rattle.ec_link.specs.Plan.{PlanState, part_at}
 use Rattle.ec_link.specs.Meaning.{area_at}
 use Rattle.ec_cycle.specs.declared.run.BitRun.{BitRun}
 use Rattle.ec_cycle.specs.declared.run.InputRun.{InputRun}
-use Rattle.ec_cycle.specs.Closing.{KeptPart, unit_taken, bytes_of, part_of_slave}
+use Rattle.ec_cycle.specs.Closing.{ReturnedPart, unit_taken, bytes_of, part_of_slave}
 
 -- ---- outputs
 
@@ -38,12 +38,12 @@ input_run p l =
     }
 
 -- a link of inputs: its bits out of the data that its slave's part brought back, if the unit is taken
-abbrev pub input_copied : PlanState → List (Option KeptPart) → Link → List ℕ → List ℕ
+abbrev pub input_copied : PlanState → List (Option ReturnedPart) → Link → List ℕ → List ℕ
 input_copied p kept l image =
     let r = input_run p l in
     if unit_taken p kept r.unit then run_copied (bytes_of (get_or kept r.part None)) r.run image else image
 
-abbrev pub inputs_copied : PlanState → List (Option KeptPart) → List Link → List ℕ → List ℕ
+abbrev pub inputs_copied : PlanState → List (Option ReturnedPart) → List Link → List ℕ → List ℕ
 inputs_copied p kept [] image = image
 inputs_copied p kept (l ∷ ls) image = inputs_copied p kept ls (input_copied p kept l image)
 

@@ -4,9 +4,9 @@ use Rattle.std.specs.Prelude.{ℕ, ◌^◌, ◌<◌, ◌≡◌, ◌≢◌, Bool,
 use Rattle.ec_link.specs.Plan.{PlanState, part_at}
 use Rattle.ec_link.specs.Shares.{Gave, counters_of}
 use Rattle.ec_link.specs.declared.plan.PartPlan.{PartPlan}
-pub use Rattle.ec_cycle.specs.Closing.{KeptPart, kept_of, nones, is_good, unit_taken, bytes_of, returned_bit, inputs_closed, report_of, bytes_at, ReportState, joined, word_of_kept, all_from}
+pub use Rattle.ec_cycle.specs.Closing.{ReturnedPart, returned_part_of, nones, is_good, unit_taken, bytes_of, returned_bit, inputs_closed, report_of, bytes_at, ReportState, joined, word_of_returned, all_from}
 pub use Rattle.ec_cycle.specs.Frames.{process_bytes, returned_first, name_datagram, cyclic_datagrams, sent_datagrams, status_datagram, process_datagrams, process_datagram}
-pub use Rattle.ec_cycle.specs.Master.{MasterState, Answers, IsTaken, OpenCycle, cycle_limit, readied, Begun, frame_of, value_at, value_of, IsAnswer, closed, holds_value, value_put, variable_set, name_of, with_kept}
+pub use Rattle.ec_cycle.specs.Master.{MasterState, Answers, IsTaken, OpenCycle, cycle_limit, readied, Begun, frame_of, value_at, value_of, IsAnswer, closed, holds_value, value_put, variable_set, name_of, with_returned}
 
 -- ---- a frame
 
@@ -19,8 +19,8 @@ abbrev pub ProcessDataFillTheirPart : Type 0
 ProcessDataFillTheirPart = (p : PlanState) (k : ℕ) (image : List ℕ) → FillTheirPart p k image
 
 -- the name of a frame says of which cycle and part it is
-abbrev pub NamesTell : Type 0
-NamesTell =
+abbrev pub NamesAreDistinct : Type 0
+NamesAreDistinct =
     (number other k l : ℕ) → number < 2 ^ 64 → other < 2 ^ 64 → k < 2 ^ 16 → l < 2 ^ 16 → (name_datagram number k).data_bytes ≡ (name_datagram other l).data_bytes
     → (number ≡ other) × (k ≡ l)
 
@@ -34,18 +34,18 @@ FramesOnTheirWayAnswer =
 
 -- What is kept of it: how many slaves it passed, its working counters, and what it brings back. If the part has no bytes, nobody
 -- gave anything to its counters.
-pub record IsKept (part : PartPlan) (passed : ℕ) (returned : List ℕ) (gave : List Gave) (q : KeptPart) : Type 0 where
+pub record IsReturned (part : PartPlan) (passed : ℕ) (returned : List ℕ) (gave : List Gave) (q : ReturnedPart) : Type 0 where
   pub broadcast : q.broadcast ≡ passed
   pub counters : part.bytes ≢ 0 → q.counters ≡ counters_of part.split gave
   pub no_bytes : part.bytes ≡ 0 → q.counters ≡ counters_of part.split []
   pub bytes : part.bytes ≢ 0 → q.bytes ≡ returned
 
-abbrev pub FramesAreKept : Type 0
-FramesAreKept =
-    (part : PartPlan) (number k passed : ℕ) (al sent returned : List ℕ) (gave : List Gave) → IsKept part passed returned gave (kept_of part (cyclic_datagrams part number k passed al sent returned gave))
+abbrev pub FramesAreReturned : Type 0
+FramesAreReturned =
+    (part : PartPlan) (number k passed : ℕ) (al sent returned : List ℕ) (gave : List Gave) → IsReturned part passed returned gave (returned_part_of part (cyclic_datagrams part number k passed al sent returned gave))
 
 -- ---- a master
 
 -- a master keeps its plan, whatever payload it is given
 abbrev pub MastersKeepTheirPlan : Type 0
-MastersKeepTheirPlan = (old new : MasterState) (payload : List ℕ) (is_kept : Bool) → IsTaken old payload is_kept new → new.plan ≡ old.plan
+MastersKeepTheirPlan = (old new : MasterState) (payload : List ℕ) (is_accepted : Bool) → IsTaken old payload is_accepted new → new.plan ≡ old.plan

@@ -8,7 +8,7 @@ use Rattle.ec_link.specs.Meaning.{slave_at, area_at, out_source}
 use Rattle.ec_link.specs.Plan.{PlanState, part_at}
 use Rattle.ec_link.specs.Usable.{IsUsable}
 use Rattle.ec_link.specs.Variables.{AreApart}
-use Rattle.ec_cycle.specs.Closing.{KeptPart, inputs_closed}
+use Rattle.ec_cycle.specs.Closing.{ReturnedPart, inputs_closed}
 use Rattle.ec_cycle.specs.Copies.{outputs_copied, inputs_copied}
 use Rattle.ec_cycle.specs.Frames.{process_bytes, sent_datagrams}
 use Rattle.ec_cycle.specs.Master.{MasterState, OpenCycle, Begun, Answers, shape, name_of, process_addresses, holds_value, value_at, variable_set, frame_of}
@@ -21,7 +21,7 @@ ProcessByLinks = (p : PlanState) (k : ℕ) (image : List ℕ) → IsUsable p →
 
 -- the inputs after a closing, by one copy for each link of inputs
 abbrev pub InputsByLinks : Type 0
-InputsByLinks = (p : PlanState) (kept : List (Option KeptPart)) (image : List ℕ) → IsUsable p → inputs_copied p kept p.in_links image ≡ inputs_closed p kept image
+InputsByLinks = (p : PlanState) (kept : List (Option ReturnedPart)) (image : List ℕ) → IsUsable p → inputs_copied p kept p.in_links image ≡ inputs_closed p kept image
 
 -- ---- the bits of a frame's process data
 

@@ -15,5 +15,5 @@ pub mod Interface
 pub mod Refusals
 -- Private: these serve private code and its proofs alone.
 pub mod Matching
-pub mod Kept
+pub mod MasterFields
 pub mod Renewing

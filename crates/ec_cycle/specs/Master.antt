@@ -11,13 +11,13 @@ use Rattle.ec_link.specs.Plan.{PlanState, part_at}
 use Rattle.ec_cycle.specs.declared.error.CycleError.{CycleError}
 use Rattle.ec_cycle.specs.declared.error.CycleError.TheVariants.{NotReady, Open, NumbersSpent}
 use Rattle.ec_cycle.specs.Frames.{sent_datagrams}
-use Rattle.ec_cycle.specs.Closing.{KeptPart, ReportState, kept_of, inputs_closed, nones, report_of}
+use Rattle.ec_cycle.specs.Closing.{ReturnedPart, ReportState, returned_part_of, inputs_closed, nones, report_of}
 
 -- a cycle under way: its number, the frame of each part as it was sent, and what came back
 pub record OpenCycle : Type 0 where
   pub number : ℕ
   pub frames : List (List ℕ)
-  pub kept : List (Option KeptPart)
+  pub kept : List (Option ReturnedPart)
 
 -- the value of a `Master`
 pub record MasterState : Type 0 where
@@ -132,16 +132,16 @@ pub record AnswersSome (m : MasterState) (payload : List ℕ) : Type 0 where
   pub frame : Payload
   pub answer : IsAnswer m cycle payload part frame
 
-abbrev pub with_kept : MasterState → OpenCycle → ℕ → KeptPart → MasterState
-with_kept m c k q = record m { cycle = Some (record c { kept = set c.kept k (Some q) }) }
+abbrev pub with_returned : MasterState → OpenCycle → ℕ → ReturnedPart → MasterState
+with_returned m c k q = record m { cycle = Some (record c { kept = set c.kept k (Some q) }) }
 
--- An answer is kept; any other payload changes nothing.
-pub record IsTaken (old : MasterState) (payload : List ℕ) (is_kept : Bool) (new : MasterState) : Type 0 where
+-- An answer is accepted; any other payload changes nothing.
+pub record IsTaken (old : MasterState) (payload : List ℕ) (is_accepted : Bool) (new : MasterState) : Type 0 where
   pub kept : (c : OpenCycle) (k : ℕ) (p : Payload) → IsAnswer old c payload k p
-      → (is_kept ≡ true) × (new ≡ with_kept old c k (kept_of (part_at old.plan.parts k) p.datagrams))
-  pub foreign : ((c : OpenCycle) (k : ℕ) (p : Payload) → IsAnswer old c payload k p → ⊥) → (is_kept ≡ false) × (new ≡ old)
-  -- and only an answer is kept
-  pub only : is_kept ≡ true → AnswersSome old payload
+      → (is_accepted ≡ true) × (new ≡ with_returned old c k (returned_part_of (part_at old.plan.parts k) p.datagrams))
+  pub foreign : ((c : OpenCycle) (k : ℕ) (p : Payload) → IsAnswer old c payload k p → ⊥) → (is_accepted ≡ false) × (new ≡ old)
+  -- and only an answer is accepted
+  pub only : is_accepted ≡ true → AnswersSome old payload
 
 -- how many parts of the open cycle are not kept yet
 abbrev pub missing_of : Option OpenCycle → ℕ

@@ -5,7 +5,7 @@ use Rattle.ec_frame.specs.declared.cursor.DatagramCursor.{DatagramCursor}
 use Rattle.ec_frame.specs.Cursor.{IsAhead}
 use Rattle.ec_frame.specs.Datagram.{Datagram, IsDatagram, spelling}
 use Rattle.ec_frame.specs.Frame.{Payload, IsFrame}
-use Rattle.ec_cycle.specs.Closing.{KeptPart}
+use Rattle.ec_cycle.specs.Closing.{ReturnedPart}
 use Rattle.ec_cycle.specs.Master.{shape}
 
 -- Datagram n came back as d: of the same shape, the first one with the same data, and those behind the second with the same
@@ -63,13 +63,13 @@ Names (Some d) None = length d.data_bytes ≢ 10
 Names (Some d) (Some k) = (length d.data_bytes ≡ 10) × (k ≡ get_or d.data_bytes 8 0 + 256 * get_or d.data_bytes 9 0)
 
 -- The payload's datagrams answer the frame of part k, which isn't kept yet: they name it, and all agree with it.
-pub record AnswersPart (ds : List Datagram) (frames : List (List ℕ)) (kept : List (Option KeptPart)) (k : ℕ) : Type 0 where
+pub record AnswersPart (ds : List Datagram) (frames : List (List ℕ)) (kept : List (Option ReturnedPart)) (k : ℕ) : Type 0 where
   pub there : k < length frames
   pub not_kept : get_or kept k None ≡ None
   pub named : Names (slice_get ds 0) (Some k)
   pub same : (q : Payload) → IsFrame (get_or frames k []) q → SameFrom 0 ds q.datagrams
 
 -- they answer that part, or none
-abbrev pub Answered : List Datagram → List (List ℕ) → List (Option KeptPart) → Option ℕ → Type 0
+abbrev pub Answered : List Datagram → List (List ℕ) → List (Option ReturnedPart) → Option ℕ → Type 0
 Answered ds frames kept (Some k) = AnswersPart ds frames kept k
 Answered ds frames kept None = (k : ℕ) → AnswersPart ds frames kept k → ⊥

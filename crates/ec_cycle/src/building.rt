@@ -10,13 +10,13 @@ use ec_frame::{Builder, Command, Frame, address_of, index_of, name_of};
 use ec_link::{MAX_SPLIT_BYTES, PartPlan};
 use ec_regs::registers;
 
-/// The cyclic frame of a part: cycle `number`, part `place`, and the process data `sent`.
-#[tactic(auto, using(ec_frame::proofs::Builds::joined_push))]
-pub fn build(part: &PartPlan, number: u64, place: usize, sent: &[u8]) -> Frame
-    requires place { place < 65536 }
+/// The cyclic frame of a part: cycle `number`, part `index`, and the process data `sent`.
+#[tactic(auto, using(ec_frame::proofs::BuilderCalls::joined_push))]
+pub fn build(part: &PartPlan, number: u64, index: usize, sent: &[u8]) -> Frame
+    requires place { index < 65536 }
     requires size { length sent.now ≡ part.now.bytes }
     requires small { (if part.now.split then 2 * part.now.bytes + 12 else part.now.bytes) ≤ 1422 }
-    ensures { IsFrame result.items (bare_payload (cyclic_datagrams part.now number place 0 (zeros 2) sent.now (returned_first part.now sent.now) [])) }
+    ensures { IsFrame result.items (bare_payload (cyclic_datagrams part.now number index 0 (zeros 2) sent.now (returned_first part.now sent.now) [])) }
 {
     let mut builder = Builder::new();
     append(
@@ -24,7 +24,7 @@ pub fn build(part: &PartPlan, number: u64, place: usize, sent: &[u8]) -> Frame
         Command::Nop,
         number,
         0,
-        &name_of(number, place as u16),
+        &name_of(number, index as u16),
     );
     append(
         &mut builder,

@@ -6,11 +6,11 @@ ghost use Rattle.ec_link.specs.declared.plan.ExpectedCounters.{ExpectedCounters}
 ghost use Rattle.ec_link.specs.Plan.{part_at};
 ghost use Rattle.ec_link.specs.Shares.{predicted, same_counters};
 ghost use Rattle.ec_link.specs.Usable.{IsUsable};
-ghost use Rattle.ec_cycle.specs.Closing.{KeptPart, ReportState, bytes_of, came_back_as, inputs_closed, is_good, or_words, unit_taken};
+ghost use Rattle.ec_cycle.specs.Closing.{ReturnedPart, ReportState, bytes_of, came_back_as, inputs_closed, is_good, or_words, unit_taken};
 ghost use Rattle.ec_cycle.specs.Copies.{FitsRun, input_runs, run_copied};
 
 use crate::counters::Counters;
-use crate::kept::Returned;
+use crate::returned::Returned;
 use crate::run::InputRun;
 use arrayvec::ArrayVec;
 use ec_bits::copy_by_words;
@@ -50,7 +50,7 @@ impl Report {
           units = units.now;
           taken = map (λ u. get_or taken.now u false) units.now;
           missing = missing;
-          counters = map (λ (o : Option KeptPart). option_map (λ (q : KeptPart). q.counters) o) kept.now;
+          counters = map (λ (o : Option ReturnedPart). option_map (λ (q : ReturnedPart). q.counters) o) kept.now;
           al_word = or_words kept.now;
         } }
     {
@@ -106,7 +106,7 @@ impl Report {
     }
 }
 
-/// Whether each unit is taken, by the number of the unit: all its parts were kept and are good.
+/// Whether each unit is taken, by the number of the unit: all its parts came back and are good.
 pub(crate) fn judged(plan: &Plan, expected: &[ExpectedCounters], kept: &[Returned]) -> [bool; 256]
     requires kept { length kept.now ≡ length plan.now.parts }
     requires count { length expected.now ≡ length plan.now.parts }
@@ -129,8 +129,8 @@ fn all_taken() -> [bool; 256]
     [true; 256]
 }
 
-/// Whether a part was kept and is good.
-#[tactic(auto, using(crate::proofs::Judging::good_is))]
+/// Whether a part came back and is good.
+#[tactic(auto, using(crate::proofs::UnitLoops::good_is))]
 fn is_good(plan: &Plan, expected: &[ExpectedCounters], kept: &[Returned], part: usize) -> bool
     requires there { part < length plan.now.parts }
     requires kept { length kept.now ≡ length plan.now.parts }
@@ -147,7 +147,7 @@ impl Returned {
     pub fn came_back_as(&self, slaves: usize, counters: ExpectedCounters) -> bool
         ensures { result ≡ came_back_as slaves counters self.now }
     {
-        self.is_kept
+        self.is_back
             && usize::from(self.broadcast) == slaves
             && same_counters(self.counters.as_predicted(), counters)
     }
@@ -200,7 +200,7 @@ fn taken_of(units: &[u8], taken: &[bool; 256]) -> ArrayVec<bool, 64>
 /// The working counters of the parts that are kept.
 fn counters_of(kept: &[Returned]) -> ArrayVec<Option<Counters>, 32>
     requires { length kept.now ≤ 32 }
-    ensures { result.items ≡ map (λ (o : Option KeptPart). option_map (λ (q : KeptPart). q.counters) o) kept.now }
+    ensures { result.items ≡ map (λ (o : Option ReturnedPart). option_map (λ (q : ReturnedPart). q.counters) o) kept.now }
 {
     let mut counters = ArrayVec::new();
     for part in kept {
@@ -210,7 +210,7 @@ fn counters_of(kept: &[Returned]) -> ArrayVec<Option<Counters>, 32>
 }
 
 /// The OR of the words of the parts that are kept.
-#[tactic(auto, using(crate::proofs::Judging::word_steps))]
+#[tactic(auto, using(crate::proofs::UnitLoops::word_steps))]
 fn words_of(kept: &[Returned]) -> u16
     ensures { result ≡ or_words kept.now }
 {
@@ -256,7 +256,7 @@ pub(crate) fn take_inputs(
     requires size { length taken.now ≡ 256 }
     requires taken { (u : ℕ) → u < 256 → get_or taken.now u false ≡ unit_taken plan.now kept.now u }
     requires kept { length kept.now ≡ length plan.now.parts }
-    requires sizes { (k : ℕ) (q : KeptPart) → get_or kept.now k None ≡ Some q → length q.bytes ≡ (part_at plan.now.parts k).bytes }
+    requires sizes { (k : ℕ) (q : ReturnedPart) → get_or kept.now k None ≡ Some q → length q.bytes ≡ (part_at plan.now.parts k).bytes }
     requires room { length inputs.old ≡ bytes_of_bits plan.now.in_bits }
     requires few { plan.now.in_bits < 2 ^ 64 }
     ensures { inputs.new ≡ inputs_closed plan.now kept.now inputs.old }

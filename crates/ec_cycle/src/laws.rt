@@ -2,10 +2,10 @@
 ghost use Rattle.ec_cycle.specs.Laws.{ProcessByLinks, InputsByLinks, AnswersBySent};
 ghost use Rattle.ec_cycle.specs.Laws.{OutputsBySource, OtherBitsAreZero, UnlinkedGoOutAsZero};
 ghost use Rattle.ec_cycle.specs.Laws.{PredictedMeansWhole, SetReadsBack, SetKeepsOthers, SetKeepsFrames};
-ghost use Rattle.ec_cycle.specs.Interface.{ProcessDataFillTheirPart, NamesTell, FramesOnTheirWayAnswer, FramesAreKept, MastersKeepTheirPlan};
+ghost use Rattle.ec_cycle.specs.Interface.{ProcessDataFillTheirPart, NamesAreDistinct, FramesOnTheirWayAnswer, FramesAreReturned, MastersKeepTheirPlan};
 
 /// One copy of a run of bits for each link of outputs makes the process data of a frame.
-#[tactic(auto, using(crate::proofs::Placing::process_by_links))]
+#[tactic(auto, using(crate::proofs::OutputBits::process_by_links))]
 pub fn process_by_links()
     ensures { ProcessByLinks }
 {}
@@ -65,13 +65,13 @@ pub fn set_keeps_frames()
 /// The process data of a frame fill its part, and its name says of which cycle and part it is.
 pub fn frames_are_of_their_part()
     ensures data { ProcessDataFillTheirPart }
-    ensures names { NamesTell }
+    ensures names { NamesAreDistinct }
 {}
 
 /// A frame answers its part whatever slaves it passed, and what is kept of it is what those slaves made of it.
 pub fn frames_come_back()
     ensures answers { FramesOnTheirWayAnswer }
-    ensures kept { FramesAreKept }
+    ensures accepted { FramesAreReturned }
 {}
 
 /// A master keeps its plan, whatever payload it is given.

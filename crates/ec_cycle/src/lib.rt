@@ -9,11 +9,11 @@ mod building;
 mod closing;
 mod counters;
 mod error;
-mod kept;
 pub mod laws;
 mod master;
 mod matching;
 mod renewing;
+mod returned;
 mod run;
 
 pub use crate::closing::Report;

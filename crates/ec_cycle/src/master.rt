@@ -9,19 +9,19 @@ ghost use Rattle.ec_link.specs.Usable.{IsUsable};
 ghost use Rattle.ec_cycle.specs.Closing.{nones};
 ghost use Rattle.ec_cycle.specs.Copies.{output_runs};
 ghost use Rattle.ec_cycle.specs.Frames.{sent_datagrams};
-ghost use Rattle.ec_cycle.specs.Kept.{IsMade};
+ghost use Rattle.ec_cycle.specs.MasterFields.{IsMade};
 ghost use Rattle.ec_cycle.specs.Master.{OpenCycle, MasterState, Begun, IsTaken, IsClosed, new_master, readied, holds_value, value_put, variable_set, value_at, begin_refusal, refused_by, frame_of, missing_of, abandoned};
 ghost use Rattle.ec_cycle.specs.declared.error.CycleError.TheVariants.{NotOpen};
 ghost use Rattle.ec_start.specs.HeldPlans.{plan_in};
 ghost use Rattle.ec_start.specs.declared.phase.Phase.TheVariants.{Ready};
-ghost use Rattle.ec_start.specs.Running.{is_kept};
+ghost use Rattle.ec_start.specs.Running.{is_accepted};
 
 use crate::building::build;
 use crate::closing::{Report, judged, take_inputs};
 use crate::error::CycleError;
-use crate::kept::Returned;
-use crate::matching::{answered, first_places};
+use crate::matching::{answered, first_spans};
 use crate::renewing::{SentFrame, fill};
+use crate::returned::Returned;
 use crate::run::{BitRun, InputRun, runs_by_part, runs_of_inputs};
 use ec_bits::{is_short, read_bits, write_bits};
 use ec_frame::{Frame, check};
@@ -54,7 +54,7 @@ pub struct Master<'p> {
 impl<'p> Model for Master<'p> {
     ghost use Rattle.std.specs.Prelude.{option_map};
     ghost use Rattle.ec_cycle.specs.Master.{MasterState};
-    ghost use Rattle.ec_cycle.specs.Kept.{IsMaster};
+    ghost use Rattle.ec_cycle.specs.MasterFields.{IsMaster};
     ghost use Rattle.ec_start.specs.HeldPlans.{plan_in};
 
     ghost Value = { MasterState };
@@ -100,7 +100,7 @@ impl<'p> Master<'p> {
         let input_runs = runs_of_inputs(alloc, plan)?;
         let expected = counters_of(alloc, plan)?;
         let frames = frames_of(alloc, plan, runs.as_slice(), &outputs)?;
-        let kept = nothing_kept(alloc, plan.parts().len())?;
+        let kept = nothing_returned(alloc, plan.parts().len())?;
         Ok(Master {
             held,
             is_ready: false,
@@ -185,7 +185,7 @@ impl<'p> Master<'p> {
     pub fn begin(&mut self) -> Result<(), CycleError>
         ensures answer { result ≡ refused_by (begin_refusal self.old) }
         ensures begun { OnOk result ((c : OpenCycle) × Begun self.old self.new c) }
-        ensures kept { OnErr result (self.new ≡ self.old) }
+        ensures unchanged { OnErr result (self.new ≡ self.old) }
     {
         if !self.is_ready {
             return Err(CycleError::NotReady);
@@ -219,11 +219,11 @@ impl<'p> Master<'p> {
         self.frames[part].bytes()
     }
 
-    /// Takes a payload that came in. It is kept exactly if it answers the frame of a part of the open cycle that isn't kept
+    /// Takes a payload that came in. It is accepted exactly if it answers the frame of a part of the open cycle that isn't back
     /// yet, whatever slaves made of its data, its counters and the broadcast's address. Any other payload is foreign and
     /// changes nothing.
     pub fn take(&mut self, payload: &[u8]) -> Taken
-        ensures { IsTaken self.old payload.now (is_kept result) self.new }
+        ensures { IsTaken self.old payload.now (is_accepted result) self.new }
     {
         if self.number.is_none() {
             return Taken::Foreign;
@@ -231,17 +231,17 @@ impl<'p> Master<'p> {
         let Ok(count) = check(payload) else {
             return Taken::Foreign;
         };
-        let spans = first_places(payload);
+        let spans = first_spans(payload);
         let frames = self.frames.as_slice();
         let Some(part) = answered(payload, count, &spans, frames, self.kept.as_slice()) else {
             return Taken::Foreign;
         };
         let place = self.held.plan().parts()[part];
         self.kept[part].keep(place.split, payload, &spans);
-        Taken::Kept
+        Taken::Accepted
     }
 
-    /// Closes the cycle. It takes the inputs of each unit whose own parts were all kept and are good, all at once; the other
+    /// Closes the cycle. It takes the inputs of each unit whose own parts all came back and are good, all at once; the other
     /// units' inputs stay as they are.
     ///
     /// # Errors
@@ -251,7 +251,7 @@ impl<'p> Master<'p> {
         ensures not_open { IsErr result ↔ (self.old.cycle ≡ None) }
         ensures cause { IfErr result (λ e. e ≡ NotOpen) }
         ensures closed { IfOk result (λ r. IsClosed self.old self.new r) }
-        ensures kept { OnErr result (self.new ≡ self.old) }
+        ensures unchanged { OnErr result (self.new ≡ self.old) }
     {
         if self.number.is_none() {
             return Err(CycleError::NotOpen);
@@ -271,7 +271,7 @@ impl<'p> Master<'p> {
         Ok(report)
     }
 
-    /// How many parts of the open cycle are not kept yet; 0 if no cycle is open.
+    /// How many parts of the open cycle aren't back yet; 0 if no cycle is open.
     pub fn missing(&self) -> usize
         ensures { result ≡ missing_of self.now.cycle }
     {
@@ -349,7 +349,7 @@ fn make_frames(
 }
 
 /// How many parts are not kept.
-#[tactic(auto, using(crate::proofs::Judging::missing_steps))]
+#[tactic(auto, using(crate::proofs::UnitLoops::missing_steps))]
 fn missing_of(kept: &[Returned]) -> usize
     requires { length kept.now ≤ 32 }
     ensures value { result ≡ nones kept.now }
@@ -357,7 +357,7 @@ fn missing_of(kept: &[Returned]) -> usize
 {
     let mut missing = 0;
     for part in kept {
-        if !part.is_kept() {
+        if !part.is_back() {
             missing += 1;
         }
     }
@@ -412,7 +412,7 @@ fn blank() -> [u8; MAX_PART_BYTES]
 }
 
 /// Room for what comes back of `count` parts; nothing did yet.
-fn nothing_kept(alloc: Global, count: usize) -> Result<Vec<Returned>, AllocError>
+fn nothing_returned(alloc: Global, count: usize) -> Result<Vec<Returned>, AllocError>
     ensures { IfOk result (λ v. length v.items ≡ count) }
 {
     let mut kept = Vec::new(alloc);

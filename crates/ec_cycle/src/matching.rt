@@ -6,13 +6,13 @@ ghost use Rattle.ec_frame.specs.Datagram.{Datagram, IsDatagram, IsSpelling, spel
 ghost use Rattle.ec_frame.specs.Frame.{Payload, IsFrame};
 ghost use Rattle.ec_cycle.specs.Matching.{Answered, SameAt, SameFrom, StandsFor, FirstStand, StepsOn, NextAre, Names};
 
-use crate::kept::Returned;
 use crate::renewing::SentFrame;
+use crate::returned::Returned;
 use ec_frame::field::NAME_LEN;
 use ec_frame::{DatagramCursor, DatagramSpan, Header, read_counter, read_data};
 
 /// The places of a frame's first four datagrams, in bytes; from 0 to 0 for each that isn't there.
-pub fn first_places(payload: &[u8]) -> [DatagramSpan; 4]
+pub fn first_spans(payload: &[u8]) -> [DatagramSpan; 4]
     requires { (p : Payload) × IsFrame payload.now p }
     ensures { (p : Payload) → IsFrame payload.now p → FirstStand payload.now result p.datagrams }
 {
@@ -24,7 +24,7 @@ pub fn first_places(payload: &[u8]) -> [DatagramSpan; 4]
     spans
 }
 
-/// The part whose frame a payload answers, if that part isn't kept yet; none if there is none.
+/// The part whose frame a payload answers, if that part isn't back yet; none if there is none.
 pub fn answered(
     payload: &[u8],
     count: usize,
@@ -40,7 +40,7 @@ pub fn answered(
     let Some(part) = named_part(payload, spans[0]) else {
         return None;
     };
-    if part >= frames.len() || kept[part].is_kept() {
+    if part >= frames.len() || kept[part].is_back() {
         return None;
     }
     if answers(payload, count, frames[part].bytes()) {

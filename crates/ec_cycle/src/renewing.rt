@@ -8,7 +8,7 @@ ghost use Rattle.ec_link.specs.Plan.{part_at};
 ghost use Rattle.ec_link.specs.Usable.{IsUsable};
 ghost use Rattle.ec_cycle.specs.Copies.{FitsRun, output_runs, runs_copied};
 ghost use Rattle.ec_cycle.specs.Frames.{process_bytes, sent_datagrams};
-ghost use Rattle.ec_cycle.specs.Kept.{IsMade};
+ghost use Rattle.ec_cycle.specs.MasterFields.{IsMade};
 ghost use Rattle.ec_cycle.specs.Renewing.{front_bytes, process_spelled};
 
 use crate::run::BitRun;
@@ -90,10 +90,10 @@ pub fn renew(frame: &mut [u8], plan: &Plan, part: usize, runs: &[BitRun], number
     requires made { IsMade plan.now part frame.old }
     ensures { IsFrame frame.new (bare_payload (sent_datagrams plan.now number part image.now)) }
 {
-    let place = plan.parts()[part];
+    let part_plan = plan.parts()[part];
     let (front, process) = frame.split_at_mut(PROCESS);
     renumber(front, number);
-    renumber_process(process, &place, number);
+    renumber_process(process, &part_plan, number);
     refill(process, plan, part, runs, image);
 }
 

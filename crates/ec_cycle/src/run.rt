@@ -199,13 +199,13 @@ fn input_run(plan: &Plan, link: &Link) -> InputRun
 {
     let settings = plan.settings(link.slave);
     let part = settings.share.part;
-    let place = plan.parts()[part];
+    let part_plan = plan.parts()[part];
     InputRun {
         part,
-        unit: place.unit,
+        unit: part_plan.unit,
         run: BitRun {
             to: link.image,
-            from: settings.from + link.object_bit - 8 * place.address as usize,
+            from: settings.from + link.object_bit - 8 * part_plan.address as usize,
             count: link.count,
         },
     }

@@ -95,7 +95,7 @@ encoded_cut text xs i (Some b) answer e h none = sym e.whole ∙ (ap (after e.fr
 pub same_items : (o : Option (Vec ℕ Global)) (v w : Vec ℕ Global) → o ≡ Some v → o ≡ Some w → v.items ≡ w.items
 same_items o v w e f = let same : v ≡ w = cc in ap (λ (x : Vec ℕ Global). x.items) same
 
--- ---- what the reader answers
+-- ---- what the reader returns
 
 pub encoded_ok : (text : Text) (xs : List (Bor Text)) (i : ℕ) (d : Bor Text) (old new : Option Begun) (answer more : Text) (o : Option (Vec ℕ Global)) → Encoded text xs i old answer → i < length xs → ReadsLine old (i + 1) (get_or xs i d).now new (Ok o)
     → (o ≡ None → more ≡ answer) → ((v : Vec ℕ Global) → o ≡ Some v → more ≡ answer ++ (encode_lower v.items ++ newline)) → Encoded text xs (i + 1) new more

@@ -1,4 +1,4 @@
--- What `parse` answers is the number of a word that doesn't begin with a plus.
+-- What `parse` returns is the number of a word that doesn't begin with a plus.
 use Rattle.std.proofs.Common.{◌≡◌, ◌≢◌, ◌∙◌, ℕ, ◌<◌, ◌^◌, [], ◌∷◌, length, get_or, Bool, true, false, nat_lt, Some, None, refl, sym, ap, arith, if◌then◌else◌, ◌&&◌, Result, Ok, Err}
 use Rattle.std.specs.Option.{unwrap_or}
 use Rattle.std.specs.List.{slice_get}

@@ -6,7 +6,7 @@ use Rattle.std.proofs.lemmas.Bool.Decides.{nat_tests}
 use Rattle.byteorder.specs.Endian.{little_number}
 use Rattle.ec_frame.specs.Datagram.{Datagram, IsDatagram, is_followed, joined, opened, spelling}
 use Rattle.ec_frame.specs.Frame.{IsFrame, Payload, length_field}
-use Rattle.ec_frame.proofs.Verdict.{area_is, reserved_bit}
+use Rattle.ec_frame.proofs.FrameOrFault.{area_is, reserved_bit}
 use Rattle.ec_decode.specs.Standing.{BeginsWith}
 
 pub joined_begins : (ds : List Datagram) (rest : List ℕ) → AllByRecursion IsDatagram ds → BeginsWith (joined ds ++ rest) ds

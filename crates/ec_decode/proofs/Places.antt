@@ -14,12 +14,12 @@ use Rattle.ec_frame.specs.Refusals.{FaultAt, FirstFault, IsRefused, SaysMoreWron
 use Rattle.ec_frame.proofs.Decoding.{data_length_again, decodes, good_decoded, more_at, one_spelling}
 use Rattle.ec_frame.proofs.Numbers.{IsBytes, number_most}
 use Rattle.ec_frame.proofs.Readings.{joined_last, same_after, same_more, spelling_length}
-use Rattle.ec_frame.proofs.Walked.{All-push, opened_push}
-use Rattle.ec_decode.specs.declared.placed.Front.{Front}
-use Rattle.ec_decode.specs.Faults.{AreWhole, BeginsNone, IsPlaced, StandBefore}
+use Rattle.ec_frame.proofs.WalkSteps.{All-push, opened_push}
+use Rattle.ec_decode.specs.declared.located.Front.{Front}
+use Rattle.ec_decode.specs.Faults.{AreWhole, BeginsNone, IsLocated, StandBefore}
 use Rattle.ec_decode.specs.Standing.{BeginsLong, BeginsWith, IsNotOpened, IsOpened}
 use Rattle.ec_decode.specs.Stopping.{Stops}
-use Rattle.ec_decode.proofs.Holdings.{opened_long}
+use Rattle.ec_decode.proofs.ReaderFields.{opened_long}
 use Rattle.ec_decode.proofs.Payloads.{joined_begins, opened_begins}
 
 -- ---- one datagram
@@ -221,8 +221,8 @@ before_is payload e front f s = record {
   place = ap (λ (n : ℕ). 2 + n) s.len;
 }
 
--- the place of each fault that isn't told by the header
-pub in_area : (payload : List ℕ) (e : FrameError) (front : Front) → IsRefused payload e → (e ≡ Short → ⊥) → (e ≡ BadType → ⊥) → (e ≡ TooLong → ⊥) → 0 < length (area payload) → (s : Stops (area payload) front) → IsPlaced payload e s.datagrams (2 + front.len)
+-- the place of each fault that doesn't follow from the header
+pub in_area : (payload : List ℕ) (e : FrameError) (front : Front) → IsRefused payload e → (e ≡ Short → ⊥) → (e ≡ BadType → ⊥) → (e ≡ TooLong → ⊥) → 0 < length (area payload) → (s : Stops (area payload) front) → IsLocated payload e s.datagrams (2 + front.len)
 in_area payload Short front r n1 n2 n3 some s = absurd (n1 refl)
 in_area payload BadType front r n1 n2 n3 some s = absurd (n2 refl)
 in_area payload TooLong front r n1 n2 n3 some s = absurd (n3 refl)
@@ -247,7 +247,7 @@ stand_begins payload e ds at s =
 none_begins : (bytes : List ℕ) (ds : List Datagram) → ds ≡ [] → BeginsWith bytes ds
 none_begins bytes ds none = rw none tt
 
-pub placed_begins : (payload : List ℕ) (e : FrameError) (ds : List Datagram) (at : ℕ) → IsPlaced payload e ds at → BeginsWith (area payload) ds
+pub placed_begins : (payload : List ℕ) (e : FrameError) (ds : List Datagram) (at : ℕ) → IsLocated payload e ds at → BeginsWith (area payload) ds
 placed_begins payload Short ds at p = whole_begins payload ds p.0
 placed_begins payload BadType ds at p = none_begins (area payload) ds p.0
 placed_begins payload TooLong ds at p = none_begins (area payload) ds p.0

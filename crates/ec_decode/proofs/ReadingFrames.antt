@@ -18,7 +18,7 @@ use Rattle.ec_decode.specs.Laws.{IsWritten, ListsReadBack, OneTextIsOneFrame, Te
 use Rattle.ec_decode.specs.Lines.{Heading, datagram_in}
 use Rattle.ec_decode.specs.Words.{words_of}
 use Rattle.ec_decode.specs.Reading.{Begun, Step, before, begins, frames_from, frames_of, grown, grows, is_skipped, step_by, step_of}
-use Rattle.ec_decode.proofs.Holdings.{opened_long}
+use Rattle.ec_decode.proofs.ReaderFields.{opened_long}
 use Rattle.ec_decode.proofs.ReadingWords.{bytes_at, number_word, verb_word}
 use Rattle.ec_decode.proofs.ReadingLines.{datagram_are_words, datagram_back, heading_are_words, heading_back, is_line, lines_step, says, split_back}
 

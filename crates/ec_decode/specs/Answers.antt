@@ -9,7 +9,7 @@ use Rattle.ec_frame.specs.Datagram.{Datagram}
 use Rattle.ec_frame.specs.Frame.{IsFrame, Payload}
 use Rattle.ec_decode.specs.declared.error.DecodeError.{DecodeError}
 use Rattle.ec_decode.specs.declared.error.DecodeError.TheVariants.{Memory, BadScript}
-use Rattle.ec_decode.specs.declared.placed.PlacedFault.{PlacedFault}
+use Rattle.ec_decode.specs.declared.located.LocatedFault.{LocatedFault}
 use Rattle.ec_decode.specs.Faults.{IsRefusedAt, refused_text}
 use Rattle.ec_decode.specs.FrameText.{Text, frame_text, newline}
 use Rattle.ec_decode.specs.Reading.{frames_of}
@@ -17,7 +17,7 @@ use Rattle.ec_decode.specs.Reading.{frames_of}
 -- the text of a payload: of a frame, or of what is none
 abbrev pub IsTextOf : List ℕ → Text → Type 0
 IsTextOf payload text =
-    ((p : Payload) × IsFrame payload p × (text ≡ frame_text p)) ⊎ ((r : PlacedFault) × (ds : List Datagram) × IsRefusedAt payload r ds × (text ≡ refused_text r ds))
+    ((p : Payload) × IsFrame payload p × (text ≡ frame_text p)) ⊎ ((r : LocatedFault) × (ds : List Datagram) × IsRefusedAt payload r ds × (text ≡ refused_text r ds))
 
 -- a line of hex digits of either case is a payload's text; a line that isn't hex has none
 abbrev pub DecodesLine : Text → Option (String Global) → Type 0

@@ -9,9 +9,9 @@ use Rattle.ec_frame.specs.Datagram.{Datagram, IsDatagram, joined, opened, spelli
 use Rattle.ec_frame.specs.Frame.{area, length_field}
 use Rattle.ec_frame.specs.Refusals.{FirstFault, IsRefused, refusal_number}
 use Rattle.ec_decode.specs.FrameText.{Text, datagram_lines, newline, spaced}
-use Rattle.ec_decode.specs.declared.placed.PlacedFault.{PlacedFault}
+use Rattle.ec_decode.specs.declared.located.LocatedFault.{LocatedFault}
 
--- ---- the places of faults
+-- ---- the positions of faults
 
 -- no datagram stands whole at the front of some bytes
 abbrev pub BeginsNone : List ℕ → Type 0
@@ -35,18 +35,18 @@ abbrev pub IsInHeader : List Datagram → ℕ → Type 0
 IsInHeader ds at = (ds ≡ []) × (at ≡ 0)
 
 -- A payload that is cut short is wrong at its end, and all datagrams that stand whole are before that.
-abbrev pub IsPlaced : List ℕ → FrameError → List Datagram → ℕ → Type 0
-IsPlaced payload Short ds at = AreWhole (area payload) ds × (at ≡ length payload)
-IsPlaced payload BadType ds at = IsInHeader ds at
-IsPlaced payload TooLong ds at = IsInHeader ds at
-IsPlaced payload BadLength ds at = ((length_field payload ≡ 0) × IsInHeader ds at) ⊎ StandBefore payload BadLength ds at
-IsPlaced payload BadCommand ds at = StandBefore payload BadCommand ds at
-IsPlaced payload BadMore ds at = StandBefore payload BadMore ds at
+abbrev pub IsLocated : List ℕ → FrameError → List Datagram → ℕ → Type 0
+IsLocated payload Short ds at = AreWhole (area payload) ds × (at ≡ length payload)
+IsLocated payload BadType ds at = IsInHeader ds at
+IsLocated payload TooLong ds at = IsInHeader ds at
+IsLocated payload BadLength ds at = ((length_field payload ≡ 0) × IsInHeader ds at) ⊎ StandBefore payload BadLength ds at
+IsLocated payload BadCommand ds at = StandBefore payload BadCommand ds at
+IsLocated payload BadMore ds at = StandBefore payload BadMore ds at
 
 -- what is said of a payload that is no frame, with the datagrams before its fault
-pub record IsRefusedAt (payload : List ℕ) (r : PlacedFault) (ds : List Datagram) : Type 0 where
+pub record IsRefusedAt (payload : List ℕ) (r : LocatedFault) (ds : List Datagram) : Type 0 where
   pub refused : IsRefused payload r.error
-  pub placed : IsPlaced payload r.error ds r.at
+  pub placed : IsLocated payload r.error ds r.at
   pub whole : r.whole ≡ length ds
 
 -- ---- its text
@@ -60,11 +60,11 @@ error_name BadCommand = codes "BadCommand"
 error_name TooLong = codes "TooLong"
 
 -- the refusal's number and name, how many datagrams stand whole before the fault, and the byte where what is wrong begins
-unfoldable pub refused_line : PlacedFault → Text
+unfoldable pub refused_line : LocatedFault → Text
 refused_line r =
     codes "refused"
     ++ (spaced (decimal (refusal_number r.error) ∷ error_name r.error ∷ codes "datagram" ∷ decimal r.whole ∷ codes "byte" ∷ decimal r.at ∷ []) ++ newline)
 
 -- the lines of the datagrams before the fault, and then that of the refusal
-abbrev pub refused_text : PlacedFault → List Datagram → Text
+abbrev pub refused_text : LocatedFault → List Datagram → Text
 refused_text r ds = datagram_lines 0 ds ++ refused_line r

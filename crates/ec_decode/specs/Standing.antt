@@ -5,8 +5,8 @@ use Rattle.ec_frame.specs.declared.datagram.Header.{Header}
 use Rattle.ec_frame.specs.Datagram.{Datagram, IsDatagram, spelling}
 
 -- the datagram of a header, a counter and data
-abbrev pub told : Header → ℕ → List ℕ → Datagram
-told header counter bytes = record {
+abbrev pub datagram_of : Header → ℕ → List ℕ → Datagram
+datagram_of header counter bytes = record {
   command = header.command;
   index = header.index;
   address = header.address;

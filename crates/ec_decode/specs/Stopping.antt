@@ -2,7 +2,7 @@
 use Rattle.std.specs.Prelude.{◌≡◌, ℕ, ◌<◌, List, ◌++◌, length}
 use Rattle.std.specs.List.{AllByRecursion}
 use Rattle.ec_frame.specs.Datagram.{Datagram, IsDatagram, opened}
-use Rattle.ec_decode.specs.declared.placed.Front.{Front}
+use Rattle.ec_decode.specs.declared.located.Front.{Front}
 use Rattle.ec_decode.specs.Standing.{IsNotOpened}
 
 -- no datagram that says rightly that another follows begins what is left

@@ -4,7 +4,7 @@ ghost use Rattle.std.specs.Fmt.{decimal};
 ghost use Rattle.byteorder.specs.Endian.{little_number};
 ghost use Rattle.ec_frame.specs.Datagram.{Datagram, IsDatagram, IsSpelling, data_length, spelling};
 ghost use Rattle.ec_decode.specs.FrameText.{address_words, byte_text, circulating_words, command_name, data_text, datagram_line, datagram_lines, irq_words, is_logical, newline, reserved_words, spaced};
-ghost use Rattle.ec_decode.specs.Standing.{BeginsWith, told};
+ghost use Rattle.ec_decode.specs.Standing.{BeginsWith, datagram_of};
 
 use byteorder::{ByteOrder, LittleEndian};
 use ec_frame::field::OVERHEAD;
@@ -116,7 +116,7 @@ fn write_line(
     content: &[u8],
 ) -> Result<(), AllocError>
     ensures { OnOk result (string_bytes text.new ≡ string_bytes text.old
-        ++ datagram_line number (told header.now counter content.now)) }
+        ++ datagram_line number (datagram_of header.now counter content.now)) }
 {
     write_head(alloc, text, number, header)?;
     write_address(alloc, text, header)?;

@@ -20,19 +20,19 @@ pub fn one_text_is_one_frame()
 {}
 
 /// A text stands for the frames that it stands for without its indented lines.
-#[tactic(auto, using(crate::proofs::Skipping::indented_lines_are_skipped))]
+#[tactic(auto, using(crate::proofs::IndentedLines::indented_lines_are_skipped))]
 pub fn indented_lines_are_skipped()
     ensures { IndentedLinesAreSkipped }
 {}
 
 /// What lines of hex are printed as has no indented line.
-#[tactic(auto, using(crate::proofs::Staying::texts_have_no_indented_lines))]
+#[tactic(auto, using(crate::proofs::NoIndentedLines::texts_have_no_indented_lines))]
 pub fn texts_have_no_indented_lines()
     ensures { TextsHaveNoIndentedLines }
 {}
 
 /// A text that is a frame's without its indented lines is read back as that frame, bit for bit.
-#[tactic(auto, using(crate::proofs::Skipping::remarked_frames_read_back))]
+#[tactic(auto, using(crate::proofs::IndentedLines::remarked_frames_read_back))]
 pub fn remarked_frames_read_back()
     ensures { RemarkedFramesReadBack }
 {}

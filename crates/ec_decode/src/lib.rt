@@ -7,7 +7,7 @@ mod error;
 mod frame;
 pub mod laws;
 mod line;
-mod placed;
+mod located;
 mod reader;
 mod text;
 mod weaving;
@@ -15,7 +15,7 @@ mod words;
 
 pub use crate::error::DecodeError;
 pub use crate::frame::write_frame;
-pub use crate::placed::{PlacedFault, check_placed, error_name, write_refused};
+pub use crate::located::{LocatedFault, check_located, error_name, write_refused};
 pub use crate::reader::Reader;
 pub use crate::text::{Decoded, decode_line, decode_text, encode_text, payload_text};
 pub use crate::weaving::{push_indented, weave};

@@ -8,7 +8,7 @@ ghost use Rattle.ec_decode.specs.Steps.{AddsLine, AddsLines};
 
 use crate::error::DecodeError;
 use crate::frame::write_counted;
-use crate::placed::{check_placed, write_refused};
+use crate::located::{check_located, write_refused};
 use crate::reader::Reader;
 use hex::FromHexError;
 use std::alloc::{AllocError, Global};
@@ -19,7 +19,7 @@ pub fn payload_text(alloc: Global, payload: &[u8]) -> Result<String, AllocError>
     ensures { IfOk result (λ text. IsTextOf payload.now (string_bytes text)) }
 {
     let mut text = String::new(alloc);
-    match check_placed(payload) {
+    match check_located(payload) {
         Ok(count) => write_counted(alloc, &mut text, count, payload)?,
         Err(refused) => write_refused(alloc, &mut text, payload, refused)?,
     }

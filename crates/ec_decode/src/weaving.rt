@@ -28,12 +28,12 @@ pub fn weave(alloc: Global, text: &str, remarks: &[String]) -> Result<String, Al
     let parts = parts_of(alloc, text)?;
     let mut answer = String::new(alloc);
     let count = parts.len();
-    for (place, part) in parts.as_slice().iter().enumerate() {
+    for (index, part) in parts.as_slice().iter().enumerate() {
         push_part(
             alloc,
             &mut answer,
             part,
-            remarks_behind(remarks, place, count),
+            remarks_behind(remarks, index, count),
         )?;
     }
     Ok(answer)
@@ -77,22 +77,22 @@ fn push_part(
 }
 
 /// The remarks behind a part of a text, if it is a line and not the last part.
-fn remarks_behind(remarks: &[String], place: usize, parts: usize) -> Option<&str>
-    requires { place < parts }
-    ensures { option_map (λ x. x.now) result ≡ behind (map string_bytes remarks.now) place (nat_lt (place + 1) parts) }
+fn remarks_behind(remarks: &[String], index: usize, parts: usize) -> Option<&str>
+    requires { index < parts }
+    ensures { option_map (λ x. x.now) result ≡ behind (map string_bytes remarks.now) index (nat_lt (index + 1) parts) }
 {
-    if place + 1 < parts {
-        Some(remark_of(remarks, place))
+    if index + 1 < parts {
+        Some(remark_of(remarks, index))
     } else {
         None
     }
 }
 
 /// The remarks on a line; empty if there are none.
-fn remark_of(remarks: &[String], place: usize) -> &str
-    ensures { result.now ≡ remark_of (map string_bytes remarks.now) place }
+fn remark_of(remarks: &[String], index: usize) -> &str
+    ensures { result.now ≡ remark_of (map string_bytes remarks.now) index }
 {
-    match remarks.get(place) {
+    match remarks.get(index) {
         Some(remark) => remark.as_str(),
         None => "",
     }

@@ -15,14 +15,14 @@ opens b = nat_lt b 128 || nat_le 192 b
 
 -- as many line ends stand before it, and one line more
 abbrev pub line_at : List ℕ → ℕ → ℕ
-line_at text place = 1 + count_by is_line_end (take place text)
+line_at text position = 1 + count_by is_line_end (take position text)
 
 -- as many characters stand between the last line end before it and it, and one more
 abbrev pub column_at : List ℕ → ℕ → ℕ
-column_at text place = 1 + count_by opens (take_while goes_on (reverse (take place text)))
+column_at text position = 1 + count_by opens (take_while goes_on (reverse (take position text)))
 
 abbrev pub spot_at : List ℕ → ℕ → Spot
-spot_at text place = record { line = line_at text place; column = column_at text place }
+spot_at text position = record { line = line_at text position; column = column_at text position }
 
 -- the lines of a text without their ends; behind the last end there is one more
 abbrev pub onto : ℕ → List (List ℕ) → List (List ℕ)

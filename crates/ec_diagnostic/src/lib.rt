@@ -4,19 +4,19 @@
 //! Of a TOML text: where its tables, keys and values stand, and remarks on them for people.
 #![tactic(auto)]
 
+mod diagnosis;
 mod outline;
 mod reason;
 mod remark;
 mod spot;
-mod telling;
 mod text;
 mod token;
 mod words;
 
+pub use crate::diagnosis::{Diagnosis, MarkedPart};
 pub use crate::outline::{Found, Outline, PathStep};
 pub use crate::reason::reason_line;
 pub use crate::remark::{Remark, Remarks};
 pub use crate::spot::{Span, Spot, spot_of};
-pub use crate::telling::{MarkedPart, Telling};
 pub use crate::text::{printed, without_mark};
 pub use crate::words::{Counted, Meant, Nearest, Printable, comma, is_among};

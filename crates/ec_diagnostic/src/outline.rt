@@ -3,7 +3,7 @@ use crate::spot::Span;
 use crate::token::{Token, TokenKind, tokens_of};
 use std::alloc::{AllocError, Global};
 
-/// A step on the way to a value.
+/// A step of the path to a value.
 #[derive(Clone, Copy, Debug, PartialEq, Eq)]
 pub enum PathStep<'a> {
     /// To what stands under a key of a table.
@@ -23,7 +23,7 @@ enum Node {
     Value(usize),
 }
 
-/// What is found at the end of a way.
+/// What is found at the end of a path.
 #[derive(Clone, Copy, Debug, Default, PartialEq, Eq)]
 pub struct Found {
     /// The key, or the first line of an item.
@@ -93,11 +93,11 @@ impl<'a> Outline<'a> {
         Ok(Outline { tokens, statements })
     }
 
-    /// Follows a way through the text as far as it is found, and returns what stands there.
-    pub fn find(&self, way: &[PathStep<'_>]) -> Found {
+    /// Follows a path through the text as far as it is found, and returns what stands there.
+    pub fn find(&self, path: &[PathStep<'_>]) -> Found {
         let mut found = Found::default();
         let mut node = Node::Table(0);
-        for step in way {
+        for step in path {
             let Some((key, next)) = self.next(node, *step) else {
                 break;
             };
@@ -143,13 +143,13 @@ impl<'a> Outline<'a> {
     /// What stands under a key of the table behind a header, by a header of its own.
     fn in_headers(&self, header: usize, key: &[u8]) -> Option<(Span, Node)> {
         let table = self.statements.get(header)?.name.as_slice();
-        let place = self.header_under(header.saturating_add(1), table, key)?;
-        let found = self.statements.get(place)?;
+        let index = self.header_under(header.saturating_add(1), table, key)?;
+        let found = self.statements.get(index)?;
         let is_item = found.brackets > 1 && found.name.len() == table.len().saturating_add(1);
         let node = if is_item {
-            Node::Headers(place)
+            Node::Headers(index)
         } else {
-            Node::Table(place)
+            Node::Table(index)
         };
         Some((found.span, node))
     }
@@ -157,13 +157,13 @@ impl<'a> Outline<'a> {
     /// The first header, among the statement `from` and those behind it, that stands under a key of a table. A
     /// header of the table itself, or of one that it stands in, ends the search.
     fn header_under(&self, from: usize, table: &[&'a [u8]], key: &[u8]) -> Option<usize> {
-        for place in from..self.statements.len() {
-            let header = &self.statements[place];
+        for index in from..self.statements.len() {
+            let header = &self.statements[index];
             if header.is_header() && table.starts_with(header.name.as_slice()) {
                 return None;
             }
             if header.is_header() && header.is_under(table, key) {
-                return Some(place);
+                return Some(index);
             }
         }
         None
@@ -173,15 +173,15 @@ impl<'a> Outline<'a> {
     fn in_item_headers(&self, first: usize, item: usize) -> Option<(Span, Node)> {
         let array = self.statements.get(first)?.name.as_slice();
         let mut left = item;
-        for place in first..self.statements.len() {
-            let header = &self.statements[place];
+        for index in first..self.statements.len() {
+            let header = &self.statements[index];
             let name = header.name.as_slice();
             if header.is_header() && array.starts_with(name) {
                 if name.len() != array.len() {
                     return None;
                 }
                 if left == 0 {
-                    return Some((header.span, Node::Table(place)));
+                    return Some((header.span, Node::Table(index)));
                 }
                 left -= 1;
             }
@@ -191,10 +191,10 @@ impl<'a> Outline<'a> {
 
     /// What a step leads to in the brackets or braces that the token `first` opens.
     fn in_value(&self, first: usize, step: PathStep<'_>) -> Option<(Span, Node)> {
-        let place = self.place_inside(first, step)?;
+        let index = self.place_inside(first, step)?;
         match step {
-            PathStep::Key(_) => self.value_behind(place),
-            PathStep::Item(_) => Some((self.value_bytes(place), Node::Value(place))),
+            PathStep::Key(_) => self.value_behind(index),
+            PathStep::Item(_) => Some((self.value_bytes(index), Node::Value(index))),
         }
     }
 
@@ -202,14 +202,14 @@ impl<'a> Outline<'a> {
     fn place_inside(&self, first: usize, step: PathStep<'_>) -> Option<usize> {
         let inside = self.tokens.get(first)?.depth.saturating_add(1);
         let (mut number, mut begins) = (0_usize, true);
-        for place in first.saturating_add(1)..self.tokens.len() {
-            let token = self.tokens[place];
+        for index in first.saturating_add(1)..self.tokens.len() {
+            let token = self.tokens[index];
             if token.kind != TokenKind::LineEnd {
                 if token.depth < inside {
                     return None;
                 }
                 if begins && token.begins(step, number) {
-                    return Some(place);
+                    return Some(index);
                 }
                 number = number.saturating_add(usize::from(begins));
                 begins = token.kind == TokenKind::Comma && token.depth == inside;
@@ -218,12 +218,12 @@ impl<'a> Outline<'a> {
         None
     }
 
-    /// The bytes of the key whose token is at the place `key`, and the value behind it.
+    /// The bytes of the key whose token is at the index `key`, and the value behind it.
     fn value_behind(&self, key: usize) -> Option<(Span, Node)> {
         let span = self.tokens.get(key)?.span;
-        for place in key..self.tokens.len() {
-            if self.tokens[place].kind == TokenKind::Equals {
-                return Some((span, Node::Value(place.saturating_add(1))));
+        for index in key..self.tokens.len() {
+            if self.tokens[index].kind == TokenKind::Equals {
+                return Some((span, Node::Value(index.saturating_add(1))));
             }
         }
         None
@@ -278,9 +278,9 @@ fn push_statements<'a>(
 
 /// How many brackets are opened before all other tokens.
 fn brackets_before(tokens: &[Token<'_>]) -> usize {
-    for (place, token) in tokens.iter().enumerate() {
+    for (index, token) in tokens.iter().enumerate() {
         if token.kind != TokenKind::Open {
-            return place;
+            return index;
         }
     }
     tokens.len()

@@ -28,7 +28,7 @@ pub fn reason_line(alloc: Global, words: &str) -> Result<String, AllocError>
 fn on_one_line(words: &str) -> &str
     ensures some { result.now ≢ [] }
     ensures one_line { All (λ b. b ≢ 10) result.now }
-    ensures kept { words.now ≢ [] → All (λ b. b ≢ 10) words.now → result.now ≡ words.now }
+    ensures unchanged { words.now ≢ [] → All (λ b. b ≢ 10) words.now → result.now ≡ words.now }
 {
     if words.is_empty() || words.as_bytes().contains(&b'\n') {
         PLAIN

@@ -57,7 +57,7 @@ impl<'a> Remarks<'a> {
     /// is added.
     pub fn at(&mut self, span: Span, words: String) -> Result<(), AllocError>
         ensures said { OnOk result (SaysMore self.old self.new (Some (spot_at self.old.text span.start)) words) }
-        ensures kept { OnErr result (self.new ≡ self.old) }
+        ensures unchanged { OnErr result (self.new ≡ self.old) }
     {
         self.list.push(Remark {
             spot: Some(spot_of(self.text, span.start)),
@@ -71,7 +71,7 @@ impl<'a> Remarks<'a> {
     /// added.
     pub fn note(&mut self, words: String) -> Result<(), AllocError>
         ensures said { OnOk result (SaysMore self.old self.new None words) }
-        ensures kept { OnErr result (self.new ≡ self.old) }
+        ensures unchanged { OnErr result (self.new ≡ self.old) }
     {
         self.list.push(Remark {
             spot: None,
@@ -92,7 +92,7 @@ impl<'a> Remarks<'a> {
     /// The text of the remarks. One with a place has a line with that place and its words. Below stand the
     /// line of the text, and a mark. One without a place has a line with its words. The lines of the text
     /// have no control character but tabs. `AllocError` if memory ran out.
-    pub fn told(&self, alloc: Global) -> Result<String, AllocError> {
+    pub fn to_text(&self, alloc: Global) -> Result<String, AllocError> {
         let mut told = String::new(alloc);
         for remark in self.list() {
             match remark.spot {

@@ -58,10 +58,10 @@ impl fmt::Display for Meant<'_> {
     }
 }
 
-/// What stands before the text at a place of a list of `count` texts: nothing, a comma or `and`.
-pub fn comma(place: usize, count: usize) -> &'static str {
-    match count.saturating_sub(place) {
-        _ if place == 0 => "",
+/// What stands before the text at an index of a list of `count` texts: nothing, a comma or `and`.
+pub fn comma(index: usize, count: usize) -> &'static str {
+    match count.saturating_sub(index) {
+        _ if index == 0 => "",
         1 => " and ",
         _ => ", ",
     }

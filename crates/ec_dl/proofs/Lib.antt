@@ -1,2 +1,2 @@
 -- a register that keeps writes reads what a datagram wrote there
-pub mod Kept
+pub mod StoredRegisters

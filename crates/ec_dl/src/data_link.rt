@@ -3,7 +3,7 @@ ghost use Rattle.std.specs.Prelude.{◌≡◌, length, slice_index};
 ghost use Rattle.std.specs.Option.{option_copied, option_map_or};
 ghost use Rattle.std.specs.List.{list_any};
 ghost use Rattle.ec_bits.specs.Bits.{within as within_of};
-ghost use Rattle.ec_dl.specs.DataLink.{new_data_link, dl_byte, dl_takes, dl_written, byte_kept, kept_place, kept_registers, status_word};
+ghost use Rattle.ec_dl.specs.DataLink.{new_data_link, dl_byte, dl_takes, dl_written, byte_stored, stored_index, stored_registers, status_word};
 
 use ec_bits::within;
 use ec_device::Face;
@@ -27,7 +27,7 @@ const FOLLOWED: u16 = 0x5A31;
 const LAST: u16 = 0x5611;
 
 /// The registers that keep what is written: DL control, PDI control, SII access.
-const KEPT: [usize; 6] = [0x0100, 0x0101, 0x0102, 0x0103, 0x0140, 0x0500];
+const STORED: [usize; 6] = [0x0100, 0x0101, 0x0102, 0x0103, 0x0140, 0x0500];
 
 /// The data link registers of a slave (ETG.1000.4, "DL information" to "DL status"). A full slave shows the type of its
 /// controller (0x0000), its port descriptors (0x0007) and its links (DL status, 0x0110), and keeps what datagrams write to DL
@@ -35,9 +35,9 @@ const KEPT: [usize; 6] = [0x0100, 0x0101, 0x0102, 0x0103, 0x0140, 0x0500];
 /// none of them.
 #[derive(Debug, Drop)]
 pub struct DataLink {
-    is_shown: bool,
+    is_visible: bool,
     has_next: bool,
-    kept: [u8; 6],
+    stored: [u8; 6],
 }
 
 impl Model for DataLink {
@@ -45,7 +45,7 @@ impl Model for DataLink {
 
     ghost Value = { Registers };
 
-    ghost view = { λ d. record { shown = d.is_shown; next = d.has_next; kept = d.kept } };
+    ghost view = { λ d. record { visible = d.is_visible; next = d.has_next; stored = d.stored } };
 }
 
 impl DataLink {
@@ -55,14 +55,14 @@ impl DataLink {
     {
         match face {
             None => DataLink {
-                is_shown: false,
+                is_visible: false,
                 has_next: false,
-                kept: [0; 6],
+                stored: [0; 6],
             },
             Some(face) => DataLink {
-                is_shown: true,
+                is_visible: true,
                 has_next: !face.is_last,
-                kept: [0; 6],
+                stored: [0; 6],
             },
         }
     }
@@ -72,7 +72,7 @@ impl DataLink {
     pub fn read(&self, address: usize) -> u8
         ensures { result ≡ dl_byte self.now address }
     {
-        if !self.is_shown {
+        if !self.is_visible {
             return 0;
         }
         match address {
@@ -80,7 +80,7 @@ impl DataLink {
             PORT_DESCRIPTORS => TWO_PORTS,
             DL_STATUS => (status_word(self.has_next) % 256) as u8,
             DL_STATUS_HIGH => (status_word(self.has_next) / 256) as u8,
-            _ => self.kept_byte(address),
+            _ => self.stored_byte(address),
         }
     }
 
@@ -91,32 +91,32 @@ impl DataLink {
         ensures after { self.new ≡ dl_written self.old from bytes.now }
         ensures some { result ≡ dl_takes self.old from (length bytes.now) }
     {
-        if !self.is_shown || !reaches_kept(from, bytes.len()) {
+        if !self.is_visible || !reaches_stored(from, bytes.len()) {
             return false;
         }
-        let [byte_0, byte_1, byte_2, byte_3, pdi, sii] = self.kept;
-        self.kept = [
-            byte_kept(from, bytes, 0x0100, byte_0),
-            byte_kept(from, bytes, 0x0101, byte_1),
-            byte_kept(from, bytes, 0x0102, byte_2),
-            byte_kept(from, bytes, 0x0103, byte_3),
-            byte_kept(from, bytes, 0x0140, pdi),
-            byte_kept(from, bytes, 0x0500, sii),
+        let [byte_0, byte_1, byte_2, byte_3, pdi, sii] = self.stored;
+        self.stored = [
+            byte_stored(from, bytes, 0x0100, byte_0),
+            byte_stored(from, bytes, 0x0101, byte_1),
+            byte_stored(from, bytes, 0x0102, byte_2),
+            byte_stored(from, bytes, 0x0103, byte_3),
+            byte_stored(from, bytes, 0x0140, pdi),
+            byte_stored(from, bytes, 0x0500, sii),
         ];
         true
     }
 
     /// What was written to an address, if it keeps that.
-    fn kept_byte(&self, address: usize) -> u8
-        ensures { result ≡ option_map_or (slice_index self.now.kept) (kept_place address) 0 }
+    fn stored_byte(&self, address: usize) -> u8
+        ensures { result ≡ option_map_or (slice_index self.now.stored) (stored_index address) 0 }
     {
         match address {
-            0x0100 => self.kept[0],
-            0x0101 => self.kept[1],
-            0x0102 => self.kept[2],
-            0x0103 => self.kept[3],
-            0x0140 => self.kept[4],
-            0x0500 => self.kept[5],
+            0x0100 => self.stored[0],
+            0x0101 => self.stored[1],
+            0x0102 => self.stored[2],
+            0x0103 => self.stored[3],
+            0x0140 => self.stored[4],
+            0x0500 => self.stored[5],
             _ => 0,
         }
     }
@@ -130,15 +130,15 @@ fn status_word(has_next: bool) -> u16
 }
 
 /// Whether a datagram over the `len` bytes that begin at `from` reaches a register that keeps writes.
-fn reaches_kept(from: usize, len: usize) -> bool
-    ensures { result ≡ list_any (λ a. within_of from len a) kept_registers }
+fn reaches_stored(from: usize, len: usize) -> bool
+    ensures { result ≡ list_any (λ a. within_of from len a) stored_registers }
 {
-    KEPT.iter().any(|address| within(from, len, *address))
+    STORED.iter().any(|address| within(from, len, *address))
 }
 
 /// The byte that an address keeps, after a datagram whose bytes begin at `from`.
-fn byte_kept(from: usize, bytes: &[u8], address: usize, old: u8) -> u8
-    ensures { result ≡ byte_kept from bytes.now address old }
+fn byte_stored(from: usize, bytes: &[u8], address: usize, old: u8) -> u8
+    ensures { result ≡ byte_stored from bytes.now address old }
 {
     if within(from, bytes.len(), address) {
         bytes[address - from]

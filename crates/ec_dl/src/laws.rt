@@ -1,7 +1,7 @@
 //! What a master finds by the data link registers, proved of the definitions that the contracts of this crate cite. Each function
 //! does nothing; its contract is the law, which `specs/Laws.antt` spells out.
 
-ghost use Rattle.ec_dl.specs.Laws.{PlainSlavesHideThem, OnlyTakenIsKept, WritesAreReadBack, KeptAreSix, OneKeptIsTaken, StatusTellsLinks};
+ghost use Rattle.ec_dl.specs.Laws.{PlainSlavesHideThem, OnlyTakenIsStored, WritesAreReadBack, StoredAreSix, OneStoredIsTaken, StatusHasLinks};
 
 /// A slave that isn't full has none of these registers.
 #[tactic(auto, unfolding(crate::specs::DataLink::dl_byte, crate::specs::DataLink::dl_takes, crate::specs::DataLink::dl_written))]
@@ -11,8 +11,8 @@ pub fn plain_slaves_hide_them()
 
 /// What isn't taken changes nothing.
 #[tactic(auto, unfolding(crate::specs::DataLink::dl_written))]
-pub fn only_taken_is_kept()
-    ensures { OnlyTakenIsKept }
+pub fn only_taken_is_stored()
+    ensures { OnlyTakenIsStored }
 {}
 
 /// After a datagram a register that keeps writes reads the datagram's byte, and every other what it read.
@@ -21,17 +21,17 @@ pub fn writes_are_read_back()
 {}
 
 /// Six bytes of registers keep writes.
-pub fn kept_are_six()
-    ensures { KeptAreSix }
+pub fn stored_are_six()
+    ensures { StoredAreSix }
 {}
 
 /// A datagram that reaches a register that keeps writes is taken.
-pub fn one_kept_is_taken()
-    ensures { OneKeptIsTaken }
+pub fn one_stored_is_taken()
+    ensures { OneStoredIsTaken }
 {}
 
 /// DL status shows the links of a slave.
 #[tactic(auto, unfolding(crate::specs::DataLink::dl_byte))]
-pub fn status_tells_links()
-    ensures { StatusTellsLinks }
+pub fn status_has_links()
+    ensures { StatusHasLinks }
 {}

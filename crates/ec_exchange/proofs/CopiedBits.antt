@@ -1,13 +1,13 @@
--- Copies of bits, as what is told bit by bit.
+-- Copies of bits, as updates bit by bit.
 use Rattle.std.proofs.Common.{ℕ, ◌+◌, ◌-◌, ◌*◌, ◌<◌, ◌≤◌, ◌≡◌, Bool, true, false, Option, Some, None, is_some, unwrap_or, if◌then◌else◌, nat_lt, List, All, length, slice_index, refl, sym, ◌∙◌, ap, subst, arith, inl, inr}
 use Rattle.std.proofs.lemmas.Bool.{both_ways, cases_lt, cases_Bool, false≢true, lt-ltb, le-ltb}
 use Rattle.std.proofs.lemmas.List.{get_or_default, get_or-replicate, get_or_past, length-replicate}
-use Rattle.ec_bits.specs.Bits.{bit, copied, overlay, run_told, within, zeros, bytes_of_bits}
+use Rattle.ec_bits.specs.Bits.{bit, copied, overlay, run_updates, within, zeros, bytes_of_bits}
 use Rattle.ec_bits.proofs.Algebra.{same_bits, overlay_keeps_bytes}
 use Rattle.ec_bits.proofs.AnyLaws.{if_true, if_false, within_true, within_above, within_parts}
 use Rattle.ec_bits.proofs.BitLaws.{bit-overlay, length-overlay, overlay_alike}
 use Rattle.ec_fmmu.specs.Areas.{Area}
-use Rattle.ec_fmmu.specs.Applied.{Place}
+use Rattle.ec_fmmu.specs.Applied.{LogicalSpan}
 use Rattle.ec_exchange.specs.Bits.{bits_from}
 use Rattle.ec_exchange.specs.Values.{inputs_into, outputs_from}
 
@@ -35,9 +35,9 @@ small-zeros n k = elim (cases_lt k n) [
   | inr g ↦ let z : slice_index (zeros n) k ≡ 0 = get_or_past (zeros n) k 0 (let e = length-replicate {A = ℕ} n 0 in omega (arith, e, g)) in omega (arith, z)
 ]
 
--- a copy of the first `n` of the bits that are left tells what is told, where no more are left in the value
+-- a copy of the first `n` of the bits that are left has their updates, where no more are left in the value
 alike : (bytes : List ℕ) (at count skipped n k : ℕ) → (k < n → skipped + k < count) → (n ≤ k → count ≤ skipped + k)
-    → run_told 0 bytes (at + skipped) n k ≡ (if nat_lt (skipped + k) count then Some (bit bytes (at + (skipped + k))) else None)
+    → run_updates 0 bytes (at + skipped) n k ≡ (if nat_lt (skipped + k) count then Some (bit bytes (at + (skipped + k))) else None)
 alike bytes at count skipped n k inside outside = elim (cases_lt k n) [
   | inl l ↦
       let e : at + skipped + (k - 0) ≡ at + (skipped + k) = omega arith in
@@ -52,7 +52,7 @@ alike bytes at count skipped n k inside outside = elim (cases_lt k n) [
 pub copied_from : (bytes : List ℕ) (at count skipped len n : ℕ) → n ≡ count - skipped → skipped ≤ count
     → copied (zeros len) 0 bytes (at + skipped) n ≡ bits_from bytes at count skipped len
 copied_from bytes at count skipped len n e l =
-    overlay_alike (zeros len) (run_told 0 bytes (at + skipped) n) _ (λ k i.
+    overlay_alike (zeros len) (run_updates 0 bytes (at + skipped) n) _ (λ k i.
     ap (λ (x : Option Bool). unwrap_or x (bit (zeros len) k)) (alike bytes at count skipped n k (λ h. omega (arith, h, e)) (λ h. omega (arith, h, e, l))))
 
 -- over anything, where each bit is copied
@@ -62,9 +62,9 @@ wholly_from bytes xs at count skipped small l =
     let n : ℕ = length xs in
     let zs : List ℕ = zeros n in
     let long : length zs ≡ n = length-replicate n 0 in
-    told_wholly xs zs (run_told 0 bytes (at + skipped) (8 * n)) (sym long) small (small-zeros n)
+    told_wholly xs zs (run_updates 0 bytes (at + skipped) (8 * n)) (sym long) small (small-zeros n)
     (λ k i. ap is_some (if_true (within 0 (8 * n) k) (Some (bit bytes (at + skipped + (k - 0)))) None (within_true 0 (8 * n) k (omega arith) (omega (arith, i)))))
-    ∙ overlay_alike zs (run_told 0 bytes (at + skipped) (8 * n)) _ (λ k i.
+    ∙ overlay_alike zs (run_updates 0 bytes (at + skipped) (8 * n)) _ (λ k i.
     ap (λ (x : Option Bool). unwrap_or x (bit zs k)) (alike bytes at count skipped (8 * n) k (λ h. omega (arith, h, l)) (λ h. absurd (omega (arith, h, i, long)))))
 
 -- the bits of a run, counted from a datagram's first
@@ -82,12 +82,12 @@ within_moved at n from i l = elim (cases_Bool (within at n (from + i))) [
 ]
 
 -- the inputs of an area, as one copy
-pub copied_into : (a : Area) (p : Place) (inputs bytes : List ℕ) → p.from ≤ a.in_at → copied bytes (a.in_at - p.from) inputs 0 a.ins ≡ inputs_into a p inputs bytes
+pub copied_into : (a : Area) (p : LogicalSpan) (inputs bytes : List ℕ) → p.from ≤ a.in_at → copied bytes (a.in_at - p.from) inputs 0 a.ins ≡ inputs_into a p inputs bytes
 copied_into a p inputs bytes l =
-    overlay_alike bytes (run_told (a.in_at - p.from) inputs 0 a.ins) _ (λ i k.
+    overlay_alike bytes (run_updates (a.in_at - p.from) inputs 0 a.ins) _ (λ i k.
     ap (λ (x : Option Bool). unwrap_or x (bit bytes i)) (same i))
   where
-    same : (i : ℕ) → run_told (a.in_at - p.from) inputs 0 a.ins i ≡ (if within a.in_at a.ins (p.from + i) then Some (bit inputs (p.from + i - a.in_at)) else None)
+    same : (i : ℕ) → run_updates (a.in_at - p.from) inputs 0 a.ins i ≡ (if within a.in_at a.ins (p.from + i) then Some (bit inputs (p.from + i - a.in_at)) else None)
     same i =
         let moved = within_moved a.in_at a.ins p.from i l in
         let e : 0 + (i - (a.in_at - p.from)) ≡ p.from + i - a.in_at = omega (arith, l) in
@@ -95,7 +95,7 @@ copied_into a p inputs bytes l =
         ∙ ap (λ (k : ℕ). if within a.in_at a.ins (p.from + i) then Some (bit inputs k) else None) e
 
 -- the outputs of an area, as the bits of a value that begins where they do
-pub outputs_are : (a : Area) (p : Place) (bytes : List ℕ) (start len : ℕ) → start ≡ a.out_start → len ≡ bytes_of_bits a.outs → p.from ≤ a.out_at
+pub outputs_are : (a : Area) (p : LogicalSpan) (bytes : List ℕ) (start len : ℕ) → start ≡ a.out_start → len ≡ bytes_of_bits a.outs → p.from ≤ a.out_at
     → bits_from bytes (a.out_at - p.from) a.outs (8 * (start - a.out_start)) len ≡ outputs_from a p bytes
 outputs_are a p bytes start len s n l =
     let zero : 8 * (start - a.out_start) ≡ 0 = omega (arith, s) in

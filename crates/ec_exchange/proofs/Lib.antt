@@ -1,4 +1,4 @@
 -- managers by their number
 pub mod Managers
--- copies of bits, as what is told bit by bit
+-- copies of bits, as updates bit by bit
 pub mod CopiedBits

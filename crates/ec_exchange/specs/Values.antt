@@ -8,7 +8,7 @@ use Rattle.ec_regs.specs.Memory.{ram_start, ram_end}
 use Rattle.ec_sync.specs.Buffer.{publishing}
 use Rattle.ec_sync.specs.SyncManager.{SyncManager, no_manager}
 use Rattle.ec_sync.specs.Governing.{governor}
-use Rattle.ec_fmmu.specs.Applied.{Place}
+use Rattle.ec_fmmu.specs.Applied.{LogicalSpan}
 use Rattle.ec_fmmu.specs.Areas.{Area}
 
 abbrev pub manager_at : List SyncManager → ℕ → SyncManager
@@ -33,11 +33,11 @@ pub record LiesFree (ms : List SyncManager) (start bits : ℕ) : Type 0 where
   pub to_ram : start + bytes_of_bits bits ≤ ram_end
 
 -- the outputs that the data has for the slave, and 0 up to the whole byte
-abbrev pub outputs_from : Area → Place → List ℕ → List ℕ
+abbrev pub outputs_from : Area → LogicalSpan → List ℕ → List ℕ
 outputs_from a p bytes = overlay (zeros (bytes_of_bits a.outs)) (λ k. if nat_lt k a.outs then Some (bit bytes (a.out_at + k - p.from)) else None)
 
 -- the data with the slave's inputs in their places, all else kept
-abbrev pub inputs_into : Area → Place → List ℕ → List ℕ → List ℕ
+abbrev pub inputs_into : Area → LogicalSpan → List ℕ → List ℕ → List ℕ
 inputs_into a p inputs bytes = overlay bytes (λ i. if within a.in_at a.ins (p.from + i) then Some (bit inputs (p.from + i - a.in_at)) else None)
 
 abbrev pub with_published : SyncManager → List ℕ → SyncManager

@@ -3,7 +3,7 @@
 ghost use Rattle.std.specs.Prelude.{◌≡◌, ◌+◌, ◌-◌, ◌*◌, ◌<◌, ◌≤◌, ◌^◌, ◌&&◌, ℕ, true, if◌then◌else◌, length, nat_lt, slice_index};
 ghost use Rattle.ec_bits.specs.Bits.{bytes_of_bits, copied, zeros};
 ghost use Rattle.ec_regs.specs.Memory.{ram_end};
-ghost use Rattle.ec_fmmu.specs.Applied.{Place};
+ghost use Rattle.ec_fmmu.specs.Applied.{LogicalSpan};
 ghost use Rattle.ec_fmmu.specs.Areas.{area};
 ghost use Rattle.ec_regs.specs.Managers.{is_set};
 ghost use Rattle.ec_sync.specs.SyncManager.{LiesInRam, may_read, may_write, ring_written};
@@ -21,7 +21,7 @@ pub fn take_outputs(manager: &mut SyncManager, mapped: &MappedArea, from: u64, b
     requires first { from ≤ mapped.now.out_at }
     requires last { mapped.now.out_at + mapped.now.outs ≤ from + 8 * length bytes.now }
     ensures taken { result ≡ (nat_lt 0 mapped.now.outs && may_write manager.old) }
-    ensures after { let place : Place = record { from = from; bits = 8 * length bytes.now } in
+    ensures after { let place : LogicalSpan = record { from = from; bits = 8 * length bytes.now } in
         manager.new ≡ (if nat_lt 0 mapped.now.outs && may_write manager.old
         then with_published manager.old (outputs_from (area mapped.now) place bytes.now) else manager.old) }
 {
@@ -45,7 +45,7 @@ pub fn give_inputs(manager: &SyncManager, mapped: &MappedArea, from: u64, bytes:
     requires first { from ≤ mapped.now.in_at }
     requires last { mapped.now.in_at + mapped.now.ins ≤ from + 8 * length bytes.old }
     ensures given { result ≡ (nat_lt 0 mapped.now.ins && may_read manager.now) }
-    ensures bytes { let place : Place = record { from = from; bits = 8 * length bytes.old } in
+    ensures bytes { let place : LogicalSpan = record { from = from; bits = 8 * length bytes.old } in
         bytes.new ≡ (if nat_lt 0 mapped.now.ins && may_read manager.now
         then inputs_into (area mapped.now) place manager.now.buffer.published bytes.old else bytes.old) }
 {

@@ -156,9 +156,9 @@ pub fn first_outside(at: &SlaveAt<'_>) -> Option<Area> {
 
 /// The first two areas of a slave that share an address.
 pub fn first_met(at: &SlaveAt<'_>) -> Option<(Area, Area)> {
-    for (place, content) in CONTENTS.iter().enumerate() {
+    for (index, content) in CONTENTS.iter().enumerate() {
         if let Some(one) = Area::of(at, *content)
-            && let Some(other) = met_behind(at, &one, place)
+            && let Some(other) = met_behind(at, &one, index)
         {
             return Some((one, other));
         }
@@ -167,8 +167,8 @@ pub fn first_met(at: &SlaveAt<'_>) -> Option<(Area, Area)> {
 }
 
 /// The first area, of the contents behind a place, that shares an address with another.
-fn met_behind(at: &SlaveAt<'_>, one: &Area, place: usize) -> Option<Area> {
-    for content in CONTENTS.iter().skip(place.saturating_add(1)) {
+fn met_behind(at: &SlaveAt<'_>, one: &Area, index: usize) -> Option<Area> {
+    for content in CONTENTS.iter().skip(index.saturating_add(1)) {
         if let Some(other) = Area::of(at, *content)
             && one.meets(&other)
         {

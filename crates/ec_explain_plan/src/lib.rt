@@ -10,4 +10,4 @@ mod places;
 mod slaves;
 mod twice;
 
-pub use crate::linking::tell_link_fault;
+pub use crate::linking::explain_link_fault;

@@ -1,7 +1,7 @@
 //! Why a link table has no plan: refusals 16 to 25 and 44.
-use crate::links::tell_of_link;
-use crate::slaves::tell_of_slave;
-use ec_diagnostic::Telling;
+use crate::links::explain_link;
+use crate::slaves::explain_slave;
+use ec_diagnostic::Diagnosis;
 use ec_link::LinkFault;
 use ec_table::{SlaveRow, Table};
 
@@ -12,46 +12,46 @@ const MAX_SLAVES: usize = 64;
 const MAX_PARTS: usize = 32;
 
 /// Adds remarks on why a table, with this first fault, has no plan.
-pub fn tell_link_fault(telling: &mut Telling<'_>, table: &Table, fault: LinkFault) {
+pub fn explain_link_fault(diagnosis: &mut Diagnosis<'_>, table: &Table, fault: LinkFault) {
     match fault {
         LinkFault::WrongDirection(link)
         | LinkFault::NoEntry(link)
         | LinkFault::OutsideEntry(link)
-        | LinkFault::LinkedTwice(link) => tell_of_link(telling, table, fault, link),
+        | LinkFault::LinkedTwice(link) => explain_link(diagnosis, table, fault, link),
         LinkFault::EntryTwice(slave)
         | LinkFault::TooManyBits(slave)
         | LinkFault::AreasOverlap(slave)
-        | LinkFault::OutsideRam(slave) => tell_of_slave(telling, table, fault, slave),
-        LinkFault::TooManySlaves(count) => tell_too_many_slaves(telling, count),
-        LinkFault::TooManyParts(count) => tell_too_many_parts(telling, table.slaves(), count),
-        LinkFault::SplitVariable(variable) => tell_split(telling, table, variable),
+        | LinkFault::OutsideRam(slave) => explain_slave(diagnosis, table, fault, slave),
+        LinkFault::TooManySlaves(count) => explain_too_many_slaves(diagnosis, count),
+        LinkFault::TooManyParts(count) => explain_too_many_parts(diagnosis, table.slaves(), count),
+        LinkFault::SplitVariable(variable) => explain_split(diagnosis, table, variable),
     }
 }
 
 /// Adds remarks on an input variable with links from two sync units.
-fn tell_split(telling: &mut Telling<'_>, table: &Table, variable: usize) {
+fn explain_split(diagnosis: &mut Diagnosis<'_>, table: &Table, variable: usize) {
     let Some(row) = table.variables().get(variable) else {
         return;
     };
     let name = row.name.as_str();
-    telling.at_row(
+    diagnosis.at_row(
         "variable",
         variable,
         format_args!("input variable {name} has links from two sync units"),
     );
-    tell_units(telling, table, variable);
-    telling.advise("make two variables of it, or give the slaves one `unit`");
+    explain_units(diagnosis, table, variable);
+    diagnosis.advise("make two variables of it, or give the slaves one `unit`");
 }
 
 /// Adds remarks on the first link of a variable, and on the first one from another sync unit.
-fn tell_units(telling: &mut Telling<'_>, table: &Table, variable: usize) {
+fn explain_units(diagnosis: &mut Diagnosis<'_>, table: &Table, variable: usize) {
     let mut first = None;
-    for (place, link) in table.links().iter().enumerate() {
+    for (index, link) in table.links().iter().enumerate() {
         if link.variable == variable
             && let Some(slave) = table.slaves().get(link.slave)
             && first != Some(slave.unit)
         {
-            tell_joined(telling, place, slave);
+            explain_joined(diagnosis, index, slave);
             if first.is_some() {
                 return;
             }
@@ -61,9 +61,9 @@ fn tell_units(telling: &mut Telling<'_>, table: &Table, variable: usize) {
 }
 
 /// Adds a remark on the slave that a link joins a variable to.
-fn tell_joined(telling: &mut Telling<'_>, link: usize, slave: &SlaveRow) {
+fn explain_joined(diagnosis: &mut Diagnosis<'_>, link: usize, slave: &SlaveRow) {
     let (name, unit) = (slave.name.as_str(), slave.unit);
-    telling.at_key(
+    diagnosis.at_key(
         "link",
         link,
         "slave",
@@ -72,31 +72,31 @@ fn tell_joined(telling: &mut Telling<'_>, link: usize, slave: &SlaveRow) {
 }
 
 /// Adds remarks on too many parts.
-fn tell_too_many_parts(telling: &mut Telling<'_>, slaves: &[SlaveRow], count: usize) {
+fn explain_too_many_parts(diagnosis: &mut Diagnosis<'_>, slaves: &[SlaveRow], count: usize) {
     let (units, past) = units_among(slaves, MAX_PARTS);
     match past {
-        Some(place) => telling.at_key(
+        Some(index) => diagnosis.at_key(
             "slave",
-            place,
+            index,
             "unit",
             format_args!(
                 "{units} sync units, each of which has a frame of its own, and {MAX_PARTS} frames are the most: this is the first one more"
             ),
         ),
-        None => telling.note(format_args!(
+        None => diagnosis.note(format_args!(
             "{count} frames for {units} sync units, and {MAX_PARTS} are the most: a frame takes slaves of one unit, as many as fit"
         )),
     }
-    telling.advise("put slaves into fewer sync units, by their key `unit`");
+    diagnosis.advise("put slaves into fewer sync units, by their key `unit`");
 }
 
 /// How many sync units slaves have, and the place of the first slave whose unit is one more than `most`.
 fn units_among(slaves: &[SlaveRow], most: usize) -> (usize, Option<usize>) {
     let (mut units, mut past) = (0_usize, None);
-    for (place, slave) in slaves.iter().enumerate() {
-        if !has_unit_before(slaves, place, slave.unit) {
+    for (index, slave) in slaves.iter().enumerate() {
+        if !has_unit_before(slaves, index, slave.unit) {
             if units == most {
-                past = Some(place);
+                past = Some(index);
             }
             units = units.saturating_add(1);
         }
@@ -105,8 +105,8 @@ fn units_among(slaves: &[SlaveRow], most: usize) -> (usize, Option<usize>) {
 }
 
 /// Whether a slave before a place is in a sync unit.
-fn has_unit_before(slaves: &[SlaveRow], place: usize, unit: u8) -> bool {
-    for slave in slaves.iter().take(place) {
+fn has_unit_before(slaves: &[SlaveRow], index: usize, unit: u8) -> bool {
+    for slave in slaves.iter().take(index) {
         if slave.unit == unit {
             return true;
         }
@@ -115,11 +115,11 @@ fn has_unit_before(slaves: &[SlaveRow], place: usize, unit: u8) -> bool {
 }
 
 /// Adds remarks on too many slaves.
-fn tell_too_many_slaves(telling: &mut Telling<'_>, count: usize) {
-    telling.at_row(
+fn explain_too_many_slaves(diagnosis: &mut Diagnosis<'_>, count: usize) {
+    diagnosis.at_row(
         "slave",
         MAX_SLAVES,
         format_args!("{count} slaves, and {MAX_SLAVES} are the most: this is the first one more"),
     );
-    telling.advise("make two tables, each for a segment of its own");
+    diagnosis.advise("make two tables, each for a segment of its own");
 }

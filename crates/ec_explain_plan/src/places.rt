@@ -25,7 +25,7 @@ impl<'t> SlaveAt<'t> {
     /// The slave at this place, if there is one.
     pub fn new(table: &'t Table, place: usize) -> Option<SlaveAt<'t>> {
         let row = table.slaves().get(place)?;
-        let kind = table.types().get(row.type_place)?;
+        let kind = table.types().get(row.type_index)?;
         Some(SlaveAt { place, row, kind })
     }
 }

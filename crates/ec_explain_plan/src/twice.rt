@@ -2,7 +2,7 @@
 use crate::entries::EntryName;
 use crate::places::{SlaveAt, assignment_key, pdos_key};
 use ec_device::Pdo;
-use ec_diagnostic::{MarkedPart, PathStep, Telling};
+use ec_diagnostic::{Diagnosis, MarkedPart, PathStep};
 use ec_table::Direction;
 use std::fmt::Display;
 
@@ -24,52 +24,52 @@ impl Seat {
 }
 
 /// Adds remarks on a slave that assigns an entry twice.
-pub fn tell_entry_twice(telling: &mut Telling<'_>, at: &SlaveAt<'_>) {
+pub fn explain_entry_twice(diagnosis: &mut Diagnosis<'_>, at: &SlaveAt<'_>) {
     for direction in &[Direction::Out, Direction::In] {
         if let Some((first, second)) = seats_twice(at, *direction) {
-            return tell_seats(telling, at, &first, &second);
+            return explain_seats(diagnosis, at, &first, &second);
         }
     }
 }
 
 /// Adds remarks on two places of an entry that a slave assigns.
-fn tell_seats(telling: &mut Telling<'_>, at: &SlaveAt<'_>, first: &Seat, second: &Seat) {
-    tell_assigned(telling, at, first, second);
-    at_entry(telling, at.row.type_place, first);
-    at_entry(telling, at.row.type_place, second);
-    advise_on(telling, at, first, second);
+fn explain_seats(diagnosis: &mut Diagnosis<'_>, at: &SlaveAt<'_>, first: &Seat, second: &Seat) {
+    explain_assigned(diagnosis, at, first, second);
+    at_entry(diagnosis, at.row.type_index, first);
+    at_entry(diagnosis, at.row.type_index, second);
+    advise_on(diagnosis, at, first, second);
 }
 
 /// Adds a remark on what to do: a slave may assign one of two PDOs alone, if its type has a mailbox.
-fn advise_on(telling: &mut Telling<'_>, at: &SlaveAt<'_>, first: &Seat, second: &Seat) {
+fn advise_on(diagnosis: &mut Diagnosis<'_>, at: &SlaveAt<'_>, first: &Seat, second: &Seat) {
     let (one, two, key) = (first.index, second.index, assignment_key(first.direction));
     match at.kind.mailbox {
-        _ if one == two => telling.advise(format_args!(
+        _ if one == two => diagnosis.advise(format_args!(
             "leave one of the two entries out of PDO 0x{one:04X}, or correct its index or subindex"
         )),
-        Some(_) => telling.advise(format_args!(
+        Some(_) => diagnosis.advise(format_args!(
             "assign one of the PDOs alone: `{key} = [0x{one:04X}]`, with the others that it needs; without `{key}` all PDOs of the type are assigned"
         )),
-        None => telling.advise(format_args!(
+        None => diagnosis.advise(format_args!(
             "leave the entry out of PDO 0x{one:04X} or 0x{two:04X}, or correct its index or subindex: a type without a mailbox has all its PDOs assigned"
         )),
     }
 }
 
 /// Adds a remark on what a slave assigns: one PDO that has an entry twice, or two PDOs that both have it.
-fn tell_assigned(telling: &mut Telling<'_>, at: &SlaveAt<'_>, first: &Seat, second: &Seat) {
+fn explain_assigned(diagnosis: &mut Diagnosis<'_>, at: &SlaveAt<'_>, first: &Seat, second: &Seat) {
     let (kind, name) = (at.kind.name.as_str(), first.name);
     let (one, two) = (first.index, second.index);
     if one == two {
         at_assigned(
-            telling,
+            diagnosis,
             at.place,
             first.direction,
             format_args!("{at} assigns PDO 0x{one:04X} of type {kind}, which has {name} twice"),
         );
     } else {
         at_assigned(
-            telling,
+            diagnosis,
             at.place,
             first.direction,
             format_args!(
@@ -80,9 +80,9 @@ fn tell_assigned(telling: &mut Telling<'_>, at: &SlaveAt<'_>, first: &Seat, seco
 }
 
 /// Adds a remark on an entry of a type, and marks it.
-fn at_entry(telling: &mut Telling<'_>, kind: usize, seat: &Seat) {
+fn at_entry(diagnosis: &mut Diagnosis<'_>, kind: usize, seat: &Seat) {
     let (name, index) = (seat.name, seat.index);
-    let way = [
+    let path = [
         PathStep::Key("type"),
         PathStep::Item(kind),
         PathStep::Key(pdos_key(seat.direction)),
@@ -90,8 +90,8 @@ fn at_entry(telling: &mut Telling<'_>, kind: usize, seat: &Seat) {
         PathStep::Key("entries"),
         PathStep::Item(seat.entry),
     ];
-    telling.at(
-        &way,
+    diagnosis.at(
+        &path,
         MarkedPart::Value,
         format_args!("{name} in PDO 0x{index:04X}"),
     );
@@ -99,21 +99,21 @@ fn at_entry(telling: &mut Telling<'_>, kind: usize, seat: &Seat) {
 
 /// Adds a remark on what a slave assigns in a direction, and marks that, or the slave if that isn't written.
 fn at_assigned<D: Display + Drop>(
-    telling: &mut Telling<'_>,
+    diagnosis: &mut Diagnosis<'_>,
     slave: usize,
     direction: Direction,
     words: D,
 ) {
     let key = assignment_key(direction);
-    let way = [
+    let path = [
         PathStep::Key("slave"),
         PathStep::Item(slave),
         PathStep::Key(key),
     ];
-    if telling.has(&way) {
-        telling.at_key("slave", slave, key, words);
+    if diagnosis.has(&path) {
+        diagnosis.at_key("slave", slave, key, words);
     } else {
-        telling.at_row("slave", slave, words);
+        diagnosis.at_row("slave", slave, words);
     }
 }
 

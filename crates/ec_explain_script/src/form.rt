@@ -1,6 +1,6 @@
 //! The form that a line begins as.
 use crate::word::Line;
-use ec_diagnostic::{Nearest, Telling};
+use ec_diagnostic::{Diagnosis, Nearest};
 use ec_script::{FORMS, Form, REPEAT, WordKind};
 
 /// The form that a line of a script begins as. `is_variable` says whether it is an `expect` of three words whose second is the
@@ -29,14 +29,14 @@ fn begins(line: Line<'_>, form: &str) -> bool {
 }
 
 /// The first word of a script's line that may have been meant.
-pub fn verb_near(telling: &mut Telling<'_>, word: &str) -> Option<&'static str> {
+pub fn verb_near(diagnosis: &mut Diagnosis<'_>, word: &str) -> Option<&'static str> {
     let mut near = Nearest::to(word);
     for (place, (form, text)) in FORMS.iter().enumerate() {
         if *form != Form::Report {
-            near = telling.nearer(near, word, place, first_word(text));
+            near = diagnosis.nearer(near, word, place, first_word(text));
         }
     }
-    near = telling.nearer(near, word, FORMS.len(), first_word(REPEAT));
+    near = diagnosis.nearer(near, word, FORMS.len(), first_word(REPEAT));
     match FORMS.get(near.place?) {
         Some((_, text)) => Some(first_word(text)),
         None => Some(first_word(REPEAT)),

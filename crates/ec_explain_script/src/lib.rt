@@ -6,4 +6,4 @@ mod misfit;
 mod script;
 mod word;
 
-pub use crate::script::{tell_bad_line, tell_unmet};
+pub use crate::script::{explain_bad_line, explain_unmet};

@@ -1,6 +1,6 @@
 //! Why a word can't stand for what a line needs in its place.
 use crate::word::Word;
-use ec_diagnostic::{Meant, Nearest, Printable, Telling};
+use ec_diagnostic::{Diagnosis, Meant, Nearest, Printable};
 use ec_script::{
     WordKind, byte_of, code_of, hex_of, number_of, slave_named, state_named, times_of,
     variable_named,
@@ -18,31 +18,31 @@ enum Base {
 pub const SEE_HELP: &str = "correct it; `ecat sim --help` lists the lines that a script has";
 
 /// Adds remarks on a word that isn't of a kind, by the names of the table if there is one; returns whether it isn't.
-pub fn tell_misfit(
-    telling: &mut Telling<'_>,
+pub fn explain_misfit(
+    diagnosis: &mut Diagnosis<'_>,
     table: Option<&Table>,
     kind: WordKind,
     word: Word<'_>,
 ) -> bool {
     match fault_of(kind, word.text) {
         Some((fault, advice)) => {
-            tell_fault(telling, word, fault, advice);
+            explain_fault(diagnosis, word, fault, advice);
             true
         }
-        None => tell_unknown(telling, table, kind, word),
+        None => explain_unknown(diagnosis, table, kind, word),
     }
 }
 
 /// Adds remarks on a word that isn't of its kind.
-fn tell_fault(telling: &mut Telling<'_>, word: Word<'_>, fault: &str, advice: &str) {
+fn explain_fault(diagnosis: &mut Diagnosis<'_>, word: Word<'_>, fault: &str, advice: &str) {
     let shown = Printable(word.text);
-    telling.at_span(word.span(), format_args!("`{shown}` {fault}"));
-    telling.advise(advice);
+    diagnosis.at_span(word.span(), format_args!("`{shown}` {fault}"));
+    diagnosis.advise(advice);
 }
 
 /// Adds remarks on a word that must be a name of the table and isn't; returns whether there are any.
-fn tell_unknown(
-    telling: &mut Telling<'_>,
+fn explain_unknown(
+    diagnosis: &mut Diagnosis<'_>,
     table: Option<&Table>,
     kind: WordKind,
     word: Word<'_>,
@@ -52,13 +52,13 @@ fn tell_unknown(
     };
     match kind {
         WordKind::Variable if variable_named(table.variables(), word.text).is_none() => {
-            tell_no_variable(telling, table, word);
+            explain_no_variable(diagnosis, table, word);
             true
         }
         WordKind::Slave
             if !has_digits(word.text, Base::Decimal)
                 && slave_named(table.slaves(), word.text).is_none() => {
-            tell_no_slave(telling, table, word);
+            explain_no_slave(diagnosis, table, word);
             true
         }
         _ => false,
@@ -66,45 +66,51 @@ fn tell_unknown(
 }
 
 /// Adds remarks on a word that is the name of no variable.
-fn tell_no_variable(telling: &mut Telling<'_>, table: &Table, word: Word<'_>) {
+fn explain_no_variable(diagnosis: &mut Diagnosis<'_>, table: &Table, word: Word<'_>) {
     let (shown, near) = (
         Printable(word.text),
-        Meant(variable_near(telling, table, word.text)),
+        Meant(variable_near(diagnosis, table, word.text)),
     );
-    telling.at_span(
+    diagnosis.at_span(
         word.span(),
         format_args!("no variable has the name `{shown}`{near}"),
     );
-    telling.advise("correct the name, or add a variable of that name to the table");
+    diagnosis.advise("correct the name, or add a variable of that name to the table");
 }
 
 /// The name of a variable that may have been meant.
-fn variable_near<'t>(telling: &mut Telling<'_>, table: &'t Table, word: &str) -> Option<&'t str> {
+fn variable_near<'t>(
+    diagnosis: &mut Diagnosis<'_>,
+    table: &'t Table,
+    word: &str,
+) -> Option<&'t str> {
     let (rows, mut near) = (table.variables(), Nearest::to(word));
     for (place, row) in rows.iter().enumerate() {
-        near = telling.nearer(near, word, place, row.name.as_str());
+        near = diagnosis.nearer(near, word, place, row.name.as_str());
     }
     Some(rows.get(near.place?)?.name.as_str())
 }
 
 /// Adds remarks on a word that is the name of no slave.
-fn tell_no_slave(telling: &mut Telling<'_>, table: &Table, word: Word<'_>) {
+fn explain_no_slave(diagnosis: &mut Diagnosis<'_>, table: &Table, word: Word<'_>) {
     let (shown, near) = (
         Printable(word.text),
-        Meant(slave_near(telling, table, word.text)),
+        Meant(slave_near(diagnosis, table, word.text)),
     );
-    telling.at_span(
+    diagnosis.at_span(
         word.span(),
         format_args!("no slave has the name `{shown}`{near}"),
     );
-    telling.advise("correct the name, add a slave of that name to the table, or write its number");
+    diagnosis.advise(
+        "correct the name, add a slave of that name to the table, or write its number",
+    );
 }
 
 /// The name of a slave that may have been meant.
-fn slave_near<'t>(telling: &mut Telling<'_>, table: &'t Table, word: &str) -> Option<&'t str> {
+fn slave_near<'t>(diagnosis: &mut Diagnosis<'_>, table: &'t Table, word: &str) -> Option<&'t str> {
     let (rows, mut near) = (table.slaves(), Nearest::to(word));
     for (place, row) in rows.iter().enumerate() {
-        near = telling.nearer(near, word, place, row.name.as_str());
+        near = diagnosis.nearer(near, word, place, row.name.as_str());
     }
     Some(rows.get(near.place?)?.name.as_str())
 }

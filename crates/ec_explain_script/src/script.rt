@@ -1,52 +1,52 @@
 //! Which line of a script stands for nothing: refusal 39; and that what lines expect doesn't hold: 45.
 use crate::form::{form_of, verb_near};
-use crate::misfit::{SEE_HELP, tell_misfit};
+use crate::misfit::{SEE_HELP, explain_misfit};
 use crate::word::{Line, Word};
-use ec_diagnostic::{Meant, Printable, Span, Telling};
+use ec_diagnostic::{Diagnosis, Meant, Printable, Span};
 use ec_script::{REPEAT, WordKind, uncommented, variable_named};
 use ec_table::{Table, read_table};
 
 /// Adds remarks on line `line`, counted from 1, of the script that begins at the byte `from` of a text. They say which word of
 /// it is at fault, and how it is written.
-pub fn tell_bad_line(telling: &mut Telling<'_>, text: &str, from: usize, line: usize) {
+pub fn explain_bad_line(diagnosis: &mut Diagnosis<'_>, text: &str, from: usize, line: usize) {
     match line_start(text.as_bytes(), from, line) {
-        Some(start) => tell_in_text(telling, table_before(text, from), line_at(text, start)),
-        None => telling.note(format_args!("line {line} of the script isn't found in the text")),
+        Some(start) => explain_in_text(diagnosis, table_before(text, from), line_at(text, start)),
+        None => diagnosis.note(format_args!("line {line} of the script isn't found in the text")),
     }
 }
 
 /// Adds remarks that what lines expect doesn't hold, this many times.
-pub fn tell_unmet(telling: &mut Telling<'_>, count: u64) {
+pub fn explain_unmet(diagnosis: &mut Diagnosis<'_>, count: u64) {
     let what = "what a line expects wasn't so; each `unmet` names its line";
     match count {
-        1 => telling.note(what),
-        _ => telling.note(format_args!("{count} times {what}")),
+        1 => diagnosis.note(what),
+        _ => diagnosis.note(format_args!("{count} times {what}")),
     }
-    telling.advise("see what these lines expect, or what the lines before them do");
+    diagnosis.advise("see what these lines expect, or what the lines before them do");
 }
 
 /// Adds remarks on what is wrong with a line, by the names of the table in the text before it, if that states one.
-fn tell_in_text(telling: &mut Telling<'_>, before: &str, line: Line<'_>) {
-    match read_table(telling.alloc, before) {
-        Ok(table) => tell_line(telling, Some(&table), line),
-        Err(error) if error.number() == 1 => telling.fall_short(),
-        Err(_) => tell_line(telling, None, line),
+fn explain_in_text(diagnosis: &mut Diagnosis<'_>, before: &str, line: Line<'_>) {
+    match read_table(diagnosis.alloc, before) {
+        Ok(table) => explain_line(diagnosis, Some(&table), line),
+        Err(error) if error.number() == 1 => diagnosis.fall_short(),
+        Err(_) => explain_line(diagnosis, None, line),
     }
 }
 
 /// Adds remarks on what is wrong with a line, by the names of the table, if there is one.
-fn tell_line(telling: &mut Telling<'_>, table: Option<&Table>, line: Line<'_>) {
+fn explain_line(diagnosis: &mut Diagnosis<'_>, table: Option<&Table>, line: Line<'_>) {
     match line.gap() {
-        Some(gap) => tell_gap(telling, gap),
-        None if line.has(0, "repeat") => tell_repeat(telling, table, line),
-        None => tell_words(telling, table, line),
+        Some(gap) => explain_gap(diagnosis, gap),
+        None if line.has(0, "repeat") => explain_repeat(diagnosis, table, line),
+        None => explain_words(diagnosis, table, line),
     }
 }
 
 /// Adds remarks on a word that is missing.
-fn tell_gap(telling: &mut Telling<'_>, gap: Span) {
-    tell_plain(
-        telling,
+fn explain_gap(diagnosis: &mut Diagnosis<'_>, gap: Span) {
+    explain_plain(
+        diagnosis,
         gap,
         "a word is missing here, or a blank is one too many",
         "write single blanks between the words, and none before or behind them",
@@ -54,24 +54,24 @@ fn tell_gap(telling: &mut Telling<'_>, gap: Span) {
 }
 
 /// Adds remarks on what is wrong with a line that repeats another.
-fn tell_repeat(telling: &mut Telling<'_>, table: Option<&Table>, line: Line<'_>) {
+fn explain_repeat(diagnosis: &mut Diagnosis<'_>, table: Option<&Table>, line: Line<'_>) {
     let (Some(times), Some(next)) = (line.word(1), line.word(2)) else {
-        return tell_form(telling, line, REPEAT);
+        return explain_form(diagnosis, line, REPEAT);
     };
-    if tell_misfit(telling, None, WordKind::Times, times) {
+    if explain_misfit(diagnosis, None, WordKind::Times, times) {
         return;
     }
     if next.text == "repeat" {
-        tell_repeat_again(telling, next)
+        explain_repeat_again(diagnosis, next)
     } else {
-        tell_words(telling, table, line.from(next))
+        explain_words(diagnosis, table, line.from(next))
     }
 }
 
 /// Adds remarks on a word that would repeat a line that repeats another.
-fn tell_repeat_again(telling: &mut Telling<'_>, word: Word<'_>) {
-    tell_plain(
-        telling,
+fn explain_repeat_again(diagnosis: &mut Diagnosis<'_>, word: Word<'_>) {
+    explain_plain(
+        diagnosis,
         word.span(),
         "a line that repeats another isn't repeated",
         "write one `repeat` alone",
@@ -79,17 +79,17 @@ fn tell_repeat_again(telling: &mut Telling<'_>, word: Word<'_>) {
 }
 
 /// Adds remarks on what is wrong at some bytes, and on what to do.
-fn tell_plain(telling: &mut Telling<'_>, span: Span, wrong: &str, advice: &str) {
-    telling.at_span(span, wrong);
-    telling.advise(advice);
+fn explain_plain(diagnosis: &mut Diagnosis<'_>, span: Span, wrong: &str, advice: &str) {
+    diagnosis.at_span(span, wrong);
+    diagnosis.advise(advice);
 }
 
 /// Adds remarks on the words of a line that isn't repeated: on the first that isn't what its form needs there, or on their
 /// number.
-fn tell_words(telling: &mut Telling<'_>, table: Option<&Table>, line: Line<'_>) {
+fn explain_words(diagnosis: &mut Diagnosis<'_>, table: Option<&Table>, line: Line<'_>) {
     match form_of(line, expects_variable(table, line)) {
-        Some(form) => tell_by_form(telling, table, line, form),
-        None => tell_unknown_verb(telling, line),
+        Some(form) => explain_by_form(diagnosis, table, line, form),
+        None => explain_unknown_verb(diagnosis, line),
     }
 }
 
@@ -107,38 +107,43 @@ fn expects_variable(table: Option<&Table>, line: Line<'_>) -> bool {
 }
 
 /// Adds remarks on the first word of a line that isn't what a form needs there, or on the number of its words.
-fn tell_by_form(telling: &mut Telling<'_>, table: Option<&Table>, line: Line<'_>, form: &str) {
+fn explain_by_form(
+    diagnosis: &mut Diagnosis<'_>,
+    table: Option<&Table>,
+    line: Line<'_>,
+    form: &str,
+) {
     for (place, part) in form.split(' ').enumerate() {
         if let Some(word) = line.word(place)
             && let Some(kind) = WordKind::of(part)
-            && tell_misfit(telling, table, kind, word)
+            && explain_misfit(diagnosis, table, kind, word)
         {
             return;
         }
     }
-    tell_form(telling, line, form);
+    explain_form(diagnosis, line, form);
 }
 
 /// Adds remarks on a line that has too few words, or one too many, and on its form.
-fn tell_form(telling: &mut Telling<'_>, line: Line<'_>, form: &str) {
-    telling.at_span(
+fn explain_form(diagnosis: &mut Diagnosis<'_>, line: Line<'_>, form: &str) {
+    diagnosis.at_span(
         line.span(),
         format_args!("this line isn't written as `{form}`"),
     );
-    telling.advise(format_args!("write it as `{form}`, with single blanks between the words"));
+    diagnosis.advise(format_args!("write it as `{form}`, with single blanks between the words"));
 }
 
 /// Adds remarks on a line whose first word begins no form.
-fn tell_unknown_verb(telling: &mut Telling<'_>, line: Line<'_>) {
+fn explain_unknown_verb(diagnosis: &mut Diagnosis<'_>, line: Line<'_>) {
     let Some(word) = line.word(0) else {
         return;
     };
-    let (shown, near) = (Printable(word.text), Meant(verb_near(telling, word.text)));
-    telling.at_span(
+    let (shown, near) = (Printable(word.text), Meant(verb_near(diagnosis, word.text)));
+    diagnosis.at_span(
         word.span(),
         format_args!("no line of a script begins with `{shown}`{near}"),
     );
-    telling.advise(SEE_HELP);
+    diagnosis.advise(SEE_HELP);
 }
 
 /// The text of the table before a script; the line `%%` ends where the script begins.

@@ -37,7 +37,7 @@ pub struct SlaveAt<'t> {
 
 /// A device, printed with the names of its numbers.
 #[derive(Clone, Copy)]
-pub struct Shown(pub Device);
+pub struct DeviceText(pub Device);
 
 impl<'t> StartFault<'t> {
     /// What a start-up of a table's plan failed by.
@@ -90,7 +90,7 @@ impl<'t> SlaveAt<'t> {
 
     /// Its type, and the place of its type.
     pub fn kind(&self) -> Option<(usize, &'t TypeRow)> {
-        let place = self.table.slaves().get(self.place)?.type_place;
+        let place = self.table.slaves().get(self.place)?.type_index;
         Some((place, self.table.types().get(place)?))
     }
 }
@@ -111,7 +111,7 @@ impl fmt::Display for StartFault<'_> {
                 write!(f, "{there} answered, and the table has {wanted}")
             }
             StartError::Identity { slave, seen } => {
-                let (at, shown) = (SlaveAt::new(table, slave), Shown(seen));
+                let (at, shown) = (SlaveAt::new(table, slave), DeviceText(seen));
                 write!(f, "{at} shows {shown}; what couldn't be read is 0")
             }
             StartError::Counter { step } => self.write_step(f, step, COUNTER),
@@ -155,7 +155,7 @@ impl fmt::Display for SlaveAt<'_> {
     }
 }
 
-impl fmt::Display for Shown {
+impl fmt::Display for DeviceText {
     fn fmt<W: fmt::Write>(&self, f: &mut fmt::Formatter<W>) -> fmt::Result {
         let Device {
             vendor,

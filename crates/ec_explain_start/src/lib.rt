@@ -6,4 +6,4 @@ mod starting;
 mod steps;
 
 pub use crate::fault::StartFault;
-pub use crate::starting::{tell_cycle_error, tell_start_error, tell_wire_fault};
+pub use crate::starting::{explain_cycle_error, explain_start_error, explain_wire_fault};

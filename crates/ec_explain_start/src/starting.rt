@@ -1,8 +1,8 @@
 //! Why a start-up or a cycle failed: refusals 9, 26 to 38.
-use crate::fault::{Shown, SlaveAt, StartFault};
+use crate::fault::{DeviceText, SlaveAt, StartFault};
 use ec_cycle::CycleError;
 use ec_device::{Device, Entry, FIRST_INPUT_INDEX};
-use ec_diagnostic::{MarkedPart, PathStep, Telling};
+use ec_diagnostic::{Diagnosis, MarkedPart, PathStep};
 use ec_link::compile;
 use ec_start::StartError;
 use ec_table::{Direction, Table, TypeRow};
@@ -49,15 +49,15 @@ struct Mapped<'t> {
 }
 
 /// Adds remarks on why a start-up of a table failed.
-pub fn tell_start_error(telling: &mut Telling<'_>, table: &Table, error: StartError) {
+pub fn explain_start_error(diagnosis: &mut Diagnosis<'_>, table: &Table, error: StartError) {
     let fault = StartFault::new(table, error);
     match error {
-        StartError::BadMailbox { slave } => tell_of_slave(telling, slave, fault, NO_REPLY),
+        StartError::BadMailbox { slave } => explain_slave(diagnosis, slave, fault, NO_REPLY),
         StartError::Identity { slave, seen } => {
-            tell_identity(telling, SlaveAt::new(table, slave), seen, fault);
+            explain_identity(diagnosis, SlaveAt::new(table, slave), seen, fault);
         }
-        StartError::AlError { slave, .. } => tell_of_slave(telling, slave, fault, REFUSED),
-        StartError::Abort { slave, .. } => tell_of_slave(telling, slave, fault, ABORTED),
+        StartError::AlError { slave, .. } => explain_slave(diagnosis, slave, fault, REFUSED),
+        StartError::Abort { slave, .. } => explain_slave(diagnosis, slave, fault, ABORTED),
         StartError::Mapping {
             slave,
             index,
@@ -65,20 +65,20 @@ pub fn tell_start_error(telling: &mut Telling<'_>, table: &Table, error: StartEr
             seen,
         } => {
             let at = SlaveAt::new(table, slave);
-            tell_mapping(telling, at, (index, subindex), seen, fault);
+            explain_mapping(diagnosis, at, (index, subindex), seen, fault);
         }
-        StartError::Count { seen } => tell_count(telling, table, usize::from(seen), fault),
-        StartError::Counter { .. } => tell_step(telling, table, error, COUNTER),
-        StartError::TooSlow { .. } => tell_step(telling, table, error, TOO_SLOW),
-        StartError::Lost => tell_plain(telling, LOST),
-        StartError::NumbersSpent => tell_plain(telling, SPENT),
+        StartError::Count { seen } => explain_count(diagnosis, table, usize::from(seen), fault),
+        StartError::Counter { .. } => explain_step(diagnosis, table, error, COUNTER),
+        StartError::TooSlow { .. } => explain_step(diagnosis, table, error, TOO_SLOW),
+        StartError::Lost => explain_plain(diagnosis, LOST),
+        StartError::NumbersSpent => explain_plain(diagnosis, SPENT),
     }
 }
 
 /// Adds remarks on why a cycle couldn't be run.
-pub fn tell_cycle_error(telling: &mut Telling<'_>, error: CycleError) {
-    tell_plain(
-        telling,
+pub fn explain_cycle_error(diagnosis: &mut Diagnosis<'_>, error: CycleError) {
+    explain_plain(
+        diagnosis,
         match error {
             CycleError::NotReady => (
                 "No start-up of the table has ended ready, so no cycle can begin",
@@ -95,8 +95,8 @@ pub fn tell_cycle_error(telling: &mut Telling<'_>, error: CycleError) {
 }
 
 /// Adds remarks on a fault of a wire in a cycle.
-pub fn tell_wire_fault(telling: &mut Telling<'_>) {
-    tell_plain(telling, FAULTY_WIRE);
+pub fn explain_wire_fault(diagnosis: &mut Diagnosis<'_>) {
+    explain_plain(diagnosis, FAULTY_WIRE);
 }
 
 impl fmt::Display for Mapped<'_> {
@@ -120,44 +120,44 @@ impl fmt::Display for Mapped<'_> {
 }
 
 /// Adds a remark that has no place, and what to do.
-fn tell_plain(telling: &mut Telling<'_>, (words, advice): (&str, &str)) {
-    telling.note(words);
-    telling.advise(advice);
+fn explain_plain(diagnosis: &mut Diagnosis<'_>, (words, advice): (&str, &str)) {
+    diagnosis.note(words);
+    diagnosis.advise(advice);
 }
 
 /// Adds remarks on what a start-up failed by at a slave, and on what to do.
-fn tell_of_slave(telling: &mut Telling<'_>, slave: usize, fault: StartFault<'_>, advice: &str) {
-    at_slave(telling, slave, fault);
-    telling.advise(advice);
+fn explain_slave(diagnosis: &mut Diagnosis<'_>, slave: usize, fault: StartFault<'_>, advice: &str) {
+    at_slave(diagnosis, slave, fault);
+    diagnosis.advise(advice);
 }
 
 /// Adds a remark on what a start-up failed by at a slave.
-fn at_slave(telling: &mut Telling<'_>, slave: usize, fault: StartFault<'_>) {
-    telling.at_row("slave", slave, fault);
+fn at_slave(diagnosis: &mut Diagnosis<'_>, slave: usize, fault: StartFault<'_>) {
+    diagnosis.at_row("slave", slave, fault);
 }
 
 /// Adds remarks on an object of a slave's mapping, with its index and subindex, that has another value than in its type.
-fn tell_mapping(
-    telling: &mut Telling<'_>,
+fn explain_mapping(
+    diagnosis: &mut Diagnosis<'_>,
     at: SlaveAt<'_>,
     object: (u16, u8),
     seen: u32,
     fault: StartFault<'_>,
 ) {
     let (index, subindex) = object;
-    at_slave(telling, at.place, fault);
-    at_pdo(telling, at, index, subindex);
+    at_slave(diagnosis, at.place, fault);
+    at_pdo(diagnosis, at, index, subindex);
     if subindex == 0 {
-        return telling.advise("give the PDO of the type the entries that the device has");
+        return diagnosis.advise("give the PDO of the type the entries that the device has");
     }
     let (object, sub, bits) = (seen / 65536, seen / 256 % 256, seen % 256);
-    telling.advise(format_args!(
+    diagnosis.advise(format_args!(
         "correct the PDO of the type: what the device has is the entry [0x{object:04X}, {sub}, {bits}]"
     ));
 }
 
 /// Adds a remark on what the PDO of a slave's type has at a subindex, and marks the PDO.
-fn at_pdo(telling: &mut Telling<'_>, at: SlaveAt<'_>, index: u16, subindex: u8) {
+fn at_pdo(diagnosis: &mut Diagnosis<'_>, at: SlaveAt<'_>, index: u16, subindex: u8) {
     let Some((place, kind)) = at.kind() else {
         return;
     };
@@ -173,14 +173,14 @@ fn at_pdo(telling: &mut Telling<'_>, at: SlaveAt<'_>, index: u16, subindex: u8) 
                 subindex,
             };
             let name = kind.name.as_str();
-            let way = [
+            let path = [
                 PathStep::Key("type"),
                 PathStep::Item(place),
                 PathStep::Key(key),
                 PathStep::Item(item),
             ];
-            telling.at(
-                &way,
+            diagnosis.at(
+                &path,
                 MarkedPart::Key,
                 format_args!("its type {name} has {wanted} there"),
             );
@@ -189,24 +189,24 @@ fn at_pdo(telling: &mut Telling<'_>, at: SlaveAt<'_>, index: u16, subindex: u8) 
 }
 
 /// Adds remarks on a step that failed, if the table has a plan with it, and on what to do.
-fn tell_step(telling: &mut Telling<'_>, table: &Table, error: StartError, advice: &str) {
-    if let Some(fault) = fault_of_step(telling, table, error) {
-        at_step(telling, fault);
+fn explain_step(diagnosis: &mut Diagnosis<'_>, table: &Table, error: StartError, advice: &str) {
+    if let Some(fault) = fault_of_step(diagnosis, table, error) {
+        at_step(diagnosis, fault);
     }
-    telling.advise(advice);
+    diagnosis.advise(advice);
 }
 
 /// What a start-up failed by at a step, if the table has a plan.
 fn fault_of_step<'t>(
-    telling: &mut Telling<'_>,
+    diagnosis: &mut Diagnosis<'_>,
     table: &'t Table,
     error: StartError,
 ) -> Option<StartFault<'t>> {
-    match compile(telling.alloc, table) {
+    match compile(diagnosis.alloc, table) {
         Ok(plan) => Some(StartFault::of_plan(table, &plan, error)),
         Err(refusal) => {
             if refusal.number() == 1 {
-                telling.fall_short();
+                diagnosis.fall_short();
             }
             None
         }
@@ -214,22 +214,27 @@ fn fault_of_step<'t>(
 }
 
 /// Adds a remark on a step, and marks the slave that it is for; adds none on a step that the plan doesn't have.
-fn at_step(telling: &mut Telling<'_>, fault: StartFault<'_>) {
+fn at_step(diagnosis: &mut Diagnosis<'_>, fault: StartFault<'_>) {
     let Some(found) = fault.step() else {
         return;
     };
     match found.slave() {
-        Some(slave) => at_slave(telling, slave, fault),
-        None => telling.note(fault),
+        Some(slave) => at_slave(diagnosis, slave, fault),
+        None => diagnosis.note(fault),
     }
 }
 
 /// Adds remarks on a slave that is another device.
-fn tell_identity(telling: &mut Telling<'_>, at: SlaveAt<'_>, seen: Device, fault: StartFault<'_>) {
-    at_slave(telling, at.place, fault);
+fn explain_identity(
+    diagnosis: &mut Diagnosis<'_>,
+    at: SlaveAt<'_>,
+    seen: Device,
+    fault: StartFault<'_>,
+) {
+    at_slave(diagnosis, at.place, fault);
     if let Some((place, kind)) = at.kind() {
-        let (name, wanted) = (kind.name.as_str(), Shown(kind.device));
-        telling.at_key(
+        let (name, wanted) = (kind.name.as_str(), DeviceText(kind.device));
+        diagnosis.at_key(
             "type",
             place,
             "name",
@@ -239,11 +244,11 @@ fn tell_identity(telling: &mut Telling<'_>, at: SlaveAt<'_>, seen: Device, fault
     match type_of(at.table, seen) {
         Some(kind) => {
             let name = kind.name.as_str();
-            telling.advise(format_args!(
+            diagnosis.advise(format_args!(
                 "what it shows is the type {name} of the table: put the slaves into the order in which a frame passes them"
             ));
         }
-        None => telling.advise(
+        None => diagnosis.advise(
             "put the slaves into the order in which a frame passes them, or correct vendor, product and revision of the type",
         ),
     }
@@ -260,18 +265,20 @@ fn type_of(table: &Table, device: Device) -> Option<&TypeRow> {
 }
 
 /// Adds remarks on too few or too many slaves.
-fn tell_count(telling: &mut Telling<'_>, table: &Table, seen: usize, fault: StartFault<'_>) {
+fn explain_count(diagnosis: &mut Diagnosis<'_>, table: &Table, seen: usize, fault: StartFault<'_>) {
     if seen < table.slaves().len() {
         let at = SlaveAt::new(table, seen);
-        telling.at_row(
+        diagnosis.at_row(
             "slave",
             seen,
             format_args!(
                 "{fault}: {at} is the first that is missing, if those before it are there"
             ),
         );
-        return telling.advise("see whether that slave is switched on and its cable plugged in");
+        return diagnosis.advise("see whether that slave is switched on and its cable plugged in");
     }
-    telling.note(fault);
-    telling.advise("add the other slaves to the table, in the order in which a frame passes them");
+    diagnosis.note(fault);
+    diagnosis.advise(
+        "add the other slaves to the table, in the order in which a frame passes them",
+    );
 }

@@ -6,4 +6,4 @@ mod numbers;
 mod reading;
 mod rule;
 
-pub use crate::reading::tell_fault;
+pub use crate::reading::explain_fault;

@@ -1,15 +1,15 @@
 //! Why a value doesn't fit what its key takes.
 use crate::rule::{DIRECTIONS, Rule, TRUTHS, last_index, word_of};
 use ec_device::{MAX_ENTRIES, MAX_MAILBOX_SIZE, MAX_NAME, MAX_PDOS, MIN_MAILBOX_SIZE};
-use ec_diagnostic::{MarkedPart, PathStep, Printable, Telling, is_among, printed};
-use ec_table::{LAST_BIT, MAX_U8, MAX_U16, MAX_VALUE_BITS, Place, Section};
+use ec_diagnostic::{Diagnosis, MarkedPart, PathStep, Printable, is_among, printed};
+use ec_table::{LAST_BIT, MAX_U8, MAX_U16, MAX_VALUE_BITS, Position, Section};
 use std::fmt;
 use toml::{Table, Value};
 
 /// The fewest and the most bytes of a mailbox.
 const MAILBOX_SIZES: (u32, u32) = (MIN_MAILBOX_SIZE as u32, MAX_MAILBOX_SIZE as u32);
 
-/// Room for the steps to a value. The longest way in a link table, to a number of an entry of a PDO of a type, has 7.
+/// Room for the steps to a value. The longest path in a link table, to a number of an entry of a PDO of a type, has 7.
 const STEPS: usize = 8;
 
 /// Why a value doesn't fit a rule. It is printed in words.
@@ -41,7 +41,7 @@ pub enum Misfit<'v> {
     NamedGap,
 }
 
-/// Where a remark stands: at the end of a way, by the key there or by its value.
+/// Where a remark stands: at the end of a path, by the key there or by its value.
 #[derive(Clone, Copy)]
 pub struct Mark<'s> {
     steps: [PathStep<'s>; STEPS],
@@ -60,22 +60,22 @@ static ENTRY: [(u32, u32); 3] = [(0, MAX_U16), (0, MAX_U8), (1, MAX_VALUE_BITS)]
 
 impl<'s> Mark<'s> {
     /// Where an element begins.
-    pub fn of(place: Place) -> Mark<'s> {
+    pub fn of(position: Position) -> Mark<'s> {
         let mut mark = Mark {
             steps: [PathStep::Item(0); STEPS],
             count: 0,
             part: MarkedPart::Key,
         };
-        if place.section != Section::Top {
-            mark.enter(PathStep::Key(word_of(place.section)));
-            mark.enter(PathStep::Item(place.element));
+        if position.section != Section::Top {
+            mark.enter(PathStep::Key(word_of(position.section)));
+            mark.enter(PathStep::Item(position.element));
         }
         mark
     }
 
     /// A part of what stands under a key of an element.
-    pub fn under(place: Place, key: &'s str, part: MarkedPart) -> Mark<'s> {
-        let mut mark = Mark::of(place);
+    pub fn under(position: Position, key: &'s str, part: MarkedPart) -> Mark<'s> {
+        let mut mark = Mark::of(position);
         mark.enter(PathStep::Key(key));
         mark.part = part;
         mark
@@ -89,9 +89,9 @@ impl<'s> Mark<'s> {
     }
 
     /// Adds a remark there.
-    pub fn say<D: fmt::Display + Drop>(&self, telling: &mut Telling<'_>, words: D) {
+    pub fn say<D: fmt::Display + Drop>(&self, diagnosis: &mut Diagnosis<'_>, words: D) {
         let count = self.count.min(STEPS);
-        telling.at(&self.steps[..count], self.part, words);
+        diagnosis.at(&self.steps[..count], self.part, words);
     }
 
     /// Checks the value there against a rule. If it doesn't fit, the mark is left at what is wrong.
@@ -197,7 +197,7 @@ impl<'s> Mark<'s> {
         }
     }
 
-    /// Adds a step to the way; a way that is full stays as it is.
+    /// Adds a step to the path; a path that is full stays as it is.
     fn enter(&mut self, step: PathStep<'s>) {
         let count = self.count;
         if let Some(last) = self.steps.get_mut(count) {
@@ -206,7 +206,7 @@ impl<'s> Mark<'s> {
         }
     }
 
-    /// Takes the last step from the way.
+    /// Takes the last step from the path.
     fn leave(&mut self) {
         self.count = self.count.saturating_sub(1);
     }

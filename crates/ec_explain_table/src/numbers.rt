@@ -30,10 +30,10 @@ impl<'v> Numbers<'v> {
 
     /// The first number that isn't among others, with its place.
     pub fn first_not_in(self, others: Numbers<'_>) -> Option<(usize, i64)> {
-        for (place, item) in self.items.iter().enumerate() {
+        for (index, item) in self.items.iter().enumerate() {
             let number = number_of(item);
             if others.place_of(number, others.items.len()).is_none() {
-                return Some((place, number));
+                return Some((index, number));
             }
         }
         None
@@ -52,9 +52,9 @@ impl<'v> Numbers<'v> {
 
     /// The first place of a number before the place `end`.
     fn place_of(self, number: i64, end: usize) -> Option<usize> {
-        for (place, item) in self.items.iter().take(end).enumerate() {
+        for (index, item) in self.items.iter().take(end).enumerate() {
             if number_of(item) == number {
-                return Some(place);
+                return Some(index);
             }
         }
         None
@@ -66,8 +66,8 @@ impl fmt::Display for Numbers<'_> {
         if self.items.is_empty() {
             return f.write_str("none");
         }
-        for (place, item) in self.items.iter().enumerate() {
-            let (before, number) = (comma(place, self.items.len()), number_of(item));
+        for (index, item) in self.items.iter().enumerate() {
+            let (before, number) = (comma(index, self.items.len()), number_of(item));
             write!(f, "{before}0x{number:04X}")?;
         }
         Ok(())

@@ -2,8 +2,8 @@
 use crate::misfit::{Mark, Misfit, PDO_KEYS};
 use crate::numbers::Numbers;
 use crate::rule::{Lacking, Named, Rule, Taken, is_key, keys_of, word_of};
-use ec_diagnostic::{MarkedPart, Meant, Nearest, PathStep, Printable, Span, Telling};
-use ec_table::{Fault, Place, Section};
+use ec_diagnostic::{Diagnosis, MarkedPart, Meant, Nearest, PathStep, Printable, Span};
+use ec_table::{Fault, Position, Section};
 use toml::{Table, Value};
 
 /// The keys by which elements name others, and the sections of those.
@@ -16,13 +16,13 @@ static ASSIGNMENTS: [(&str, &str); 2] = [("out", "rxpdo"), ("in", "txpdo")];
 #[derive(Clone, Copy)]
 struct Element<'d> {
     document: &'d Table,
-    place: Place,
+    place: Position,
     members: &'d Table,
 }
 
 impl<'d> Element<'d> {
     /// What stands at a place, if it is a table.
-    fn at(document: &'d Table, place: Place) -> Option<Element<'d>> {
+    fn at(document: &'d Table, place: Position) -> Option<Element<'d>> {
         let members = match place.section {
             Section::Top => document,
             section => {
@@ -49,30 +49,30 @@ impl<'d> Element<'d> {
 }
 
 /// Adds remarks on why a text, with this first fault, is no link table.
-pub fn tell_fault(telling: &mut Telling<'_>, text: &str, fault: Fault) {
-    match toml::table_from_str(telling.alloc, text) {
-        Ok(document) => tell_of_document(telling, &document, fault),
-        Err(error) if error.is_memory() => telling.fall_short(),
-        Err(error) => tell_syntax(telling, &error),
+pub fn explain_fault(diagnosis: &mut Diagnosis<'_>, text: &str, fault: Fault) {
+    match toml::table_from_str(diagnosis.alloc, text) {
+        Ok(document) => explain_document(diagnosis, &document, fault),
+        Err(error) if error.is_memory() => diagnosis.fall_short(),
+        Err(error) => explain_syntax(diagnosis, &error),
     }
 }
 
 /// Adds remarks on what the reader of TOML reports.
-fn tell_syntax(telling: &mut Telling<'_>, error: &toml::de::Error) {
+fn explain_syntax(diagnosis: &mut Diagnosis<'_>, error: &toml::de::Error) {
     let message = error.message();
     let words = format_args!("this is no TOML: {message}");
     match error.span() {
         Some(range) => {
             let (start, end) = (range.start, range.end);
-            telling.at_span(Span { start, end }, words);
+            diagnosis.at_span(Span { start, end }, words);
         }
-        None => telling.note(words),
+        None => diagnosis.note(words),
     }
-    telling.advise("put the syntax right there, or in the line before");
+    diagnosis.advise("put the syntax right there, or in the line before");
 }
 
 /// Adds remarks on a fault of a document.
-fn tell_of_document(telling: &mut Telling<'_>, document: &Table, fault: Fault) {
+fn explain_document(diagnosis: &mut Diagnosis<'_>, document: &Table, fault: Fault) {
     let Some(place) = fault.place() else {
         return;
     };
@@ -81,59 +81,59 @@ fn tell_of_document(telling: &mut Telling<'_>, document: &Table, fault: Fault) {
     };
     match fault {
         Fault::Toml => (),
-        Fault::BadKey(_) => tell_bad_key(telling, element),
-        Fault::BadValue(_) => tell_bad_value(telling, element),
-        Fault::TwiceNamed(_) => tell_twice(telling, element),
-        Fault::UnknownName(_) => tell_unknown(telling, element),
+        Fault::BadKey(_) => explain_bad_key(diagnosis, element),
+        Fault::BadValue(_) => explain_bad_value(diagnosis, element),
+        Fault::TwiceNamed(_) => explain_twice(diagnosis, element),
+        Fault::UnknownName(_) => explain_unknown(diagnosis, element),
     }
 }
 
 /// Adds remarks on a key that is unknown or missing.
-fn tell_bad_key(telling: &mut Telling<'_>, element: Element<'_>) {
+fn explain_bad_key(diagnosis: &mut Diagnosis<'_>, element: Element<'_>) {
     let section = element.place.section;
     for key in element.members.keys() {
         let key = key.as_str();
         if !is_key(key, keys_of(section)) {
-            return tell_unknown_key(telling, element, key);
+            return explain_unknown_key(diagnosis, element, key);
         }
         if section == Section::Slave && key == "unit" && !is_version_2(element.document) {
-            return tell_early_unit(telling, element);
+            return explain_early_unit(diagnosis, element);
         }
     }
-    tell_missing(telling, element);
+    explain_missing(diagnosis, element);
 }
 
 /// Adds remarks on a key that no element of its section has.
-fn tell_unknown_key(telling: &mut Telling<'_>, element: Element<'_>, key: &str) {
+fn explain_unknown_key(diagnosis: &mut Diagnosis<'_>, element: Element<'_>, key: &str) {
     let section = element.place.section;
     let (word, shown, all) = (word_of(section), Printable(key), Named(keys_of(section)));
-    let near = Meant(meant_key(telling, key, section));
+    let near = Meant(meant_key(diagnosis, key, section));
     let mark = Mark::under(element.place, key, MarkedPart::Key);
     match section {
-        Section::Top => mark.say(telling, format_args!("`{shown}` is no section{near}")),
+        Section::Top => mark.say(diagnosis, format_args!("`{shown}` is no section{near}")),
         _ => mark.say(
-            telling,
+            diagnosis,
             format_args!("`{shown}` is no key of a {word}{near}"),
         ),
     }
-    telling.advise(format_args!("leave it out or correct it; a {word} has the keys {all}"));
+    diagnosis.advise(format_args!("leave it out or correct it; a {word} has the keys {all}"));
 }
 
 /// The key of a section's elements that may have been meant.
-fn meant_key(telling: &mut Telling<'_>, key: &str, section: Section) -> Option<&'static str> {
+fn meant_key(diagnosis: &mut Diagnosis<'_>, key: &str, section: Section) -> Option<&'static str> {
     let (keys, mut near) = (keys_of(section), Nearest::to(key));
     for (place, (name, _, _)) in keys.iter().enumerate() {
-        near = telling.nearer(near, key, place, name);
+        near = diagnosis.nearer(near, key, place, name);
     }
     Some(keys.get(near.place?)?.0)
 }
 
 /// Adds remarks on a sync unit in a table that isn't of version 2.
-fn tell_early_unit(telling: &mut Telling<'_>, element: Element<'_>) {
+fn explain_early_unit(diagnosis: &mut Diagnosis<'_>, element: Element<'_>) {
     let words = "`unit` is a key only where the text begins with `version = 2`";
     let mark = element.under("unit", MarkedPart::Key);
-    mark.say(telling, words);
-    telling.advise("write `version = 2` above all tables, or leave `unit` out");
+    mark.say(diagnosis, words);
+    diagnosis.advise("write `version = 2` above all tables, or leave `unit` out");
 }
 
 /// Whether the document is of version 2.
@@ -145,7 +145,7 @@ fn is_version_2(document: &Table) -> bool {
 }
 
 /// Adds remarks on the keys that an element lacks.
-fn tell_missing(telling: &mut Telling<'_>, element: Element<'_>) {
+fn explain_missing(diagnosis: &mut Diagnosis<'_>, element: Element<'_>) {
     let place = element.place;
     let lacks = Lacking {
         members: element.members,
@@ -153,69 +153,77 @@ fn tell_missing(telling: &mut Telling<'_>, element: Element<'_>) {
     };
     let (mark, word, number) = (Mark::of(place), word_of(place.section), place.element);
     match place.section {
-        Section::Top => mark.say(telling, format_args!("the document lacks {lacks}")),
-        _ => mark.say(telling, format_args!("{word} {number} lacks {lacks}")),
+        Section::Top => mark.say(diagnosis, format_args!("the document lacks {lacks}")),
+        _ => mark.say(diagnosis, format_args!("{word} {number} lacks {lacks}")),
     }
-    telling.advise(format_args!("add {lacks}"));
+    diagnosis.advise(format_args!("add {lacks}"));
 }
 
 /// Adds remarks on a value that isn't what its key takes.
-fn tell_bad_value(telling: &mut Telling<'_>, element: Element<'_>) {
+fn explain_bad_value(diagnosis: &mut Diagnosis<'_>, element: Element<'_>) {
     match element.place.section {
-        Section::Top => tell_bad_top(telling, element),
-        _ if tell_misfit(telling, element) => (),
-        _ => tell_fixed(telling, element),
+        Section::Top => explain_bad_top(diagnosis, element),
+        _ if explain_misfit(diagnosis, element) => (),
+        _ => explain_fixed(diagnosis, element),
     }
 }
 
 /// Adds remarks on a value of the document that isn't what its key takes.
-fn tell_bad_top(telling: &mut Telling<'_>, element: Element<'_>) {
-    if tell_misfit_under(telling, element, "version", Rule::Number(1, 2)) {
-        return telling.advise("give version 1 or 2; 2 has sync units, the key `unit` of a slave");
+fn explain_bad_top(diagnosis: &mut Diagnosis<'_>, element: Element<'_>) {
+    if explain_misfit_under(diagnosis, element, "version", Rule::Number(1, 2)) {
+        return diagnosis.advise("give version 1 or 2; 2 has sync units, the key `unit` of a slave");
     }
     for section in ["type", "slave", "variable", "link"] {
-        if tell_bad_section(telling, element.document, section) {
+        if explain_bad_section(diagnosis, element.document, section) {
             return;
         }
     }
 }
 
 /// Adds remarks on a section that is no list of tables; returns whether it is none.
-fn tell_bad_section(telling: &mut Telling<'_>, document: &Table, section: &'static str) -> bool {
+fn explain_bad_section(
+    diagnosis: &mut Diagnosis<'_>,
+    document: &Table,
+    section: &'static str,
+) -> bool {
     match document.get(section) {
         Some(value) if !value.is_array() => {
-            tell_no_list(telling, section, value.is_table());
+            explain_no_list(diagnosis, section, value.is_table());
             true
         }
-        _ => tell_no_table(telling, section, elements_of(document, section)),
+        _ => explain_no_table(diagnosis, section, elements_of(document, section)),
     }
 }
 
 /// Adds remarks on a section that is no list, but may be a table.
-fn tell_no_list(telling: &mut Telling<'_>, section: &'static str, is_table: bool) {
+fn explain_no_list(diagnosis: &mut Diagnosis<'_>, section: &'static str, is_table: bool) {
     let alone = if is_table {
         ", and this is one table alone"
     } else {
         ""
     };
-    telling.at(
+    diagnosis.at(
         &[PathStep::Key(section)],
         MarkedPart::Key,
         format_args!("a section is a list of tables{alone}"),
     );
-    telling.advise(format_args!("write `[[{section}]]` above each table of the section"));
+    diagnosis.advise(format_args!("write `[[{section}]]` above each table of the section"));
 }
 
 /// Adds remarks on the first element of a section that is no table; returns whether there is one.
-fn tell_no_table(telling: &mut Telling<'_>, section: &'static str, elements: &[Value]) -> bool {
+fn explain_no_table(
+    diagnosis: &mut Diagnosis<'_>,
+    section: &'static str,
+    elements: &[Value],
+) -> bool {
     for (place, element) in elements.iter().enumerate() {
         if !element.is_table() {
-            telling.at(
+            diagnosis.at(
                 &[PathStep::Key(section), PathStep::Item(place)],
                 MarkedPart::Value,
                 format_args!("{section} {place} is no table"),
             );
-            telling.advise("write a table in its place, as `{ name = .. }`");
+            diagnosis.advise("write a table in its place, as `{ name = .. }`");
             return true;
         }
     }
@@ -223,11 +231,11 @@ fn tell_no_table(telling: &mut Telling<'_>, section: &'static str, elements: &[V
 }
 
 /// Adds remarks on a value of an element that isn't what its key takes; returns whether there is one.
-fn tell_misfit(telling: &mut Telling<'_>, element: Element<'_>) -> bool {
+fn explain_misfit(diagnosis: &mut Diagnosis<'_>, element: Element<'_>) -> bool {
     for (key, rule, _) in keys_of(element.place.section) {
-        if tell_misfit_under(telling, element, *key, *rule) {
+        if explain_misfit_under(diagnosis, element, *key, *rule) {
             let taken = Taken(*rule);
-            telling.advise(format_args!("give `{key}` what it takes: {taken}"));
+            diagnosis.advise(format_args!("give `{key}` what it takes: {taken}"));
             return true;
         }
     }
@@ -235,8 +243,8 @@ fn tell_misfit(telling: &mut Telling<'_>, element: Element<'_>) -> bool {
 }
 
 /// Adds remarks on a value under a key that doesn't fit a rule; returns whether it doesn't.
-fn tell_misfit_under<'d>(
-    telling: &mut Telling<'_>,
+fn explain_misfit_under<'d>(
+    diagnosis: &mut Diagnosis<'_>,
     element: Element<'d>,
     key: &'d str,
     rule: Rule,
@@ -248,25 +256,25 @@ fn tell_misfit_under<'d>(
     let Err(misfit) = mark.hold(value, rule) else {
         return false;
     };
-    let near = Meant(meant_in_pdo(telling, misfit));
-    mark.say(telling, format_args!("{misfit}{near}"));
+    let near = Meant(meant_in_pdo(diagnosis, misfit));
+    mark.say(diagnosis, format_args!("{misfit}{near}"));
     true
 }
 
 /// The key of a PDO that may have been meant by one that it doesn't have.
-fn meant_in_pdo(telling: &mut Telling<'_>, misfit: Misfit<'_>) -> Option<&'static str> {
+fn meant_in_pdo(diagnosis: &mut Diagnosis<'_>, misfit: Misfit<'_>) -> Option<&'static str> {
     let Misfit::NoKey(key) = misfit else {
         return None;
     };
     let mut near = Nearest::to(key);
     for (place, name) in PDO_KEYS.iter().enumerate() {
-        near = telling.nearer(near, key, place, name);
+        near = diagnosis.nearer(near, key, place, name);
     }
     PDO_KEYS.get(near.place?).copied()
 }
 
 /// Adds remarks on a slave that assigns PDOs of its own choice, though its type has no mailbox.
-fn tell_fixed(telling: &mut Telling<'_>, element: Element<'_>) {
+fn explain_fixed(diagnosis: &mut Diagnosis<'_>, element: Element<'_>) {
     let Some(kind) = element.text("type") else {
         return;
     };
@@ -276,30 +284,30 @@ fn tell_fixed(telling: &mut Telling<'_>, element: Element<'_>) {
         if written.is_some() && !Numbers::under(written).is_same(known) {
             let mark = element.under(key, MarkedPart::Key);
             mark.say(
-                telling,
+                diagnosis,
                 format_args!(
                     "type {kind} has no mailbox, so its slaves assign all its PDOs, in the order of its `{list}`: {known}"
                 ),
             );
         }
     }
-    telling.advise("leave `out` and `in` out, or give the type a `mailbox`");
+    diagnosis.advise("leave `out` and `in` out, or give the type a `mailbox`");
 }
 
 /// Adds remarks on a name or an index that stands twice.
-fn tell_twice(telling: &mut Telling<'_>, element: Element<'_>) {
-    if tell_taken_name(telling, element) {
+fn explain_twice(diagnosis: &mut Diagnosis<'_>, element: Element<'_>) {
+    if explain_taken_name(diagnosis, element) {
         return;
     }
     for key in ["rxpdo", "txpdo", "out", "in"] {
-        if tell_twice_under(telling, element, key) {
+        if explain_twice_under(diagnosis, element, key) {
             return;
         }
     }
 }
 
 /// Adds remarks on a name that an earlier element has; returns whether one has it.
-fn tell_taken_name(telling: &mut Telling<'_>, element: Element<'_>) -> bool {
+fn explain_taken_name(diagnosis: &mut Diagnosis<'_>, element: Element<'_>) -> bool {
     let (word, second) = (word_of(element.place.section), element.place.element);
     let Some(name) = element.text("name") else {
         return false;
@@ -308,19 +316,19 @@ fn tell_taken_name(telling: &mut Telling<'_>, element: Element<'_>) -> bool {
         return false;
     };
     let shown = Printable(name);
-    telling.at_key(
+    diagnosis.at_key(
         word,
         first,
         "name",
         format_args!("{word} {first} has the name `{shown}`"),
     );
-    telling.at_key(
+    diagnosis.at_key(
         word,
         second,
         "name",
         format_args!("{word} {second} has the name `{shown}` too"),
     );
-    telling.advise("change one of the names, and the references to it");
+    diagnosis.advise("change one of the names, and the references to it");
     true
 }
 
@@ -335,38 +343,45 @@ fn place_before(elements: &[Value], place: usize, name: &str) -> Option<usize> {
 }
 
 /// Adds remarks on an index that stands twice under a key; returns whether one does.
-fn tell_twice_under(telling: &mut Telling<'_>, element: Element<'_>, key: &'static str) -> bool {
+fn explain_twice_under(
+    diagnosis: &mut Diagnosis<'_>,
+    element: Element<'_>,
+    key: &'static str,
+) -> bool {
     let numbers = Numbers::under(element.members.get(key));
     let Some((first, second, index)) = numbers.twice() else {
         return false;
     };
     let list = element.under(key, MarkedPart::Key);
-    list.item(first).say(telling, format_args!("PDO 0x{index:04X} stands here first"));
+    list.item(first).say(
+        diagnosis,
+        format_args!("PDO 0x{index:04X} stands here first"),
+    );
     list.item(second).say(
-        telling,
+        diagnosis,
         format_args!("PDO 0x{index:04X} stands in `{key}` once more"),
     );
-    telling.advise("leave one of them out, or correct its index");
+    diagnosis.advise("leave one of them out, or correct its index");
     true
 }
 
 /// Adds remarks on a name or an index that is unknown.
-fn tell_unknown(telling: &mut Telling<'_>, element: Element<'_>) {
+fn explain_unknown(diagnosis: &mut Diagnosis<'_>, element: Element<'_>) {
     for (key, section) in REFERENCES {
-        if tell_unknown_name(telling, element, key, section) {
+        if explain_unknown_name(diagnosis, element, key, section) {
             return;
         }
     }
     for (key, list) in ASSIGNMENTS {
-        if tell_unknown_pdo(telling, element, key, list) {
+        if explain_unknown_pdo(diagnosis, element, key, list) {
             return;
         }
     }
 }
 
 /// Adds remarks on a reference to an element that its section doesn't have; returns whether there is one.
-fn tell_unknown_name(
-    telling: &mut Telling<'_>,
+fn explain_unknown_name(
+    diagnosis: &mut Diagnosis<'_>,
     element: Element<'_>,
     key: &'static str,
     section: &str,
@@ -378,30 +393,37 @@ fn tell_unknown_name(
     if place_before(elements, elements.len(), name).is_some() {
         return false;
     }
-    let (shown, near) = (Printable(name), Meant(meant_name(telling, name, elements)));
+    let (shown, near) = (
+        Printable(name),
+        Meant(meant_name(diagnosis, name, elements)),
+    );
     let mark = element.under(key, MarkedPart::Value);
     mark.say(
-        telling,
+        diagnosis,
         format_args!("no {section} has the name `{shown}`{near}"),
     );
-    telling.advise(format_args!("correct the name, or add a {section} of that name"));
+    diagnosis.advise(format_args!("correct the name, or add a {section} of that name"));
     true
 }
 
 /// The name of an element that may have been meant.
-fn meant_name<'v>(telling: &mut Telling<'_>, word: &str, elements: &'v [Value]) -> Option<&'v str> {
+fn meant_name<'v>(
+    diagnosis: &mut Diagnosis<'_>,
+    word: &str,
+    elements: &'v [Value],
+) -> Option<&'v str> {
     let mut near = Nearest::to(word);
     for (place, element) in elements.iter().enumerate() {
         if let Some(name) = text_under(element, "name") {
-            near = telling.nearer(near, word, place, name);
+            near = diagnosis.nearer(near, word, place, name);
         }
     }
     text_under(elements.get(near.place?)?, "name")
 }
 
 /// Adds remarks on a PDO that a slave assigns and its type doesn't have; returns whether there is one.
-fn tell_unknown_pdo(
-    telling: &mut Telling<'_>,
+fn explain_unknown_pdo(
+    diagnosis: &mut Diagnosis<'_>,
     element: Element<'_>,
     key: &'static str,
     list: &str,
@@ -416,10 +438,10 @@ fn tell_unknown_pdo(
     };
     let mark = element.under(key, MarkedPart::Value).item(item);
     mark.say(
-        telling,
+        diagnosis,
         format_args!("type {kind} has no PDO 0x{index:04X} in `{list}`; it has {known}"),
     );
-    telling.advise("correct the index, or add the PDO to the type");
+    diagnosis.advise("correct the index, or add the PDO to the type");
     true
 }
 

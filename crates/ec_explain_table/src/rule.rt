@@ -117,8 +117,8 @@ pub struct Named<'k>(pub &'k [Key]);
 
 impl fmt::Display for Named<'_> {
     fn fmt<W: fmt::Write>(&self, f: &mut fmt::Formatter<W>) -> fmt::Result {
-        for (place, (name, _, _)) in self.0.iter().enumerate() {
-            let before = comma(place, self.0.len());
+        for (index, (name, _, _)) in self.0.iter().enumerate() {
+            let before = comma(index, self.0.len());
             write!(f, "{before}{name}")?;
         }
         Ok(())
@@ -152,12 +152,12 @@ impl Lacking<'_> {
 
 impl fmt::Display for Lacking<'_> {
     fn fmt<W: fmt::Write>(&self, f: &mut fmt::Formatter<W>) -> fmt::Result {
-        let (count, mut place) = (self.count(), 0_usize);
+        let (count, mut index) = (self.count(), 0_usize);
         for key in self.keys {
             if self.has(*key) {
-                let (before, name) = (comma(place, count), key.0);
+                let (before, name) = (comma(index, count), key.0);
                 write!(f, "{before}{name}")?;
-                place = place.saturating_add(1);
+                index = index.saturating_add(1);
             }
         }
         Ok(())

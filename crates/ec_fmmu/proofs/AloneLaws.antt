@@ -8,10 +8,10 @@ use Rattle.ec_regs.specs.declared.fmmu.FmmuSettings.{FmmuSettings}
 use Rattle.ec_regs.specs.Fmmus.{no_fmmu}
 use Rattle.ec_fmmu.specs.Pairs.{mapped, reaches}
 use Rattle.ec_fmmu.specs.Sets.{target, readers}
-use Rattle.ec_fmmu.specs.Applied.{read_told}
-use Rattle.ec_fmmu.specs.Ranges.{reads_to, range_read_told}
+use Rattle.ec_fmmu.specs.Applied.{read_updates}
+use Rattle.ec_fmmu.specs.Ranges.{reads_to, range_read_updates}
 use Rattle.ec_fmmu.specs.Alone.{IsAlone, run_mapped}
-use Rattle.ec_fmmu.specs.Apart.{run_shown}
+use Rattle.ec_fmmu.specs.Apart.{run_visible}
 use Rattle.ec_fmmu.proofs.PairLaws.{none_or_some, none_is_not_some, mapped_from_pair, pair_reaches}
 use Rattle.ec_fmmu.proofs.RangeLaws.{reading_pair}
 
@@ -58,46 +58,46 @@ unfolding mapped
 unreached f l e = if_false _ _ _ (and_left _ _ e)
 
 -- so its part of a read is one run
-pub alone_told : (fs : List FmmuSettings) (k : ℕ) (shown : ℕ → Option Bool) (from i logical physical n : ℕ) → k < length fs
+pub alone_told : (fs : List FmmuSettings) (k : ℕ) (visible : ℕ → Option Bool) (from i logical physical n : ℕ) → k < length fs
     → (get_or fs k no_fmmu).reads ≡ true → IsAlone fs k
     → ((l : ℕ) → mapped (get_or fs k no_fmmu) l ≡ run_mapped logical physical n l)
-    → range_read_told (get_or fs k no_fmmu) fs shown from i ≡ option_and_then shown (run_mapped logical physical n (from + i))
-alone_told fs k shown from i logical physical n h r alone m =
+    → range_read_updates (get_or fs k no_fmmu) fs visible from i ≡ option_and_then visible (run_mapped logical physical n (from + i))
+alone_told fs k visible from i logical physical n h r alone m =
     let f = get_or fs k no_fmmu in
     let l = from + i in
     elim (cases_Bool (reaches f l)) [
-      | inl t ↦ if_true (reads_to f l) (read_told fs shown from i) None (and_from f.reads (reaches f l) r t)
-          ∙ ap (option_and_then shown) (alone_target fs k l h r alone t ∙ m l)
-      | inr e ↦ if_false (reads_to f l) (read_told fs shown from i) None (and_right f.reads (reaches f l) e)
-          ∙ sym (ap (option_and_then shown) (sym (m l) ∙ unreached f l e))
+      | inl t ↦ if_true (reads_to f l) (read_updates fs visible from i) None (and_from f.reads (reaches f l) r t)
+          ∙ ap (option_and_then visible) (alone_target fs k l h r alone t ∙ m l)
+      | inr e ↦ if_false (reads_to f l) (read_updates fs visible from i) None (and_right f.reads (reaches f l) e)
+          ∙ sym (ap (option_and_then visible) (sym (m l) ∙ unreached f l e))
     ]
 
 -- the run of it that lies in the data
-pub run_tells : (shown : ℕ → Option Bool) (from i logical physical n bits first end : ℕ) → first ≡ max logical from - from
+pub run_tells : (visible : ℕ → Option Bool) (from i logical physical n bits first end : ℕ) → first ≡ max logical from - from
     → end ≡ min (max (logical + n) from - from) bits → i < bits
-    → option_and_then shown (run_mapped logical physical n (from + i)) ≡ run_shown shown (physical + (from + first - logical)) first (end - first) i
-run_tells shown from i logical physical n bits first end a b l =
+    → option_and_then visible (run_mapped logical physical n (from + i)) ≡ run_visible visible (physical + (from + first - logical)) first (end - first) i
+run_tells visible from i logical physical n bits first end a b l =
     let at = physical + (from + first - logical) in
-    let told = λ (o : Option ℕ). option_and_then shown o in
+    let update = λ (o : Option ℕ). option_and_then visible o in
     let none : run_mapped logical physical n (from + i) ≡ None → within first (end - first) i ≡ false
-    → told (run_mapped logical physical n (from + i)) ≡ run_shown shown at first (end - first) i
-    = λ x y. ap told x ∙ sym (if_false (within first (end - first) i) (shown (at + (i - first))) None y) in
+    → update (run_mapped logical physical n (from + i)) ≡ run_visible visible at first (end - first) i
+    = λ x y. ap update x ∙ sym (if_false (within first (end - first) i) (visible (at + (i - first))) None y) in
     elim (cases_lt i first) [
       | inl x ↦ none (if_false (within logical n (from + i)) (Some (physical + (from + i - logical))) None (within_below logical n (from + i) (omega arith)))
           (within_below first (end - first) i x)
       | inr x ↦ elim (cases_lt i end) [
         | inl y ↦
             let same : physical + (from + i - logical) ≡ at + (i - first) = omega arith in
-            ap told (if_true (within logical n (from + i)) (Some (physical + (from + i - logical))) None (within_true logical n (from + i) (omega arith) (omega arith)))
-            ∙ (ap shown same
-            ∙ sym (if_true (within first (end - first) i) (shown (at + (i - first))) None (within_true first (end - first) i x (omega arith))))
+            ap update (if_true (within logical n (from + i)) (Some (physical + (from + i - logical))) None (within_true logical n (from + i) (omega arith) (omega arith)))
+            ∙ (ap visible same
+            ∙ sym (if_true (within first (end - first) i) (visible (at + (i - first))) None (within_true first (end - first) i x (omega arith))))
         | inr y ↦ none (if_false (within logical n (from + i)) (Some (physical + (from + i - logical))) None (within_above logical n (from + i) (omega arith)))
             (within_above first (end - first) i (omega arith))
       ]
     ]
 
-pub run_empty : (shown : ℕ → Option Bool) (physical first end i : ℕ) → end ≤ first → run_shown shown physical first (end - first) i ≡ None
-run_empty shown physical first end i e = if_false (within first (end - first) i) (shown (physical + (i - first))) None (elim (cases_lt i first) [
+pub run_empty : (visible : ℕ → Option Bool) (physical first end i : ℕ) → end ≤ first → run_visible visible physical first (end - first) i ≡ None
+run_empty visible physical first end i e = if_false (within first (end - first) i) (visible (physical + (i - first))) None (elim (cases_lt i first) [
   | inl x ↦ within_below first (end - first) i x
   | inr x ↦ within_above first (end - first) i (omega arith)
 ])

@@ -9,7 +9,7 @@ use Rattle.ec_regs.specs.declared.fmmu.FmmuSettings.{FmmuSettings}
 use Rattle.ec_regs.specs.Fmmus.{no_fmmu}
 use Rattle.ec_fmmu.specs.Pairs.{Pair, first_logical, first_physical, mapped, unmapped, reaches_physical}
 use Rattle.ec_fmmu.specs.Sets.{target, source, source_after, unless_mapped, writers}
-use Rattle.ec_fmmu.specs.Applied.{inside_place, write_told}
+use Rattle.ec_fmmu.specs.Applied.{inside_span, write_updates}
 use Rattle.ec_fmmu.specs.Ranges.{writes_to}
 use Rattle.ec_fmmu.specs.Alone.{IsAloneWriting, brought_by, run_unmapped, run_written}
 use Rattle.ec_fmmu.proofs.PairLaws.{none_or_some, none_is_not_some, pair_from_mapped, pair_from_unmapped, unmapped_from_pair, pair_reaches, pair_reaches_physical}
@@ -107,7 +107,7 @@ alone_source fs k q h w alone here =
 pub alone_brings : (fs : List FmmuSettings) (k : ℕ) (allowed : ℕ → Bool) (from : ℕ) (bytes : List ℕ) (q logical physical n : ℕ) → k < length fs
     → (get_or fs k no_fmmu).writes ≡ true → IsAloneWriting fs k
     → ((p : ℕ) → unmapped (get_or fs k no_fmmu) p ≡ run_unmapped logical physical n p)
-    → (if writes_to (get_or fs k no_fmmu) from (8 * length bytes) q then write_told fs allowed from bytes q else None)
+    → (if writes_to (get_or fs k no_fmmu) from (8 * length bytes) q then write_updates fs allowed from bytes q else None)
     ≡ brought_by allowed from bytes q (run_unmapped logical physical n q)
 alone_brings fs k allowed from bytes q logical physical n h w alone u =
     let f = get_or fs k no_fmmu in
@@ -115,7 +115,7 @@ alone_brings fs k allowed from bytes q logical physical n h w alone u =
     elim (cases_Bool (writes_to f from bits q)) [
       | inl t ↦
           let there : reaches_physical f q ≡ true = (and_parts (reaches_physical f q) (within from bits (first_logical f + (q - first_physical f))) (and_parts f.writes _ t).1).0 in
-          if_true (writes_to f from bits q) (write_told fs allowed from bytes q) None t
+          if_true (writes_to f from bits q) (write_updates fs allowed from bytes q) None t
           ∙ ap (brought_by allowed from bytes q) (alone_source fs k q h w alone there ∙ u q)
       | inr e ↦
           let none : brought_by allowed from bytes q (unmapped f q) ≡ None = elim (none_or_some (unmapped f q)) [
@@ -131,7 +131,7 @@ alone_brings fs k allowed from bytes q logical physical n h w alone u =
                 ap (brought_by allowed from bytes q) s.1
                 ∙ if_none (allowed (q / 8)) _ (ap (option_map (bit bytes)) (if_false (within from bits s.0) (Some (s.0 - from)) None out))
           ] in
-          if_false (writes_to f from bits q) (write_told fs allowed from bytes q) None e
+          if_false (writes_to f from bits q) (write_updates fs allowed from bytes q) None e
           ∙ sym (ap (brought_by allowed from bytes q) (sym (u q)) ∙ none)
     ]
 
@@ -228,21 +228,21 @@ written_none xs allowed physical bytes at to n h =
 pub alone_wholly : (fs : List FmmuSettings) (k from bits q logical physical n : ℕ) → k < length fs → (get_or fs k no_fmmu).writes ≡ true → IsAloneWriting fs k
     → ((p : ℕ) → unmapped (get_or fs k no_fmmu) p ≡ run_unmapped logical physical n p)
     → physical ≤ q → q < physical + n → from ≤ logical + (q - physical) → logical + (q - physical) < from + bits
-    → inside_place (record { from = from; bits = bits }) (source (writers fs) q) ≡ Some (logical + (q - physical) - from)
+    → inside_span (record { from = from; bits = bits }) (source (writers fs) q) ≡ Some (logical + (q - physical) - from)
 alone_wholly fs k from bits q logical physical n h w alone u a b c d =
     let f = get_or fs k no_fmmu in
     let l : ℕ = logical + (q - physical) in
     let one : unmapped f q ≡ Some l = u q ∙ if_true (within physical n q) (Some l) None (within_true physical n q a b) in
     let there : reaches_physical f q ≡ true = pair_reaches_physical f l q (pair_from_unmapped f l q one) in
     let from_it : source (writers fs) q ≡ Some l = alone_source fs k q h w alone there ∙ one in
-    ap (λ (o : Option ℕ). inside_place (record { from = from; bits = bits }) o) from_it
+    ap (λ (o : Option ℕ). inside_span (record { from = from; bits = bits }) o) from_it
     ∙ if_true (within from bits l) (Some (l - from)) None (within_true from bits l c d)
 
 -- a run that begins inside another one is a part of it
 pub written_part : (allowed : ℕ → Bool) (physical : ℕ) (bytes : List ℕ) (at to n done m : ℕ) → done + m ≤ n → (k : ℕ)
     → run_written allowed (physical + done) bytes (at + done) (to + done) m k ≡ (if within (to + done) m k then run_written allowed physical bytes at to n k else None)
 written_part allowed physical bytes at to n done m fits k =
-    let told = λ (q : ℕ) (b : ℕ). if allowed (q / 8) then Some (bit bytes b) else None in
+    let update = λ (q : ℕ) (b : ℕ). if allowed (q / 8) then Some (bit bytes b) else None in
     elim (cases_Bool (within (to + done) m k)) [
       | inl t ↦
           let w = within_parts (to + done) m k t in
@@ -251,10 +251,10 @@ written_part allowed physical bytes at to n done m fits k =
           let here : physical + done + (k - (to + done)) ≡ physical + (k - to) = omega arith in
           let there : at + done + (k - (to + done)) ≡ at + (k - to) = omega arith in
           let inside : within to n k ≡ true = within_true to n k (omega arith) (omega arith) in
-          if_true (within (to + done) m k) (told (physical + done + (k - (to + done))) (at + done + (k - (to + done)))) None t
-          ∙ (ap (λ (q : ℕ). told q (at + done + (k - (to + done)))) here ∙ (ap (λ (b : ℕ). told (physical + (k - to)) b) there
-          ∙ (sym (if_true (within to n k) (told (physical + (k - to)) (at + (k - to))) None inside)
+          if_true (within (to + done) m k) (update (physical + done + (k - (to + done))) (at + done + (k - (to + done)))) None t
+          ∙ (ap (λ (q : ℕ). update q (at + done + (k - (to + done)))) here ∙ (ap (λ (b : ℕ). update (physical + (k - to)) b) there
+          ∙ (sym (if_true (within to n k) (update (physical + (k - to)) (at + (k - to))) None inside)
           ∙ sym (if_true (within (to + done) m k) (run_written allowed physical bytes at to n k) None t))))
-      | inr f ↦ if_false (within (to + done) m k) (told (physical + done + (k - (to + done))) (at + done + (k - (to + done)))) None f
+      | inr f ↦ if_false (within (to + done) m k) (update (physical + done + (k - (to + done))) (at + done + (k - (to + done)))) None f
           ∙ sym (if_false (within (to + done) m k) (run_written allowed physical bytes at to n k) None f)
     ]

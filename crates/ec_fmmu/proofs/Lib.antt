@@ -21,4 +21,4 @@ pub mod Missing
 -- where no FMMU that writes meets one that reads, what is read is not written
 pub mod ApartLaws
 -- of the way of one FMMU
-pub mod WayLaws
+pub mod ModeLaws

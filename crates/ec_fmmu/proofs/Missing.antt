@@ -7,7 +7,7 @@ use Rattle.ec_regs.specs.declared.fmmu.FmmuSettings.{FmmuSettings}
 use Rattle.ec_regs.specs.Fmmus.{no_fmmu}
 use Rattle.ec_fmmu.specs.Pairs.{reaches}
 use Rattle.ec_fmmu.specs.Sets.{target, source, readers, writers}
-use Rattle.ec_fmmu.specs.Applied.{Place, inside_place, data_bit_for}
+use Rattle.ec_fmmu.specs.Applied.{LogicalSpan, inside_span, data_bit_for}
 use Rattle.ec_fmmu.proofs.PairLaws.{none_or_some, pair_reaches}
 use Rattle.ec_fmmu.proofs.RangeLaws.{reading_pair}
 use Rattle.ec_fmmu.proofs.AloneWriting.{writing_pair}
@@ -26,12 +26,12 @@ none_read fs from bits i h l = elim (none_or_some (target (readers fs) (from + i
 
 pub none_brought : (fs : List FmmuSettings) (from bits q : ℕ) → AllOutside fs from bits → data_bit_for fs (record { from = from; bits = bits }) q ≡ None
 none_brought fs from bits q h =
-    let place : Place = record { from = from; bits = bits } in
+    let place : LogicalSpan = record { from = from; bits = bits } in
     elim (none_or_some (source (writers fs) q)) [
-      | inl z ↦ ap (inside_place place) z
+      | inl z ↦ ap (inside_span place) z
       | inr s ↦
           let p = writing_pair [] fs s.0 q s.1 in
-          ap (inside_place place) s.1
+          ap (inside_span place) s.1
           ∙ (elim (cases_Bool (within from bits s.0)) [
             | inl t ↦ absurd (h p.0 p.1 s.0 (pair_reaches (get_or fs p.0 no_fmmu) s.0 q p.3) t)
             | inr f ↦ if_false (within from bits s.0) (Some (s.0 - from)) None f

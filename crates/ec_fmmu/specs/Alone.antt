@@ -3,7 +3,7 @@ use Rattle.std.specs.Prelude.{ℕ, ◌+◌, ◌-◌, ◌*◌, ◌/◌, ◌<◌, 
 use Rattle.ec_bits.specs.Bits.{bit, within}
 use Rattle.ec_regs.specs.declared.fmmu.FmmuSettings.{FmmuSettings}
 use Rattle.ec_regs.specs.Fmmus.{no_fmmu}
-use Rattle.ec_fmmu.specs.Applied.{inside_place}
+use Rattle.ec_fmmu.specs.Applied.{inside_span}
 use Rattle.ec_fmmu.specs.Pairs.{reaches, reaches_physical}
 
 -- no other FMMU that reads has a logical bit of the range of FMMU k
@@ -40,4 +40,4 @@ run_written allowed physical bytes at to n k =
 -- what a physical bit becomes by a write of the data, if its pair is with this logical bit, or it has none
 abbrev pub brought_by : (ℕ → Bool) → ℕ → List ℕ → ℕ → Option ℕ → Option Bool
 brought_by allowed from bytes q logical =
-    if allowed (q / 8) then option_map (bit bytes) (inside_place (record { from = from; bits = 8 * length bytes }) logical) else None
+    if allowed (q / 8) then option_map (bit bytes) (inside_span (record { from = from; bits = 8 * length bytes }) logical) else None

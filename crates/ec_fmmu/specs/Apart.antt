@@ -9,5 +9,5 @@ abbrev pub AreApart : List FmmuSettings → Type 0
 AreApart fs = (l q : ℕ) → target (readers fs) l ≡ Some q → source (writers fs) q ≡ None
 
 -- what n bits that begin at a physical bit show, as the bits that begin at `to`
-abbrev pub run_shown : (ℕ → Option Bool) → ℕ → ℕ → ℕ → ℕ → Option Bool
-run_shown shown physical to n i = if within to n i then shown (physical + (i - to)) else None
+abbrev pub run_visible : (ℕ → Option Bool) → ℕ → ℕ → ℕ → ℕ → Option Bool
+run_visible visible physical to n i = if within to n i then visible (physical + (i - to)) else None

@@ -2,7 +2,7 @@
 
 ghost use Rattle.std.specs.Prelude.{ℕ, true, ◌≡◌, ◌<◌, ◌≤◌, ◌+◌, ◌-◌, ◌^◌, IfSome};
 ghost use Rattle.ec_bits.specs.Bits.{within};
-ghost use Rattle.ec_fmmu.specs.Ways.{IsInRam, run_touches};
+ghost use Rattle.ec_fmmu.specs.Modes.{IsInRam, run_touches};
 
 /// Logical bits and, one by one, the physical bits that they stand for.
 #[derive(Clone, Copy)]

@@ -9,12 +9,12 @@ ghost use Rattle.ec_fmmu.specs.Applied.{data_bit_for};
 ghost use Rattle.ec_fmmu.specs.Pairs.{reaches};
 ghost use Rattle.ec_fmmu.specs.Sets.{target, readers};
 ghost use Rattle.ec_fmmu.specs.Stretches.{Has, IsAround};
-ghost use Rattle.ec_fmmu.specs.Ways.{IsReadWay, IsWriteWay};
+ghost use Rattle.ec_fmmu.specs.Modes.{IsReadMode, IsWriteMode};
 
 use crate::area::{MappedArea, area_of};
 use crate::crossing::are_apart;
 use crate::mapping::Fmmu;
-use crate::ways::{Way, end_of_open, read_ways, write_ways};
+use crate::modes::{Mode, end_of_open, read_modes, write_modes};
 use std::marker::Model;
 
 /// The logical bits from one number to before another.
@@ -32,8 +32,8 @@ pub struct FmmuTable {
     fmmus: [Fmmu; 4],
     stretch: LogicalRange,
     is_apart: bool,
-    reading: [Way; 4],
-    writing: [Way; 4],
+    reading: [Mode; 4],
+    writing: [Mode; 4],
     // the places behind the last ones that are open
     read_end: usize,
     write_end: usize,
@@ -47,14 +47,14 @@ impl Model for FmmuTable {
     ghost use Rattle.ec_fmmu.specs.Apart.{AreApart};
     ghost use Rattle.ec_fmmu.specs.Areas.{IsMappedBy};
     ghost use Rattle.ec_fmmu.specs.Stretches.{IsAround};
-    ghost use Rattle.ec_fmmu.specs.Ways.{AreClosedFrom, AreReadWays, AreWriteWays};
+    ghost use Rattle.ec_fmmu.specs.Modes.{AreClosedFrom, AreReadModes, AreWriteModes};
 
     ghost Value = { List FmmuSettings };
 
     ghost view = { λ t. t.fmmus };
 
     ghost invariant = { λ t. (length t.fmmus ≡ 4) × (IsAround t.stretch t.fmmus) × OnTrue t.is_apart (AreApart t.fmmus)
-        × AreReadWays t.fmmus t.reading × AreWriteWays t.fmmus t.writing
+        × AreReadModes t.fmmus t.reading × AreWriteModes t.fmmus t.writing
         × (t.read_end ≤ 4) × AreClosedFrom t.read_end t.reading
         × (t.write_end ≤ 4) × AreClosedFrom t.write_end t.writing
         × IfSome t.area (λ a. IsMappedBy t.fmmus a) };
@@ -65,8 +65,8 @@ impl FmmuTable {
     pub fn new(fmmus: [Fmmu; 4]) -> FmmuTable
         ensures { result ≡ fmmus }
     {
-        let reading = read_ways(&fmmus);
-        let writing = write_ways(&fmmus);
+        let reading = read_modes(&fmmus);
+        let writing = write_modes(&fmmus);
         FmmuTable {
             stretch: around(&fmmus),
             is_apart: are_apart(&fmmus),
@@ -102,22 +102,22 @@ impl FmmuTable {
         self.write_end
     }
 
-    /// How reads go through the FMMU at a place.
-    pub(crate) fn read_way(&self, place: usize) -> Way
-        requires { place < 4 }
-        ensures way { IsReadWay self.now place result }
-        ensures there { place < length self.now }
+    /// How reads go through the FMMU at an index.
+    pub(crate) fn read_mode(&self, index: usize) -> Mode
+        requires { index < 4 }
+        ensures mode { IsReadMode self.now index result }
+        ensures there { index < length self.now }
     {
-        self.reading[place]
+        self.reading[index]
     }
 
-    /// How writes go through the FMMU at a place.
-    pub(crate) fn write_way(&self, place: usize) -> Way
-        requires { place < 4 }
-        ensures way { IsWriteWay self.now place result }
-        ensures there { place < length self.now }
+    /// How writes go through the FMMU at an index.
+    pub(crate) fn write_mode(&self, index: usize) -> Mode
+        requires { index < 4 }
+        ensures mode { IsWriteMode self.now index result }
+        ensures there { index < length self.now }
     {
-        self.writing[place]
+        self.writing[index]
     }
 
     /// The area that they map, if they are set as usual: at most the first writes, and at most the

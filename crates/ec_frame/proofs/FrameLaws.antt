@@ -17,8 +17,8 @@ use Rattle.ec_frame.specs.Refusals.{FaultAt, HasArea, HasHeader, IsRefused}
 use Rattle.ec_frame.proofs.Numbers.{IsBytes, IsBytes-drop, IsBytes-take, all_left, all_right, bytes_of_all}
 use Rattle.ec_frame.proofs.Decoding.{after_again, decoded_again}
 use Rattle.ec_frame.proofs.Shapes.{shape_found, bad_command, bad_more}
-use Rattle.ec_frame.proofs.Verdict.{area_is, verdict_of}
-use Rattle.ec_frame.proofs.Walked.{Walked, walk_ends, walk_more, shape_len}
+use Rattle.ec_frame.proofs.FrameOrFault.{area_is, verdict_of}
+use Rattle.ec_frame.proofs.WalkSteps.{Walked, walk_ends, walk_more, shape_len}
 
 -- ---- decoding
 

@@ -13,9 +13,9 @@ use Rattle.ec_frame.specs.Cursor.{IsAhead, StepsTo}
 use Rattle.ec_frame.specs.Lending.{Among, HasNext, IsAt, IsLending, overwritten, written_as}
 use Rattle.ec_frame.proofs.Numbers.{all_append, all_drop, all_left}
 use Rattle.ec_frame.proofs.Writes.{bare_length, heading-with_data, part_length, tail_at}
-use Rattle.ec_frame.proofs.Walked.{opened_push}
+use Rattle.ec_frame.proofs.WalkSteps.{opened_push}
 use Rattle.ec_frame.proofs.Steps.{joined_length, joined_split, part_is, written}
-use Rattle.ec_frame.proofs.Verdict.{area_is}
+use Rattle.ec_frame.proofs.FrameOrFault.{area_is}
 
 -- what stands before and behind a datagram of a frame
 abbrev pub head : Payload → ℕ → List ℕ

@@ -1,7 +1,7 @@
 -- the datagrams ahead of a place in a frame, and a pass over them
-pub mod Ahead
+pub mod DatagramsAhead
 -- what a builder's calls leave
-pub mod Builds
+pub mod BuilderCalls
 -- bytes as the spelling of a datagram, and back
 pub mod Decoding
 -- a frame's datagrams are read back from its bytes, and its data are bytes; a payload is a frame or is refused
@@ -17,8 +17,8 @@ pub mod Shapes
 -- the step of a pass over a frame's datagrams
 pub mod Steps
 -- a payload is a frame of at most one list, or has one first fault
-pub mod Verdict
+pub mod FrameOrFault
 -- one step of the walk over an area, and what a frame's header says
-pub mod Walked
+pub mod WalkSteps
 -- the fields of a spelling, read and written
 pub mod Writes

@@ -69,7 +69,7 @@ number_most Lrw = omega arith
 number_most Armw = omega arith
 number_most Frmw = omega arith
 
--- a command is told by its number
+-- a command is known by its number
 pub one_command : (c d : Command) → number_of c ≡ number_of d → c ≡ d
 one_command c d e = sym (command_again c) ∙ ap command_at e ∙ command_again d
 
@@ -168,7 +168,7 @@ multiple (suc (suc n)) x p few some e = absurd (omega arith)
 pub circulating_flag : (w : ℕ) → not (nat_eq (bit_and w 16384) 0) ≡ nat_eq (w / 16384 % 2) 1
 circulating_flag w = multiple (w / 16384 % 2) (bit_and w 16384) 16384 (omega arith) (omega arith) (and_pow w 14)
 
--- ---- what a search for a command's number tells
+-- ---- what a search for a command's number returns
 
 pub unknown_command : (o : Option Command) (b : Bool) (n : ℕ) → IfNone o (14 < n) → is_some o ≡ not b → b ≡ true → 14 < n
 unknown_command None b n h e t = h

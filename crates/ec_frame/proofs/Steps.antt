@@ -10,7 +10,7 @@ use Rattle.ec_frame.specs.Frame.{IsByte, IsFrame}
 use Rattle.ec_frame.specs.Walk.{handled_all, after_all, KeepsLength}
 use Rattle.ec_frame.specs.Cursor.{IsAhead, StepsTo}
 use Rattle.ec_frame.proofs.Writes.{bare_length}
-use Rattle.ec_frame.proofs.Walked.{All-push, opened_push}
+use Rattle.ec_frame.proofs.WalkSteps.{All-push, opened_push}
 
 abbrev pub header : ℕ → Bool → List ℕ
 header n bit = little_bytes 2 (n + cond bit 2048 0 + 4096)

@@ -11,8 +11,8 @@ use Rattle.ec_frame.specs.Refusals.{IsRefused}
 -- ---- frames
 
 -- bytes are a frame of one payload at most
-abbrev pub FramesAreReadOneWay : Type 0
-FramesAreReadOneWay = (bytes : List ℕ) (p q : Payload) → IsFrame bytes p → IsFrame bytes q → p ≡ q
+abbrev pub FramesHaveOneReading : Type 0
+FramesHaveOneReading = (bytes : List ℕ) (p q : Payload) → IsFrame bytes p → IsFrame bytes q → p ≡ q
 
 -- the datagrams of a frame are those that its bytes are decoded to
 abbrev pub FramesAreDecoded : Type 0

@@ -16,7 +16,7 @@ pub mod Lending
 -- Laws: other words for these definitions, proved.
 pub mod Laws
 -- Private: facts for the impls of `Handler`: their ghost members, in tests too, may cite what stands in specs alone.
-pub mod Kept
+pub mod FieldChanges
 -- Private: these serve private code alone, and no public clause cites them.
 pub mod Reading
 pub mod Built

@@ -1,13 +1,13 @@
 //! Laws of the definitions of frames. Each function does nothing: its contract is the law.
-ghost use Rattle.ec_frame.specs.Laws.{FramesAreReadOneWay, FramesAreDecoded, DataAreBytes};
+ghost use Rattle.ec_frame.specs.Laws.{FramesHaveOneReading, FramesAreDecoded, DataAreBytes};
 ghost use Rattle.ec_frame.specs.Laws.{IsFrameOrRefused, NoFrameIsRefused, RefusedForOneCause};
 ghost use Rattle.ec_frame.specs.Laws.{NoSpellingBeginsAnother, SpellingsAreReadBack};
 ghost use Rattle.ec_frame.specs.Laws.{PhysicalAddressIsReadBack, ConstantsAreTheLimits};
 
 /// The bytes of a frame say one payload: one list of datagrams, one reserved bit, one rest.
-#[tactic(auto, using(crate::proofs::Verdict::one_payload))]
-pub fn frames_are_read_one_way()
-    ensures { FramesAreReadOneWay }
+#[tactic(auto, using(crate::proofs::FrameOrFault::one_payload))]
+pub fn frames_have_one_reading()
+    ensures { FramesHaveOneReading }
 {}
 
 /// The datagrams of a frame are those that its bytes are decoded to.
@@ -29,13 +29,13 @@ pub fn each_is_frame_or_refused()
 {}
 
 /// No frame is refused.
-#[tactic(auto, using(crate::proofs::Verdict::no_refusal))]
+#[tactic(auto, using(crate::proofs::FrameOrFault::no_refusal))]
 pub fn no_frame_is_refused()
     ensures { NoFrameIsRefused }
 {}
 
 /// A payload that is refused is refused for one cause, the first test that fails.
-#[tactic(auto, using(crate::proofs::Verdict::one_refusal))]
+#[tactic(auto, using(crate::proofs::FrameOrFault::one_refusal))]
 pub fn refused_for_one_cause()
     ensures { RefusedForOneCause }
 {}
@@ -47,7 +47,7 @@ pub fn no_spelling_begins_another()
 {}
 
 /// Reading undoes spelling, also where each datagram says that another follows.
-#[tactic(auto, using(crate::proofs::Builds::read_again))]
+#[tactic(auto, using(crate::proofs::BuilderCalls::read_again))]
 pub fn spellings_are_read_back()
     ensures { SpellingsAreReadBack }
 {}

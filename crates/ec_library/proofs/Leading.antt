@@ -3,7 +3,7 @@ use Rattle.std.proofs.Common.{◌≡◌, ◌∙◌, ℕ, Bool, List, Option, Som
 use Rattle.ec_library.specs.Calling.{Leads}
 use Rattle.ec_library.specs.Opening.{IsOpenFault}
 use Rattle.ec_library.specs.declared.error.OpenError.{OpenError}
-use Rattle.ec_library.specs.Refusing.{HasOpened, Opens, TellsRefusal, no_refusal}
+use Rattle.ec_library.specs.Refusing.{HasOpened, Opens, ReturnsRefusal, no_refusal}
 use Rattle.ec_library.specs.declared.opening.NotOpened.{NotOpened}
 
 -- it is taken out of the handle into a box, changed there, and put back
@@ -18,6 +18,6 @@ opened_as is_opened table told room behind old new kept boxed e is same opened =
     subst (λ (r : NotOpened). HasOpened is_opened table r room behind old new) (sym e) (refl, (boxed, is ∙ ap (λ x. Some x) same, opened))
 
 pub refused_as : {S H : Type 0} (is_opened : S → Type 0) (table : List ℕ) (told : NotOpened) (room : List ℕ) (behind : Option S) (old new : H) (error : OpenError)
-    → IsOpenFault table error → TellsRefusal error told room → new ≡ old → HasOpened is_opened table told room behind old new
+    → IsOpenFault table error → ReturnsRefusal error told room → new ≡ old → HasOpened is_opened table told room behind old new
 refused_as is_opened table told room behind old new error fault tells same =
     subst (λ (b : Bool). Opens is_opened table b told room behind old new) (sym tells.not_open) ((error, fault, tells), same)

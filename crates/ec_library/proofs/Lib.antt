@@ -1,8 +1,8 @@
--- the machine value of a `Kept`
+-- the machine value of a `RawBox`
 pub mod Values
 -- the machine values of handles
 pub mod Handles
 -- what was done to what is behind a handle is what was done to it in its box
 pub mod Leading
--- the slaves of a table shown in full, or as it states them
+-- the slaves of a table advertised in full, or as it states them
 pub mod Shown

@@ -1,4 +1,4 @@
--- The machine value of a `Kept`: a struct of one pointer, beside which it owns a box. Assumes `Logic`.
+-- The machine value of a `RawBox`: a struct of one pointer, beside which it owns a box. Assumes `Logic`.
 use Rattle.std.proofs.Common.{◌≡◌, ℕ, List, [], ◌∷◌, ◌++◌, refl, subst}
 use seplogic.Ra.Ura.{Ura}
 use mir.Raw.{raw as bare}
@@ -23,7 +23,7 @@ use Rattle.std_heap.proofs.Global.TheLaws.{the_row_laws as global_laws}
 use Rattle.std_heap.specs.contracts.Global.{the_row as global_row}
 use Rattle.std_heap.specs.contracts.GlobalAllocator.TheImpl.{ghosts, dict}
 use Rattle.ec_library.specs.Keeping.{keeps}
-use Rattle.ec_library.specs.contracts.handle.Kept as kept
+use Rattle.ec_library.specs.contracts.handle.RawBox as kept
 
 -- a struct of one pointer
 abbrev pub alone : Val → Val

@@ -34,7 +34,7 @@ abbrev pub counted : Bool → ℕ → Done
 counted is_done count = record { number = 0; is_done = is_done; count = count; value = 0 }
 
 -- bytes are written into a room if they fit; the count is how many they are
-pub record AreShown (bytes room : List ℕ) (done : Done) (shown : List ℕ) : Type 0 where
+pub record AreCopied (bytes room : List ℕ) (done : Done) (shown : List ℕ) : Type 0 where
   pub fits : length bytes ≤ length room → (done ≡ counted true (length bytes)) × (take (length bytes) shown ≡ bytes)
   pub short : length room < length bytes → (done ≡ counted false (length bytes)) × (shown ≡ room)
 
@@ -50,48 +50,48 @@ abbrev pub Takes : SessionState → List ℕ → Done → SessionState → Type 
 Takes old payload done new = IsGiven old payload done.is_done new × (done.count ≡ missing_of new.master.cycle)
 
 -- done if Ready, not done if it runs, or a failure's number
-abbrev pub phase_told : Option (Result Unit StartError) → Done
-phase_told None = counted false 0
-phase_told (Some (Ok done)) = counted true 0
-phase_told (Some (Err error)) = refused (error_number error)
+abbrev pub phase_result : Option (Result Unit StartError) → Done
+phase_result None = counted false 0
+phase_result (Some (Ok done)) = counted true 0
+phase_result (Some (Err error)) = refused (error_number error)
 
-abbrev pub TellsPhase : SessionState → Done → SessionState → Type 0
-TellsPhase old done new = (new ≡ old) × (done ≡ phase_told (outcome_of old.startup.phase))
+abbrev pub ReturnsPhase : SessionState → Done → SessionState → Type 0
+ReturnsPhase old done new = (new ≡ old) × (done ≡ phase_result (outcome_of old.startup.phase))
 
 abbrev pub GivesUp : SessionState → SessionState → Type 0
 GivesUp old new = new ≡ record old { startup = given_up old.startup }
 
 -- ---- cycles
 
-abbrev pub begin_told : Option CycleError → ℕ → Done
-begin_told None parts = counted true parts
-begin_told (Some error) parts = refused (refusal_number error)
+abbrev pub begin_result : Option CycleError → ℕ → Done
+begin_result None parts = counted true parts
+begin_result (Some error) parts = refused (refusal_number error)
 
 pub record Begins (old : SessionState) (done : Done) (new : SessionState) : Type 0 where
-  pub told : done ≡ begin_told (begin_refusal old.master) (length new.master.plan.parts)
+  pub told : done ≡ begin_result (begin_refusal old.master) (length new.master.plan.parts)
   pub begun : begin_refusal old.master ≡ None → (c : OpenCycle) × Begun old.master new.master c
   pub kept : done.is_done ≡ false → new ≡ old
   pub rest : new ≡ record old { master = new.master }
 
-pub record ShowsPart (old : SessionState) (part : ℕ) (room : List ℕ) (done : Done) (shown : List ℕ) (new : SessionState) : Type 0 where
-  pub there : is_some old.master.cycle ≡ true → part < length old.master.plan.parts → AreShown (frame_of old.master.cycle part) room done shown
+pub record CopiesPart (old : SessionState) (part : ℕ) (room : List ℕ) (done : Done) (shown : List ℕ) (new : SessionState) : Type 0 where
+  pub there : is_some old.master.cycle ≡ true → part < length old.master.plan.parts → AreCopied (frame_of old.master.cycle part) room done shown
   pub none : (is_some old.master.cycle ≡ true → part < length old.master.plan.parts → ⊥) → (done ≡ counted false 0) × (shown ≡ room)
   pub same : new ≡ old
 
-abbrev pub report_told : ReportState → Done
-report_told r = record { number = 0; is_done = list_all (λ (t : Bool). t) r.taken; count = r.missing; value = r.al_word }
+abbrev pub report_result : ReportState → Done
+report_result r = record { number = 0; is_done = list_all (λ (t : Bool). t) r.taken; count = r.missing; value = r.al_word }
 
 pub record Closes (old : SessionState) (done : Done) (new : SessionState) : Type 0 where
-  pub closed : is_some old.master.cycle ≡ true → (r : ReportState) × (new.report ≡ Some r) × IsClosed old.master new.master r × (done ≡ report_told r)
+  pub closed : is_some old.master.cycle ≡ true → (r : ReportState) × (new.report ≡ Some r) × IsClosed old.master new.master r × (done ≡ report_result r)
   pub not_open : old.master.cycle ≡ None → (done ≡ refused 35) × (new ≡ old)
   pub rest : new ≡ record old { master = new.master; report = new.report }
 
-abbrev pub unit_told : Option Bool → Done
-unit_told None = counted false 0
-unit_told (Some is_taken) = counted is_taken 1
+abbrev pub unit_result : Option Bool → Done
+unit_result None = counted false 0
+unit_result (Some is_taken) = counted is_taken 1
 
-abbrev pub TellsUnit : SessionState → ℕ → Done → SessionState → Type 0
-TellsUnit old unit done new = (new ≡ old) × (done ≡ unit_told (option_and_then (unit_taken unit) old.report))
+abbrev pub ReturnsUnit : SessionState → ℕ → Done → SessionState → Type 0
+ReturnsUnit old unit done new = (new ≡ old) × (done ≡ unit_result (option_and_then (unit_taken unit) old.report))
 
 -- ---- variables
 
@@ -110,17 +110,17 @@ pub record SetsOutputs (old : SessionState) (outputs : List ℕ) (done : Done) (
   pub is : length outputs ≡ done.count → new ≡ record old { master = record old.master { outputs = outputs } }
   pub kept : length outputs ≢ done.count → new ≡ old
 
-abbrev pub ShowsInputs : SessionState → List ℕ → Done → List ℕ → SessionState → Type 0
-ShowsInputs old room done shown new = (new ≡ old) × AreShown old.master.inputs room done shown
+abbrev pub CopiesInputs : SessionState → List ℕ → Done → List ℕ → SessionState → Type 0
+CopiesInputs old room done shown new = (new ≡ old) × AreCopied old.master.inputs room done shown
 
-abbrev pub place_told : Option ℕ → Done
-place_told None = counted false 0
-place_told (Some place) = counted true place
+abbrev pub index_result : Option ℕ → Done
+index_result None = counted false 0
+index_result (Some index) = counted true index
 
 -- a name that is not UTF-8 is no variable's
 pub record Finds (old : SessionState) (name : List ℕ) (done : Done) (new : SessionState) : Type 0 where
   pub same : new ≡ old
-  pub found : IsUtf8 name → done ≡ place_told (variable_named old.table name)
+  pub found : IsUtf8 name → done ≡ index_result (variable_named old.table name)
   pub none : (IsUtf8 name → ⊥) → done ≡ counted false 0
 
 -- ---- a segment
@@ -132,30 +132,30 @@ pub record Passes (old : List SlaveState) (frame : List ℕ) (is_frame : Bool) (
 
 -- the slave at a place, if it is there, becomes another, and all others stay
 abbrev pub AtSlave : List SlaveState → ℕ → (SlaveState → SlaveState) → List SlaveState → Type 0
-AtSlave old place f new = ((s : SlaveState) → slice_get old place ≡ Some s → new ≡ set old place (f s)) × (slice_get old place ≡ None → new ≡ old)
+AtSlave old index f new = ((s : SlaveState) → slice_get old index ≡ Some s → new ≡ set old index (f s)) × (slice_get old index ≡ None → new ≡ old)
 
 -- the slave at a place changes by a function; done if it is there
-pub record Does (old : List SlaveState) (place : ℕ) (f : SlaveState → SlaveState) (done : Bool) (new : List SlaveState) : Type 0 where
-  pub is_done : done ≡ nat_lt place (length old)
-  pub slaves : AtSlave old place f new
+pub record Does (old : List SlaveState) (index : ℕ) (f : SlaveState → SlaveState) (done : Bool) (new : List SlaveState) : Type 0 where
+  pub is_done : done ≡ nat_lt index (length old)
+  pub slaves : AtSlave old index f new
 
 -- a byte of the outputs, if the slave is there and its application may read it
-abbrev pub output_read : List SlaveState → (place byte : ℕ) → Option ℕ
-output_read slaves place byte = option_and_then (λ (s : SlaveState). option_map (λ (got : Got). got.byte) (output_got s byte)) (slice_get slaves place)
+abbrev pub output_read : List SlaveState → (index byte : ℕ) → Option ℕ
+output_read slaves index byte = option_and_then (λ (s : SlaveState). option_map (λ (got : Got). got.byte) (output_got s byte)) (slice_get slaves index)
 
 -- the application of the slave at a place reads a byte of its outputs; if it may not read the byte, the room stays as it was
-pub record Reads (old : List SlaveState) (place byte room : ℕ) (done : Bool) (read : ℕ) (new : List SlaveState) : Type 0 where
-  pub is_done : done ≡ is_some (output_read old place byte)
-  pub byte_is : read ≡ unwrap_or (output_read old place byte) room
-  pub slaves : AtSlave old place (λ (s : SlaveState). output_taken s (output_got s byte)) new
+pub record Reads (old : List SlaveState) (index byte room : ℕ) (done : Bool) (read : ℕ) (new : List SlaveState) : Type 0 where
+  pub is_done : done ≡ is_some (output_read old index byte)
+  pub byte_is : read ≡ unwrap_or (output_read old index byte) room
+  pub slaves : AtSlave old index (λ (s : SlaveState). output_taken s (output_got s byte)) new
 
 -- the application of the slave at a place writes a byte of its inputs
-pub record Writes (old : List SlaveState) (place byte value : ℕ) (done : Bool) (new : List SlaveState) : Type 0 where
-  pub is_done : done ≡ is_some (option_and_then (λ (s : SlaveState). input_put s byte value) (slice_get old place))
-  pub slaves : AtSlave old place (λ (s : SlaveState). unwrap_or (input_put s byte value) s) new
+pub record Writes (old : List SlaveState) (index byte value : ℕ) (done : Bool) (new : List SlaveState) : Type 0 where
+  pub is_done : done ≡ is_some (option_and_then (λ (s : SlaveState). input_put s byte value) (slice_get old index))
+  pub slaves : AtSlave old index (λ (s : SlaveState). unwrap_or (input_put s byte value) s) new
 
 -- the application of the slave at a place has a fault; done if the slave is in OP
-pub record HasFault (old : List SlaveState) (place : ℕ) (done : Bool) (new : List SlaveState) : Type 0 where
-  pub there : (s : SlaveState) → slice_get old place ≡ Some s → (IsTrue done ↔ (s.al.state ≡ Op))
-  pub none : slice_get old place ≡ None → done ≡ false
-  pub slaves : AtSlave old place faulted new
+pub record HasFault (old : List SlaveState) (index : ℕ) (done : Bool) (new : List SlaveState) : Type 0 where
+  pub there : (s : SlaveState) → slice_get old index ≡ Some s → (IsTrue done ↔ (s.al.state ≡ Op))
+  pub none : slice_get old index ≡ None → done ≡ false
+  pub slaves : AtSlave old index faulted new

@@ -1,9 +1,9 @@
 -- What bytes are opened to, and the refusals of an opening.
 use Rattle.std.specs.Prelude.{ℕ, Bool, List, [], ◌∷◌, Option, Some, None, IsUtf8, codes, take}
 use Rattle.ec_slave.specs.State.{SlaveState}
-use Rattle.ec_table.specs.Contents.{Contents, shown_as}
-use Rattle.ec_table.specs.Faults.{error_name as table_name, error_number as table_number, error_place, section_number}
-use Rattle.ec_table.specs.declared.fault.Place.{Place}
+use Rattle.ec_table.specs.Contents.{Contents, advertised_as}
+use Rattle.ec_table.specs.Faults.{error_name as table_name, error_number as table_number, error_position, section_number}
+use Rattle.ec_table.specs.declared.fault.Position.{Position}
 use Rattle.ec_link.specs.Faults.{error_name as link_name, error_number as link_number, error_value}
 use Rattle.ec_link.specs.Machine.{Refuses, StatesMachine}
 use Rattle.ec_link.specs.declared.machine.MachineError.TheVariants.{Table, Link}
@@ -14,7 +14,7 @@ use Rattle.ec_library.specs.declared.error.OpenError.TheVariants.{Text, Machine}
 
 -- the slaves of the table that a text states, just switched on; all of them full slaves if `full`
 abbrev pub AreOpened : (full : Bool) → List ℕ → List SlaveState → Type 0
-AreOpened full text slaves = (table : Contents) × StatesMachine text table × AreSlavesOf (shown_as full table) slaves
+AreOpened full text slaves = (table : Contents) × StatesMachine text table × AreSlavesOf (advertised_as full table) slaves
 
 -- bytes are the text of a session, or of such slaves
 abbrev pub HasSession : List ℕ → SessionState → Type 0
@@ -40,9 +40,9 @@ open_name Text = codes "Input"
 open_name (Machine (Table error)) = table_name error
 open_name (Machine (Link error)) = link_name error
 
-abbrev pub of_place : Option Place → List ℕ
-of_place None = []
-of_place (Some place) = section_number place.section ∷ place.element ∷ []
+abbrev pub of_position : Option Position → List ℕ
+of_position None = []
+of_position (Some position) = section_number position.section ∷ position.element ∷ []
 
 abbrev pub of_value : Option ℕ → List ℕ
 of_value None = []
@@ -50,7 +50,7 @@ of_value (Some value) = value ∷ []
 
 abbrev pub open_values : OpenError → List ℕ
 open_values Text = []
-open_values (Machine (Table error)) = of_place (error_place error)
+open_values (Machine (Table error)) = of_position (error_position error)
 open_values (Machine (Link error)) = of_value (error_value error)
 
 -- the first `count` of two values

@@ -1,7 +1,7 @@
 //! The calls of a master: each makes the call of a session, and returns what C sees of it.
 ghost use Rattle.std.specs.Prelude.{◌≡◌};
 ghost use Rattle.ec_cycle.specs.Closing.{ReportState};
-ghost use Rattle.ec_library.specs.Calling.{AreShown, AsksNext, Begins, Closes, Finds, Gets, GivesUp, Sets, SetsOutputs, ShowsInputs, ShowsPart, Takes, TellsPhase, TellsUnit, report_told};
+ghost use Rattle.ec_library.specs.Calling.{AreCopied, AsksNext, Begins, Closes, Finds, Gets, GivesUp, Sets, SetsOutputs, CopiesInputs, CopiesPart, Takes, ReturnsPhase, ReturnsUnit, report_result};
 
 use crate::done::{Done, counted, refused};
 use ec_cycle::Report;
@@ -19,13 +19,13 @@ pub fn next(session: &mut Session, room: &mut [u8]) -> Done
 pub fn take(session: &mut Session, payload: &[u8]) -> Done
     ensures { Takes session.old payload.now result session.new }
 {
-    let is_kept = session.take(payload);
-    counted(is_kept, session.missing())
+    let is_accepted = session.take(payload);
+    counted(is_accepted, session.missing())
 }
 
 /// Whether the start-up has ended Ready, or the number of its failure.
 pub fn phase(session: &Session) -> Done
-    ensures { TellsPhase session.now result session.now }
+    ensures { ReturnsPhase session.now result session.now }
 {
     match session.outcome() {
         None => counted(false, 0),
@@ -52,11 +52,11 @@ pub fn begin(session: &mut Session) -> Done
 }
 
 /// Writes the frame of a part of the open cycle into `room`, if there is one and it fits; the count is its length in bytes.
-pub fn show_part(session: &Session, part: usize, room: &mut [u8]) -> Done
-    ensures { ShowsPart session.now part room.old result room.new session.now }
+pub fn copy_part(session: &Session, part: usize, room: &mut [u8]) -> Done
+    ensures { CopiesPart session.now part room.old result room.new session.now }
 {
     match session.part(part) {
-        Some(frame) => show(frame, room),
+        Some(frame) => copy_into(frame, room),
         None => counted(false, 0),
     }
 }
@@ -66,14 +66,14 @@ pub fn close(session: &mut Session) -> Done
     ensures { Closes session.old result session.new }
 {
     match session.close() {
-        Ok(()) => tell_last(session),
+        Ok(()) => last_result(session),
         Err(error) => refused(error.number()),
     }
 }
 
 /// Whether a sync unit was taken in the last report; the count is 1 if the report has the unit, and else 0.
-pub fn tell_unit(session: &Session, unit: u8) -> Done
-    ensures { TellsUnit session.now unit result session.now }
+pub fn unit_result_of(session: &Session, unit: u8) -> Done
+    ensures { ReturnsUnit session.now unit result session.now }
 {
     match session.unit(unit) {
         Some(is_taken) => counted(is_taken, 1),
@@ -112,10 +112,10 @@ pub fn set_outputs(session: &mut Session, outputs: &[u8]) -> Done
 }
 
 /// Writes the image of all inputs into `room` if it fits; the count is its number of bytes.
-pub fn show_inputs(session: &Session, room: &mut [u8]) -> Done
-    ensures { ShowsInputs session.now room.old result room.new session.now }
+pub fn copy_inputs(session: &Session, room: &mut [u8]) -> Done
+    ensures { CopiesInputs session.now room.old result room.new session.now }
 {
-    show(session.inputs(), room)
+    copy_into(session.inputs(), room)
 }
 
 /// The number of the variable with a name, as the count; not done if there is none.
@@ -126,14 +126,14 @@ pub fn find(session: &Session, name: &[u8]) -> Done
         return counted(false, 0);
     };
     match session.variable(name) {
-        Some(place) => counted(true, place),
+        Some(index) => counted(true, index),
         None => counted(false, 0),
     }
 }
 
 /// Writes bytes into a room if they fit; the count is how many they are.
-fn show(bytes: &[u8], room: &mut [u8]) -> Done
-    ensures { AreShown bytes.now room.old result room.new }
+fn copy_into(bytes: &[u8], room: &mut [u8]) -> Done
+    ensures { AreCopied bytes.now room.old result room.new }
 {
     let count = bytes.len();
     if count > room.len() {
@@ -144,18 +144,18 @@ fn show(bytes: &[u8], room: &mut [u8]) -> Done
 }
 
 /// The last report, if there is one.
-fn tell_last(session: &Session) -> Done
-    ensures { (r : ReportState) → session.now.report ≡ Some r → result ≡ report_told r }
+fn last_result(session: &Session) -> Done
+    ensures { (r : ReportState) → session.now.report ≡ Some r → result ≡ report_result r }
 {
     match session.report() {
-        Some(report) => tell_report(report),
+        Some(report) => result_of_report(report),
         None => counted(false, 0),
     }
 }
 
 /// A report: done if all sync units were taken; the count is the missing parts, and the value the AL word.
-fn tell_report(report: &Report) -> Done
-    ensures { result ≡ report_told report.now }
+fn result_of_report(report: &Report) -> Done
+    ensures { result ≡ report_result report.now }
 {
     Done {
         number: 0,

@@ -1,9 +1,9 @@
 //! Why bytes open nothing.
 ghost use Rattle.std.specs.Prelude.{◌≡◌, length};
-ghost use Rattle.ec_library.specs.Opening.{of_place, of_value, open_name, open_number, open_values, with_values};
+ghost use Rattle.ec_library.specs.Opening.{of_position, of_value, open_name, open_number, open_values, with_values};
 
 use ec_link::MachineError;
-use ec_table::Place;
+use ec_table::Position;
 
 /// Why bytes open nothing.
 #[derive(Clone, Copy, Debug, PartialEq, Eq, Drop)]
@@ -45,7 +45,7 @@ impl OpenError {
     {
         match self {
             OpenError::Text => (0, 0, 0),
-            OpenError::Machine(MachineError::Table(error)) => values_of_place(error.place()),
+            OpenError::Machine(MachineError::Table(error)) => values_of_position(error.place()),
             OpenError::Machine(MachineError::Link(error)) => values_of_fault(error.value()),
         }
     }
@@ -74,12 +74,12 @@ fn values_of_fault(value: Option<usize>) -> (usize, u64, u64)
 }
 
 /// The section and the place of a table's fault, if it has them.
-fn values_of_place(place: Option<Place>) -> (usize, u64, u64)
-    ensures count { result.0 ≡ length (of_place place) }
-    ensures values { with_values result.0 result.1 result.2 ≡ of_place place }
+fn values_of_position(at: Option<Position>) -> (usize, u64, u64)
+    ensures count { result.0 ≡ length (of_position at) }
+    ensures values { with_values result.0 result.1 result.2 ≡ of_position at }
 {
-    match place {
+    match at {
         None => (0, 0, 0),
-        Some(place) => (2, u64::from(place.section.number()), place.element as u64),
+        Some(at) => (2, u64::from(at.section.number()), at.element as u64),
     }
 }

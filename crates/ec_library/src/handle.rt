@@ -11,32 +11,32 @@ use std::alloc::Global;
 use std::marker::Model;
 
 /// The pointer that was a box, and still owns the value behind it.
-pub struct Kept<T> {
+pub struct RawBox<T> {
     pub at: *mut T,
     pub ghost value: { T },
 }
 
-impl<T> Model for Kept<T> {
+impl<T> Model for RawBox<T> {
     ghost also_owns = { λ k. keeps T.row k.at k.value };
 }
 
-impl<T> Kept<T> {
+impl<T> RawBox<T> {
     /// Takes a box apart into its pointer. Nothing is freed.
-    pub fn of(boxed: Box<T>) -> Kept<T>
+    pub fn of(boxed: Box<T>) -> RawBox<T>
     where
         T: Drop,
         ensures { result.value ≡ boxed.value }
     {
         let at = Box::into_raw(boxed);
-        Kept { at }
+        RawBox { at }
     }
 
     /// The box of the pointer again.
     pub fn into_box(self, alloc: Global) -> Box<T>
         ensures { result.value ≡ self.value }
     {
-        let Kept { at } = self;
-        // SAFETY: `at` came from `Box::into_raw`. A `Kept` is moved and never copied, so its box is made again only once.
+        let RawBox { at } = self;
+        // SAFETY: `at` came from `Box::into_raw`. A `RawBox` is moved and never copied, so its box is made again only once.
         unsafe { Box::from_raw(alloc, at) }
     }
 }
@@ -73,43 +73,43 @@ impl Model for SegmentHandle {
 }
 
 /// The handle that owns a session.
-pub fn conceal_master(kept: Kept<Session>) -> MasterHandle
-    ensures { result.session ≡ Some kept.value }
+pub fn conceal_master(raw: RawBox<Session>) -> MasterHandle
+    ensures { result.session ≡ Some raw.value }
 {
-    let Kept { at } = kept;
+    let RawBox { at } = raw;
     MasterHandle {
         at: at as *mut Hidden,
     }
 }
 
 /// The session that a handle owns.
-pub fn reveal_master(handle: MasterHandle) -> Kept<Session>
+pub fn reveal_master(handle: MasterHandle) -> RawBox<Session>
     requires { is_some handle.session ≡ true }
     ensures { Some result.value ≡ handle.session }
 {
     let MasterHandle { at } = handle;
-    Kept {
+    RawBox {
         at: at as *mut Session,
     }
 }
 
 /// The handle that owns the slaves of a segment.
-pub fn conceal_segment(kept: Kept<Ring>) -> SegmentHandle
-    ensures { result.slaves ≡ Some kept.value }
+pub fn conceal_segment(raw: RawBox<Ring>) -> SegmentHandle
+    ensures { result.slaves ≡ Some raw.value }
 {
-    let Kept { at } = kept;
+    let RawBox { at } = raw;
     SegmentHandle {
         at: at as *mut Hidden,
     }
 }
 
 /// The slaves that a handle owns.
-pub fn reveal_segment(handle: SegmentHandle) -> Kept<Ring>
+pub fn reveal_segment(handle: SegmentHandle) -> RawBox<Ring>
     requires { is_some handle.slaves ≡ true }
     ensures { Some result.value ≡ handle.slaves }
 {
     let SegmentHandle { at } = handle;
-    Kept {
+    RawBox {
         at: at as *mut Ring,
     }
 }

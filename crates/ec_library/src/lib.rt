@@ -8,7 +8,7 @@
 ghost use Rattle.std.specs.Prelude.{◌≡◌, true, is_some};
 ghost use Rattle.ec_slave.specs.Serving.{served};
 ghost use Rattle.ec_slave.specs.State.{power_on};
-ghost use Rattle.ec_library.specs.Calling.{AsksNext, Begins, Closes, Does, Finds, Gets, GivesUp, HasFault, Leads, Passes, Reads, Sets, SetsOutputs, ShowsInputs, ShowsPart, Takes, TellsPhase, TellsUnit, Writes};
+ghost use Rattle.ec_library.specs.Calling.{AsksNext, Begins, Closes, Does, Finds, Gets, GivesUp, HasFault, Leads, Passes, Reads, Sets, SetsOutputs, CopiesInputs, CopiesPart, Takes, ReturnsPhase, ReturnsUnit, Writes};
 ghost use Rattle.ec_library.specs.Opening.{HasSession, HasSlaves};
 ghost use Rattle.ec_library.specs.Refusing.{HasOpened};
 
@@ -21,10 +21,10 @@ mod segments;
 
 use crate::done::Done;
 use crate::handle::{
-    Kept, MasterHandle, SegmentHandle, conceal_master, conceal_segment, reveal_master,
+    MasterHandle, RawBox, SegmentHandle, conceal_master, conceal_segment, reveal_master,
     reveal_segment,
 };
-use crate::opening::{NotOpened, boxed_session, boxed_slaves, opened, tell_refusal};
+use crate::opening::{NotOpened, boxed_session, boxed_slaves, opened, refusal_result};
 use std::alloc::Global;
 
 /// Opens the master of the table that bytes state, or writes the refusal into `told` and its name into `name`.
@@ -42,9 +42,9 @@ pub extern "C" fn ecat_c_open(
     match boxed_session(alloc, table) {
         Ok(session) => {
             *told = opened();
-            *out = conceal_master(Kept::of(session));
+            *out = conceal_master(RawBox::of(session));
         }
-        Err(error) => *told = tell_refusal(error, name),
+        Err(error) => *told = refusal_result(error, name),
     }
 }
 
@@ -71,7 +71,7 @@ pub extern "C" fn ecat_c_next(
 {
     let mut session = reveal_master(master).into_box(alloc);
     *done = calls::next(&mut session, frame);
-    *out = conceal_master(Kept::of(session));
+    *out = conceal_master(RawBox::of(session));
 }
 
 /// Takes a payload that came; done if it was kept. `done.count` is how many parts of the open cycle are missing then.
@@ -89,7 +89,7 @@ pub extern "C" fn ecat_c_take(
 {
     let mut session = reveal_master(master).into_box(alloc);
     *done = calls::take(&mut session, payload);
-    *out = conceal_master(Kept::of(session));
+    *out = conceal_master(RawBox::of(session));
 }
 
 /// Whether the start-up has ended Ready, or the number of its failure.
@@ -102,11 +102,11 @@ pub extern "C" fn ecat_c_phase(
     out: &mut MasterHandle,
 )
     requires { is_some master.session ≡ true }
-    ensures { Leads master.session out.new.session (λ m n. TellsPhase m done.new n) }
+    ensures { Leads master.session out.new.session (λ m n. ReturnsPhase m done.new n) }
 {
     let session = reveal_master(master).into_box(alloc);
     *done = calls::phase(&session);
-    *out = conceal_master(Kept::of(session));
+    *out = conceal_master(RawBox::of(session));
 }
 
 /// Ends a start-up that runs, as lost.
@@ -118,7 +118,7 @@ pub extern "C" fn ecat_c_give_up(alloc: Global, master: MasterHandle, out: &mut 
 {
     let mut session = reveal_master(master).into_box(alloc);
     calls::give_up(&mut session);
-    *out = conceal_master(Kept::of(session));
+    *out = conceal_master(RawBox::of(session));
 }
 
 /// Begins a cycle. `done.count` is its number of parts.
@@ -135,7 +135,7 @@ pub extern "C" fn ecat_c_begin(
 {
     let mut session = reveal_master(master).into_box(alloc);
     *done = calls::begin(&mut session);
-    *out = conceal_master(Kept::of(session));
+    *out = conceal_master(RawBox::of(session));
 }
 
 /// Writes the frame of a part of the open cycle, if it fits. `done.count` is its length in bytes.
@@ -150,11 +150,11 @@ pub extern "C" fn ecat_c_part(
     out: &mut MasterHandle,
 )
     requires { is_some master.session ≡ true }
-    ensures { Leads master.session out.new.session (λ m n. ShowsPart m part frame.old done.new frame.new n) }
+    ensures { Leads master.session out.new.session (λ m n. CopiesPart m part frame.old done.new frame.new n) }
 {
     let session = reveal_master(master).into_box(alloc);
-    *done = calls::show_part(&session, part, frame);
-    *out = conceal_master(Kept::of(session));
+    *done = calls::copy_part(&session, part, frame);
+    *out = conceal_master(RawBox::of(session));
 }
 
 /// Closes the cycle. `done` is its report: whether all units were taken, the missing parts, and the AL word.
@@ -171,7 +171,7 @@ pub extern "C" fn ecat_c_close(
 {
     let mut session = reveal_master(master).into_box(alloc);
     *done = calls::close(&mut session);
-    *out = conceal_master(Kept::of(session));
+    *out = conceal_master(RawBox::of(session));
 }
 
 /// Whether a sync unit was taken in the last report; `done.count` is 1 if the report has the unit.
@@ -185,11 +185,11 @@ pub extern "C" fn ecat_c_unit(
     out: &mut MasterHandle,
 )
     requires { is_some master.session ≡ true }
-    ensures { Leads master.session out.new.session (λ m n. TellsUnit m unit done.new n) }
+    ensures { Leads master.session out.new.session (λ m n. ReturnsUnit m unit done.new n) }
 {
     let session = reveal_master(master).into_box(alloc);
-    *done = calls::tell_unit(&session, unit);
-    *out = conceal_master(Kept::of(session));
+    *done = calls::unit_result_of(&session, unit);
+    *out = conceal_master(RawBox::of(session));
 }
 
 /// Sets a variable of the outputs, if there is one that holds the value.
@@ -208,7 +208,7 @@ pub extern "C" fn ecat_c_set(
 {
     let mut session = reveal_master(master).into_box(alloc);
     *done = calls::set(&mut session, variable, value);
-    *out = conceal_master(Kept::of(session));
+    *out = conceal_master(RawBox::of(session));
 }
 
 /// The value of a variable, in `done.value`; not done if there is no such variable.
@@ -226,7 +226,7 @@ pub extern "C" fn ecat_c_get(
 {
     let session = reveal_master(master).into_box(alloc);
     *done = calls::get(&session, variable);
-    *out = conceal_master(Kept::of(session));
+    *out = conceal_master(RawBox::of(session));
 }
 
 /// Sets the image of all outputs if the lengths agree. `done.count` is the image's number of bytes.
@@ -244,7 +244,7 @@ pub extern "C" fn ecat_c_outputs(
 {
     let mut session = reveal_master(master).into_box(alloc);
     *done = calls::set_outputs(&mut session, outputs);
-    *out = conceal_master(Kept::of(session));
+    *out = conceal_master(RawBox::of(session));
 }
 
 /// Writes the image of all inputs, if it fits. `done.count` is its number of bytes.
@@ -258,11 +258,11 @@ pub extern "C" fn ecat_c_inputs(
     out: &mut MasterHandle,
 )
     requires { is_some master.session ≡ true }
-    ensures { Leads master.session out.new.session (λ m n. ShowsInputs m inputs.old done.new inputs.new n) }
+    ensures { Leads master.session out.new.session (λ m n. CopiesInputs m inputs.old done.new inputs.new n) }
 {
     let session = reveal_master(master).into_box(alloc);
-    *done = calls::show_inputs(&session, inputs);
-    *out = conceal_master(Kept::of(session));
+    *done = calls::copy_inputs(&session, inputs);
+    *out = conceal_master(RawBox::of(session));
 }
 
 /// The number of the variable with a name, in `done.count`; not done if there is none.
@@ -280,7 +280,7 @@ pub extern "C" fn ecat_c_variable(
 {
     let session = reveal_master(master).into_box(alloc);
     *done = calls::find(&session, name);
-    *out = conceal_master(Kept::of(session));
+    *out = conceal_master(RawBox::of(session));
 }
 
 /// Opens the slaves of the table that bytes state, just switched on, as full slaves if `full`. Refuses as `ecat_c_open` does.
@@ -299,9 +299,9 @@ pub extern "C" fn ecat_c_segment_open(
     match boxed_slaves(alloc, table, full) {
         Ok(slaves) => {
             *told = opened();
-            *out = conceal_segment(Kept::of(slaves));
+            *out = conceal_segment(RawBox::of(slaves));
         }
-        Err(error) => *told = tell_refusal(error, name),
+        Err(error) => *told = refusal_result(error, name),
     }
 }
 
@@ -328,7 +328,7 @@ pub extern "C" fn ecat_c_segment_pass(
 {
     let mut slaves = reveal_segment(segment).into_box(alloc);
     *done = segments::pass(&mut slaves, frame);
-    *out = conceal_segment(Kept::of(slaves));
+    *out = conceal_segment(RawBox::of(slaves));
 }
 
 /// Makes a firmware step of a slave, if it is there.
@@ -346,7 +346,7 @@ pub extern "C" fn ecat_c_segment_serve(
 {
     let mut slaves = reveal_segment(segment).into_box(alloc);
     *done = segments::serve(&mut slaves, slave);
-    *out = conceal_segment(Kept::of(slaves));
+    *out = conceal_segment(RawBox::of(slaves));
 }
 
 /// The application of a slave reads a byte of its outputs, if it is there and may.
@@ -356,17 +356,17 @@ pub extern "C" fn ecat_c_segment_get(
     alloc: Global,
     segment: SegmentHandle,
     slave: usize,
-    place: usize,
+    offset: usize,
     byte: &mut u8,
     done: &mut bool,
     out: &mut SegmentHandle,
 )
     requires { is_some segment.slaves ≡ true }
-    ensures { Leads segment.slaves out.new.slaves (λ old new. Reads old slave place byte.old done.new byte.new new) }
+    ensures { Leads segment.slaves out.new.slaves (λ old new. Reads old slave offset byte.old done.new byte.new new) }
 {
     let mut slaves = reveal_segment(segment).into_box(alloc);
-    *done = segments::get(&mut slaves, slave, place, byte);
-    *out = conceal_segment(Kept::of(slaves));
+    *done = segments::get(&mut slaves, slave, offset, byte);
+    *out = conceal_segment(RawBox::of(slaves));
 }
 
 /// The application of a slave writes a byte of its inputs, if it is there and may.
@@ -376,17 +376,17 @@ pub extern "C" fn ecat_c_segment_put(
     alloc: Global,
     segment: SegmentHandle,
     slave: usize,
-    place: usize,
+    offset: usize,
     byte: u8,
     done: &mut bool,
     out: &mut SegmentHandle,
 )
     requires { is_some segment.slaves ≡ true }
-    ensures { Leads segment.slaves out.new.slaves (λ old new. Writes old slave place byte done.new new) }
+    ensures { Leads segment.slaves out.new.slaves (λ old new. Writes old slave offset byte done.new new) }
 {
     let mut slaves = reveal_segment(segment).into_box(alloc);
-    *done = segments::put(&mut slaves, slave, place, byte);
-    *out = conceal_segment(Kept::of(slaves));
+    *done = segments::put(&mut slaves, slave, offset, byte);
+    *out = conceal_segment(RawBox::of(slaves));
 }
 
 /// The application of a slave has a fault, if the slave is there and in OP.
@@ -404,7 +404,7 @@ pub extern "C" fn ecat_c_segment_fault(
 {
     let mut slaves = reveal_segment(segment).into_box(alloc);
     *done = segments::fault(&mut slaves, slave);
-    *out = conceal_segment(Kept::of(slaves));
+    *out = conceal_segment(RawBox::of(slaves));
 }
 
 /// Switches a slave off and on, if it is there.
@@ -422,5 +422,5 @@ pub extern "C" fn ecat_c_segment_reset(
 {
     let mut slaves = reveal_segment(segment).into_box(alloc);
     *done = segments::reset(&mut slaves, slave);
-    *out = conceal_segment(Kept::of(slaves));
+    *out = conceal_segment(RawBox::of(slaves));
 }

@@ -5,7 +5,7 @@ ghost use Rattle.ec_link.specs.Faults.{Fails, compile_fault};
 ghost use Rattle.ec_link.specs.Machine.{Refuses};
 ghost use Rattle.ec_session.specs.Sessions.{IsOpened};
 ghost use Rattle.ec_library.specs.Opening.{AreOpened, HasSession, HasSlaves, IsOpenFault};
-ghost use Rattle.ec_library.specs.Refusing.{TellsRefusal, no_refusal};
+ghost use Rattle.ec_library.specs.Refusing.{ReturnsRefusal, no_refusal};
 
 use crate::error::OpenError;
 use ec_bringup::slaves_of_machine;
@@ -43,8 +43,8 @@ pub fn opened() -> NotOpened
 }
 
 /// A refusal. Writes its name into `room`, as far as it fits.
-pub fn tell_refusal(error: OpenError, room: &mut [u8]) -> NotOpened
-    ensures { TellsRefusal error result room.new }
+pub fn refusal_result(error: OpenError, room: &mut [u8]) -> NotOpened
+    ensures { ReturnsRefusal error result room.new }
 {
     let (count, first, second) = error.values();
     NotOpened {
@@ -120,7 +120,7 @@ fn slaves_in(alloc: Global, text: &str, full: bool) -> Result<Ring, MachineError
     ensures refused { IfErr result (Refuses text.now) }
 {
     let mut table = read_table(alloc, text)?;
-    table.show_as(full);
+    table.advertise_as(full);
     Ok(switched_on(alloc, table)?)
 }
 

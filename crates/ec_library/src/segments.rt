@@ -13,35 +13,35 @@ pub fn pass(slaves: &mut Ring, frame: &mut [u8]) -> bool
 }
 
 /// Makes a firmware step of a slave. Returns whether it is there.
-pub fn serve(slaves: &mut Ring, place: usize) -> bool
-    ensures { Does slaves.old place served result slaves.new }
+pub fn serve(slaves: &mut Ring, index: usize) -> bool
+    ensures { Does slaves.old index served result slaves.new }
 {
-    if place >= slaves.len() {
+    if index >= slaves.len() {
         return false;
     }
-    slaves.slave_mut(place).serve();
+    slaves.slave_mut(index).serve();
     true
 }
 
 /// Switches a slave off and on. Returns whether it is there.
-pub fn reset(slaves: &mut Ring, place: usize) -> bool
-    ensures { Does slaves.old place (λ s. power_on s.kind s.identity) result slaves.new }
+pub fn reset(slaves: &mut Ring, index: usize) -> bool
+    ensures { Does slaves.old index (λ s. power_on s.kind s.identity) result slaves.new }
 {
-    if place >= slaves.len() {
+    if index >= slaves.len() {
         return false;
     }
-    slaves.slave_mut(place).reset();
+    slaves.slave_mut(index).reset();
     true
 }
 
 /// The application of a slave reads a byte of its outputs into `read`. Returns whether the slave is there and may read it.
-pub fn get(slaves: &mut Ring, place: usize, byte: usize, read: &mut u8) -> bool
-    ensures { Reads slaves.old place byte read.old result read.new slaves.new }
+pub fn get(slaves: &mut Ring, index: usize, byte: usize, read: &mut u8) -> bool
+    ensures { Reads slaves.old index byte read.old result read.new slaves.new }
 {
-    if place >= slaves.len() {
+    if index >= slaves.len() {
         return false;
     }
-    match slaves.slave_mut(place).app_get(byte) {
+    match slaves.slave_mut(index).app_get(byte) {
         Some(got) => {
             *read = got;
             true
@@ -51,21 +51,21 @@ pub fn get(slaves: &mut Ring, place: usize, byte: usize, read: &mut u8) -> bool
 }
 
 /// The application of a slave writes a byte of its inputs. Returns whether the slave is there and may write it.
-pub fn put(slaves: &mut Ring, place: usize, byte: usize, value: u8) -> bool
-    ensures { Writes slaves.old place byte value result slaves.new }
+pub fn put(slaves: &mut Ring, index: usize, byte: usize, value: u8) -> bool
+    ensures { Writes slaves.old index byte value result slaves.new }
 {
-    if place >= slaves.len() {
+    if index >= slaves.len() {
         return false;
     }
-    slaves.slave_mut(place).app_put(byte, value)
+    slaves.slave_mut(index).app_put(byte, value)
 }
 
 /// The application of a slave has a fault. Returns whether the slave is there and in OP.
-pub fn fault(slaves: &mut Ring, place: usize) -> bool
-    ensures { HasFault slaves.old place result slaves.new }
+pub fn fault(slaves: &mut Ring, index: usize) -> bool
+    ensures { HasFault slaves.old index result slaves.new }
 {
-    if place >= slaves.len() {
+    if index >= slaves.len() {
         return false;
     }
-    slaves.slave_mut(place).fault()
+    slaves.slave_mut(index).fault()
 }

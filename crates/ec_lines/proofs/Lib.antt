@@ -2,5 +2,5 @@
 pub mod BlockLemmas
 -- lines that are taken from an input, one after another
 pub mod TakeLemmas
--- what is kept of a line tells what the line is
+-- what is kept of a line decides what the line is
 mod TextLemmas

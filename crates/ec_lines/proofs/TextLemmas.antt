@@ -1,4 +1,4 @@
--- What is kept of a line tells what the line is.
+-- What is kept of a line decides what the line is.
 use Rattle.std.proofs.Common.{◌≡◌, ◌∙◌, ◌⊎◌, inl, inr, ℕ, zero, suc, ◌+◌, ◌-◌, ◌^◌, ◌<◌, ◌≤◌, ◌&&◌, ◌||◌, ◌==◌, List, [], ◌∷◌, ◌++◌, length, take, nat_le, slice_index, Bool, true, false, Option, refl, sym, ap, length-take, subst, length-append, arith, if◌then◌else◌, string_bytes, String, Global, Result, Ok, Err, IfErr, IfOk}
 use Rattle.std.proofs.lemmas.Slice.Eq.{bytes_eq-Decides}
 use Rattle.std.specs.Result.{IsErrAnd}

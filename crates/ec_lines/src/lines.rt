@@ -152,7 +152,7 @@ pub fn take_line<R: Read + Drop>(
     ensures taken { IfOk result (λ taken. (line : List ℕ)
         × TakesLine (bytes_left R.remaining input.old) (bytes_left R.remaining input.new) line × IsTaken line taken) }
     ensures refused { IfErr result (IsReadFault input.new.is_refused) }
-    ensures kept { OnOk result (input.new.is_refused ≡ input.old.is_refused) }
+    ensures unchanged { OnOk result (input.new.is_refused ≡ input.old.is_refused) }
     ensures left { OnErr result (TakesPart (bytes_left R.remaining input.old) (bytes_left R.remaining input.new)) }
 {
     let line = take_bytes(alloc, input, MAX_KEPT)?;
@@ -169,7 +169,7 @@ pub(crate) fn take_bytes<R: Read + Drop>(
     ensures taken { IfOk result (λ kept.
         TakesKept (bytes_left R.remaining input.old) (bytes_left R.remaining input.new) most kept.items) }
     ensures refused { IfErr result (IsReadFault input.new.is_refused) }
-    ensures kept { OnOk result (input.new.is_refused ≡ input.old.is_refused) }
+    ensures unchanged { OnOk result (input.new.is_refused ≡ input.old.is_refused) }
     ensures left { OnErr result (TakesPart (bytes_left R.remaining input.old) (bytes_left R.remaining input.new)) }
 {
     let mut line = Vec::new(alloc);

@@ -25,7 +25,7 @@ pub fn take_text<R: Read + Drop>(
         TakesText (bytes_left R.remaining input.old) (bytes_left R.remaining input.new) (string_bytes text)) }
     ensures short { IfOk result (λ text. length (string_bytes text) ≤ 2 ^ 20) }
     ensures refused { IfErr result (RefusesText input.new.is_refused (bytes_left R.remaining input.old) (bytes_left R.remaining input.new)) }
-    ensures kept { OnOk result (input.new.is_refused ≡ input.old.is_refused) }
+    ensures unchanged { OnOk result (input.new.is_refused ≡ input.old.is_refused) }
 {
     let bytes = take_lines(alloc, input)?;
     text_of(bytes)
@@ -40,7 +40,7 @@ fn take_lines<R: Read + Drop>(
         TakesText (bytes_left R.remaining input.old) (bytes_left R.remaining input.new) text.items) }
     ensures short { IfOk result (λ text. length text.items ≤ 2 ^ 20) }
     ensures refused { IfErr result (RefusesLines input.new.is_refused (bytes_left R.remaining input.old) (bytes_left R.remaining input.new)) }
-    ensures kept { OnOk result (input.new.is_refused ≡ input.old.is_refused) }
+    ensures unchanged { OnOk result (input.new.is_refused ≡ input.old.is_refused) }
 {
     let mut text = Vec::new(alloc);
     loop {

@@ -1,4 +1,4 @@
--- The faults of links, each as its test tells it.
+-- The faults of links, each as its test finds it.
 use Rattle.std.proofs.Common.{◌≡◌, ℕ, zero, suc, ◌+◌, ◌-◌, ◌<◌, ◌≤◌, ◌==◌, ◌&&◌, ◌||◌, ◌⊎◌, not, true, false, List, [], ◌∷◌, take, nat_lt, refl, sym, ap, ◌∙◌, subst, arith, inl, inr, Some, None, Option, option_map, slice_get, is_some, is_none}
 use Rattle.std.proofs.lemmas.Option.{slice_get-map, slice_get_within, get_or_from_slice_get}
 use Rattle.std.proofs.lemmas.Map.Keys.{any_passes_from_place}
@@ -21,7 +21,7 @@ use Rattle.ec_link.specs.FaultLaw.{HasEntry, IsOutsideEntry, GiveOneOutput, Give
 use Rattle.ec_link.proofs.FaultSteps.{Clean, Tells}
 use Rattle.ec_link.proofs.FaultNames.{any_at, none_named, run_found, first_run, runs_apart}
 use Rattle.ec_link.proofs.LinksFit.{LinkFits, fits_from}
-use Rattle.ec_link.proofs.Lines.{Share, Apart, meets}
+use Rattle.ec_link.proofs.RunsOnLine.{Share, Apart, meets}
 
 -- ---- there or not
 

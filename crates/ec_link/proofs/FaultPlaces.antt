@@ -1,4 +1,4 @@
--- The faults of slaves and of variables, each as its test tells it.
+-- The faults of slaves and of variables, each as its test finds it.
 use Rattle.std.proofs.Common.{◌≡◌, ◌≢◌, ℕ, zero, suc, ◌+◌, ◌<◌, ◌==◌, ◌||◌, ◌⊎◌, not, Bool, true, List, [], ◌∷◌, length, get_or, nat_lt, refl, sym, ap, ◌∙◌, subst, arith, add-one, inl, inr, Some, None, Option, slice_get}
 use Rattle.std.specs.List.{list_any}
 use Rattle.std.proofs.lemmas.Option.{slice_get_within, get_or_from_slice_get, slice_get_read}
@@ -341,7 +341,7 @@ joins_of : (t : Contents) → table.IsSound t → (v u : ℕ) → UnitAt t v t.l
 joins_of t sound v u a =
     let lt = slice_get_within t.links a.place a.link a.there in
     let link : table.IsLink t.slaves t.variables a.link = subst (table.IsLink t.slaves t.variables) (get_or_from_slice_get t.links a.place a.link a.link a.there) (sound.links a.place a.link lt) in
-    let row : SlaveRow = get_or t.slaves a.link.slave (record { name = []; type_place = 0; outputs = []; inputs = []; serial = 0; unit = 0 }) in
+    let row : SlaveRow = get_or t.slaves a.link.slave (record { name = []; type_index = 0; outputs = []; inputs = []; serial = 0; unit = 0 }) in
     let at : slice_get t.slaves a.link.slave ≡ Some row = slice_get_read t.slaves (length t.slaves) a.link.slave row refl link.slave (get_or_default t.slaves a.link.slave _ row link.slave) in
     let unit : unit_of_link t a.link ≡ row.unit = rw at refl in
     record { place = a.place; link = a.link; slave = row; there = a.there; variable_is = a.variable_is; slave_is = at; unit_is = sym unit ∙ a.unit_is }

@@ -54,7 +54,7 @@ first_none test n (x ∷ xs) h i y g =
 pub record Clean (t : Contents) (n : ℕ) : Type 0 where
   pub none : (g : LinkFault) → HasFault t g → fault_number g < n → ⊥
 
--- with none below lo, the first below hi is told, if there is one
+-- with none below lo, the first below hi is returned, if there is one
 pub record Step (t : Contents) (lo hi : ℕ) (o : Option LinkFault) : Type 0 where
   pub told : Clean t lo → (f : LinkFault) → o ≡ Some f → IsFirstFault t f
   pub none : Clean t lo → o ≡ None → Clean t hi
@@ -104,7 +104,7 @@ pub record Hit {X : Type 0} (xs : List X) (test : ℕ → X → Bool) (k : ℕ) 
   pub there : slice_get xs k ≡ Some row
   pub hit : test k row ≡ true
 
--- the test at a place tells whether the fault is there
+-- the test at a place returns whether the fault is there
 pub record Tells {X : Type 0} (t : Contents) (n : ℕ) (xs : List X) (test : ℕ → X → Bool) : Type 0 where
   pub is : Clean t n → (k : ℕ) (x : X) → slice_get xs k ≡ Some x → test k x ≡ true → HasFault t (decode n k)
   pub was : Clean t n → (k : ℕ) → HasFault t (decode n k) → Hit xs test k

@@ -1,4 +1,4 @@
--- The fault that is told of a table is the first that it has.
+-- The fault that is returned for a table is the first that it has.
 use Rattle.std.proofs.Common.{length, refl}
 use Rattle.ec_table.specs.declared.rows.SlaveRow.{SlaveRow}
 use Rattle.ec_table.specs.Contents.{Contents}

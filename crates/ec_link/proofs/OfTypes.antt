@@ -26,7 +26,7 @@ use Rattle.ec_link.specs.Plan.{plan_of, kind_of, part_plans}
 use Rattle.ec_link.specs.SlavePlan.{fmmus_of}
 use Rattle.ec_link.specs.Sizes.{table_sizes}
 use Rattle.ec_link.specs.Sound.{AreSettings, IsSound}
-use Rattle.ec_link.proofs.Plans.{no_row}
+use Rattle.ec_link.proofs.PlanLists.{no_row}
 use Rattle.ec_link.proofs.PlanSound.{slave_is, share_is}
 use Rattle.ec_link.proofs.SlavesSound.{has_type, made_fmmus}
 use Rattle.ec_link.proofs.Soundness.{plan_sound}
@@ -73,12 +73,12 @@ few-assigned mailbox ps is a = omega (arith, few-once is (indices_of ps) (λ i j
 kind_told : (t : Contents) (s : ℕ) (k : TypeRow) → type_of t s ≡ Some k → kind_of t s ≡ kind_at t s k
 kind_told t s k e = ap (λ (o : Option TypeRow). unwrap_or (option_map (kind_at t s) o) plain_kind) e
 
-entries-told : (t : Contents) (s : ℕ) (r : SlaveRow) (k : TypeRow) (d : Direction) → slice_get t.slaves s ≡ Some r → slice_get t.types r.type_place ≡ Some k → entries_of t s d ≡ assigned_entries (pdos_toward d k) (assigned_toward d r)
+entries-told : (t : Contents) (s : ℕ) (r : SlaveRow) (k : TypeRow) (d : Direction) → slice_get t.slaves s ≡ Some r → slice_get t.types r.type_index ≡ Some k → entries_of t s d ≡ assigned_entries (pdos_toward d k) (assigned_toward d r)
 unfolding entries_of
 entries-told t s r k d a b = rw (a, b) refl
 
-type_there : (t : Contents) (s : ℕ) (r : SlaveRow) (k : TypeRow) → slice_get t.slaves s ≡ Some r → type_of t s ≡ Some k → slice_get t.types r.type_place ≡ Some k
-type_there t s r k is type = ap (λ (o : Option SlaveRow). option_and_then (λ (q : SlaveRow). slice_get t.types q.type_place) o) (sym is) ∙ type
+type_there : (t : Contents) (s : ℕ) (r : SlaveRow) (k : TypeRow) → slice_get t.slaves s ≡ Some r → type_of t s ≡ Some k → slice_get t.types r.type_index ≡ Some k
+type_there t s r k is type = ap (λ (o : Option SlaveRow). option_and_then (λ (q : SlaveRow). slice_get t.types q.type_index) o) (sym is) ∙ type
 
 module _ (t : Contents) (sound : table.IsSound t) (free : compile_fault t ≡ None) where
   own : IsSound t (plan_of t)

@@ -16,7 +16,7 @@ use Rattle.ec_link.specs.Faults.{first_at}
 use Rattle.ec_link.specs.Limits.{IsShortRun}
 use Rattle.ec_link.specs.Spans.{span_from, AreApart, IsMet, IsSpanOf}
 use Rattle.ec_link.proofs.Basics.{or_false}
-use Rattle.ec_link.proofs.Lines.{same_meet, far_meet, far_meet_back}
+use Rattle.ec_link.proofs.RunsOnLine.{same_meet, far_meet, far_meet_back}
 
 out_from : (w : LinkRun) → is_out w.direction ≡ true → span_from w ≡ 262144 * w.slave + w.object_bit
 out_from w h = rw h refl

@@ -10,7 +10,7 @@ use Rattle.ec_link.specs.Layout.{is_unit_of, units_below, unit_count, units}
 use Rattle.ec_link.specs.Sizes.{each_from, size_of, table_sizes}
 use Rattle.ec_link.specs.Plan.{plan_of}
 use Rattle.ec_link.specs.Interface.{unit_of, PlansListTheUnits}
-use Rattle.ec_link.proofs.Plans.{no_row}
+use Rattle.ec_link.proofs.PlanLists.{no_row}
 use Rattle.ec_link.proofs.UsableLaws.{plan_units}
 
 true_false : true ≡ false → ⊥

@@ -24,7 +24,7 @@ small_type = record {
 }
 
 abbrev pub small_slave : SlaveRow
-small_slave = record { name = 115 ∷ []; type_place = 0; serial = 0; outputs = 0x1600 ∷ []; inputs = []; unit = 0 }
+small_slave = record { name = 115 ∷ []; type_index = 0; serial = 0; outputs = 0x1600 ∷ []; inputs = []; unit = 0 }
 
 abbrev pub small_variable : VariableRow
 small_variable = record { name = 118 ∷ []; direction = Out; bits = 4 }
@@ -61,8 +61,8 @@ split_type = two_way 100 1 None false (record { index = 0x7000; subindex = 1; bi
 abbrev pub boxed_type : TypeRow
 boxed_type = two_way 101 2 (Some box) true (record { index = 0x7010; subindex = 1; bits = 12 }) (record { index = 0x6010; subindex = 1; bits = 16 })
 
-abbrev pub slave_in : (name type_place unit : ℕ) → SlaveRow
-slave_in name type_place unit = record { name = name ∷ []; type_place = type_place; serial = 0; outputs = 0x1600 ∷ []; inputs = 0x1A00 ∷ []; unit = unit }
+abbrev pub slave_in : (name type_index unit : ℕ) → SlaveRow
+slave_in name type_index unit = record { name = name ∷ []; type_index = type_index; serial = 0; outputs = 0x1600 ∷ []; inputs = 0x1A00 ∷ []; unit = unit }
 
 abbrev pub variable_of : (name : ℕ) → Direction → (bits : ℕ) → VariableRow
 variable_of name direction bits = record { name = name ∷ []; direction = direction; bits = bits }

@@ -1,4 +1,4 @@
--- Each kind of fault by itself, as a relation between a table and the place of the fault; and the law that `compile` returns
+-- Each kind of fault by itself, as a relation between a table and the index of the fault; and the law that `compile` returns
 -- the first fault of the table. Nothing here says how a fault is looked for.
 use Rattle.std.specs.Prelude.{ℕ, ◌+◌, ◌<◌, ◌≤◌, ◌≡◌, ◌≢◌, ◌⊎◌, List, length, true, Some, None, slice_get}
 use Rattle.ec_bits.specs.Bits.{within}
@@ -24,7 +24,7 @@ use Rattle.ec_link.specs.Faults.{managers_at, compile_fault, fault_number, fault
 
 -- ---- of a link
 
--- the entry at a place of a list has the index and the subindex
+-- the entry at this index of a list has the object's index and subindex
 pub record IsNamed (es : List Entry) (index subindex place : ℕ) (e : Entry) : Type 0 where
   pub there : slice_get es place ≡ Some e
   pub index_is : e.index ≡ index
@@ -149,27 +149,27 @@ pub record IsSplit (t : Contents) (variable : ℕ) (w : VariableRow) : Type 0 wh
 
 -- ---- the whole
 
--- a link, a slave or a variable at the place has it
-pub record AtPlace {X : Type 0} (xs : List X) (Is : X → Type 0) (place : ℕ) : Type 0 where
+-- a link, a slave or a variable at the index has it
+pub record AtIndex {X : Type 0} (xs : List X) (Is : X → Type 0) (place : ℕ) : Type 0 where
   pub row : X
   pub there : slice_get xs place ≡ Some row
   pub has : Is row
 
--- the table has this fault at this place, or so many slaves or parts
+-- the table has this fault at this index, or so many slaves or parts
 abbrev pub HasFault : Contents → LinkFault → Type 0
-HasFault t (WrongDirection k) = AtPlace t.links (IsWrongDirection t) k
-HasFault t (NoEntry k) = AtPlace t.links (IsNoEntry t) k
-HasFault t (OutsideEntry k) = AtPlace t.links (IsOutsideEntry t) k
-HasFault t (LinkedTwice k) = AtPlace t.links (IsLinkedTwice t k) k
-HasFault t (EntryTwice k) = AtPlace t.slaves (λ r. IsEntryTwice t k) k
-HasFault t (TooManyBits k) = AtPlace t.slaves (λ r. HasTooManyBits t k) k
+HasFault t (WrongDirection k) = AtIndex t.links (IsWrongDirection t) k
+HasFault t (NoEntry k) = AtIndex t.links (IsNoEntry t) k
+HasFault t (OutsideEntry k) = AtIndex t.links (IsOutsideEntry t) k
+HasFault t (LinkedTwice k) = AtIndex t.links (IsLinkedTwice t k) k
+HasFault t (EntryTwice k) = AtIndex t.slaves (λ r. IsEntryTwice t k) k
+HasFault t (TooManyBits k) = AtIndex t.slaves (λ r. HasTooManyBits t k) k
 HasFault t (TooManySlaves k) = (k ≡ length t.slaves) × (64 < k)
 HasFault t (TooManyParts k) = (k ≡ length (layout (table_sizes t)).parts) × (32 < k)
-HasFault t (AreasOverlap k) = AtPlace t.slaves (λ r. HaveOneByte t k) k
-HasFault t (OutsideRam k) = AtPlace t.slaves (λ r. LeavesRam t k) k
-HasFault t (SplitVariable k) = AtPlace t.variables (IsSplit t k) k
+HasFault t (AreasOverlap k) = AtIndex t.slaves (λ r. HaveOneByte t k) k
+HasFault t (OutsideRam k) = AtIndex t.slaves (λ r. LeavesRam t k) k
+HasFault t (SplitVariable k) = AtIndex t.variables (IsSplit t k) k
 
--- by the number of the kind, and within a kind by the place
+-- by the number of the kind, and within a kind by the index
 abbrev pub ComesBefore : LinkFault → LinkFault → Type 0
 ComesBefore f g = (fault_number f < fault_number g) ⊎ ((fault_number f ≡ fault_number g) × (fault_value f < fault_value g))
 

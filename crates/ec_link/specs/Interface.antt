@@ -23,7 +23,7 @@ pub use Rattle.ec_link.specs.Faults.{compile_fault}
 pub use Rattle.ec_link.specs.Image.{image_from, placed, image}
 pub use Rattle.ec_link.specs.Links.{AreItsLinks, IsPair}
 pub use Rattle.ec_link.specs.LinkRuns.{IsLinked, is_out}
-pub use Rattle.ec_link.specs.Meaning.{Linked, in_source, slave_at, Meaning, meaning, share_of, area_at, place_of_part, IsLaid, out_source, no_slave, area_of}
+pub use Rattle.ec_link.specs.Meaning.{Linked, in_source, slave_at, Meaning, meaning, share_of, area_at, span_of_part, IsLaid, out_source, no_slave, area_of}
 pub use Rattle.ec_link.specs.Plan.{PlanState, plan_of, part_at, no_part, part_of}
 pub use Rattle.ec_link.specs.Shares.{same_counters, unit_of_part, predicted, Gave, counters_of, sum_of, lwr_count, lrd_count, lrw_count, whole_share, nothing_given, has_outs, has_ins, share_in}
 pub use Rattle.ec_link.specs.SlavePlan.{process_manager, fmmus_of}

@@ -89,15 +89,15 @@ impl LinkFault {
         ensures { result ≡ fault_value self }
     {
         match self {
-            LinkFault::WrongDirection(place)
-            | LinkFault::NoEntry(place)
-            | LinkFault::OutsideEntry(place)
-            | LinkFault::LinkedTwice(place)
-            | LinkFault::EntryTwice(place)
-            | LinkFault::TooManyBits(place)
-            | LinkFault::AreasOverlap(place)
-            | LinkFault::OutsideRam(place)
-            | LinkFault::SplitVariable(place) => place,
+            LinkFault::WrongDirection(index)
+            | LinkFault::NoEntry(index)
+            | LinkFault::OutsideEntry(index)
+            | LinkFault::LinkedTwice(index)
+            | LinkFault::EntryTwice(index)
+            | LinkFault::TooManyBits(index)
+            | LinkFault::AreasOverlap(index)
+            | LinkFault::OutsideRam(index)
+            | LinkFault::SplitVariable(index) => index,
             LinkFault::TooManySlaves(count) | LinkFault::TooManyParts(count) => count,
         }
     }

@@ -1,7 +1,7 @@
 //! Laws of the definitions. Each function does nothing: its contract is the law.
 
 ghost use Rattle.ec_link.specs.FaultLaw.{FirstLinkFault};
-ghost use Rattle.ec_link.specs.ShownFull.{ShownFullGivesFaces};
+ghost use Rattle.ec_link.specs.AdvertisedFull.{AdvertisedFullGivesFaces};
 ghost use Rattle.ec_link.specs.Example.{AcceptedLaw, AcceptedTwoLaw};
 ghost use Rattle.ec_link.specs.Interface.{PlansAreSound, PlansAreUsable, PlansHaveTheLinks, VariablesAreApart, VariablesArePlaced};
 ghost use Rattle.ec_link.specs.Interface.{LinkedBitsAreThere, LinkedInputsAreThere, PlansListTheUnits, SlavesAreOfTheirTypes, SettingsAreListed};
@@ -13,20 +13,20 @@ pub fn first_link_fault()
     ensures { FirstLinkFault }
 {}
 
-/// A table shown in full has the fault of the table, if any, and the plan of the table except for the faces of its slaves.
-#[tactic(auto, using(crate::proofs::FacesShown::faces))]
-pub fn shown_full_gives_faces()
-    ensures { ShownFullGivesFaces }
+/// A table advertised in full has the fault of the table, if any, and the plan of the table except for the faces of its slaves.
+#[tactic(auto, using(crate::proofs::AdvertisedFull::faces))]
+pub fn advertised_full_gives_faces()
+    ensures { AdvertisedFullGivesFaces }
 {}
 
 /// The compiler accepts a table, so what is promised of accepted tables is not empty.
-#[tactic(auto, using(crate::proofs::Accepted::accepted_law))]
+#[tactic(auto, using(crate::proofs::AcceptedLaw::accepted_law))]
 pub fn a_table_is_accepted()
     ensures { AcceptedLaw }
 {}
 
 /// The compiler accepts a table of two sync units too, with a mailbox, a slave without LRW, and links both ways.
-#[tactic(auto, using(crate::proofs::AcceptedTwo::accepted_two))]
+#[tactic(auto, using(crate::proofs::AcceptedTwoLaw::accepted_two))]
 pub fn a_table_of_two_units_is_accepted()
     ensures { AcceptedTwoLaw }
 {}
@@ -42,13 +42,13 @@ pub fn plans_are_usable()
 {}
 
 /// The links of the plan of an accepted table are the table's.
-#[tactic(auto, using(crate::proofs::InputsBack::links_are_the_tables))]
+#[tactic(auto, using(crate::proofs::PlansHaveTheLinks::links_are_the_tables))]
 pub fn plans_have_the_links()
     ensures { PlansHaveTheLinks }
 {}
 
 /// Each variable of a table has its place in the image, and no two have a bit in common.
-#[tactic(auto, using(crate::proofs::VariablesApart::bits_are_apart, crate::proofs::Placed::variables_are_placed))]
+#[tactic(auto, using(crate::proofs::VariablesApart::bits_are_apart, crate::proofs::VariablesArePlaced::variables_are_placed))]
 pub fn variables_are_placed()
     ensures apart { VariablesAreApart }
     ensures placed { VariablesArePlaced }
@@ -78,7 +78,7 @@ pub fn slaves_are_of_their_types()
 {}
 
 /// The settings of a slave of a usable plan are four managers, no two of which share a byte, and an FMMU for each direction.
-#[tactic(auto, using(crate::proofs::Listed::listed))]
+#[tactic(auto, using(crate::proofs::SettingsAreListed::listed))]
 pub fn settings_are_listed()
     ensures { SettingsAreListed }
 {}

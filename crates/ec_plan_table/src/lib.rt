@@ -1,6 +1,6 @@
 //! A plan as tables of bits for people.
 #![tactic(auto)]
 
-mod shown;
+mod explained;
 
-pub use crate::shown::explain_text;
+pub use crate::explained::explain_text;

@@ -39,15 +39,15 @@ sii_data = 0x0508
 abbrev pub fmmus : ℕ
 fmmus = 0x0600
 
-abbrev pub fmmu_place : ℕ → ℕ
-fmmu_place number = fmmus + 16 * number
+abbrev pub fmmu_start : ℕ → ℕ
+fmmu_start number = fmmus + 16 * number
 
 -- four sync managers of eight bytes
 abbrev pub sync_managers : ℕ
 sync_managers = 0x0800
 
-abbrev pub manager_place : ℕ → ℕ
-manager_place number = sync_managers + 8 * number
+abbrev pub manager_start : ℕ → ℕ
+manager_start number = sync_managers + 8 * number
 
 -- ---- the RAM: from `ram_start` on, below `ram_end`, 8 KiB
 

@@ -3,7 +3,7 @@
 //! the constants are the standard's numbers is `laws::constants_are_the_registers`.
 
 ghost use Rattle.std.specs.Prelude.{◌≡◌, ◌<◌};
-ghost use Rattle.ec_regs.specs.Memory.{fmmu_place, manager_place};
+ghost use Rattle.ec_regs.specs.Memory.{fmmu_start, manager_start};
 
 /// How many FMMUs there are: a byte, 4.
 pub const NUMBER_OF_FMMUS: usize = 0x0004;
@@ -51,7 +51,7 @@ pub const RAM_KIB: u8 = 8;
 /// The address of an FMMU.
 pub const fn fmmu_address(number: usize) -> usize
     requires { number < 4 }
-    ensures { result ≡ fmmu_place number }
+    ensures { result ≡ fmmu_start number }
 {
     FMMUS + FMMU_SIZE * number
 }
@@ -59,7 +59,7 @@ pub const fn fmmu_address(number: usize) -> usize
 /// The address of a sync manager.
 pub const fn manager_address(number: usize) -> usize
     requires { number < 4 }
-    ensures { result ≡ manager_place number }
+    ensures { result ≡ manager_start number }
 {
     SYNC_MANAGERS + MANAGER_SIZE * number
 }

@@ -5,12 +5,12 @@ use Rattle.ec_frame.specs.declared.command.Command.{Command}
 use Rattle.ec_frame.specs.declared.command.Command.TheVariants.{Aprd, Apwr, Aprw, Fprd, Fpwr, Fprw}
 use Rattle.ec_frame.specs.Datagram.{Datagram, IsDatagram, adp_of}
 use Rattle.ec_frame.specs.Fields.{with_adp}
-use Rattle.ec_frame.specs.Kept.{IsDatagram-with_adp}
+use Rattle.ec_frame.specs.FieldChanges.{IsDatagram-with_adp}
 use Rattle.ec_slave.specs.State.{Met, SlaveState, station_of}
 use Rattle.ec_slave.specs.Roles.{adp_after}
 use Rattle.ec_slave.specs.Meeting.{datagram_met, meets, slave_met}
-use Rattle.ec_slave.proofs.Meetings.{datagrams_stay, goes_on}
-use Rattle.ec_slave.proofs.Bystanders.{heading_stays, other_position_passes, other_station_passes}
+use Rattle.ec_slave.proofs.Commands.CommandLaws.{datagrams_stay, goes_on}
+use Rattle.ec_slave.proofs.Commands.PassedBy.{heading_stays, other_position_passes, other_station_passes}
 use Rattle.ec_ring.specs.Rings.{RingPassed, passes_ring}
 use Rattle.ec_ring.specs.Addressing.{IsByPosition, IsByStation, PositionMeansOne, StationMeansOne, StationPassesOthers}
 

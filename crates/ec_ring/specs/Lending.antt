@@ -5,6 +5,6 @@ use Rattle.ec_slave.specs.State.{SlaveState}
 use Rattle.ec_slave.specs.contracts.slave.Slave.{the_row as slave_row}
 use Rattle.ec_ring.specs.contracts.ring.Ring.{the_row}
 
--- the ring ends with the slave at `place` as the borrower left it, and all others as they were
+-- the ring ends with the slave at `index` as the borrower left it, and all others as they were
 abbrev pub LendsSlave : MutBor (List SlaveState) → ℕ → MutBor SlaveState → Fml
-LendsSlave r place s = Lends the_row slave_row r s (λ w. set r.now place w)
+LendsSlave r index s = Lends the_row slave_row r s (λ w. set r.now index w)

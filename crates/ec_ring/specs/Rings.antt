@@ -24,9 +24,9 @@ passes_ring (s ∷ ss) ds = record {
 abbrev pub IsNoFrame : List ℕ → Type 0
 IsNoFrame payload = (e : FrameError) × IsRefused payload e
 
--- slaves and a payload before and after it passed slave s, which stands at `place`
-pub record IsPassedAt (old : List SlaveState) (place : ℕ) (s : SlaveState) (before : List ℕ) (new : List SlaveState) (after : List ℕ) : Type 0 where
-  pub slaves : (p : Payload) → IsFrame before p → new ≡ set old place (passes s p.datagrams).slave
+-- slaves and a payload before and after it passed slave s, which stands at `index`
+pub record IsPassedAt (old : List SlaveState) (index : ℕ) (s : SlaveState) (before : List ℕ) (new : List SlaveState) (after : List ℕ) : Type 0 where
+  pub slaves : (p : Payload) → IsFrame before p → new ≡ set old index (passes s p.datagrams).slave
   pub frame : (p : Payload) → IsFrame before p → IsFrame after (with_datagrams p (passes s p.datagrams).datagrams)
 
 -- slaves and a payload before and after it passed all of them; its header and the bytes after the datagrams stay

@@ -4,7 +4,7 @@ ghost use Rattle.std.specs.Prelude.{IsErr, OnErr};
 ghost use Rattle.std.specs.Borrow.{sem};
 ghost use Rattle.ec_frame.specs.Frame.{Payload, IsFrame};
 ghost use Rattle.ec_slave.specs.Column.{datagram_past, slaves_met};
-ghost use Rattle.ec_slave.proofs.Meetings.{datagrams_stay_past};
+ghost use Rattle.ec_slave.proofs.Commands.CommandLaws.{datagrams_stay_past};
 ghost use Rattle.ec_slave.specs.Sound.{IsSlave};
 ghost use Rattle.ec_slave.specs.State.{SlaveState};
 ghost use Rattle.ec_ring.specs.Lending.{LendsSlave};
@@ -52,45 +52,45 @@ impl Ring {
         self.slaves.is_empty()
     }
 
-    /// The slave at a place, the first at 0.
-    pub fn slave(&self, place: usize) -> &Slave
-        requires { place < length self.now }
-        ensures { slice_get self.now place ≡ Some result.now }
+    /// The slave at an index, the first at 0.
+    pub fn slave(&self, index: usize) -> &Slave
+        requires { index < length self.now }
+        ensures { slice_get self.now index ≡ Some result.now }
     {
-        &self.slaves[place]
+        &self.slaves[index]
     }
 
-    /// Lends the slave at a place; the others stay as they are.
-    pub fn slave_mut(&mut self, place: usize) -> &mut Slave
-        requires { place < length self.old }
-        ensures* writes_back { sem 𝓛 (LendsSlave self.entry place result) }
-        ensures value { slice_get self.old place ≡ Some result.now }
+    /// Lends the slave at an index; the others stay as they are.
+    pub fn slave_mut(&mut self, index: usize) -> &mut Slave
+        requires { index < length self.old }
+        ensures* writes_back { sem 𝓛 (LendsSlave self.entry index result) }
+        ensures value { slice_get self.old index ≡ Some result.now }
     {
-        &mut self.slaves[place]
+        &mut self.slaves[index]
     }
 
     /// Does nothing. Its contract says what holds of every slave of a ring, whatever passed it.
     pub fn is_sound(&self)
-        ensures { (place : ℕ) (s : SlaveState) → slice_get self.now place ≡ Some s → IsSlave s }
+        ensures { (index : ℕ) (s : SlaveState) → slice_get self.now index ≡ Some s → IsSlave s }
     {
         show_slaves(&self.slaves)
     }
 
-    /// A frame passes the slave at a place, and no other. What `check` refuses is `NotAFrame`, and
+    /// A frame passes the slave at an index, and no other. What `check` refuses is `NotAFrame`, and
     /// leaves payload and slaves as they are.
-    pub fn pass_one(&mut self, frame: &mut [u8], place: usize) -> Result<(), NotAFrame>
-        requires { place < length self.old }
+    pub fn pass_one(&mut self, frame: &mut [u8], index: usize) -> Result<(), NotAFrame>
+        requires { index < length self.old }
         ensures refused { IsErr result ↔ IsNoFrame frame.old }
-        ensures slaves_kept { OnErr result (self.new ≡ self.old) }
-        ensures frame_kept { OnErr result (frame.new ≡ frame.old) }
+        ensures slaves_unchanged { OnErr result (self.new ≡ self.old) }
+        ensures frame_unchanged { OnErr result (frame.new ≡ frame.old) }
         ensures count { length self.new ≡ length self.old }
-        ensures meets { (s : SlaveState) → slice_get self.old place ≡ Some s
-            → IsPassedAt self.old place s frame.old self.new frame.new }
+        ensures meets { (s : SlaveState) → slice_get self.old index ≡ Some s
+            → IsPassedAt self.old index s frame.old self.new frame.new }
     {
         if check(frame).is_err() {
             return Err(NotAFrame);
         }
-        self.slaves[place].pass(frame);
+        self.slaves[index].pass(frame);
         Ok(())
     }
 
@@ -98,8 +98,8 @@ impl Ring {
     /// leaves payload and slaves as they are.
     pub fn pass_all(&mut self, frame: &mut [u8]) -> Result<(), NotAFrame>
         ensures refused { IsErr result ↔ IsNoFrame frame.old }
-        ensures slaves_kept { OnErr result (self.new ≡ self.old) }
-        ensures frame_kept { OnErr result (frame.new ≡ frame.old) }
+        ensures slaves_unchanged { OnErr result (self.new ≡ self.old) }
+        ensures frame_unchanged { OnErr result (frame.new ≡ frame.old) }
         ensures count { length self.new ≡ length self.old }
         ensures ring { HasPassedRing self.old frame.old self.new frame.new }
     {
@@ -136,7 +136,7 @@ impl Handler for Ring {
 
 /// Shows what holds of each slave.
 fn show_slaves(slaves: &[Slave])
-    ensures { (place : ℕ) (s : SlaveState) → slice_get slaves.now place ≡ Some s → IsSlave s }
+    ensures { (index : ℕ) (s : SlaveState) → slice_get slaves.now index ≡ Some s → IsSlave s }
 {
     for k in 0..slaves.len() {
         slaves[k].is_sound();

@@ -1,4 +1,4 @@
--- What `from_str_radix` answers is the number of hex digits that don't begin with a plus.
+-- What `from_str_radix` returns is the number of hex digits that don't begin with a plus.
 use Rattle.std.proofs.Common.{◌≡◌, ◌≢◌, ◌∙◌, ℕ, ◌<◌, ◌^◌, [], ◌∷◌, Bool, true, false, nat_lt, Some, None, refl, sym, ap, if◌then◌else◌, ◌&&◌, Result, Ok, Err}
 use Rattle.std.specs.Char.{digit_value}
 use Rattle.std.specs.Result.{OkIff, result_ok}

@@ -2,13 +2,13 @@
 pub mod Comments
 -- the line between a table and its script
 pub mod Halving
--- what `from_str_radix` answers is the number of hex digits that don't begin with a plus
+-- what `from_str_radix` returns is the number of hex digits that don't begin with a plus
 pub mod Hex
 -- one line of a script, and the end
 pub mod LineReading
 -- the names of a script's refusals are short
 pub mod Names
--- what `parse` answers is the number of a word that doesn't begin with a plus
+-- what `parse` returns is the number of a word that doesn't begin with a plus
 pub mod Numbers
 -- what is written for a line is read back
 pub mod ReadingBack

@@ -4,7 +4,7 @@ use Rattle.std.specs.List.{list_all, list_any, zip}
 use Rattle.ec_cycle.specs.Closing.{ReportState}
 use Rattle.ec_start.specs.declared.error.StartError.{StartError}
 use Rattle.ec_start.specs.Errors.{error_number}
-use Rattle.ec_text.specs.InputText.{shown}
+use Rattle.ec_text.specs.InputText.{value_of_variable}
 use Rattle.ec_script.specs.declared.expectation.Expectation.{Expectation}
 use Rattle.ec_script.specs.declared.expectation.Expectation.TheVariants.{Is, Never, Units, Unit as OneUnit, State as InState, Ready, Failed}
 use Rattle.ec_script.specs.Views.{ViewState}
@@ -44,7 +44,7 @@ is_failed number _ = false
 
 -- a variable by the process image; a master alone sees no state of a slave
 abbrev pub is_met : Expectation → ViewState → Bool
-is_met (Is v x) view = shown view.master v == x
+is_met (Is v x) view = value_of_variable view.master v == x
 is_met (Never v) view = false
 is_met (Units taken) view = of_report (all_units taken) view.report
 is_met (OneUnit u taken) view = of_report (is_unit u taken) view.report

@@ -8,7 +8,7 @@ use Rattle.ec_al.specs.declared.state.State.TheVariants.{Init, PreOp, SafeOp, Op
 use Rattle.ec_table.specs.Contents.{Contents}
 use Rattle.ec_table.specs.declared.rows.SlaveRow.{SlaveRow}
 use Rattle.ec_table.specs.declared.rows.VariableRow.{VariableRow}
-use Rattle.ec_table.specs.Names.{place_named}
+use Rattle.ec_table.specs.Names.{index_named}
 use Rattle.ec_script.specs.declared.value.WrittenValue.{WrittenValue}
 use Rattle.ec_script.specs.Words.{Text, number_of, byte_of, code_of, value_of}
 
@@ -20,11 +20,11 @@ o >>= f = option_and_then f o
 
 -- the place of the variable with this name
 abbrev pub variable_named : List VariableRow → Text → Option ℕ
-variable_named variables name = place_named (λ (v : VariableRow). v.name) name variables
+variable_named variables name = index_named (λ (v : VariableRow). v.name) name variables
 
 -- the place of the slave with this name
 abbrev pub slave_named : List SlaveRow → Text → Option ℕ
-slave_named slaves name = place_named (λ (s : SlaveRow). s.name) name slaves
+slave_named slaves name = index_named (λ (s : SlaveRow). s.name) name slaves
 
 -- a slave by its number or by its name; a word of digits alone is a number
 unfoldable pub slave_in : Contents → Text → Option ℕ

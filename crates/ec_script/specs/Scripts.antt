@@ -4,7 +4,7 @@ use Rattle.std.specs.Prelude.{◌≡◌, ℕ, ◌+◌, List, [], ◌∷◌, ◌+
 use Rattle.std.specs.Str.{bytes_eq}
 use Rattle.std.specs.Str.Lines.{lines}
 use Rattle.ec_table.specs.Contents.{Contents}
-use Rattle.ec_text.specs.RefusalText.{Told, one_value}
+use Rattle.ec_text.specs.RefusalText.{RefusalRow, one_value}
 use Rattle.ec_script.specs.declared.line.LineAction.{LineAction}
 use Rattle.ec_script.specs.declared.line.LineAction.TheVariants.{Report}
 use Rattle.ec_script.specs.declared.line.Line.{Line}
@@ -31,8 +31,8 @@ error_line Memory = None
 error_line (BadScript n) = Some n
 
 -- the refusal of an error: behind its name stands the number of the bad line
-abbrev pub error_told : ScriptError → Told
-error_told error = record { number = error_number error; name = error_name error; values = one_value (error_line error) }
+abbrev pub error_row : ScriptError → RefusalRow
+error_row error = record { number = error_number error; name = error_name error; values = one_value (error_line error) }
 
 -- ---- lines
 

@@ -50,9 +50,9 @@ impl ScriptError {
 }
 
 impl Refused for ScriptError {
-    ghost use Rattle.ec_script.specs.Scripts.{error_told};
+    ghost use Rattle.ec_script.specs.Scripts.{error_row};
 
-    ghost told = { error_told };
+    ghost row_of = { error_row };
 
     fn number(&self) -> u8 {
         (*self).number()

@@ -18,13 +18,13 @@ pub fn split_script(text: &str) -> (&str, &str)
 
 /// How many bytes the line `%%` with its end has, if it begins at this place of a text.
 #[tactic(auto, unfolding(crate::specs::Halves::divider_at))]
-fn divider_at(text: &[u8], place: usize) -> Option<usize>
-    requires { place < length text.now }
-    ensures value { result ≡ divider_at text.now place }
-    ensures begins { IfSome result (Begins (drop place text.now)) }
+fn divider_at(text: &[u8], position: usize) -> Option<usize>
+    requires { position < length text.now }
+    ensures value { result ≡ divider_at text.now position }
+    ensures begins { IfSome result (Begins (drop position text.now)) }
 {
-    if place == 0 || text[place - 1] == b'\n' {
-        divider_in(&text[place..])
+    if position == 0 || text[position - 1] == b'\n' {
+        divider_in(&text[position..])
     } else {
         None
     }

@@ -115,7 +115,7 @@ impl<'l> Operands<'l> {
     }
 }
 
-/// The place of the variable with this name; `None` if there is none.
+/// The index of the variable with this name; `None` if there is none.
 pub fn variable_named(variables: &[VariableRow], name: &str) -> Option<usize>
     ensures place { result ≡ variable_named variables.now name.now }
     ensures there { IfSome result (λ place. place < length variables.now) }

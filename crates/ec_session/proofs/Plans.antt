@@ -13,7 +13,7 @@ use Rattle.ec_start.proofs.Assigned.{startable_is_taken}
 use Rattle.ec_start.proofs.LawLemmas.{plans_stay}
 use Rattle.ec_start.specs.Running.{IsStartTaken, StartState, asked, begun, has_failed, restarted}
 use Rattle.ec_bringup.specs.Starting.{no_plan}
-use Rattle.ec_bringup.proofs.CompleteLaws.{are-plans}
+use Rattle.ec_bringup.proofs.Script.CompiledPlansLaw.{are-plans}
 use Rattle.ec_cycle.specs.Closing.{ReportState}
 use Rattle.ec_cycle.specs.Master.{Begun, IsClosed, IsTaken, MasterState, OpenCycle, new_master}
 use Rattle.ec_cycle.specs.declared.error.CycleError.{CycleError}
@@ -46,13 +46,13 @@ resumed_plan s = go (has_failed s.phase)
 pub next_plan : (s : StartState) → (asked (resumed s)).plan ≡ s.plan
 next_plan s = (plans_stay (resumed s)).next_keeps ∙ resumed_plan s
 
-pub take_plan : (s new : StartState) (payload : List ℕ) (is_kept : Bool) → IsStartTaken s payload is_kept new → new.plan ≡ s.plan
-take_plan s new payload is_kept taken = (plans_stay s).take_keeps payload is_kept new taken
+pub take_plan : (s new : StartState) (payload : List ℕ) (is_accepted : Bool) → IsStartTaken s payload is_accepted new → new.plan ≡ s.plan
+take_plan s new payload is_accepted taken = (plans_stay s).take_keeps payload is_accepted new taken
 
 -- ---- and so is a master
 
-pub taken_plan : (old new : MasterState) (payload : List ℕ) (is_kept : Bool) → IsTaken old payload is_kept new → new.plan ≡ old.plan
-taken_plan old new payload is_kept taken = keeps_plan old new payload is_kept taken
+pub taken_plan : (old new : MasterState) (payload : List ℕ) (is_accepted : Bool) → IsTaken old payload is_accepted new → new.plan ≡ old.plan
+taken_plan old new payload is_accepted taken = keeps_plan old new payload is_accepted taken
 
 pub cycle_plan : (answer : Result Unit CycleError) (old new : MasterState) → OnOk answer ((c : OpenCycle) × Begun old new c) → OnErr answer (new ≡ old) → new.plan ≡ old.plan
 cycle_plan (Ok done) old new begins kept = ap (λ (m : MasterState). m.plan) begins.1.is

@@ -45,24 +45,24 @@ abbrev pub ready_with : MasterState → StartState → MasterState
 ready_with m s = if is_up s.phase then readied m s.next else m
 
 -- A payload came. The start-up takes it until the master is ready, and the master takes it then.
-pub record IsStarting (old : SessionState) (payload : List ℕ) (is_kept : Bool) (new : SessionState) : Type 0 where
-  pub startup : IsStartTaken old.startup payload is_kept new.startup
+pub record IsStarting (old : SessionState) (payload : List ℕ) (is_accepted : Bool) (new : SessionState) : Type 0 where
+  pub startup : IsStartTaken old.startup payload is_accepted new.startup
   pub rest : new ≡ record old { startup = new.startup; master = ready_with old.master new.startup }
 
-pub record IsCyclic (old : SessionState) (payload : List ℕ) (is_kept : Bool) (new : SessionState) : Type 0 where
-  pub master : IsTaken old.master payload is_kept new.master
+pub record IsCyclic (old : SessionState) (payload : List ℕ) (is_accepted : Bool) (new : SessionState) : Type 0 where
+  pub master : IsTaken old.master payload is_accepted new.master
   pub rest : new ≡ record old { master = new.master }
 
 abbrev IsGivenBy : Bool → SessionState → List ℕ → Bool → SessionState → Type 0
-IsGivenBy true old payload is_kept new = IsCyclic old payload is_kept new
-IsGivenBy false old payload is_kept new = IsStarting old payload is_kept new
+IsGivenBy true old payload is_accepted new = IsCyclic old payload is_accepted new
+IsGivenBy false old payload is_accepted new = IsStarting old payload is_accepted new
 
 abbrev pub IsGiven : SessionState → List ℕ → Bool → SessionState → Type 0
-IsGiven old payload is_kept new = IsGivenBy old.master.is_ready old payload is_kept new
+IsGiven old payload is_accepted new = IsGivenBy old.master.is_ready old payload is_accepted new
 
 -- whether a report says that the inputs of a unit were taken, if it has the unit
 abbrev pub unit_taken : ℕ → ReportState → Option Bool
-unit_taken unit r = option_and_then (λ place. slice_get r.taken place) (position (λ u. u == unit) r.units)
+unit_taken unit r = option_and_then (λ index. slice_get r.taken index) (position (λ u. u == unit) r.units)
 
 -- the number of the variable with a name
 abbrev pub variable_named : Contents → List ℕ → Option ℕ

@@ -58,7 +58,7 @@ impl Session {
     pub fn begin(&mut self) -> Result<(), CycleError>
         ensures answer { result ≡ refused_by (begin_refusal self.old.master) }
         ensures begun { OnOk result ((c : OpenCycle) × Begun self.old.master self.new.master c) }
-        ensures kept { OnErr result (self.new ≡ self.old) }
+        ensures unchanged { OnErr result (self.new ≡ self.old) }
         ensures rest { self.new ≡ record self.old { master = self.new.master } }
     {
         self.master.begin()
@@ -73,7 +73,7 @@ impl Session {
         ensures not_open { IsErr result ↔ (self.old.master.cycle ≡ None) }
         ensures cause { IfErr result (λ e. e ≡ NotOpen) }
         ensures closed { OnOk result ((r : ReportState) × (self.new.report ≡ Some r) × IsClosed self.old.master self.new.master r) }
-        ensures kept { OnErr result (self.new ≡ self.old) }
+        ensures unchanged { OnErr result (self.new ≡ self.old) }
         ensures rest { self.new ≡ record self.old { master = self.new.master; report = self.new.report } }
     {
         let report = self.master.close()?;
@@ -92,9 +92,9 @@ impl Session {
     fn take_starting(&mut self, payload: &[u8]) -> bool
         ensures { IsStarting self.old payload.now result self.new }
     {
-        let is_kept = take_start(&mut self.startup, payload);
+        let is_accepted = take_start(&mut self.startup, payload);
         make_ready(&mut self.master, &self.startup);
-        is_kept
+        is_accepted
     }
 }
 
@@ -105,7 +105,7 @@ fn take_cycle(master: &mut Master<'_>, payload: &[u8]) -> bool
     ensures plan { master.new.plan ≡ master.old.plan }
 {
     match master.take(payload) {
-        Taken::Kept => true,
+        Taken::Accepted => true,
         Taken::Foreign => false,
     }
 }
@@ -117,7 +117,7 @@ fn take_start(startup: &mut Startup<'_>, payload: &[u8]) -> bool
     ensures plan { startup.new.plan ≡ startup.old.plan }
 {
     match startup.take(payload) {
-        Taken::Kept => true,
+        Taken::Accepted => true,
         Taken::Foreign => false,
     }
 }

@@ -220,7 +220,7 @@ impl Session {
     pub fn set(&mut self, variable: usize, value: u64) -> bool
         ensures answer { result ≡ holds_value value (slice_get self.old.master.plan.variables variable) }
         ensures set { result ≡ true → self.new ≡ record self.old { master = variable_set self.old.master variable value } }
-        ensures kept { result ≡ false → self.new ≡ self.old }
+        ensures unchanged { result ≡ false → self.new ≡ self.old }
     {
         if !self.master.can_set(variable, value) {
             return false;
@@ -246,7 +246,7 @@ impl Session {
     pub fn set_outputs(&mut self, outputs: &[u8]) -> usize
         ensures size { result ≡ length self.old.master.outputs }
         ensures set { length outputs.now ≡ result → self.new ≡ record self.old { master = record self.old.master { outputs = outputs.now } } }
-        ensures kept { length outputs.now ≢ result → self.new ≡ self.old }
+        ensures unchanged { length outputs.now ≢ result → self.new ≡ self.old }
     {
         let size = self.master.outputs().len();
         if outputs.len() == size {
@@ -282,12 +282,12 @@ fn unit_in(report: &Report, unit: u8) -> Option<bool>
     answer_at(report.units_taken(), place_of(report.units(), unit))
 }
 
-/// The element at a place, if there is one.
-fn answer_at(answers: &[bool], place: Option<usize>) -> Option<bool>
-    ensures { result ≡ option_and_then (λ k. slice_get answers.now k) place }
+/// The element at an index, if there is one.
+fn answer_at(answers: &[bool], index: Option<usize>) -> Option<bool>
+    ensures { result ≡ option_and_then (λ k. slice_get answers.now k) index }
 {
-    match place {
-        Some(place) => answers.get(place).copied(),
+    match index {
+        Some(index) => answers.get(index).copied(),
         None => None,
     }
 }

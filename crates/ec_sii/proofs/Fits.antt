@@ -1,4 +1,4 @@
--- Every word of a slave's image has 16 bits, and its categories are few enough for the size to be told in one.
+-- Every word of a slave's image has 16 bits, and its categories are few enough for the size to fit in one.
 use Rattle.std.proofs.Common.{ℕ, zero, suc, ◌-◌, ◌/◌, ◌%◌, ◌^◌, ◌<◌, ◌≤◌, ◌≡◌, ◌==◌, nat_le, Bool, true, false, if◌then◌else◌, List, [], ◌∷◌, ◌++◌, length, get_or, slice_index_or, All, Option, Some, None, unwrap_or, slice_get, refl, arith, lit<, lit≤, length-append}
 use Rattle.std.specs.List.{flat_map}
 use Rattle.std.specs.Option.{option_map, ForSome}

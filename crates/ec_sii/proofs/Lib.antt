@@ -8,7 +8,7 @@ pub mod Walking
 pub mod Area
 -- what stands in a category is read back
 pub mod ReadBack
--- every word of a slave's image has 16 bits, and its categories are few enough for the size to be told in one
+-- every word of a slave's image has 16 bits, and its categories are few enough for the size to fit in one
 pub mod Fits
 -- a master that reads the image of a full slave finds its type
 pub mod ReadTypes

@@ -8,8 +8,8 @@ use Rattle.ec_device.specs.declared.slave_type.Mailbox.{Mailbox}
 use Rattle.ec_regs.specs.declared.manager.SyncManagerSettings.{SyncManagerSettings}
 use Rattle.ec_regs.specs.Managers.{no_settings, area_settings, mailbox_out_control, mailbox_in_control, outputs_control, inputs_control}
 use Rattle.ec_device.specs.Types.{SlaveKind, pdos_bits}
-use Rattle.ec_sii.specs.declared.categories.ShownManager.{ShownManager}
-use Rattle.ec_sii.specs.Categories.{pair, words_of, strings_words, entry_words, pdo_words, mailbox_managers, data_settings, data_managers, manager_words, managers_words, shown_managers}
+use Rattle.ec_sii.specs.declared.categories.SiiManager.{SiiManager}
+use Rattle.ec_sii.specs.Categories.{pair, words_of, strings_words, entry_words, pdo_words, mailbox_managers, data_settings, data_managers, manager_words, managers_words, sii_managers}
 use Rattle.ec_sii.specs.Reading.{bytes_of, strings_read, managers_read, ReadPdos, entries_read}
 
 first_of_all : {X : Type 0} (P : X → Type 0) → (x : X) (xs : List X) → All P (x ∷ xs) → P x
@@ -56,7 +56,7 @@ pdos-back manager (p ∷ ps) few bytes =
 
 -- ---- sync managers
 
-manager-back : (m : ShownManager) (ws : List ℕ) → m.settings.control < 256 → m.settings.activate < 256 → managers_read (manager_words m ++ ws) ≡ m ∷ managers_read ws
+manager-back : (m : SiiManager) (ws : List ℕ) → m.settings.control < 256 → m.settings.activate < 256 → managers_read (manager_words m ++ ws) ≡ m ∷ managers_read ws
 unfolding managers_read
 manager-back m ws control activate =
     let c : pair m.settings.control 0 % 256 ≡ m.settings.control = omega arith in
@@ -65,15 +65,15 @@ manager-back m ws control activate =
     rw (c, a, u) refl
 
 -- the settings that a category can show
-abbrev IsShown : ShownManager → Type 0
+abbrev IsShown : SiiManager → Type 0
 IsShown m = (m.settings.control < 256) × (m.settings.activate < 256)
 
-all-back : (ms : List ShownManager) → All IsShown ms → managers_read (flat_map manager_words ms) ≡ ms
+all-back : (ms : List SiiManager) → All IsShown ms → managers_read (flat_map manager_words ms) ≡ ms
 unfolding managers_read
 all-back [] h = refl
 all-back (m ∷ ms) h =
     let one : IsShown m = first_of_all IsShown m ms h in
-    manager-back m (flat_map manager_words ms) one.0 one.1 ∙ ap (λ (rest : List ShownManager). m ∷ rest) (all-back ms (rest_of_all IsShown m ms h))
+    manager-back m (flat_map manager_words ms) one.0 one.1 ∙ ap (λ (rest : List SiiManager). m ∷ rest) (all-back ms (rest_of_all IsShown m ms h))
 
 switch : (b : Bool) → (if b then 0 else 1) < 256
 switch true = omega arith
@@ -82,7 +82,7 @@ switch false = omega arith
 none_of_all : {X : Type 0} (P : X → Type 0) → All P []
 none_of_all P k d below = absurd (omega arith)
 
-two-shown : (a b : ShownManager) → IsShown a → IsShown b → All IsShown (a ∷ b ∷ [])
+two-shown : (a b : SiiManager) → IsShown a → IsShown b → All IsShown (a ∷ b ∷ [])
 two-shown a b h k = All-cons IsShown a (b ∷ []) h (All-cons IsShown b [] k (none_of_all IsShown))
 
 settings-shown : (s : SyncManagerSettings) (usage : ℕ) → s.control < 256 → s.activate < 256 → IsShown (record { settings = s; usage = usage })
@@ -101,8 +101,8 @@ mailbox-shown : (o : Option Mailbox) → All IsShown (mailbox_managers o)
 mailbox-shown None = two-shown _ _ (settings-shown no_settings 0 (lit< tt) (lit< tt)) (settings-shown no_settings 0 (lit< tt) (lit< tt))
 mailbox-shown (Some m) = two-shown _ _ (area-shown m.receive_start m.receive_size mailbox_out_control 1 (lit< tt)) (area-shown m.send_start m.send_size mailbox_in_control 2 (lit< tt))
 
-pub managers-back : (kind : SlaveKind) → managers_read (managers_words kind) ≡ shown_managers kind
-managers-back kind = all-back (shown_managers kind) (All-append IsShown (mailbox_managers kind.mailbox) (data_managers kind) (mailbox-shown kind.mailbox) (pair-shown kind))
+pub managers-back : (kind : SlaveKind) → managers_read (managers_words kind) ≡ sii_managers kind
+managers-back kind = all-back (sii_managers kind) (All-append IsShown (mailbox_managers kind.mailbox) (data_managers kind) (mailbox-shown kind.mailbox) (pair-shown kind))
 
 -- ---- bytes
 

@@ -10,7 +10,7 @@ use Rattle.ec_device.specs.declared.slave_type.Mailbox.{Mailbox}
 use Rattle.ec_regs.specs.declared.manager.SyncManagerSettings.{SyncManagerSettings}
 use Rattle.ec_regs.specs.Managers.{no_settings, area_settings, mailbox_out_control, mailbox_in_control, outputs_control, inputs_control}
 use Rattle.ec_device.specs.Types.{SlaveKind, pdos_bits}
-use Rattle.ec_sii.specs.declared.categories.ShownManager.{ShownManager}
+use Rattle.ec_sii.specs.declared.categories.SiiManager.{SiiManager}
 
 -- ---- words and categories
 
@@ -93,7 +93,7 @@ fmmus_words kind = pair (for_outputs kind.outputs) (for_inputs kind.inputs) ∷ 
 -- usages 1 and 2 are the mailboxes that a master writes and reads, 3 and 4 the process data, outputs and inputs.
 
 -- managers 0 and 1, if there are mailboxes
-abbrev pub mailbox_managers : Option Mailbox → List ShownManager
+abbrev pub mailbox_managers : Option Mailbox → List SiiManager
 mailbox_managers None =
     record { settings = no_settings; usage = 0 } ∷ record { settings = no_settings; usage = 0 } ∷ []
 mailbox_managers (Some m) =
@@ -106,22 +106,22 @@ data_settings start bits control =
     record { start = start; length = bytes_of_bits bits; control = control; activate = if bits == 0 then 0 else 1 }
 
 -- managers 2 and 3
-abbrev pub data_managers : SlaveKind → List ShownManager
+abbrev pub data_managers : SlaveKind → List SiiManager
 data_managers kind =
     record { settings = data_settings kind.out_start (pdos_bits kind.outputs) outputs_control; usage = 3 }
     ∷ record { settings = data_settings kind.in_start (pdos_bits kind.inputs) inputs_control; usage = 4 } ∷ []
 
 -- the four
-abbrev pub shown_managers : SlaveKind → List ShownManager
-shown_managers kind = mailbox_managers kind.mailbox ++ data_managers kind
+abbrev pub sii_managers : SlaveKind → List SiiManager
+sii_managers kind = mailbox_managers kind.mailbox ++ data_managers kind
 
 -- start and length, control and status, activate and usage
-abbrev pub manager_words : ShownManager → List ℕ
+abbrev pub manager_words : SiiManager → List ℕ
 manager_words m =
     m.settings.start ∷ m.settings.length ∷ pair m.settings.control 0 ∷ pair m.settings.activate m.usage ∷ []
 
 abbrev pub managers_words : SlaveKind → List ℕ
-managers_words kind = flat_map manager_words (shown_managers kind)
+managers_words kind = flat_map manager_words (sii_managers kind)
 
 -- ---- PDOs (types 50 and 51), eight bytes for each and eight for each of its entries
 

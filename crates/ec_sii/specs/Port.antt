@@ -9,8 +9,8 @@ use Rattle.ec_sii.specs.SiiImage.{word_at, size_of}
 use Rattle.ec_sii.specs.declared.image.SiiImage.{SiiImage}
 
 -- the high byte of the control and status word, which has the command
-abbrev pub command_place : ℕ
-command_place = sii_control + 1
+abbrev pub command_address : ℕ
+command_address = sii_control + 1
 
 pub record Sii : Type 0 where
   pub image : SiiImage
@@ -39,7 +39,7 @@ status_byte p = status_word p / 256
 -- the byte that an address of the port reads
 unfoldable pub sii_byte : Sii → ℕ → ℕ
 sii_byte p address =
-    if address == command_place then status_byte p
+    if address == command_address then status_byte p
     else (if within sii_address 4 address then slice_index (to_le_bytes w32 p.address) (address - sii_address)
     else (if within sii_data 4 address then slice_index (to_le_bytes w32 p.found) (address - sii_data) else 0))
 
@@ -74,7 +74,7 @@ addressed p address = record { image = p.image; address = address; busy = p.busy
 unfoldable pub written : Sii → ℕ → List ℕ → Sii
 written p from bytes =
     if p.busy then p
-    else commanded (addressed p (address_written p.address from bytes)) (byte_for from bytes command_place)
+    else commanded (addressed p (address_written p.address from bytes)) (byte_for from bytes command_address)
 
 -- ---- the firmware
 

@@ -4,7 +4,7 @@ use Rattle.std.specs.Prelude.{ℕ, zero, suc, ◌+◌, ◌-◌, ◌*◌, ◌/◌
 use Rattle.std.specs.List.{flat_map, range_with_len}
 use Rattle.ec_device.specs.declared.slave_type.Entry.{Entry}
 use Rattle.ec_device.specs.declared.slave_type.Pdo.{Pdo}
-use Rattle.ec_sii.specs.declared.categories.ShownManager.{ShownManager}
+use Rattle.ec_sii.specs.declared.categories.SiiManager.{SiiManager}
 use Rattle.ec_sii.specs.declared.image.SiiImage.{SiiImage}
 use Rattle.ec_sii.specs.SiiImage.{word_at}
 
@@ -42,7 +42,7 @@ strings_read words =
     record { number = slice_index (bytes_of words) 0; first = take (slice_index (bytes_of words) 1) (drop 2 (bytes_of words)) }
 
 -- sync managers: start, length, control, status, activate and usage
-unfoldable pub managers_read : List ℕ → List ShownManager
+unfoldable pub managers_read : List ℕ → List SiiManager
 managers_read (start ∷ length ∷ control ∷ last ∷ words) =
     record {
       settings = record { start = start; length = length; control = control % 256; activate = last % 256 };

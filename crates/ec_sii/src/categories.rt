@@ -45,7 +45,7 @@ pub(crate) fn categories_of(
 
 /// A sync manager as the SII shows it.
 #[derive(Clone, Copy, Debug, PartialEq, Eq)]
-pub(crate) struct ShownManager {
+pub(crate) struct SiiManager {
     /// The settings that a master gives it.
     settings: SyncManagerSettings,
     /// What it is used for, or 0 for nothing.
@@ -158,18 +158,18 @@ fn for_inputs(inputs: &[Pdo]) -> u8
 }
 
 /// Managers 0 and 1: the mailboxes that a master writes and reads.
-fn mailbox_managers(mailbox: Option<Mailbox>) -> [ShownManager; 2]
+fn mailbox_managers(mailbox: Option<Mailbox>) -> [SiiManager; 2]
     ensures { result ≡ mailbox_managers mailbox }
 {
     let Some(m) = mailbox else {
-        let unused = ShownManager {
+        let unused = SiiManager {
             settings: SyncManagerSettings::none(),
             usage: 0,
         };
         return [unused, unused];
     };
     [
-        ShownManager {
+        SiiManager {
             settings: SyncManagerSettings::of_area(
                 m.receive_start,
                 m.receive_size,
@@ -177,7 +177,7 @@ fn mailbox_managers(mailbox: Option<Mailbox>) -> [ShownManager; 2]
             ),
             usage: 1,
         },
-        ShownManager {
+        SiiManager {
             settings: SyncManagerSettings::of_area(m.send_start, m.send_size, CONTROL_MAILBOX_IN),
             usage: 2,
         },
@@ -198,15 +198,15 @@ fn data_settings(start: u16, bits: usize, control: u8) -> SyncManagerSettings
 }
 
 /// Managers 2 and 3: the process data, outputs and inputs.
-fn data_managers(kind: &SlaveType) -> [ShownManager; 2]
+fn data_managers(kind: &SlaveType) -> [SiiManager; 2]
     ensures { result ≡ data_managers kind.now }
 {
     [
-        ShownManager {
+        SiiManager {
             settings: data_settings(kind.out_start(), kind.output_bits(), CONTROL_OUTPUTS),
             usage: 3,
         },
-        ShownManager {
+        SiiManager {
             settings: data_settings(kind.in_start(), kind.input_bits(), CONTROL_INPUTS),
             usage: 4,
         },
@@ -214,10 +214,10 @@ fn data_managers(kind: &SlaveType) -> [ShownManager; 2]
 }
 
 /// The four words of a sync manager: start and length, control and status, activate and usage.
-fn manager_words(manager: &ShownManager) -> [u16; 4]
+fn manager_words(manager: &SiiManager) -> [u16; 4]
     ensures { result ≡ manager_words manager.now }
 {
-    let ShownManager { settings, usage } = *manager;
+    let SiiManager { settings, usage } = *manager;
     [
         settings.start,
         settings.length,
@@ -227,7 +227,7 @@ fn manager_words(manager: &ShownManager) -> [u16; 4]
 }
 
 /// The words of sync managers.
-fn push_managers(words: &mut Listed<u16>, managers: &[ShownManager]) -> Result<(), AllocError>
+fn push_managers(words: &mut Listed<u16>, managers: &[SiiManager]) -> Result<(), AllocError>
     ensures { OnOk result (words.new ≡ words.old ++ flat_map manager_words managers.now) }
 {
     for manager in managers {

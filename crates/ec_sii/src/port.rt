@@ -147,8 +147,8 @@ impl Port {
 fn byte_for(from: usize, bytes: &[u8], address: usize) -> Option<u8>
     ensures { result ≡ byte_for from bytes.now address }
 {
-    let place = address.checked_sub(from)?;
-    bytes.get(place).copied()
+    let offset = address.checked_sub(from)?;
+    bytes.get(offset).copied()
 }
 
 /// The word address, after a datagram's bytes for it were stored.

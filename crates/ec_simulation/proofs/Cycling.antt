@@ -9,7 +9,7 @@ use Rattle.std.proofs.lemmas.Option.{get_or_from_slice_get}
 use Rattle.ec_table.specs.declared.rows.Version.{Version}
 use Rattle.ec_table.specs.declared.rows.Version.TheVariants as version
 use Rattle.ec_text.specs.PlanText.{lines_from}
-use Rattle.ec_cycle.specs.Closing.{nones, KeptPart, ReportState, report_of, unit_taken}
+use Rattle.ec_cycle.specs.Closing.{nones, ReturnedPart, ReportState, report_of, unit_taken}
 use Rattle.ec_start.specs.Running.{StartState, outcome_of}
 use Rattle.ec_start.specs.declared.phase.Phase.{Phase}
 use Rattle.ec_start.specs.declared.phase.Phase.TheVariants.{Idle, Sent, Failed, Ready as IsUp}
@@ -35,10 +35,10 @@ use Rattle.ec_start.specs.Scripts.{script}
 use Rattle.ec_world.specs.Undisturbed.{Rests, IsExchanged, round_of, rounds_of, cycle_of}
 use Rattle.ec_world.specs.NewWorld.{IsToStart}
 use Rattle.ec_world.specs.Whole.{IsNew}
-use Rattle.ec_world.proofs.ComingUp.{machine_law, new_law, new_next}
-use Rattle.ec_world.proofs.CycleMade.{cycle_made, free_there}
-use Rattle.ec_world.proofs.ScriptLengths.{script_fits}
-use Rattle.ec_world.proofs.Spoiled.{undisturbed_law}
+use Rattle.ec_world.proofs.StartUp.NewLaw.{machine_law, new_law, new_next}
+use Rattle.ec_world.proofs.Cycles.CycleMade.{cycle_made, free_there}
+use Rattle.ec_world.proofs.StartUp.ScriptFits.{script_fits}
+use Rattle.ec_world.proofs.Cycles.MissedLaws.{undisturbed_law}
 use Rattle.ec_simulation.specs.Promised.{IsReadied, CycleLaw, MachineCycleLaw, ReadyCycleLaw, TakenTextLaw, taken_unit, taken_units}
 use Rattle.ec_text.specs.ReportText.{taken_text, unit_at, units_text}
 use Rattle.ec_simulation.proofs.Running.{cycle_goes}
@@ -134,10 +134,10 @@ rounds_of_cycle n j (suc count) =
 pub record HasClosed (new : WorldState) (word : LineOutput) : Type 0 where
   pub says : word ≡ output.Report
   pub plan : PlanState
-  pub kept : List (Option KeptPart)
+  pub kept : List (Option ReturnedPart)
   pub report : new.report ≡ Some (report_of plan kept)
 
-closed_report : (b : Bool) (w v : WorldState) → b ≡ false → ByStart b (GivesUp w v) (Closes w v) → (plan : PlanState) × (kept : List (Option KeptPart)) × (v.report ≡ Some (report_of plan kept))
+closed_report : (b : Bool) (w v : WorldState) → b ≡ false → ByStart b (GivesUp w v) (Closes w v) → (plan : PlanState) × (kept : List (Option ReturnedPart)) × (v.report ≡ Some (report_of plan kept))
 closed_report true w v e h = absurd (true_false e)
 closed_report false w v e h = (w.master.plan, h.cycle.kept, ap (λ (x : WorldState). x.report) h.is)
 

@@ -8,7 +8,7 @@ use Rattle.ec_link.specs.declared.plan.Link.{Link}
 use Rattle.ec_link.specs.Meaning.{slave_at}
 use Rattle.ec_link.specs.Plan.{PlanState}
 use Rattle.ec_link.specs.Usable.{IsInLink, IsUsable}
-use Rattle.ec_link.proofs.Listed.{listed}
+use Rattle.ec_link.proofs.SettingsAreListed.{listed}
 use Rattle.ec_start.specs.Running.{outcome_of}
 use Rattle.ec_world.specs.declared.event.Event.{Event}
 use Rattle.ec_world.specs.declared.event.Event.TheVariants.{AppPut}

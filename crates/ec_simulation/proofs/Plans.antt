@@ -3,7 +3,7 @@ use Rattle.std.proofs.Common.{◌≡◌, ◌∙◌, ℕ, zero, suc, ◌&&◌, Li
 use Rattle.ec_world.specs.declared.event.Event.{Event}
 use Rattle.ec_world.specs.declared.event.Event.TheVariants.{StartNext, Begin, Close}
 use Rattle.ec_world.specs.World.{WorldState}
-use Rattle.ec_world.proofs.Plans.{plan_stays}
+use Rattle.ec_world.proofs.Runs.PlanLaw.{plan_stays}
 use Rattle.ec_script.specs.declared.line.LineAction.{LineAction}
 use Rattle.ec_script.specs.declared.line.LineAction.TheVariants.{Input, Never, Expect, Ready, Cycle, Show, Report}
 use Rattle.ec_script.specs.declared.output.LineOutput.{LineOutput}

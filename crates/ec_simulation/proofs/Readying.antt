@@ -12,11 +12,11 @@ use Rattle.ec_world.specs.declared.event.Event.TheVariants.{StartNext, Pass, Ret
 use Rattle.ec_world.specs.Laws.{IsRun}
 use Rattle.ec_world.specs.NewWorld.{AreTurns, BringUp, IsToStart, servings, turn_of}
 use Rattle.ec_world.specs.World.{Flight, WorldState, IsStep}
-use Rattle.ec_world.proofs.StepLaws.{runs_join}
-use Rattle.ec_world.proofs.TurnLaws.{turn_law}
-use Rattle.ec_world.proofs.Turns.{HasTurned, turn_goes}
-use Rattle.ec_world.proofs.Turns as world
-use Rattle.ec_world.proofs.ComingUp.{MayTurn, turned_on, turned_idle, turned_many, turned_up, IsBeginning, beginning, comes_up}
+use Rattle.ec_world.proofs.Refinement.StepsRefine.{runs_join}
+use Rattle.ec_world.proofs.StartUp.TurnLaw.{turn_law}
+use Rattle.ec_world.proofs.StartUp.HasTurned.{HasTurned, turn_goes}
+use Rattle.ec_world.proofs.StartUp.HasTurned as world
+use Rattle.ec_world.proofs.StartUp.NewLaw.{MayTurn, turned_on, turned_idle, turned_many, turned_up, IsBeginning, beginning, comes_up}
 use Rattle.ec_script.specs.declared.output.LineOutput.{LineOutput}
 use Rattle.ec_script.specs.declared.output.LineOutput.TheVariants as output
 use Rattle.ec_simulation.specs.Events.{lowest_slot, turn_events}

@@ -7,7 +7,7 @@ use Rattle.ec_world.specs.declared.event.Event.{Event}
 use Rattle.ec_world.specs.declared.event.Event.TheVariants.{StartNext, Begin, Close}
 use Rattle.ec_world.specs.Laws.{IsRun}
 use Rattle.ec_world.specs.World.{WorldState, IsStep, awaits, is_up}
-use Rattle.ec_world.proofs.StepLaws.{runs_join}
+use Rattle.ec_world.proofs.Refinement.StepsRefine.{runs_join}
 use Rattle.ec_script.specs.declared.line.LineAction.{LineAction}
 use Rattle.ec_script.specs.declared.line.LineAction.TheVariants.{Input, Never, Expect, Ready, Cycle, Show, Report}
 use Rattle.ec_script.specs.declared.output.LineOutput.{LineOutput}

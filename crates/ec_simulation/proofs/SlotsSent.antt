@@ -5,7 +5,7 @@ use Rattle.std.proofs.lemmas.List.{length-replicate}
 use Rattle.ec_cycle.specs.Closing.{nones}
 use Rattle.ec_world.specs.Plain.{filled}
 use Rattle.ec_world.specs.World.{WorldState, Flight, Begins, Sends, flights_from}
-use Rattle.ec_world.proofs.Filling.{filled-map}
+use Rattle.ec_world.proofs.SlotLaws.Filled.{filled-map}
 use Rattle.ec_simulation.specs.Events.{lowest_slot, newest_slots, slots_sent}
 use Rattle.ec_simulation.specs.Rounds.{greatest, rounds, rounds_found, slots_with}
 

@@ -13,6 +13,6 @@ pub mod Work
 -- the events of a line, and that its work is a run of them
 pub mod Events
 -- what a watcher keeps of the events of a line
-pub mod Seeing
+pub mod Observing
 -- what `ready` does if nothing disturbs it, and then `cycle`
 pub mod Promised

@@ -3,7 +3,7 @@ ghost use Rattle.std.specs.Prelude.{◌≡◌};
 ghost use Rattle.ec_script.specs.Outputs.{is_done, output_if};
 ghost use Rattle.ec_simulation.specs.Events.{RunsLine};
 ghost use Rattle.ec_simulation.specs.Expecting.{is_met};
-ghost use Rattle.ec_simulation.specs.Seeing.{Sees};
+ghost use Rattle.ec_simulation.specs.Observing.{Observes};
 ghost use Rattle.ec_simulation.specs.Work.{Does, event_of};
 
 use crate::inputs::put_input;
@@ -23,7 +23,7 @@ pub fn watch_action<S: Watcher>(
     ensures does { Does action world.old world.new result }
     ensures run { RunsLine action world.old world.new (is_done result) }
     ensures plan { world.new.plan ≡ world.old.plan }
-    ensures seen { Sees S.saw watcher.old world.old world.new watcher.new }
+    ensures observed { Observes S.observed watcher.old world.old world.new watcher.new }
 {
     perform(world, watcher, action)
 }
@@ -41,8 +41,8 @@ pub fn event_of(action: LineAction) -> Option<Event>
         LineAction::Return(slot) => Some(Event::Return(slot)),
         LineAction::Close => Some(Event::Close),
         LineAction::Serve(slave) => Some(Event::Serve(slave)),
-        LineAction::Put(slave, place, byte) => Some(Event::AppPut(slave, place, byte)),
-        LineAction::Get(slave, place) => Some(Event::AppGet(slave, place)),
+        LineAction::Put(slave, offset, byte) => Some(Event::AppPut(slave, offset, byte)),
+        LineAction::Get(slave, offset) => Some(Event::AppGet(slave, offset)),
         LineAction::Fail(slave) => Some(Event::Fault(slave)),
         LineAction::Reset(slave) => Some(Event::Reset(slave)),
         LineAction::Input(_, _)
@@ -56,10 +56,10 @@ pub fn event_of(action: LineAction) -> Option<Event>
 }
 
 /// Does once what a line asks for.
-#[tactic(auto, using(crate::proofs::Seeing::sees_none))]
+#[tactic(auto, using(crate::proofs::Seeing::observes_none))]
 fn perform<S: Watcher>(world: &mut World<'_>, watcher: &mut S, action: LineAction) -> LineOutput
     ensures does { Does action world.old world.new result }
-    ensures seen { Sees S.saw watcher.old world.old world.new watcher.new }
+    ensures observed { Observes S.observed watcher.old world.old world.new watcher.new }
 {
     match action {
         LineAction::Start => make(world, watcher, Event::StartNext),
@@ -70,10 +70,10 @@ fn perform<S: Watcher>(world: &mut World<'_>, watcher: &mut S, action: LineActio
         LineAction::Return(slot) => make(world, watcher, Event::Return(slot)),
         LineAction::Close => make(world, watcher, Event::Close),
         LineAction::Serve(slave) => make(world, watcher, Event::Serve(slave)),
-        LineAction::Put(slave, place, byte) => {
-            make(world, watcher, Event::AppPut(slave, place, byte))
+        LineAction::Put(slave, offset, byte) => {
+            make(world, watcher, Event::AppPut(slave, offset, byte))
         }
-        LineAction::Get(slave, place) => make(world, watcher, Event::AppGet(slave, place)),
+        LineAction::Get(slave, offset) => make(world, watcher, Event::AppGet(slave, offset)),
         LineAction::Fail(slave) => make(world, watcher, Event::Fault(slave)),
         LineAction::Reset(slave) => make(world, watcher, Event::Reset(slave)),
         LineAction::Input(variable, value) => put_input(world, watcher, variable, value),

@@ -5,7 +5,7 @@ ghost use Rattle.ec_bits.specs.Bits.{bytes_of_bits};
 ghost use Rattle.ec_link.specs.Meaning.{slave_at};
 ghost use Rattle.ec_link.specs.Usable.{IsUsable};
 ghost use Rattle.ec_simulation.specs.Inputs.{bytes_from, is_input_of, is_of, is_short, is_to, puts, puts_from, slave_byte, slave_puts, with_links};
-ghost use Rattle.ec_simulation.specs.Seeing.{Sees};
+ghost use Rattle.ec_simulation.specs.Observing.{Observes};
 ghost use Rattle.ec_simulation.specs.Work.{MakesAll, RunsInput};
 
 use crate::rounds::make;
@@ -53,7 +53,7 @@ pub fn slave_byte(world: &World<'_>, slave: usize, address: usize) -> u8
 
 /// Gives an input variable a value, as the plant does. Each slave with bits of it writes all its input bytes, with these bits
 /// changed and all others as it published them last. `No` if it is no input that holds the value, or at an event that can't be made.
-#[tactic(auto, using(crate::proofs::Seeing::sees_none, crate::proofs::Seeing::sees_then))]
+#[tactic(auto, using(crate::proofs::Seeing::observes_none, crate::proofs::Seeing::observes_then))]
 pub fn put_input<S: Watcher>(
     world: &mut World<'_>,
     watcher: &mut S,
@@ -61,7 +61,7 @@ pub fn put_input<S: Watcher>(
     value: u64,
 ) -> LineOutput
     ensures made { RunsInput variable value world.old world.new result }
-    ensures seen { Sees S.saw watcher.old world.old world.new watcher.new }
+    ensures observed { Observes S.observed watcher.old world.old world.new watcher.new }
 {
     let plan = world.plan();
     if !is_input_of(plan, variable, value) {
@@ -94,7 +94,7 @@ fn is_input_of(plan: &Plan, variable: usize, value: u64) -> bool
 
 /// Lets the application of each slave that has bits of a variable write all its input bytes, with these bits changed. An
 /// event that can't be made ends it.
-#[tactic(auto, using(crate::proofs::Seeing::sees_none, crate::proofs::Seeing::sees_then))]
+#[tactic(auto, using(crate::proofs::Seeing::observes_none, crate::proofs::Seeing::observes_then))]
 fn put_slaves<S: Watcher>(
     world: &mut World<'_>,
     watcher: &mut S,
@@ -104,7 +104,7 @@ fn put_slaves<S: Watcher>(
     requires { variable.bits ≤ 64 }
     ensures made { MakesAll (puts_from world.old variable value 0 (length world.old.plan.slaves))
         world.old world.new result }
-    ensures seen { Sees S.saw watcher.old world.old world.new watcher.new }
+    ensures observed { Observes S.observed watcher.old world.old world.new watcher.new }
 {
     let slaves = world.plan().slaves();
     for slave in 0..slaves.len() {
@@ -117,7 +117,7 @@ fn put_slaves<S: Watcher>(
 }
 
 /// Lets the application of a slave write all its input bytes with the bits of a variable changed, if it has any of them.
-#[tactic(auto, using(crate::proofs::Seeing::sees_none, crate::proofs::Seeing::sees_then))]
+#[tactic(auto, using(crate::proofs::Seeing::observes_none, crate::proofs::Seeing::observes_then))]
 fn put_slave<S: Watcher>(
     world: &mut World<'_>,
     watcher: &mut S,
@@ -128,7 +128,7 @@ fn put_slave<S: Watcher>(
     requires there { slave < length world.old.plan.slaves }
     requires few { variable.bits ≤ 64 }
     ensures made { MakesAll (slave_puts world.old variable value slave) world.old world.new result }
-    ensures seen { Sees S.saw watcher.old world.old world.new watcher.new }
+    ensures observed { Observes S.observed watcher.old world.old world.new watcher.new }
 {
     let plan = world.plan();
     let links = plan.in_links();
@@ -161,7 +161,7 @@ fn is_linked(links: &[Link], variable: Variable, slave: usize) -> bool
 }
 
 /// Lets the application of a slave write bytes of its inputs, one after another.
-#[tactic(auto, using(crate::proofs::Seeing::sees_none, crate::proofs::Seeing::sees_then))]
+#[tactic(auto, using(crate::proofs::Seeing::observes_none, crate::proofs::Seeing::observes_then))]
 fn put_bytes<S: Watcher>(
     world: &mut World<'_>,
     watcher: &mut S,
@@ -169,11 +169,11 @@ fn put_bytes<S: Watcher>(
     bytes: &[u8],
 ) -> LineOutput
     ensures made { MakesAll (puts slave 0 bytes.now) world.old world.new result }
-    ensures seen { Sees S.saw watcher.old world.old world.new watcher.new }
+    ensures observed { Observes S.observed watcher.old world.old world.new watcher.new }
 {
     let mut said = LineOutput::Nothing;
-    for (place, byte) in bytes.iter().enumerate() {
-        said = make(world, watcher, Event::AppPut(slave, place, *byte));
+    for (offset, byte) in bytes.iter().enumerate() {
+        said = make(world, watcher, Event::AppPut(slave, offset, *byte));
         if !said.is_done() {
             return said;
         }
@@ -207,7 +207,7 @@ fn change_bits(links: &[Link], variable: Variable, value: u64, slave: usize, byt
 fn read_bytes(world: &World<'_>, slave: usize, start: u16, bytes: &mut [u8])
     ensures { bytes.new ≡ bytes_from world.now slave start (length bytes.old) }
 {
-    for place in 0..bytes.len() {
-        bytes[place] = slave_byte(world, slave, usize::from(start) + place);
+    for offset in 0..bytes.len() {
+        bytes[offset] = slave_byte(world, slave, usize::from(start) + offset);
     }
 }

@@ -55,17 +55,17 @@ fn is_in_state(world: &World<'_>, slave: usize, state: State) -> bool
 }
 
 /// Whether a variable has a value: an input in the process image, an output as slaves publish it.
-fn is_value(world: &World<'_>, place: usize, value: u64) -> bool
-    ensures { result ≡ is_value world.now place value (slice_get world.now.plan.variables place) }
+fn is_value(world: &World<'_>, index: usize, value: u64) -> bool
+    ensures { result ≡ is_value world.now index value (slice_get world.now.plan.variables index) }
 {
     let variables = world.plan().variables();
-    if place >= variables.len() {
+    if index >= variables.len() {
         return false;
     }
-    let variable = variables[place];
+    let variable = variables[index];
     match variable.direction {
         Direction::Out => is_short(variable.bits, value) && is_output(world, variable, value),
-        Direction::In => ec_script::is_met(&view_of(world), Expectation::Is(place, value)),
+        Direction::In => ec_script::is_met(&view_of(world), Expectation::Is(index, value)),
     }
 }
 

@@ -2,7 +2,7 @@
 ghost use Rattle.std.specs.Prelude.{◌≡◌, [], replicate, if◌then◌else◌};
 ghost use Rattle.ec_world.specs.NewWorld.{servings};
 ghost use Rattle.ec_world.specs.World.{flight_at};
-ghost use Rattle.ec_simulation.specs.Seeing.{Sees};
+ghost use Rattle.ec_simulation.specs.Observing.{Observes};
 ghost use Rattle.ec_simulation.specs.Work.{Makes, MakesAll, Starts, RunsTurn, RunsCycle, last_turn};
 ghost use Rattle.ec_simulation.specs.Rounds.{greatest, has_number, round_events, rounds_found};
 
@@ -10,10 +10,10 @@ use ec_script::LineOutput;
 use ec_world::{Event, Watcher, World};
 
 /// Makes an event, if it can be made, and returns its output.
-#[tactic(auto, using(crate::proofs::Seeing::sees_none, crate::proofs::Seeing::sees_made, crate::proofs::Seeing::sees_then))]
+#[tactic(auto, using(crate::proofs::Seeing::observes_none, crate::proofs::Seeing::observes_made, crate::proofs::Seeing::observes_then))]
 pub fn make<S: Watcher>(world: &mut World<'_>, watcher: &mut S, event: Event) -> LineOutput
     ensures made { Makes event world.old world.new result }
-    ensures seen { Sees S.saw watcher.old world.old world.new watcher.new }
+    ensures observed { Observes S.observed watcher.old world.old world.new watcher.new }
 {
     let starting = world.outcome().is_none();
     if !watcher.step(world, event) {
@@ -30,10 +30,10 @@ pub fn make<S: Watcher>(world: &mut World<'_>, watcher: &mut S, event: Event) ->
 }
 
 /// Sends frames of a start-up round the ring, one after another, until it has ended or an event can't be made.
-#[tactic(auto, using(crate::proofs::Seeing::sees_none, crate::proofs::Seeing::sees_made, crate::proofs::Seeing::sees_then))]
+#[tactic(auto, using(crate::proofs::Seeing::observes_none, crate::proofs::Seeing::observes_made, crate::proofs::Seeing::observes_then))]
 pub fn start_up<S: Watcher>(world: &mut World<'_>, watcher: &mut S) -> LineOutput
     ensures made { Starts last_turn world.old world.new result }
-    ensures seen { Sees S.saw watcher.old world.old world.new watcher.new }
+    ensures observed { Observes S.observed watcher.old world.old world.new watcher.new }
 {
     for _ in 0..u64::MAX {
         let said = take_turn(world, watcher);
@@ -48,10 +48,10 @@ pub fn start_up<S: Watcher>(world: &mut World<'_>, watcher: &mut S) -> LineOutpu
 }
 
 /// Begins a cycle, sends its frames round the ring, and closes it. It ends at an event that can't be made.
-#[tactic(auto, using(crate::proofs::Seeing::sees_none, crate::proofs::Seeing::sees_made, crate::proofs::Seeing::sees_then))]
+#[tactic(auto, using(crate::proofs::Seeing::observes_none, crate::proofs::Seeing::observes_made, crate::proofs::Seeing::observes_then))]
 pub fn run_cycle<S: Watcher>(world: &mut World<'_>, watcher: &mut S) -> LineOutput
     ensures made { RunsCycle world.old world.new result }
-    ensures seen { Sees S.saw watcher.old world.old world.new watcher.new }
+    ensures observed { Observes S.observed watcher.old world.old world.new watcher.new }
 {
     let begun = make(world, watcher, Event::Begin);
     if !begun.is_done() {
@@ -65,10 +65,10 @@ pub fn run_cycle<S: Watcher>(world: &mut World<'_>, watcher: &mut S) -> LineOutp
 }
 
 /// Sends one frame of a start-up round the ring.
-#[tactic(auto, using(crate::proofs::Seeing::sees_none, crate::proofs::Seeing::sees_made, crate::proofs::Seeing::sees_then))]
+#[tactic(auto, using(crate::proofs::Seeing::observes_none, crate::proofs::Seeing::observes_made, crate::proofs::Seeing::observes_then))]
 fn take_turn<S: Watcher>(world: &mut World<'_>, watcher: &mut S) -> LineOutput
     ensures made { RunsTurn world.old world.new result }
-    ensures seen { Sees S.saw watcher.old world.old world.new watcher.new }
+    ensures observed { Observes S.observed watcher.old world.old world.new watcher.new }
 {
     let sent = make(world, watcher, Event::StartNext);
     if !sent.is_done() {
@@ -78,10 +78,10 @@ fn take_turn<S: Watcher>(world: &mut World<'_>, watcher: &mut S) -> LineOutput
 }
 
 /// Takes the newest frames round the ring, one after another in the order of their slots.
-#[tactic(auto, using(crate::proofs::Seeing::sees_none, crate::proofs::Seeing::sees_made, crate::proofs::Seeing::sees_then))]
+#[tactic(auto, using(crate::proofs::Seeing::observes_none, crate::proofs::Seeing::observes_made, crate::proofs::Seeing::observes_then))]
 fn go_rounds<S: Watcher>(world: &mut World<'_>, watcher: &mut S, serving: bool) -> LineOutput
     ensures made { MakesAll (rounds_found serving world.old) world.old world.new result }
-    ensures seen { Sees S.saw watcher.old world.old world.new watcher.new }
+    ensures observed { Observes S.observed watcher.old world.old world.new watcher.new }
 {
     let slaves = world.slaves();
     let number = newest(world);
@@ -98,7 +98,7 @@ fn go_rounds<S: Watcher>(world: &mut World<'_>, watcher: &mut S, serving: bool) 
 }
 
 /// Takes the frame in a slot past that many slaves, lets each make a firmware step if `serving`, and returns the frame.
-#[tactic(auto, using(crate::proofs::Seeing::sees_none, crate::proofs::Seeing::sees_made, crate::proofs::Seeing::sees_then))]
+#[tactic(auto, using(crate::proofs::Seeing::observes_none, crate::proofs::Seeing::observes_made, crate::proofs::Seeing::observes_then))]
 fn go_round<S: Watcher>(
     world: &mut World<'_>,
     watcher: &mut S,
@@ -107,7 +107,7 @@ fn go_round<S: Watcher>(
     serving: bool,
 ) -> LineOutput
     ensures made { MakesAll (round_events slaves serving slot) world.old world.new result }
-    ensures seen { Sees S.saw watcher.old world.old world.new watcher.new }
+    ensures observed { Observes S.observed watcher.old world.old world.new watcher.new }
 {
     let passed = pass_slaves(world, watcher, slot, slaves);
     if !passed.is_done() {
@@ -121,7 +121,7 @@ fn go_round<S: Watcher>(
 }
 
 /// Lets that many slaves make a firmware step, one after another, if `serving`; else it does nothing.
-#[tactic(auto, using(crate::proofs::Seeing::sees_none, crate::proofs::Seeing::sees_made, crate::proofs::Seeing::sees_then))]
+#[tactic(auto, using(crate::proofs::Seeing::observes_none, crate::proofs::Seeing::observes_made, crate::proofs::Seeing::observes_then))]
 fn serve_if<S: Watcher>(
     world: &mut World<'_>,
     watcher: &mut S,
@@ -129,7 +129,7 @@ fn serve_if<S: Watcher>(
     serving: bool,
 ) -> LineOutput
     ensures made { MakesAll (if serving then servings 0 slaves else []) world.old world.new result }
-    ensures seen { Sees S.saw watcher.old world.old world.new watcher.new }
+    ensures observed { Observes S.observed watcher.old world.old world.new watcher.new }
 {
     if serving {
         serve_slaves(world, watcher, slaves)
@@ -139,10 +139,10 @@ fn serve_if<S: Watcher>(
 }
 
 /// Lets that many slaves make a firmware step, one after another.
-#[tactic(auto, using(crate::proofs::Seeing::sees_none, crate::proofs::Seeing::sees_made, crate::proofs::Seeing::sees_then))]
+#[tactic(auto, using(crate::proofs::Seeing::observes_none, crate::proofs::Seeing::observes_made, crate::proofs::Seeing::observes_then))]
 fn serve_slaves<S: Watcher>(world: &mut World<'_>, watcher: &mut S, slaves: usize) -> LineOutput
     ensures made { MakesAll (servings 0 slaves) world.old world.new result }
-    ensures seen { Sees S.saw watcher.old world.old world.new watcher.new }
+    ensures observed { Observes S.observed watcher.old world.old world.new watcher.new }
 {
     let mut said = LineOutput::Nothing;
     for slave in 0..slaves {
@@ -155,7 +155,7 @@ fn serve_slaves<S: Watcher>(world: &mut World<'_>, watcher: &mut S, slaves: usiz
 }
 
 /// Takes the frame in a slot past that many slaves, up to one that it can't pass.
-#[tactic(auto, using(crate::proofs::Seeing::sees_none, crate::proofs::Seeing::sees_made, crate::proofs::Seeing::sees_then))]
+#[tactic(auto, using(crate::proofs::Seeing::observes_none, crate::proofs::Seeing::observes_made, crate::proofs::Seeing::observes_then))]
 fn pass_slaves<S: Watcher>(
     world: &mut World<'_>,
     watcher: &mut S,
@@ -163,7 +163,7 @@ fn pass_slaves<S: Watcher>(
     slaves: usize,
 ) -> LineOutput
     ensures made { MakesAll (replicate slaves (Event.Pass slot)) world.old world.new result }
-    ensures seen { Sees S.saw watcher.old world.old world.new watcher.new }
+    ensures observed { Observes S.observed watcher.old world.old world.new watcher.new }
 {
     let mut said = LineOutput::Nothing;
     for _ in 0..slaves {

@@ -6,9 +6,9 @@ use Rattle.ec_bits.specs.Bits.{overlay, zeros}
 use Rattle.ec_regs.specs.declared.fmmu.FmmuSettings.{FmmuSettings}
 use Rattle.ec_sync.specs.SyncManager.{SyncManager, empty_manager}
 use Rattle.ec_sync.specs.Governing.{governor}
-use Rattle.ec_fmmu.specs.Applied.{Place, touched_by_reading, touched_by_writing}
+use Rattle.ec_fmmu.specs.Applied.{LogicalSpan, touched_by_reading, touched_by_writing}
 use Rattle.ec_slave.specs.Managers.{manager_after}
-use Rattle.ec_slave.specs.Physical.{Window, touches, byte_from, retold, is_configured, settings_written, physical_managers}
+use Rattle.ec_slave.specs.Physical.{Window, touches, byte_from, updated, is_configured, settings_written, physical_managers}
 use Rattle.ec_slave.specs.Logical.{brought, only_if, logical_managers}
 
 abbrev pub is_governor : ℕ → Option ℕ → Bool
@@ -26,10 +26,10 @@ governs_among all n a = is_governor n (governor all a)
 
 -- the value of manager n, of its start and length: the bytes that it governs among all, 0 elsewhere
 abbrev pub value_among : List SyncManager → Window → ℕ → ℕ → ℕ → List ℕ
-value_among all w n start len = retold (zeros len) (λ k. if governs_among all n (start + k) then byte_from w (start + k) else None)
+value_among all w n start len = updated (zeros len) (λ k. if governs_among all n (start + k) then byte_from w (start + k) else None)
 
 -- this value bit by bit
-abbrev pub bits_among : List SyncManager → List FmmuSettings → Place → List ℕ → ℕ → ℕ → ℕ → List ℕ
+abbrev pub bits_among : List SyncManager → List FmmuSettings → LogicalSpan → List ℕ → ℕ → ℕ → ℕ → List ℕ
 bits_among all fs p bytes n start len =
     overlay (zeros len) (λ k. only_if (governs_among all n ((8 * start + k) / 8)) (brought fs p bytes (8 * start + k)))
 
@@ -44,6 +44,6 @@ PhysicalAgainstAll =
 -- a logical datagram: every manager against all as they were
 abbrev pub LogicalAgainstAll : Type 0
 LogicalAgainstAll =
-    (reading writing : Bool) (fs : List FmmuSettings) (p : Place) (bytes : List ℕ) (ms : List SyncManager)
+    (reading writing : Bool) (fs : List FmmuSettings) (p : LogicalSpan) (bytes : List ℕ) (ms : List SyncManager)
     → logical_managers [] reading writing fs p bytes ms
     ≡ each_from 0 (λ n m. manager_after reading writing (touched_by_reading fs p) (touched_by_writing fs p) (governs_among ms n) (bits_among ms fs p bytes n) m) ms

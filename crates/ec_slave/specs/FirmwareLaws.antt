@@ -96,8 +96,8 @@ pub record StaysAssigned (s : SlaveState) : Type 0 where
   pub served : IsAssigned (served s)
   pub met : (d : Datagram) → IsAssigned (slave_met s d)
   pub faulted : IsAssigned (faulted s)
-  pub put : (place byte : ℕ) (t : SlaveState) → input_put s place byte ≡ Some t → IsAssigned t
-  pub taken : (place : ℕ) → IsAssigned (output_taken s (output_got s place))
+  pub put : (offset byte : ℕ) (t : SlaveState) → input_put s offset byte ≡ Some t → IsAssigned t
+  pub taken : (offset : ℕ) → IsAssigned (output_taken s (output_got s offset))
 
 -- Whatever firmware, datagrams and application do, the assignments stay of that kind.
 abbrev pub AssignmentsStay : Type 0

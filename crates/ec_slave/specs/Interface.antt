@@ -19,7 +19,7 @@ pub use Rattle.ec_device.specs.declared.slave_type.Mailbox.{Mailbox}
 pub use Rattle.ec_device.specs.declared.slave_type.Pdo.{Pdo}
 pub use Rattle.ec_regs.specs.Fmmus.{fmmu_bytes, no_fmmu, fmmu_of}
 pub use Rattle.ec_regs.specs.Managers.{no_settings, manager_bytes, area_settings, outputs_control, inputs_control, is_mailbox, is_master_written, is_master_read, span, is_buffered, settings_of}
-pub use Rattle.ec_regs.specs.Memory.{al_control, al_status, sii_control, sii_data, sync_managers, manager_place, ram_start, ram_end, is_stored, takes_writes}
+pub use Rattle.ec_regs.specs.Memory.{al_control, al_status, sii_control, sii_data, sync_managers, manager_start, ram_start, ram_end, is_stored, takes_writes}
 pub use Rattle.ec_regs.specs.Words.{al_flag, sii_error, sii_busy, al_word}
 pub use Rattle.ec_regs.specs.declared.fmmu.FmmuSettings.{FmmuSettings}
 pub use Rattle.ec_regs.specs.declared.manager.SyncManagerSettings.{SyncManagerSettings}
@@ -39,13 +39,13 @@ pub use Rattle.ec_sii.specs.declared.image.SiiImage.{SiiImage}
 pub use Rattle.ec_sync.specs.Buffer.{emptied_buffer, Buffer, Got, view_next, drafted, draft_next, publishing}
 pub use Rattle.ec_sync.specs.Governing.{governor, covers, in_first_buffer, governs}
 use Rattle.ec_sync.specs.Sound.{IsManager}
-pub use Rattle.ec_sync.specs.SyncManager.{SyncManager, no_manager, empty_manager, padded, ring_read, ring_written, buffer_length, app_put, may_app_put, may_app_get, app_got, is_enabled, message_in as sync_manager_message_in, may_write, may_read, shown, zeros_published}
-pub use Rattle.ec_fmmu.specs.Applied.{Place, inside_place}
+pub use Rattle.ec_sync.specs.SyncManager.{SyncManager, no_manager, empty_manager, padded, ring_read, ring_written, buffer_length, app_put, may_app_put, may_app_get, app_got, is_enabled, message_in as sync_manager_message_in, may_write, may_read, visible, zeros_published}
+pub use Rattle.ec_fmmu.specs.Applied.{LogicalSpan, inside_span}
 pub use Rattle.ec_fmmu.specs.Areas.{Area, Spans}
 pub use Rattle.ec_fmmu.specs.Sets.{target, source, readers, writers}
 pub use Rattle.ec_coe.specs.Answers.{Answer, answer_by, download_answer, value_of, upload_answer, reply_to}
 pub use Rattle.ec_coe.specs.Messages.{message_length, size_number, message_read, message_bytes, message_in, command_of, command_number, service_of, service_number}
-pub use Rattle.ec_coe.specs.Objects.{all_assigned, assigned, Assignment, indices, byte_value, word_value, output_assignment, input_assignment, has_some, Dictionary, identity_object, entry_number, long_value, assignment_values, pdo_values, device_name_object, shown_values, send_room}
+pub use Rattle.ec_coe.specs.Objects.{all_assigned, assigned, Assignment, indices, byte_value, word_value, output_assignment, input_assignment, has_some, Dictionary, identity_object, entry_number, long_value, assignment_values, pdo_values, device_name_object, face_values_of, send_room}
 pub use Rattle.ec_coe.specs.Replies.{reply_of, reply_by, response_in, abort_in}
 pub use Rattle.ec_coe.specs.ReplyBytes.{reply_bytes}
 pub use Rattle.ec_coe.specs.Transfers.{written_over, contains, distinct, value_or_abort, value_at, takes_value, is_open, with_value, with_outs, with_ins}
@@ -65,11 +65,11 @@ pub use Rattle.ec_slave.specs.Checking.{checks_of, control_word, mailbox_check, 
 use Rattle.ec_slave.specs.Column.{datagram_past}
 pub use Rattle.ec_slave.specs.Exchange.{with_outputs, with_published, outputs_from, inputs_into, inputs_of, IsMapped, takes, gives, IsBufferAt}
 pub use Rattle.ec_slave.specs.Faulting.{faulted, locked_empty}
-pub use Rattle.ec_slave.specs.Logical.{meets_logically, place_of}
+pub use Rattle.ec_slave.specs.Logical.{meets_logically, span_of}
 pub use Rattle.ec_slave.specs.LogicalLaws.{Misses}
 pub use Rattle.ec_slave.specs.Managers.{reads_under, writes_under, is_ungoverned, is_read_by, is_written_by}
 pub use Rattle.ec_slave.specs.Meeting.{window_of, meets, slave_met, datagram_met, passes, Passed, IsPassed}
-pub use Rattle.ec_slave.specs.Physical.{Window, touches, byte_at, ram_byte, may_read_byte, may_write_byte, byte_read, retold, memory_written, is_configured, settings_written, physical_value, physical_manager, physical_managers, physical_after, some_byte_read, is_written, some_byte_written}
+pub use Rattle.ec_slave.specs.Physical.{Window, touches, byte_at, ram_byte, may_read_byte, may_write_byte, byte_read, updated, memory_written, is_configured, settings_written, physical_value, physical_manager, physical_managers, physical_after, some_byte_read, is_written, some_byte_written}
 pub use Rattle.ec_slave.specs.Roles.{role_of, adp_after, is_reading, is_writing, is_joining}
 pub use Rattle.ec_slave.specs.Serving.{with_al, request_decided, read_finished, is_served, request_in, answer_to, bytes_to, message_served, served, dictionary_of, is_preop, has_mailbox, takes_reply, request_for, reply_counter, is_init, unlocked_empty, managers_entered}
 use Rattle.ec_slave.specs.Sound.{IsSlave}
@@ -295,7 +295,7 @@ pub record OnlyReads (s : SlaveState) (d : Datagram) : Type 0 where
 
 pub record IsReadOut (s : SlaveState) (d : Datagram) : Type 0 where
   pub slave : slave_met s d ≡ physical_after s true false (window_of d)
-  pub bytes : (datagram_met s d).data_bytes ≡ retold d.data_bytes (byte_read s false (window_of d))
+  pub bytes : (datagram_met s d).data_bytes ≡ updated d.data_bytes (byte_read s false (window_of d))
   pub counter : (datagram_met s d).counter ≡ (d.counter + from_bool (some_byte_read s.managers (window_of d))) % 65536
 
 abbrev pub ReadsMeet : Type 0
@@ -313,16 +313,16 @@ abbrev pub LogicalCommandsMeet : Type 0
 LogicalCommandsMeet = (s : SlaveState) (d : Datagram) → IsLogical s d
 
 -- a list some of whose numbers are replaced: f has the new number at such a place, and none at any other
-pub record IsRetold (xs : List ℕ) (f : ℕ → Option ℕ) : Type 0 where
-  pub long : length (retold xs f) ≡ length xs
-  pub each : (k : ℕ) → k < length xs → slice_index (retold xs f) k ≡ unwrap_or (f k) (slice_index xs k)
+pub record IsUpdated (xs : List ℕ) (f : ℕ → Option ℕ) : Type 0 where
+  pub long : length (updated xs f) ≡ length xs
+  pub each : (k : ℕ) → k < length xs → slice_index (updated xs f) k ≡ unwrap_or (f k) (slice_index xs k)
 
-abbrev pub RetoldByPlace : Type 0
-RetoldByPlace = (xs : List ℕ) (f : ℕ → Option ℕ) → IsRetold xs f
+abbrev pub UpdatedByIndex : Type 0
+UpdatedByIndex = (xs : List ℕ) (f : ℕ → Option ℕ) → IsUpdated xs f
 
 -- if f has a number at each place, the list is these numbers
-abbrev pub RetoldWhole : Type 0
-RetoldWhole = (xs ys : List ℕ) (f : ℕ → Option ℕ) → length xs ≡ length ys → ((k : ℕ) → k < length ys → f k ≡ Some (slice_index ys k)) → retold xs f ≡ ys
+abbrev pub UpdatedWhole : Type 0
+UpdatedWhole = (xs ys : List ℕ) (f : ℕ → Option ℕ) → length xs ≡ length ys → ((k : ℕ) → k < length ys → f k ≡ Some (slice_index ys k)) → updated xs f ≡ ys
 
 -- a slave that publishes new outputs has them in manager 2, and all other managers as they were
 pub record PublishesOutputs (s : SlaveState) (v : List ℕ) : Type 0 where
@@ -361,7 +361,7 @@ RegistersAreRead = (s : SlaveState) (w : Window) → w.from + length w.bytes ≤
 
 -- a write that touches no byte of a manager's eight sets nothing of it
 abbrev pub ManagersAside : Type 0
-ManagersAside = (w : Window) (n : ℕ) → (w.from + length w.bytes ≤ manager_place n) ⊎ (manager_place n + 8 ≤ w.from) → is_configured w n ≡ false
+ManagersAside = (w : Window) (n : ℕ) → (w.from + length w.bytes ≤ manager_start n) ⊎ (manager_start n + 8 ≤ w.from) → is_configured w n ≡ false
 
 -- every register may be read, and written as its row in the table of registers says
 pub record AreOpen (ms : List SyncManager) (touched : ℕ → Bool) (a : ℕ) : Type 0 where
@@ -376,7 +376,7 @@ pub record ShowsItself (s : SlaveState) : Type 0 where
   pub status : byte_at s al_status ≡ al.status_word s.al
   pub status_high : byte_at s (al_status + 1) ≡ 0
   pub sii_low : byte_at s sii_control ≡ 0
-  pub sii_high : byte_at s port.command_place ≡ from_bool s.sii.busy + 32 * from_bool s.sii.error + 128 * from_bool s.sii.busy
+  pub sii_high : byte_at s port.command_address ≡ from_bool s.sii.busy + 32 * from_bool s.sii.error + 128 * from_bool s.sii.busy
   pub sii_found : (k : ℕ) → k < 4 → byte_at s (sii_data + k) ≡ slice_index (to_le_bytes w32 s.sii.found) k
 
 abbrev pub SlavesShowThemselves : Type 0

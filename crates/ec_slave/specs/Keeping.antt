@@ -9,24 +9,24 @@ use Rattle.ec_slave.specs.declared.role.Role.{Role}
 use Rattle.ec_slave.specs.declared.role.Role.TheVariants.{Nothing, Read, Write, ReadWrite, OrRead, OrReadWrite}
 use Rattle.ec_slave.specs.Roles.{role_of, adp_after}
 use Rattle.ec_slave.specs.State.{SlaveState, station_of}
-use Rattle.ec_slave.specs.Physical.{retold_from, Window, physical_met}
+use Rattle.ec_slave.specs.Physical.{updated_from, Window, physical_met}
 use Rattle.ec_bits.proofs.BitLaws.{length-overlay}
 use Rattle.ec_slave.specs.Logical.{meets_logically}
 use Rattle.ec_slave.specs.Meeting.{window_of, meets, meets_physically, meets_by, datagram_met}
 use Rattle.ec_slave.specs.Column.{datagram_past}
 
-pub length-retold : (k : ℕ) (xs : List ℕ) (f : ℕ → Option ℕ) → length (retold_from k xs f) ≡ length xs
-length-retold k [] f = refl
-length-retold k (x ∷ xs) f = ap (λ n. suc n) (length-retold (k + 1) xs f)
+pub length-updated : (k : ℕ) (xs : List ℕ) (f : ℕ → Option ℕ) → length (updated_from k xs f) ≡ length xs
+length-updated k [] f = refl
+length-updated k (x ∷ xs) f = ap (λ n. suc n) (length-updated (k + 1) xs f)
 
 pub length-physical_met : (s : SlaveState) (role : Role) (w : Window) → length (physical_met s role w).bytes ≡ length w.bytes
 unfolding physical_met
 length-physical_met s Nothing w = refl
-length-physical_met s Read w = length-retold 0 w.bytes _
+length-physical_met s Read w = length-updated 0 w.bytes _
 length-physical_met s Write w = refl
-length-physical_met s ReadWrite w = length-retold 0 w.bytes _
-length-physical_met s OrRead w = length-retold 0 w.bytes _
-length-physical_met s OrReadWrite w = length-retold 0 w.bytes _
+length-physical_met s ReadWrite w = length-updated 0 w.bytes _
+length-physical_met s OrRead w = length-updated 0 w.bytes _
+length-physical_met s OrReadWrite w = length-updated 0 w.bytes _
 
 pub adp_after-bound : (c : Command) (adp : ℕ) → adp < 65536 → adp_after c adp < 65536
 adp_after-bound Nop adp h = h

@@ -7,7 +7,7 @@ use Rattle.ec_slave.specs.declared.role.Role.{Role}
 use Rattle.ec_slave.specs.declared.role.Role.TheVariants.{Nothing, Read, Write, ReadWrite, OrRead, OrReadWrite}
 use Rattle.ec_slave.specs.State.{SlaveState, station_of}
 use Rattle.ec_sync.specs.SyncManager.{SyncManager}
-use Rattle.ec_slave.specs.Physical.{Window, touches, byte_at, byte_read, is_kept, may_read_byte, memory_written, retold, some_byte_read, is_written, physical_met}
+use Rattle.ec_slave.specs.Physical.{Window, touches, byte_at, byte_read, is_stored_at, may_read_byte, memory_written, updated, some_byte_read, is_written, physical_met}
 use Rattle.ec_slave.specs.Meeting.{meets, slave_met, datagram_met}
 use Rattle.ec_slave.specs.Sound.{IsSlave}
 
@@ -45,8 +45,8 @@ CountsWhatItChanges =
 
 -- the byte of address a after a write: the data byte that belongs to it if the memory itself keeps it; else what it was
 pub record IsWrittenAt (ms : List SyncManager) (w : Window) (memory : List ℕ) (a : ℕ) : Type 0 where
-  pub taken : touches w a ≡ true → is_kept ms a ≡ true → slice_index (memory_written ms w memory) a ≡ slice_index w.bytes (a - w.from)
-  pub refused : is_kept ms a ≡ false → slice_index (memory_written ms w memory) a ≡ slice_index memory a
+  pub taken : touches w a ≡ true → is_stored_at ms a ≡ true → slice_index (memory_written ms w memory) a ≡ slice_index w.bytes (a - w.from)
+  pub refused : is_stored_at ms a ≡ false → slice_index (memory_written ms w memory) a ≡ slice_index memory a
   pub untouched : touches w a ≡ false → slice_index (memory_written ms w memory) a ≡ slice_index memory a
 
 abbrev pub WritesByByte : Type 0
@@ -57,8 +57,8 @@ WritesByByte =
 -- data byte k after a read: what its address reads, joined by OR in a broadcast, or what it was if it may not be read
 pub record IsReadAt (s : SlaveState) (joining : Bool) (w : Window) (k : ℕ) : Type 0 where
   pub given : may_read_byte s.managers (touches w) (w.from + k) ≡ true
-      → slice_index (retold w.bytes (byte_read s joining w)) k ≡ (if joining then bit_or (slice_index w.bytes k) (byte_at s (w.from + k)) else byte_at s (w.from + k))
-  pub denied : may_read_byte s.managers (touches w) (w.from + k) ≡ false → slice_index (retold w.bytes (byte_read s joining w)) k ≡ slice_index w.bytes k
+      → slice_index (updated w.bytes (byte_read s joining w)) k ≡ (if joining then bit_or (slice_index w.bytes k) (byte_at s (w.from + k)) else byte_at s (w.from + k))
+  pub denied : may_read_byte s.managers (touches w) (w.from + k) ≡ false → slice_index (updated w.bytes (byte_read s joining w)) k ≡ slice_index w.bytes k
 
 abbrev pub ReadsByByte : Type 0
 ReadsByByte = (s : SlaveState) (joining : Bool) (w : Window) (k : ℕ) → k < length w.bytes → IsReadAt s joining w k

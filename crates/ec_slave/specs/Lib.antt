@@ -29,7 +29,7 @@ pub mod Held
 pub mod Mapped
 pub mod Encounters
 pub mod Carried
-pub mod Sights
+pub mod ReadViews
 pub mod Written
 pub mod Untouched
 pub mod Keeping

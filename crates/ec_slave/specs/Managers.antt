@@ -1,7 +1,7 @@
 -- What a datagram, physical or logical, does to the sync managers, and what it finds behind them.
 use Rattle.std.specs.Prelude.{ℕ, ◌-◌, ◌*◌, ◌&&◌, List, Bool, true, if◌then◌else◌, Option, Some, None}
 use Rattle.ec_bits.specs.Bits.{bit}
-use Rattle.ec_sync.specs.SyncManager.{SyncManager, may_read, may_write, shown, ring_written, ring_read}
+use Rattle.ec_sync.specs.SyncManager.{SyncManager, may_read, may_write, visible, ring_written, ring_read}
 pub use Rattle.ec_exchange.specs.Access.{gets_at, is_read_by, is_ungoverned, is_written_by}
 use Rattle.ec_slave.specs.State.{manager_at}
 use Rattle.ec_sync.specs.Governing.{covers, in_first_buffer}
@@ -17,9 +17,9 @@ writes_under ms touched a None = true
 writes_under ms touched a (Some n) = in_first_buffer (manager_at ms n) a && (covers touched (manager_at ms n) && may_write (manager_at ms n))
 
 -- what a physical bit shows under this governor, or as it lies in the memory
-abbrev pub shown_under : List ℕ → List SyncManager → ℕ → Option ℕ → Bool
-shown_under memory ms q None = bit memory q
-shown_under memory ms q (Some n) = bit (shown (manager_at ms n)) (q - 8 * (manager_at ms n).settings.start)
+abbrev pub visible_under : List ℕ → List SyncManager → ℕ → Option ℕ → Bool
+visible_under memory ms q None = bit memory q
+visible_under memory ms q (Some n) = bit (visible (manager_at ms n)) (q - 8 * (manager_at ms n).settings.start)
 
 -- One manager after an access. It is written, if the access writes, gets at it and may; else read in the same way, which empties
 -- a mailbox; else as it was. `value` is what a write leaves in a manager, by its start and its length in bytes.

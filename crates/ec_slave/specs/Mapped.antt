@@ -5,7 +5,7 @@ use Rattle.ec_bits.specs.Bits.{overlay}
 use Rattle.ec_regs.specs.Memory.{ram_end}
 use Rattle.ec_frame.specs.Datagram.{Datagram}
 use Rattle.ec_fmmu.specs.Apart.{AreApart}
-use Rattle.ec_fmmu.specs.Applied.{Place}
+use Rattle.ec_fmmu.specs.Applied.{LogicalSpan}
 use Rattle.ec_slave.specs.declared.role.Role.{Role}
 use Rattle.ec_slave.specs.Roles.{is_reading, is_writing}
 use Rattle.ec_slave.specs.State.{SlaveState, Met, MetBytes, fmmus}
@@ -15,7 +15,7 @@ use Rattle.ec_slave.specs.Logical.{logical_after, logical_met, meets_logically, 
 abbrev pub weight : Role → ℕ
 weight role = if is_reading role && is_writing role then 2 else 1
 
-abbrev pub mapped_met : SlaveState → Role → Place → List ℕ → MetBytes
+abbrev pub mapped_met : SlaveState → Role → LogicalSpan → List ℕ → MetBytes
 mapped_met s role p bytes = logical_met (is_reading role) (is_writing role) (weight role) s p bytes
 
 abbrev pub meets_mapped : Role → SlaveState → Datagram → Met
@@ -32,7 +32,7 @@ FitsFrame from bytes = (from + 8 * length bytes < 2 ^ 64) × (length bytes < 204
 
 -- What a datagram that reads and writes leaves of the slave and of its data, and what it counts: the data whose first logical
 -- bit is `from`.
-abbrev pub at_bits : ℕ → List ℕ → Place
+abbrev pub at_bits : ℕ → List ℕ → LogicalSpan
 at_bits from bytes = record { from = from; bits = 8 * length bytes }
 
 abbrev pub slave_exchanged : SlaveState → ℕ → List ℕ → SlaveState

@@ -4,8 +4,8 @@ use Rattle.ec_bits.specs.Bits.{bit, within}
 use Rattle.ec_regs.specs.Memory.{sii_control, sync_managers, ram_start, is_stored}
 use Rattle.ec_frame.specs.declared.command.Command.TheVariants.{Lrd, Lwr, Lrw}
 use Rattle.ec_frame.specs.Datagram.{Datagram, adp_of, ado_of}
-use Rattle.ec_sync.specs.SyncManager.{SyncManager, empty_manager, shown}
-use Rattle.ec_dl.specs.DataLink.{dl_keeps}
+use Rattle.ec_sync.specs.SyncManager.{SyncManager, empty_manager, visible}
+use Rattle.ec_dl.specs.DataLink.{dl_stores}
 use Rattle.ec_fmmu.specs.Applied.{touched_by_writing}
 use Rattle.ec_slave.specs.Roles.{role_of, is_writing}
 use Rattle.ec_slave.specs.State.{SlaveState, manager_at, station_of, fmmus}
@@ -13,7 +13,7 @@ use Rattle.ec_slave.specs.Sound.{IsSlave}
 use Rattle.ec_slave.specs.Managers.{is_written_by}
 use Rattle.ec_slave.specs.AgainstAll.{governs_among}
 use Rattle.ec_slave.specs.Physical.{byte_at, touches, is_configured, settings_written}
-use Rattle.ec_slave.specs.Logical.{brought, only_if, place_of, plain_bit, read_bit}
+use Rattle.ec_slave.specs.Logical.{brought, only_if, span_of, plain_bit, read_bit}
 use Rattle.ec_slave.specs.Meeting.{window_of, slave_met, datagram_met}
 
 -- the datagram writes at the slave, by its command and the address that it has
@@ -25,7 +25,7 @@ writes_at s d = is_writing (role_of d.command (adp_of d) (station_of s))
 abbrev pub RegistersAfterWrite : Type 0
 RegistersAfterWrite =
     (s : SlaveState) (d : Datagram) (a : ℕ) → IsSlave s → writes_at s d ≡ true → a < sync_managers → within sii_control 6 a ≡ false
-    → byte_at (slave_met s d) a ≡ (if touches (window_of d) a && (is_stored a || dl_keeps s.link a) then slice_index d.data_bytes (a - ado_of d) else byte_at s a)
+    → byte_at (slave_met s d) a ≡ (if touches (window_of d) a && (is_stored a || dl_stores s.link a) then slice_index d.data_bytes (a - ado_of d) else byte_at s a)
 
 -- A writing datagram over registers alone: each manager of which it writes a setting has the settings that its bytes then
 -- say, is empty, and is locked or not as it was; every other manager is as it was.
@@ -41,10 +41,10 @@ ManagersAfterWrite =
 pub record MovesBits (reading writing : Bool) (s : SlaveState) (d : Datagram) : Type 0 where
   pub data_bits : (i : ℕ) → i < 8 * length d.data_bytes
       → bit (datagram_met s d).data_bytes i
-      ≡ unwrap_or (only_if reading (read_bit s.memory s.managers (fmmus s) (place_of d) i)) (bit d.data_bytes i)
+      ≡ unwrap_or (only_if reading (read_bit s.memory s.managers (fmmus s) (span_of d) i)) (bit d.data_bytes i)
   pub memory_bits : (q : ℕ) → q < 8 * length s.memory
       → bit (slave_met s d).memory q
-      ≡ unwrap_or (only_if writing (plain_bit s.managers (fmmus s) (place_of d) d.data_bytes q)) (bit s.memory q)
+      ≡ unwrap_or (only_if writing (plain_bit s.managers (fmmus s) (span_of d) d.data_bytes q)) (bit s.memory q)
 
 pub record LogicalBitByBit : Type 0 where
   pub read : (s : SlaveState) (d : Datagram) → d.command ≡ Lrd → MovesBits true false s d
@@ -56,10 +56,10 @@ pub record LogicalBitByBit : Type 0 where
 abbrev pub IsValueWritten : SlaveState → Datagram → ℕ → Type 0
 IsValueWritten s d n =
     let m : SyncManager = manager_at s.managers n in
-    is_written_by (touched_by_writing (fmmus s) (place_of d)) (governs_among s.managers n) m ≡ true
+    is_written_by (touched_by_writing (fmmus s) (span_of d)) (governs_among s.managers n) m ≡ true
     → (k : ℕ) → k < 8 * m.settings.length
-    → bit (shown (manager_at (slave_met s d).managers n)) k
-    ≡ unwrap_or (only_if (governs_among s.managers n ((8 * m.settings.start + k) / 8)) (brought (fmmus s) (place_of d) d.data_bytes (8 * m.settings.start + k))) false
+    → bit (visible (manager_at (slave_met s d).managers n)) k
+    ≡ unwrap_or (only_if (governs_among s.managers n ((8 * m.settings.start + k) / 8)) (brought (fmmus s) (span_of d) d.data_bytes (8 * m.settings.start + k))) false
 
 pub record ValueBitByBit : Type 0 where
   pub write : (s : SlaveState) (d : Datagram) (n : ℕ) → n < length s.managers → d.command ≡ Lwr → IsValueWritten s d n

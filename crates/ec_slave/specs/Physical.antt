@@ -4,10 +4,10 @@ use Rattle.std.specs.Prelude.{ℕ, ◌+◌, ◌-◌, ◌*◌, ◌/◌, ◌%◌, 
 use Rattle.std.specs.Int.{from_bool, to_le_bytes, w16}
 use Rattle.ec_bits.specs.Bits.{any_below, within, zeros}
 use Rattle.ec_regs.specs.declared.manager.SyncManagerSettings.{SyncManagerSettings}
-use Rattle.ec_regs.specs.Memory.{number_of_fmmus, number_of_sync_managers, ram_size, station_address, al_control, al_status, al_status_code, sii_control, fmmus, sync_managers, manager_place, ram_start, ram_end, is_stored, takes_writes}
+use Rattle.ec_regs.specs.Memory.{number_of_fmmus, number_of_sync_managers, ram_size, station_address, al_control, al_status, al_status_code, sii_control, fmmus, sync_managers, manager_start, ram_start, ram_end, is_stored, takes_writes}
 use Rattle.ec_regs.specs.Managers.{settings_of}
 use Rattle.ec_sync.specs.SyncManager.{SyncManager, empty_manager}
-use Rattle.ec_sync.specs.Governing.{governor, manager_byte, shown_byte}
+use Rattle.ec_sync.specs.Governing.{governor, manager_byte, visible_byte}
 use Rattle.ec_al.specs.Al.{status_word, requesting}
 use Rattle.ec_dl.specs.DataLink.{dl_byte, dl_takes, dl_written}
 use Rattle.ec_sii.specs.Port.{sii_byte, written}
@@ -29,12 +29,12 @@ abbrev pub byte_from : Window → ℕ → Option ℕ
 byte_from w a = if touches w a then Some (slice_index w.bytes (a - w.from)) else None
 
 -- the numbers of a list, the first of which has place k: f has the new number of some places, and all others stay
-abbrev pub retold_from : ℕ → List ℕ → (ℕ → Option ℕ) → List ℕ
-retold_from k [] f = []
-retold_from k (x ∷ xs) f = unwrap_or (f k) x ∷ retold_from (k + 1) xs f
+abbrev pub updated_from : ℕ → List ℕ → (ℕ → Option ℕ) → List ℕ
+updated_from k [] f = []
+updated_from k (x ∷ xs) f = unwrap_or (f k) x ∷ updated_from (k + 1) xs f
 
-abbrev pub retold : List ℕ → (ℕ → Option ℕ) → List ℕ
-retold xs f = retold_from 0 xs f
+abbrev pub updated : List ℕ → (ℕ → Option ℕ) → List ℕ
+updated xs f = updated_from 0 xs f
 
 -- ---- what an address reads
 
@@ -54,7 +54,7 @@ register_byte s a =
 -- a byte of the RAM: what its governor shows there, or as it lies in the memory
 abbrev pub ram_byte : List ℕ → List SyncManager → ℕ → Option ℕ → ℕ
 ram_byte memory ms a None = slice_index memory a
-ram_byte memory ms a (Some n) = shown_byte (manager_at ms n) a
+ram_byte memory ms a (Some n) = visible_byte (manager_at ms n) a
 
 unfoldable pub byte_at : SlaveState → ℕ → ℕ
 byte_at s a = if nat_lt a ram_start then register_byte s a else ram_byte s.memory s.managers a (governor s.managers a)
@@ -80,16 +80,16 @@ byte_read s joining w k =
 -- ---- what a write leaves
 
 -- a byte that is kept in the memory itself: a stored register, the managers' aside, or a byte of the RAM under no manager
-unfoldable pub is_kept : List SyncManager → ℕ → Bool
-is_kept ms a =
+unfoldable pub is_stored_at : List SyncManager → ℕ → Bool
+is_stored_at ms a =
     if nat_lt a ram_start then is_stored a && not (within sync_managers 32 a) else nat_lt a ram_end && is_none (governor ms a)
 
 abbrev pub memory_written : List SyncManager → Window → List ℕ → List ℕ
-memory_written ms w memory = retold memory (λ a. if is_kept ms a then byte_from w a else None)
+memory_written ms w memory = updated memory (λ a. if is_stored_at ms a then byte_from w a else None)
 
 -- what a datagram stores in byte k of manager n's eight
 abbrev pub setting_for : Window → ℕ → ℕ → Option ℕ
-setting_for w n k = if is_stored (manager_place n + k) then byte_from w (manager_place n + k) else None
+setting_for w n k = if is_stored (manager_start n + k) then byte_from w (manager_start n + k) else None
 
 -- it writes one of the bytes 0..4 or 6
 abbrev pub is_configured : Window → ℕ → Bool
@@ -101,7 +101,7 @@ settings_written w n m = settings_of (λ k. unwrap_or (setting_for w n k) (manag
 -- The value that a written manager gets, of its start and length: 0 in all bytes that the datagram doesn't touch, and in
 -- those that a lower-numbered manager governs.
 abbrev pub physical_value : List SyncManager → Window → ℕ → ℕ → List ℕ
-physical_value lower w start len = retold (zeros len) (λ k. if is_ungoverned lower (start + k) then byte_from w (start + k) else None)
+physical_value lower w start len = updated (zeros len) (λ k. if is_ungoverned lower (start + k) then byte_from w (start + k) else None)
 
 -- manager n after the datagram, `lower` being the lower-numbered ones: new settings empty it
 unfoldable pub physical_manager : List SyncManager → Bool → Bool → Window → ℕ → SyncManager → SyncManager
@@ -144,7 +144,7 @@ is_written s w = some_byte_written s.managers s.sii.busy w || dl_takes s.link w.
 unfoldable pub physical_met : SlaveState → Role → Window → MetBytes
 physical_met s role w = record {
   slave = physical_after s (is_reading role) (is_writing role) w;
-  bytes = if is_reading role then retold w.bytes (byte_read s (is_joining role) w) else w.bytes;
+  bytes = if is_reading role then updated w.bytes (byte_read s (is_joining role) w) else w.bytes;
   added = from_bool (is_reading role && some_byte_read s.managers w)
       + (if is_reading role then 2 else 1) * from_bool (is_writing role && is_written s w);
 }

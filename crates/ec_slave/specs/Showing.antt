@@ -8,9 +8,9 @@ use Rattle.ec_device.specs.Types.{SlaveKind}
 use Rattle.ec_sync.specs.Buffer.{Got}
 use Rattle.ec_sync.specs.SyncManager.{SyncManager, no_manager}
 use Rattle.ec_sync.specs.Governing.{covers, governor}
-use Rattle.ec_sync.specs.Runs.{Operation, RingRead, AppGet, run, history, shown_by}
+use Rattle.ec_sync.specs.Runs.{Operation, RingRead, AppGet, run, history, visible_to}
 use Rattle.ec_fmmu.specs.Sets.{target, readers}
-use Rattle.ec_fmmu.specs.Applied.{Place, touched_by_reading}
+use Rattle.ec_fmmu.specs.Applied.{LogicalSpan, touched_by_reading}
 use Rattle.ec_slave.specs.State.{SlaveState, manager_at, fmmus, power_on}
 use Rattle.ec_slave.specs.Physical.{Window, touches, byte_read}
 use Rattle.ec_slave.specs.Logical.{read_bit}
@@ -22,7 +22,7 @@ use Rattle.ec_slave.specs.Steps.{Happening, Resets, after_one, steps_at}
 -- The manager shows a value to an operation, and x is what f finds in it.
 pub record IsShown {X : Type 0} (m : SyncManager) (o : Operation) (f : List ℕ → X) (x : X) : Type 0 where
   pub value : List ℕ
-  pub shown : shown_by m o ≡ Some value
+  pub visible : visible_to m o ≡ Some value
   pub found : x ≡ f value
 
 -- a byte after a read, if the datagram brought another: a broadcast joins the two
@@ -36,7 +36,7 @@ pub record ReadsShowTheRun : Type 0 where
       → byte_read s joining w k ≡ Some x
       → IsShown (manager_at s.managers n) (RingRead (covers (touches w) (manager_at s.managers n)))
       (λ value. as_read joining (slice_index w.bytes k) (slice_index value (w.from + k - (manager_at s.managers n).settings.start))) x
-  pub bit : (s : SlaveState) (p : Place) (i q n : ℕ) (x : Bool) → target (readers (fmmus s)) (p.from + i) ≡ Some q → governor s.managers (q / 8) ≡ Some n
+  pub bit : (s : SlaveState) (p : LogicalSpan) (i q n : ℕ) (x : Bool) → target (readers (fmmus s)) (p.from + i) ≡ Some q → governor s.managers (q / 8) ≡ Some n
       → read_bit s.memory s.managers (fmmus s) p i ≡ Some x
       → IsShown (manager_at s.managers n) (RingRead (covers (touched_by_reading (fmmus s) p) (manager_at s.managers n)))
       (λ value. bit value (q - 8 * (manager_at s.managers n).settings.start)) x
@@ -62,7 +62,7 @@ steps_since before s (h ∷ hs) n = steps_since (steps_behind before s h n) (aft
 -- or is what a new manager holds.
 pub record ShowsWholeValues (operations : List Operation) (m : SyncManager) : Type 0 where
   pub leads : run no_manager operations ≡ m
-  pub whole : (o : Operation) (value : List ℕ) → shown_by m o ≡ Some value
+  pub whole : (o : Operation) (value : List ℕ) → visible_to m o ≡ Some value
       → Contains (no_manager.buffer.published ∷ history no_manager operations) value
 
 -- This holds for each manager of a slave that was switched on, whatever happened to it since: the steps are those that datagrams,

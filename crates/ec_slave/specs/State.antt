@@ -4,7 +4,7 @@ use Rattle.ec_bits.specs.Bits.{zeros}
 use Rattle.ec_device.specs.declared.slave_type.Identity.{Identity}
 use Rattle.ec_regs.specs.declared.fmmu.FmmuSettings.{FmmuSettings}
 use Rattle.ec_device.specs.Types.{SlaveKind}
-use Rattle.ec_regs.specs.Memory.{station_address, fmmu_place, ram_end}
+use Rattle.ec_regs.specs.Memory.{station_address, fmmu_start, ram_end}
 use Rattle.ec_regs.specs.Fmmus.{fmmu_of}
 use Rattle.ec_frame.specs.Datagram.{Datagram}
 use Rattle.ec_sync.specs.SyncManager.{SyncManager, no_manager}
@@ -47,7 +47,7 @@ station_of s = slice_index s.memory station_address + 256 * slice_index s.memory
 
 -- the four FMMUs, as their registers say
 abbrev pub fmmus_of : List ℕ → List FmmuSettings
-fmmus_of memory = map (λ n. fmmu_of (λ k. slice_index memory (fmmu_place n + k))) (0 ∷ 1 ∷ 2 ∷ 3 ∷ [])
+fmmus_of memory = map (λ n. fmmu_of (λ k. slice_index memory (fmmu_start n + k))) (0 ∷ 1 ∷ 2 ∷ 3 ∷ [])
 
 abbrev pub fmmus : SlaveState → List FmmuSettings
 fmmus s = fmmus_of s.memory

@@ -15,7 +15,7 @@ use Rattle.ec_slave.specs.Roles.{role_of, is_reading, is_writing}
 use Rattle.ec_slave.specs.State.{SlaveState, manager_at, fmmus, power_on, station_of}
 use Rattle.ec_slave.specs.Managers.{gets_at, is_written_by, manager_after}
 use Rattle.ec_slave.specs.Physical.{touches, is_configured, settings_written}
-use Rattle.ec_slave.specs.Logical.{place_of}
+use Rattle.ec_slave.specs.Logical.{span_of}
 use Rattle.ec_slave.specs.AgainstAll.{governs_among, value_among, bits_among}
 use Rattle.ec_slave.specs.Meeting.{slave_met, window_of}
 use Rattle.ec_slave.specs.Application.{input_put, output_got, output_taken, with_manager}
@@ -44,16 +44,16 @@ pub data Happening : Type 0 where
   Meets : Datagram → Happening
   Serves : Happening
   Faults : Happening
-  Puts : (place byte : ℕ) → Happening
-  Gets : (place : ℕ) → Happening
+  Puts : (offset byte : ℕ) → Happening
+  Gets : (offset : ℕ) → Happening
   Resets : Happening
 
 abbrev pub after_one : SlaveState → Happening → SlaveState
 after_one s (Meets d) = slave_met s d
 after_one s Serves = served s
 after_one s Faults = faulted s
-after_one s (Puts place byte) = unwrap_or (input_put s place byte) s
-after_one s (Gets place) = output_taken s (output_got s place)
+after_one s (Puts offset byte) = unwrap_or (input_put s offset byte) s
+after_one s (Gets offset) = output_taken s (output_got s offset)
 after_one s Resets = power_on s.kind s.identity
 
 -- ---- the steps that it does to manager n
@@ -92,8 +92,8 @@ physical_steps s d n =
 -- a logical one likewise, by the bits that FMMUs lead it to
 abbrev pub logical_steps : SlaveState → Bool → Bool → Datagram → ℕ → List Operation
 logical_steps s reading writing d n =
-    said_from 0 (λ k m. access_steps reading writing (touched_by_reading (fmmus s) (place_of d)) (touched_by_writing (fmmus s) (place_of d))
-    (governs_among s.managers k) (bits_among s.managers (fmmus s) (place_of d) d.data_bytes k) m) s.managers n
+    said_from 0 (λ k m. access_steps reading writing (touched_by_reading (fmmus s) (span_of d)) (touched_by_writing (fmmus s) (span_of d))
+    (governs_among s.managers k) (bits_among s.managers (fmmus s) (span_of d) d.data_bytes k) m) s.managers n
 
 abbrev pub steps_met : Command → SlaveState → Datagram → ℕ → List Operation
 steps_met Nop s d n = []
@@ -147,8 +147,8 @@ abbrev pub steps_at : SlaveState → Happening → ℕ → List Operation
 steps_at s (Meets d) n = steps_met d.command s d n
 steps_at s Serves n = steps_decided s n ++ steps_answered (read_finished (request_decided s)) n
 steps_at s Faults n = if is_operational s.al.state then to_one 2 (Lock true ∷ Empty ∷ []) s.managers n else []
-steps_at s (Puts place byte) n = if is_some (input_put s place byte) then to_one 3 (AppPut place byte ∷ []) s.managers n else []
-steps_at s (Gets place) n = if is_some (output_got s place) then to_one 2 (AppGet place ∷ []) s.managers n else []
+steps_at s (Puts offset byte) n = if is_some (input_put s offset byte) then to_one 3 (AppPut offset byte ∷ []) s.managers n else []
+steps_at s (Gets offset) n = if is_some (output_got s offset) then to_one 2 (AppGet offset ∷ []) s.managers n else []
 steps_at s Resets n = []
 
 -- ---- who acts
@@ -189,5 +189,5 @@ pub record ManagersGoByRuns : Type 0 where
   pub met : (s : SlaveState) (d : Datagram) → AreRunTo is_of_ring 1 s (Meets d)
   pub served : (s : SlaveState) → AreRunTo is_of_firmware 3 s Serves
   pub faulted : (s : SlaveState) → AreRunTo is_of_firmware 2 s Faults
-  pub put : (s : SlaveState) (place byte : ℕ) → AreRunTo is_of_application 1 s (Puts place byte)
-  pub taken : (s : SlaveState) (place : ℕ) → AreRunTo is_of_application 1 s (Gets place)
+  pub put : (s : SlaveState) (offset byte : ℕ) → AreRunTo is_of_application 1 s (Puts offset byte)
+  pub taken : (s : SlaveState) (offset : ℕ) → AreRunTo is_of_application 1 s (Gets offset)

@@ -2,14 +2,14 @@
 use Rattle.std.proofs.Common.{ℕ, zero, suc, ◌+◌, ◌*◌, ◌/◌, ◌%◌, ◌<◌, ◌≡◌, ◌≢◌, Bool, true, false, if◌then◌else◌, Option, Some, None, is_some, is_none, option_map, List, length, get_or, slice_index, inl, inr, refl, sym, ◌∙◌, ap, arith, get_or-set_other}
 use Rattle.std.proofs.lemmas.Bool.{cases_lt, false≢true}
 use Rattle.std.proofs.lemmas.List.{get_or-replicate}
-use Rattle.ec_bits.specs.Bits.{bit, overlay, overlay_below, put, put_told, any_below, zeros}
+use Rattle.ec_bits.specs.Bits.{bit, overlay, overlay_below, put, overwrite, any_below, zeros}
 use Rattle.ec_regs.specs.declared.fmmu.FmmuSettings.{FmmuSettings}
 use Rattle.ec_sync.specs.SyncManager.{SyncManager}
 use Rattle.ec_sync.specs.Governing.{governor}
-use Rattle.ec_fmmu.specs.Applied.{Place, touched_by_writing, data_bit_for}
+use Rattle.ec_fmmu.specs.Applied.{LogicalSpan, touched_by_writing, data_bit_for}
 use Rattle.ec_slave.specs.Logical.{plain_bit, logical_value}
 
-set-told : (ys : List ℕ) (n a : ℕ) (o : Option Bool) → ((b : Bool) → o ≡ Some b → a ≢ n / 8) → get_or (put_told ys n o) a 0 ≡ get_or ys a 0
+set-told : (ys : List ℕ) (n a : ℕ) (o : Option Bool) → ((b : Bool) → o ≡ Some b → a ≢ n / 8) → get_or (overwrite ys n o) a 0 ≡ get_or ys a 0
 unfolding put
 set-told ys n a None h = refl
 set-told ys n a (Some b) h = get_or-set_other ys (n / 8) a _ 0 (h b refl)
@@ -46,7 +46,7 @@ none-brought true None bytes h = refl
 none-brought true (Some x) bytes h = absurd (let e : true ≡ false = h in cc)
 none-brought false o bytes h = refl
 
-no-bit : (lower : List SyncManager) (fs : List FmmuSettings) (p : Place) (bytes : List ℕ) (start k b : ℕ) → touched_by_writing fs p (start + k) ≡ false → b / 8 ≡ k → plain_bit lower fs p bytes (8 * start + b) ≡ None
+no-bit : (lower : List SyncManager) (fs : List FmmuSettings) (p : LogicalSpan) (bytes : List ℕ) (start k b : ℕ) → touched_by_writing fs p (start + k) ≡ false → b / 8 ≡ k → plain_bit lower fs p bytes (8 * start + b) ≡ None
 no-bit lower fs p bytes start k b untouched at =
     let place : 8 * (start + k) + b % 8 ≡ 8 * start + b = omega (arith, at) in
     let few : b % 8 < 8 = omega arith in
@@ -54,6 +54,6 @@ no-bit lower fs p bytes start k b untouched at =
     = ap (λ q. is_some (data_bit_for fs p q)) (sym place) ∙ none_passes 8 (λ j. is_some (data_bit_for fs p (8 * (start + k) + j))) (b % 8) untouched few in
     none-brought (is_none (governor lower ((8 * start + b) / 8))) (data_bit_for fs p (8 * start + b)) bytes none
 
-pub untouched-zero : (lower : List SyncManager) (fs : List FmmuSettings) (p : Place) (bytes : List ℕ) (start len k : ℕ) → k < len → touched_by_writing fs p (start + k) ≡ false → slice_index (logical_value lower fs p bytes start len) k ≡ 0
+pub untouched-zero : (lower : List SyncManager) (fs : List FmmuSettings) (p : LogicalSpan) (bytes : List ℕ) (start len k : ℕ) → k < len → touched_by_writing fs p (start + k) ≡ false → slice_index (logical_value lower fs p bytes start len) k ≡ 0
 untouched-zero lower fs p bytes start len k inside untouched =
     byte-overlay (zeros len) (λ b. plain_bit lower fs p bytes (8 * start + b)) k (λ b at. no-bit lower fs p bytes start k b untouched at) ∙ get_or-replicate len k 0 0 inside

@@ -34,17 +34,17 @@ impl Slave {
         )
     }
 
-    /// The application writes byte `place` of the inputs: byte 0 opens a draft of zeros, the last byte publishes it. Returns
+    /// The application writes byte `offset` of the inputs: byte 0 opens a draft of zeros, the last byte publishes it. Returns
     /// false and changes nothing if it is denied. It is granted only in SAFEOP and OP, if manager 3 is enabled, buffered and
     /// read by the ring, and the byte is below its length. Each byte after the first needs an open draft.
-    pub fn app_put(&mut self, place: usize, byte: u8) -> bool
-        ensures granted { result ≡ is_some (input_put self.old place byte) }
-        ensures after { self.new ≡ unwrap_or (input_put self.old place byte) self.old }
+    pub fn app_put(&mut self, offset: usize, byte: u8) -> bool
+        ensures granted { result ≡ is_some (input_put self.old offset byte) }
+        ensures after { self.new ≡ unwrap_or (input_put self.old offset byte) self.old }
     {
         if !is_running(self.al.state()) {
             return false;
         }
-        self.managers[3].app_put(place, byte)
+        self.managers[3].app_put(offset, byte)
     }
 
     /// The application writes all bytes of the inputs, as many as `app_sizes` returns, as by `app_put` one after the other.
@@ -59,17 +59,17 @@ impl Slave {
         }
     }
 
-    /// The application reads byte `place` of the outputs: byte 0 opens a view of what is published, the last byte closes it.
+    /// The application reads byte `offset` of the outputs: byte 0 opens a view of what is published, the last byte closes it.
     /// Returns none and changes nothing if it is denied. It is granted only in SAFEOP and OP, if manager 2 is enabled, buffered
     /// and written by the ring, and the byte is below its length. Each byte after the first needs an open view.
-    pub fn app_get(&mut self, place: usize) -> Option<u8>
-        ensures byte { result ≡ option_map (λ got. got.byte) (output_got self.old place) }
-        ensures after { self.new ≡ output_taken self.old (output_got self.old place) }
+    pub fn app_get(&mut self, offset: usize) -> Option<u8>
+        ensures byte { result ≡ option_map (λ got. got.byte) (output_got self.old offset) }
+        ensures after { self.new ≡ output_taken self.old (output_got self.old offset) }
     {
         if !is_running(self.al.state()) {
             return None;
         }
-        self.managers[2].app_get(place)
+        self.managers[2].app_get(offset)
     }
 
     /// The application reads all bytes of the outputs, as many as `app_sizes` returns, as by `app_get` one after the other.

@@ -118,8 +118,8 @@ fn carry(slaves: &mut [Slave], command: Command, first: Carried, bytes: &mut [u8
 {
     let mapped = is_mapped(command);
     let mut carried = first;
-    for place in 0..slaves.len() {
-        carried = slaves[place].meet(command, mapped, carried, bytes);
+    for index in 0..slaves.len() {
+        carried = slaves[index].meet(command, mapped, carried, bytes);
     }
     carried
 }

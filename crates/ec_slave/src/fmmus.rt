@@ -1,7 +1,7 @@
 //! The FMMUs of a slave, kept decoded beside the registers that they stand in.
 
 ghost use Rattle.std.specs.Prelude.{◌≡◌, ◌+◌, ◌<◌, length, slice_index};
-ghost use Rattle.ec_regs.specs.Memory.{fmmu_place, ram_end};
+ghost use Rattle.ec_regs.specs.Memory.{fmmu_start, ram_end};
 ghost use Rattle.ec_regs.specs.Fmmus.{fmmu_of};
 ghost use Rattle.ec_slave.specs.State.{fmmus_of};
 
@@ -26,7 +26,7 @@ pub(crate) fn read_fmmus(memory: &[u8]) -> FmmuTable
 fn fmmu_at(memory: &[u8], number: usize) -> Fmmu
     requires room { length memory.now ≡ ram_end }
     requires four { number < 4 }
-    ensures { result ≡ fmmu_of (λ k. slice_index memory.now (fmmu_place number + k)) }
+    ensures { result ≡ fmmu_of (λ k. slice_index memory.now (fmmu_start number + k)) }
 {
     let at = fmmu_address(number);
     let mut record = [0; 16];

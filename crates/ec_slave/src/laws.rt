@@ -11,29 +11,29 @@ ghost use Rattle.ec_slave.specs.Steps.{AccessesAreSteps, ManagersGoByRuns};
 ghost use Rattle.ec_slave.specs.LogicalLaws.{BroadcastLaw, ExchangeLaw, MappedLaw, MissesLaw};
 ghost use Rattle.ec_slave.specs.Interface.{SlavesAreSwitchedOn, SwitchedOnWhole, StepsHaveThreeParts, StepsSettle, RequestsAreDecided, ChecksAreOfManagers, ReadsAreFinished, MessagesKeep, MessagesRest, RequestsAreAnswered};
 ghost use Rattle.ec_slave.specs.Interface.{FaultsAreInOp, ApplicationsGoByBytes, ApplicationsGoWhole, FewInputs, DatagramsKeepTheInside, ValuesStayWhole, DatagramsGoOn, DatagramsStay, DatagramsStayPast, WritesMeet, ReadsMeet, LogicalCommandsMeet, OutputsArePublished};
-ghost use Rattle.ec_slave.specs.Interface.{RegistersAreWritten, RegistersAreRead, ManagersAside, RegistersAreOpen, SlavesShowThemselves, RetoldByPlace, RetoldWhole, RamIsGoverned, ManagersAreAccessed, WholeValuesAreTheData, AccessesLeave};
+ghost use Rattle.ec_slave.specs.Interface.{RegistersAreWritten, RegistersAreRead, ManagersAside, RegistersAreOpen, SlavesShowThemselves, UpdatedByIndex, UpdatedWhole, RamIsGoverned, ManagersAreAccessed, WholeValuesAreTheData, AccessesLeave};
 ghost use Rattle.ec_slave.specs.FirmwareLaws.{AssignmentsStay, FirstReplyIsOne, PowerOnAssigns, RestsQuietly, ServesKeepAssignments, ServesKeepBuffers, ServesKeepSettings, StatesAreEntered};
 
 /// A datagram for another station address passes, and changes nothing.
-#[tactic(auto, using(crate::proofs::Bystanders::other_station_passes))]
+#[tactic(auto, using(crate::proofs::Commands::PassedBy::other_station_passes))]
 pub fn other_station_passes()
     ensures { OtherStationPasses }
 {}
 
 /// A datagram for another position passes, and only its ADP changes: it grows by 1.
-#[tactic(auto, using(crate::proofs::Bystanders::other_position_passes))]
+#[tactic(auto, using(crate::proofs::Commands::PassedBy::other_position_passes))]
 pub fn other_position_passes()
     ensures { OtherPositionPasses }
 {}
 
 /// Only ADP, the bytes of the data and the working counter of a datagram ever change.
-#[tactic(auto, using(crate::proofs::Bystanders::heading_stays))]
+#[tactic(auto, using(crate::proofs::Commands::PassedBy::heading_stays))]
 pub fn heading_stays()
     ensures { HeadingStays }
 {}
 
 /// What adds nothing to the working counter changes nothing of the slave, and nothing of the data.
-#[tactic(auto, using(crate::proofs::Counted::counts_what_it_changes))]
+#[tactic(auto, using(crate::proofs::Memory::CountsWhatItChanges::counts_what_it_changes))]
 pub fn counts_what_it_changes()
     ensures { CountsWhatItChanges }
 {}
@@ -63,13 +63,13 @@ pub fn writes_by_byte()
 {}
 
 /// A read changes the data bytes whose addresses are there, and no other.
-#[tactic(auto, using(crate::proofs::Bytes::reads_by_byte))]
+#[tactic(auto, using(crate::proofs::Memory::WritesByByte::reads_by_byte))]
 pub fn reads_by_byte()
     ensures { ReadsByByte }
 {}
 
 /// What the working counter grows by, as a table.
-#[tactic(auto, using(crate::proofs::Bytes::counts_by_role))]
+#[tactic(auto, using(crate::proofs::Memory::WritesByByte::counts_by_role))]
 pub fn counts_by_role()
     ensures { CountsByRole }
 {}
@@ -90,13 +90,13 @@ pub fn mapped_kept()
 {}
 
 /// A physical datagram does to each manager what it does to it among all managers as they were.
-#[tactic(auto, using(crate::proofs::AgainstAll::physical_against_all))]
+#[tactic(auto, using(crate::proofs::Memory::AgainstAll::physical_against_all))]
 pub fn physical_against_all()
     ensures { PhysicalAgainstAll }
 {}
 
 /// A logical datagram does to each manager what it does to it among all managers as they were.
-#[tactic(auto, using(crate::proofs::AgainstAll::logical_against_all))]
+#[tactic(auto, using(crate::proofs::Memory::AgainstAll::logical_against_all))]
 pub fn logical_against_all()
     ensures { LogicalAgainstAll }
 {}
@@ -108,7 +108,7 @@ pub fn accesses_are_steps()
 
 /// Whatever datagrams, firmware and application do, they change each manager of a slave by a few steps, which are named. So
 /// what is proved of all runs holds of it.
-#[tactic(auto, using(crate::proofs::Steps::managers_go_by_runs))]
+#[tactic(auto, using(crate::proofs::Always::ManagersGoByRuns::managers_go_by_runs))]
 pub fn managers_go_by_runs()
     ensures { ManagersGoByRuns }
 {}
@@ -126,45 +126,45 @@ pub fn slaves_show_whole_values()
 {}
 
 /// A broadcast read of registers changes no slave and counts one.
-#[tactic(auto, using(crate::proofs::Broadcast::broadcast_read))]
+#[tactic(auto, using(crate::proofs::Memory::BroadcastLaw::broadcast_read))]
 pub fn broadcast_read()
     ensures { BroadcastLaw }
 {}
 
 /// A slave for which nothing waits is unchanged by a firmware step.
-#[tactic(auto, using(crate::proofs::Serves::rests_quietly))]
+#[tactic(auto, using(crate::proofs::FirmwareRuns::RestsQuietly::rests_quietly))]
 pub fn rests_quietly()
     ensures { RestsQuietly }
 {}
 
 /// A firmware step changes no byte of the memory, no station address, no FMMU and no settings of a sync manager.
-#[tactic(auto, using(crate::proofs::Serves::settings_kept))]
+#[tactic(auto, using(crate::proofs::FirmwareRuns::RestsQuietly::settings_kept))]
 pub fn serves_keep_settings()
     ensures { ServesKeepSettings }
 {}
 
 /// In SAFEOP and OP a firmware step changes no buffer of a sync manager, as long as it does not leave them.
-#[tactic(auto, using(crate::proofs::Serves::buffers_kept))]
+#[tactic(auto, using(crate::proofs::FirmwareRuns::RestsQuietly::buffers_kept))]
 pub fn serves_keep_buffers()
     ensures { ServesKeepBuffers }
 {}
 
 /// OP is reached only from SAFEOP, by a request for it. SAFEOP is entered from PREOP only if managers 2 and 3 are as the PDOs
 /// that are assigned want them. PREOP is entered from INIT only if managers 0 and 1 are the type's mailboxes.
-#[tactic(auto, using(crate::proofs::Entering::states_entered))]
+#[tactic(auto, using(crate::proofs::FirmwareRuns::StatesAreEntered::states_entered))]
 pub fn states_are_entered()
     ensures { StatesAreEntered }
 {}
 
 /// After PREOP was entered from INIT, the first reply has number 1.
-#[tactic(auto, using(crate::proofs::Entering::first_is_one))]
+#[tactic(auto, using(crate::proofs::FirmwareRuns::StatesAreEntered::first_is_one))]
 pub fn first_reply_is_one()
     ensures { FirstReplyIsOne }
 {}
 
 /// An assignment changes only in PREOP, and stays a list of the type's own PDOs, with none of them twice and with at most
 /// 2048 bits.
-#[tactic(auto, using(crate::proofs::Assignments::assignments_served))]
+#[tactic(auto, using(crate::proofs::FirmwareRuns::ServesKeepAssignments::assignments_served))]
 pub fn serves_keep_assignments()
     ensures { ServesKeepAssignments }
 {}
@@ -184,21 +184,21 @@ pub fn slaves_are_switched_on()
 {}
 
 /// A firmware step has three parts, one after the other; after it no request waits and the SII isn't busy.
-#[tactic(auto, using(crate::proofs::FirmwareSteps::three_parts, crate::proofs::FirmwareSteps::settles))]
+#[tactic(auto, using(crate::proofs::FirmwareRuns::StepLaws::three_parts, crate::proofs::FirmwareRuns::StepLaws::settles))]
 pub fn steps_settle()
     ensures parts { StepsHaveThreeParts }
     ensures settles { StepsSettle }
 {}
 
 /// A request that waits is decided, with checks that look at the managers and the assignments.
-#[tactic(auto, using(crate::proofs::FirmwareSteps::decided, crate::proofs::FirmwareSteps::checks))]
+#[tactic(auto, using(crate::proofs::FirmwareRuns::StepLaws::decided, crate::proofs::FirmwareRuns::StepLaws::checks))]
 pub fn requests_are_decided()
     ensures decided { RequestsAreDecided }
     ensures checks { ChecksAreOfManagers }
 {}
 
 /// A read of the SII changes the port alone.
-#[tactic(auto, using(crate::proofs::FirmwareSteps::finished))]
+#[tactic(auto, using(crate::proofs::FirmwareRuns::StepLaws::finished))]
 pub fn reads_are_finished()
     ensures { ReadsAreFinished }
 {}
@@ -224,7 +224,7 @@ pub fn applications_go_whole()
 {}
 
 /// No datagram changes what a slave is, its state, its assignments, or how much there is of memory and managers.
-#[tactic(auto, using(crate::proofs::Inside::inside_kept))]
+#[tactic(auto, using(crate::proofs::Always::DatagramsKeepTheInside::inside_kept))]
 pub fn datagrams_keep_the_inside()
     ensures { DatagramsKeepTheInside }
 {}
@@ -268,13 +268,13 @@ pub fn ram_is_governed()
 {}
 
 /// What a list becomes if some of its numbers, or all, are replaced.
-pub fn lists_are_retold()
-    ensures by_place { RetoldByPlace }
-    ensures whole { RetoldWhole }
+pub fn lists_are_updated()
+    ensures by_place { UpdatedByIndex }
+    ensures whole { UpdatedWhole }
 {}
 
 /// A slave that publishes new outputs has them in manager 2, and all other managers as they were.
-#[tactic(auto, using(crate::proofs::Kept::outputs_published))]
+#[tactic(auto, using(crate::proofs::LogicalAccess::OutputsPublished::outputs_published))]
 pub fn outputs_are_published()
     ensures { OutputsArePublished }
 {}

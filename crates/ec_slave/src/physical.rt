@@ -1,13 +1,13 @@
 //! Physical datagrams at a slave.
 
 ghost use Rattle.std.specs.Prelude.{◌≡◌, ◌+◌, ◌*◌, ◌<◌, ◌≤◌, ◌^◌, ◌&&◌, ℕ, true, false, Some, None, IfSome, length, [], slice_index, bit_or, if◌then◌else◌, nat_lt};
-ghost use Rattle.ec_regs.specs.Memory.{al_control, al_status, fmmu_place, ram_start, ram_end};
+ghost use Rattle.ec_regs.specs.Memory.{al_control, al_status, fmmu_start, ram_start, ram_end};
 ghost use Rattle.ec_sync.specs.Governing.{governor as governor_of};
 ghost use Rattle.ec_al.specs.Al.{requesting};
 ghost use Rattle.std.specs.Int.{from_bool};
 ghost use Rattle.ec_bits.specs.Bits.{within};
 ghost use Rattle.ec_sii.specs.Port.{written};
-ghost use Rattle.ec_slave.specs.Physical.{byte_at, byte_read, may_read_byte, physical_managers, physical_met, retold, physical_after, some_byte_read, is_written};
+ghost use Rattle.ec_slave.specs.Physical.{byte_at, byte_read, may_read_byte, physical_managers, physical_met, updated, physical_after, some_byte_read, is_written};
 ghost use Rattle.ec_slave.specs.State.{fmmus_of};
 
 mod bytes;
@@ -37,7 +37,7 @@ fn request_if(al: &mut Al, is_written: bool)
 }
 
 /// Writes to the AL and the SII port. A write that begins in the RAM concerns neither.
-#[tactic(auto, using(crate::proofs::InRam::port_aside))]
+#[tactic(auto, using(crate::proofs::Memory::PortAside::port_aside))]
 fn write_control(al: &mut Al, port: &mut Port, from: usize, bytes: &[u8])
     requires { from + length bytes.now < 2 ^ 32 }
     ensures al { al.new ≡ (if within from (length bytes.now) al_control then requesting al.old else al.old) }
@@ -55,7 +55,7 @@ fn write_control(al: &mut Al, port: &mut Port, from: usize, bytes: &[u8])
 fn renew_fmmus(fmmus: &mut FmmuTable, memory: &[u8], from: usize, len: usize)
     requires room { length memory.now ≡ ram_end }
     requires small { from + len < 2 ^ 32 }
-    ensures { fmmus.new ≡ (if nat_lt from (fmmu_place 4) && nat_lt (fmmu_place 0) (from + len) then fmmus_of memory.now else fmmus.old) }
+    ensures { fmmus.new ≡ (if nat_lt from (fmmu_start 4) && nat_lt (fmmu_start 0) (from + len) then fmmus_of memory.now else fmmus.old) }
 {
     if from < FMMUS_END && FMMUS < from + len {
         *fmmus = read_fmmus(memory);
@@ -75,7 +75,7 @@ fn write_managers(managers: &mut [SyncManager], reads: bool, from: usize, bytes:
 
 impl Slave {
     /// Meets the bytes of a datagram in a role, and returns what the working counter grows by.
-    #[tactic(auto, using(crate::proofs::Idle::slave_idle), unfolding(crate::specs::Physical::physical_met))]
+    #[tactic(auto, using(crate::proofs::Memory::SlaveIdle::slave_idle), unfolding(crate::specs::Physical::physical_met))]
     pub(crate) fn access_bytes(&mut self, role: Role, from: usize, bytes: &mut [u8]) -> u16
         requires small { from + length bytes.old < 2 ^ 32 }
         requires few { length bytes.old < 2048 }
@@ -99,7 +99,7 @@ impl Slave {
         requires small { from + length bytes.old < 2 ^ 32 }
         requires few { length bytes.old < 2048 }
         ensures slave { self.new ≡ physical_after self.old true true (record { from = from; bytes = bytes.old }) }
-        ensures bytes { bytes.new ≡ retold bytes.old (byte_read self.old joining (record { from = from; bytes = bytes.old })) }
+        ensures bytes { bytes.new ≡ updated bytes.old (byte_read self.old joining (record { from = from; bytes = bytes.old })) }
         ensures added { result ≡ from_bool (some_byte_read self.old.managers (record { from = from; bytes = bytes.old }))
             + 2 * from_bool (is_written self.old (record { from = from; bytes = bytes.old })) }
     {
@@ -115,7 +115,7 @@ impl Slave {
     fn read_bytes(&mut self, joining: bool, from: usize, bytes: &mut [u8]) -> u16
         requires { from + length bytes.old < 2 ^ 32 }
         ensures slave { self.new ≡ physical_after self.old true false (record { from = from; bytes = bytes.old }) }
-        ensures bytes { bytes.new ≡ retold bytes.old (byte_read self.old joining (record { from = from; bytes = bytes.old })) }
+        ensures bytes { bytes.new ≡ updated bytes.old (byte_read self.old joining (record { from = from; bytes = bytes.old })) }
         ensures added { result ≡ from_bool (some_byte_read self.old.managers (record { from = from; bytes = bytes.old })) }
     {
         let is_read = self.read_physical(joining, from, bytes);
@@ -144,17 +144,17 @@ impl Slave {
         let is_busy = self.port.is_busy();
         let is_some = write_physical(&mut self.memory, &self.managers, is_busy, from, bytes);
         write_control(&mut self.al, &mut self.port, from, bytes);
-        let is_kept = self.link.write(from, bytes);
+        let is_taken = self.link.write(from, bytes);
         write_managers(&mut self.managers, reads, from, bytes);
         renew_fmmus(&mut self.fmmus, &self.memory, from, bytes.len());
-        is_some | is_kept
+        is_some | is_taken
     }
 
     /// Reads into the bytes of a datagram, and returns whether one was read. It finds once for each part who governs its bytes
     /// and whether they may be read: all of the part, or none, are.
     fn read_parts(&self, joining: bool, from: usize, bytes: &mut [u8]) -> bool
         requires { from + length bytes.old < 2 ^ 32 }
-        ensures bytes { bytes.new ≡ retold bytes.old (byte_read self.now joining (record { from = from; bytes = bytes.old })) }
+        ensures bytes { bytes.new ≡ updated bytes.old (byte_read self.now joining (record { from = from; bytes = bytes.old })) }
         ensures some { result ≡ some_byte_read self.now.managers (record { from = from; bytes = bytes.old }) }
     {
         let len = bytes.len();
@@ -176,7 +176,7 @@ impl Slave {
     /// Reads the AL status word, which masters read most often, into the two bytes of a datagram.
     fn read_status(&self, joining: bool, bytes: &mut [u8])
         requires { length bytes.old ≡ 2 }
-        ensures { bytes.new ≡ retold bytes.old (byte_read self.now joining (record { from = al_status; bytes = bytes.old })) }
+        ensures { bytes.new ≡ updated bytes.old (byte_read self.now joining (record { from = al_status; bytes = bytes.old })) }
     {
         let (low, high) = self.status_bytes();
         bytes[0] = read_over(joining, bytes[0], low);
@@ -187,7 +187,7 @@ impl Slave {
     /// and no manager governs one.
     fn read_registers(&self, joining: bool, from: usize, bytes: &mut [u8]) -> bool
         requires { from + length bytes.old ≤ ram_start }
-        ensures bytes { bytes.new ≡ retold bytes.old (byte_read self.now joining (record { from = from; bytes = bytes.old })) }
+        ensures bytes { bytes.new ≡ updated bytes.old (byte_read self.now joining (record { from = from; bytes = bytes.old })) }
         ensures some { result ≡ some_byte_read self.now.managers (record { from = from; bytes = bytes.old }) }
     {
         if from == AL_STATUS && bytes.len() == 2 {
@@ -196,8 +196,8 @@ impl Slave {
         }
         let is_some = !bytes.is_empty();
         for (i, byte) in bytes.iter_mut().enumerate() {
-            let shown = self.register(from + i);
-            *byte = read_over(joining, *byte, shown);
+            let visible = self.register(from + i);
+            *byte = read_over(joining, *byte, visible);
         }
         is_some
     }
@@ -205,7 +205,7 @@ impl Slave {
     /// Reads into the bytes of a datagram, and returns whether one was read.
     fn read_physical(&self, joining: bool, from: usize, bytes: &mut [u8]) -> bool
         requires { from + length bytes.old < 2 ^ 32 }
-        ensures bytes { bytes.new ≡ retold bytes.old (byte_read self.now joining (record { from = from; bytes = bytes.old })) }
+        ensures bytes { bytes.new ≡ updated bytes.old (byte_read self.now joining (record { from = from; bytes = bytes.old })) }
         ensures some { result ≡ some_byte_read self.now.managers (record { from = from; bytes = bytes.old }) }
     {
         if from + bytes.len() <= RAM_START {
@@ -222,12 +222,12 @@ impl Slave {
         requires memory { (k : ℕ) → k < length bytes.old → first + k < ram_end }
         requires within { IfSome owner (λ n. n < length self.now.managers) }
         requires owner { (a : ℕ) → ram_start ≤ a → first ≤ a → a < first + length bytes.old → owner ≡ governor_of self.now.managers a }
-        ensures { bytes.new ≡ retold bytes.old (λ k. Some (if joining
+        ensures { bytes.new ≡ updated bytes.old (λ k. Some (if joining
             then bit_or (slice_index bytes.old k) (byte_at self.now (first + k)) else byte_at self.now (first + k))) }
     {
         for (k, byte) in bytes.iter_mut().enumerate() {
-            let shown = self.byte_under(owner, first + k);
-            *byte = read_over(joining, *byte, shown);
+            let visible = self.byte_under(owner, first + k);
+            *byte = read_over(joining, *byte, visible);
         }
     }
 
@@ -248,10 +248,10 @@ impl Slave {
         requires memory { (i : ℕ) → at ≤ i → i < at + count → from + i < ram_end }
         requires within { IfSome owner (λ n. n < length self.now.managers) }
         requires owner { (a : ℕ) → ram_start ≤ a → from + at ≤ a → a < from + at + count → owner ≡ governor_of self.now.managers a }
-        ensures { bytes.new ≡ retold bytes.old (λ i. if within at count i then byte_read self.now joining (record { from = from; bytes = bytes.old }) i else None) }
+        ensures { bytes.new ≡ updated bytes.old (λ i. if within at count i then byte_read self.now joining (record { from = from; bytes = bytes.old }) i else None) }
     {
-        match self.shown_together(owner, from + at, count) {
-            Some(shown) => read_slice(joining, &mut bytes[at..at + count], shown),
+        match self.visible_together(owner, from + at, count) {
+            Some(visible) => read_slice(joining, &mut bytes[at..at + count], visible),
             None => self.read_each(owner, joining, from + at, &mut bytes[at..at + count]),
         }
     }

@@ -142,13 +142,13 @@ impl Slave {
         }
         match owner {
             None => self.memory[address],
-            Some(place) => self.managers[place].shown_byte(address),
+            Some(place) => self.managers[place].visible_byte(address),
         }
     }
 
     /// The bytes that the `count` addresses from `first` read, if they lie together in the RAM itself or in the value of their
     /// governor `owner`. None says nothing.
-    pub(crate) fn shown_together(
+    pub(crate) fn visible_together(
         &self,
         owner: Option<usize>,
         first: usize,
@@ -169,7 +169,7 @@ impl Slave {
                 let manager = &self.managers[place];
                 let start = manager.settings().start as usize;
                 let at = first.checked_sub(start)?;
-                part_of(manager.shown(), at, count)
+                part_of(manager.visible(), at, count)
             }
         }
     }

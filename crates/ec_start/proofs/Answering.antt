@@ -10,12 +10,12 @@ use Rattle.ec_frame.specs.declared.cursor.DatagramCursor.{DatagramCursor}
 use Rattle.ec_frame.specs.Cursor.{IsAhead}
 use Rattle.ec_frame.specs.Datagram.{Datagram, IsDatagram, is_followed, spelling}
 use Rattle.ec_frame.specs.Frame.{Payload, IsFrame}
-use Rattle.ec_frame.proofs.Verdict.{one_payload}
+use Rattle.ec_frame.proofs.FrameOrFault.{one_payload}
 use Rattle.ec_start.specs.declared.action.Action.{Action}
 use Rattle.ec_start.specs.Actions.{datagram_of, frame_of}
-use Rattle.ec_start.specs.Running.{Shape, shape, number_told}
+use Rattle.ec_start.specs.Running.{Shape, shape, number_in}
 use Rattle.ec_start.specs.Answered.{Answers, IsAnswerAt}
-use Rattle.ec_start.proofs.Shaping.{datagram_is}
+use Rattle.ec_start.proofs.ActionFrames.{datagram_is}
 
 -- a frame of two datagrams, which stand at two places
 pub record IsPair (payload : List ℕ) (name answer : DatagramSpan) : Type 0 where
@@ -103,12 +103,12 @@ record Seconds (a : Action) (number : ℕ) (d e : Datagram) : Type 0 where
 seconds : (a : Action) (number : ℕ) (ds : List Datagram) (d e : Datagram) → ds ≡ d ∷ e ∷ [] → Answers a number ds → Seconds a number d e
 seconds a number ds d e both h =
     let shapes : shape d ∷ shape e ∷ [] ≡ first_shape number ∷ second_shape a number ∷ [] = ap (map shape) (sym both) ∙ (h.shapes ∙ shapes_are a number) in
-    record { name = ap first_in shapes; told = ap number_told (sym both) ∙ h.number_is; answer = ap second_in shapes }
+    record { name = ap first_in shapes; told = ap number_in (sym both) ∙ h.number_is; answer = ap second_in shapes }
 
 answers : (a : Action) (number : ℕ) (ds : List Datagram) (d e : Datagram) → ds ≡ d ∷ e ∷ [] → shape d ≡ first_shape number → take 8 d.data_bytes ≡ to_le_bytes w64 number → shape e ≡ second_shape a number → Answers a number ds
 answers a number ds d e both name told answer = record {
   shapes = ap (map shape) both ∙ (ap (λ (s : Shape). s ∷ shape e ∷ []) name ∙ (ap (λ (s : Shape). first_shape number ∷ s ∷ []) answer ∙ sym (shapes_are a number)));
-  number_is = ap number_told both ∙ told;
+  number_is = ap number_in both ∙ told;
 }
 
 pub answer_length : (payload : List ℕ) (a : Action) (number : ℕ) (span : DatagramSpan) (at : IsAnswerAt payload a number span) → length at.datagram.data_bytes ≡ length (datagram_of a 0).data_bytes

@@ -1,4 +1,4 @@
--- The script of a table shown in full is the table's: no action looks at a face.
+-- The script of a table advertised in full is the table's: no action looks at a face.
 use Rattle.std.specs.Prelude.{◌≡◌, ℕ, zero, suc, ◌+◌, List, [], ◌∷◌, ◌++◌}
 use Rattle.std.proofs.Common.{refl, ap, ◌∙◌}
 use Rattle.ec_al.specs.declared.state.State.TheVariants.{PreOp, SafeOp, Op}
@@ -6,13 +6,13 @@ use Rattle.ec_table.specs.Contents.{Contents}
 use Rattle.ec_link.specs.declared.settings.SlavePlan.{SlavePlan}
 use Rattle.ec_link.specs.Plan.{PlanState, plan_of}
 use Rattle.ec_link.specs.Sizes.{each_from}
-use Rattle.ec_link.specs.ShownFull.{with_face}
-use Rattle.ec_link.proofs.FacesShown.{faces}
+use Rattle.ec_link.specs.AdvertisedFull.{with_face}
+use Rattle.ec_link.proofs.AdvertisedFull.{faces}
 use Rattle.ec_start.specs.declared.action.Action.{Action}
 use Rattle.ec_start.specs.declared.action.Action.TheVariants.{CountSlaves}
 use Rattle.ec_start.specs.Scripts.{named, identified, mailbox_set, raised, talked, mapped, each_slave, phases, script}
 use Rattle.ec_start.specs.Running.{type_of}
-use Rattle.ec_start.specs.ShownFull.{ShownFullHasTheScript}
+use Rattle.ec_start.specs.AdvertisedFull.{AdvertisedFullHasTheScript}
 
 -- the slaves of a plan, from place n on, with their faces
 abbrev faced : Contents → ℕ → List SlavePlan → List SlavePlan
@@ -46,7 +46,7 @@ device_same t n [] slave = refl
 device_same t n (p ∷ ps) zero = refl
 device_same t n (p ∷ ps) (suc slave) = device_same t (n + 1) ps slave
 
-pub full_scripts : ShownFullHasTheScript
+pub full_scripts : AdvertisedFullHasTheScript
 full_scripts = record {
   script = λ t. ap (λ (p : PlanState). script p.slaves) (faces.plan t) ∙ script_same t 0 (plan_of t).slaves;
   devices = λ t slave. ap (λ (p : PlanState). type_of p.slaves slave) (faces.plan t) ∙ device_same t 0 (plan_of t).slaves slave;

@@ -10,7 +10,7 @@ use Rattle.ec_coe.specs.Objects.{output_assignment, input_assignment, has_some}
 use Rattle.ec_link.specs.declared.settings.SlavePlan.{SlavePlan}
 use Rattle.ec_start.specs.declared.action.SdoRequest.{SdoRequest}
 use Rattle.ec_start.specs.declared.verdict.Verdict.{Verdict}
-use Rattle.ec_start.specs.declared.verdict.Verdict.TheVariants.{Next, Shows, Again, Fails}
+use Rattle.ec_start.specs.declared.verdict.Verdict.TheVariants.{Next, Word, Again, Fails}
 use Rattle.ec_start.specs.declared.phase.Phase.{Phase}
 use Rattle.ec_start.specs.declared.phase.Phase.TheVariants.{Idle, Sent, Ready, Failed}
 use Rattle.ec_start.specs.declared.phase.NextFrame.TheVariants.{Ended}
@@ -123,7 +123,7 @@ begun_plan ps number = refl
 
 judged_plan : (s : StartState) (v : Verdict) → (judged s v).plan ≡ s.plan
 judged_plan s Next = refl
-judged_plan s (Shows value) = refl
+judged_plan s (Word value) = refl
 judged_plan s (Fails error) = refl
 judged_plan s Again = go (s.polls + 1 == max_polls)
   where
@@ -158,7 +158,7 @@ plans_stay s = record {
 
 few_polls : (s : StartState) (v : Verdict) → s.polls < max_polls → (judged s v).polls < max_polls
 few_polls s Next lt = omega arith
-few_polls s (Shows value) lt = omega arith
+few_polls s (Word value) lt = omega arith
 few_polls s (Fails error) lt = lt
 few_polls s Again lt = elim (cases_Bool (s.polls + 1 == max_polls)) [
   | inl t ↦ rw t lt

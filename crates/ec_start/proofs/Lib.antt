@@ -1,20 +1,20 @@
 -- where a place lies in runs of requests
-pub mod Seeks
+pub mod RequestRuns
 -- the actions ahead of a cursor
-pub mod Aheads
+pub mod CursorActions
 -- the datagrams of actions
 pub mod Datagrams
 -- the step of a start-up and its place in the script
 pub mod Startups
 -- the frame of an action, and the datagram in it
-pub mod Shaping
+pub mod ActionFrames
 -- a payload of two datagrams, and whether it answers an action
 pub mod Answering
 -- the laws
 pub mod LawLemmas
 -- a plan that can be started up is taken by `Startup::new`
 pub mod Assigned
--- the script of a table shown in full is the table's
+-- the script of a table advertised in full is the table's
 pub mod FullScripts
 -- a slave of a plan, of a type of its table, can be started up
 pub mod Startable

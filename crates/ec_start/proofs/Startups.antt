@@ -5,7 +5,7 @@ use Rattle.ec_coe.specs.Objects.{has_some}
 use Rattle.ec_frame.specs.Datagram.{Datagram}
 use Rattle.ec_frame.specs.Frame.{Payload, IsFrame}
 use Rattle.ec_frame.specs.declared.cursor.DatagramSpan.{DatagramSpan}
-use Rattle.ec_frame.proofs.Verdict.{one_payload}
+use Rattle.ec_frame.proofs.FrameOrFault.{one_payload}
 use Rattle.ec_device.specs.declared.slave_type.Device.{Device}
 use Rattle.ec_link.specs.declared.settings.SlavePlan.{SlavePlan}
 use Rattle.ec_start.specs.declared.action.Action.{Action}
@@ -16,11 +16,11 @@ use Rattle.ec_start.specs.declared.script.Step.{Step}
 use Rattle.ec_start.specs.Actions.{frame_of}
 use Rattle.ec_start.specs.Scripts.{script}
 use Rattle.ec_start.specs.Verdicts.{verdict}
-use Rattle.ec_start.specs.Running.{StartState, is_sent, is_ended, with_shown, action_of, type_of, judged, shape, IsStartAnswer, IsStartTaken, second}
+use Rattle.ec_start.specs.Running.{StartState, is_sent, is_ended, with_identity, action_of, type_of, judged, shape, IsStartAnswer, IsStartTaken, second}
 use Rattle.ec_start.specs.Ahead.{opening, ahead, IsSettled}
 use Rattle.ec_start.specs.Answered.{answered, Answers, IsAnswerAt}
 use Rattle.ec_start.specs.Held.{first_step, IsAtStep}
-use Rattle.ec_start.proofs.Aheads.{ahead_here, script_ahead, get_none}
+use Rattle.ec_start.proofs.CursorActions.{ahead_here, script_ahead, get_none}
 
 -- ---- lists
 
@@ -109,7 +109,7 @@ sent_runs Ready e = absurd (let f : false ≡ true = e in cc)
 sent_runs (Failed error) e = absurd (let f : false ≡ true = e in cc)
 
 -- what a read shows, where another action isn't one
-pub shown_else : (s : StartState) (a : Action) (value : ℕ) → ((i which : ℕ) → a ≡ AwaitWord i which → ⊥) → with_shown s a value ≡ s.seen
+pub shown_else : (s : StartState) (a : Action) (value : ℕ) → ((i which : ℕ) → a ≡ AwaitWord i which → ⊥) → with_identity s a value ≡ s.seen
 shown_else s CountSlaves value ne = refl
 shown_else s AskInit value ne = refl
 shown_else s AwaitInit value ne = refl

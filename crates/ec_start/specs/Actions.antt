@@ -4,7 +4,7 @@
 use Rattle.std.specs.Prelude.{ℕ, ◌+◌, ◌-◌, ◌*◌, ◌/◌, ◌%◌, List, [], ◌∷◌, ◌++◌, length, Option, Some, None}
 use Rattle.std.specs.Int.{to_le_bytes, w16, w64}
 use Rattle.ec_bits.specs.Bits.{zeros}
-use Rattle.ec_regs.specs.Memory.{station_address, al_control, al_status, sii_control, fmmus, fmmu_place, sync_managers, manager_place}
+use Rattle.ec_regs.specs.Memory.{station_address, al_control, al_status, sii_control, fmmus, fmmu_start, sync_managers, manager_start}
 use Rattle.ec_regs.specs.Managers.{manager_bytes}
 use Rattle.ec_regs.specs.Fmmus.{fmmu_bytes}
 use Rattle.ec_frame.specs.declared.command.Command.{Command}
@@ -46,8 +46,8 @@ abbrev pub at : ℕ → ℕ → ℕ
 at adp ado = adp % 65536 + 65536 * ado
 
 -- the SII words of the identity: 0x08 the vendor, 0x0A the product, 0x0C the revision
-abbrev pub word_place : ℕ → ℕ
-word_place which = 0x08 + 2 * which
+abbrev pub word_address_of : ℕ → ℕ
+word_address_of which = 0x08 + 2 * which
 
 -- ---- mailbox messages
 
@@ -86,10 +86,10 @@ datagram_of ClearManagers number = sent Bwr 0 sync_managers (zeros 32) number
 datagram_of ClearStations number = sent Bwr 0 station_address (zeros 2) number
 -- the slave at position i sees the ADP 0: each of the i slaves before it has added 1
 datagram_of (NameSlave i) number = sent Apwr (65536 - i) station_address (station i % 256 ∷ station i / 256 ∷ []) number
-datagram_of (AskWord i which) number = sent Fpwr (station i) sii_control (read_command (word_place which)) number
+datagram_of (AskWord i which) number = sent Fpwr (station i) sii_control (read_command (word_address_of which)) number
 datagram_of (AwaitWord i which) number = sent Fprd (station i) sii_control (zeros 10) number
-datagram_of (SetManager i n m) number = sent Fpwr (station i) (manager_place n) (manager_bytes m) number
-datagram_of (SetFmmu i n f) number = sent Fpwr (station i) (fmmu_place n) (fmmu_bytes f) number
+datagram_of (SetManager i n m) number = sent Fpwr (station i) (manager_start n) (manager_bytes m) number
+datagram_of (SetFmmu i n f) number = sent Fpwr (station i) (fmmu_start n) (fmmu_bytes f) number
 datagram_of (AskState i state) number = sent Fpwr (station i) al_control (state_number state ∷ 0 ∷ []) number
 -- status, and behind it the status code
 datagram_of (AwaitState i state) number = sent Fprd (station i) al_status (zeros 6) number

@@ -11,7 +11,7 @@ use Rattle.ec_start.specs.declared.verdict.Verdict.{Verdict}
 use Rattle.ec_start.specs.declared.verdict.Verdict.TheVariants.{Next, Again}
 use Rattle.ec_start.specs.Actions.{frame_of}
 use Rattle.ec_start.specs.Verdicts.{word_at}
-use Rattle.ec_start.specs.Running.{shape, number_told}
+use Rattle.ec_start.specs.Running.{shape, number_in}
 
 abbrev pub answered : ℕ → List ℕ → Datagram
 answered counter bytes = record (new_datagram Nop 0 0 bytes) { counter = counter }
@@ -22,7 +22,7 @@ init_verdict bytes = if word_at bytes 0 == 1 then Next else Again
 -- commands, Idx, lengths, order and number of the frame of an action
 pub record Answers (a : Action) (number : ℕ) (ds : List Datagram) : Type 0 where
   pub shapes : map shape ds ≡ map shape (frame_of a number)
-  pub number_is : number_told ds ≡ to_le_bytes w64 number
+  pub number_is : number_in ds ≡ to_le_bytes w64 number
 
 -- the payload is a frame that answers it, and its second datagram stands there
 pub record IsAnswerAt (payload : List ℕ) (a : Action) (number : ℕ) (span : DatagramSpan) : Type 0 where

@@ -6,10 +6,10 @@ use Rattle.ec_link.specs.Interface.{AreListed, IsOfItsType}
 use Rattle.ec_link.specs.Meaning.{no_slave}
 use Rattle.ec_link.specs.Sound.{AreManagers}
 use Rattle.ec_link.specs.declared.settings.SlavePlan.{SlavePlan}
-pub use Rattle.ec_start.specs.Actions.{datagram_of, frame_of, request_command, request_value, station, word_place, at, filled, request_bytes, request_message, sent, numbered}
+pub use Rattle.ec_start.specs.Actions.{datagram_of, frame_of, request_command, request_value, station, word_address_of, at, filled, request_bytes, request_message, sent, numbered}
 pub use Rattle.ec_start.specs.Planned.{IsFmmu, IsStartable, AreMailboxes, IsRequest, IsTransfer, AreRequests, HasFewAssigned}
 pub use Rattle.ec_start.specs.Plans.{fmmu_at, settings_at}
-pub use Rattle.ec_start.specs.Running.{StartState, action_of, type_of, judged, taken, given_up_by, max_polls, asked, asked_by, next_frame, next_frame_by, sending, second, is_ended, is_sent, last_number, IsStartTaken, advanced, with_shown, Shape, shape, IsStartAnswer, IsOutstanding, is_kept}
+pub use Rattle.ec_start.specs.Running.{StartState, action_of, type_of, judged, taken, given_up_by, max_polls, asked, asked_by, next_frame, next_frame_by, sending, second, is_ended, is_sent, last_number, IsStartTaken, advanced, with_identity, Shape, shape, IsStartAnswer, IsOutstanding, is_accepted}
 pub use Rattle.ec_start.specs.Scripts.{script, requests, downloads, entries_read, pdo_read, slots_written, assignment_written, named, identified, mailbox_set, raised, exchanged, talked, manager_set, fmmu_set, mapped, each_slave, cleared, phases, uploads}
 pub use Rattle.ec_start.specs.Verdicts.{verdict, counted, word_verdict, state_verdict, reply_verdict, word_at, long_at, is_device, with_word, message_verdict, upload_verdict}
 

@@ -61,7 +61,7 @@ pub record StaysEnded (s : StartState) : Type 0 where
   pub next_is : next_frame s ≡ Ended
   pub next_leaves : asked s ≡ s
   pub give_up_leaves : given_up s ≡ s
-  pub take_leaves : (payload : List ℕ) (is_kept : Bool) (new : StartState) → IsStartTaken s payload is_kept new → new ≡ s
+  pub take_leaves : (payload : List ℕ) (is_accepted : Bool) (new : StartState) → IsStartTaken s payload is_accepted new → new ≡ s
 
 abbrev pub EndedStays : Type 0
 EndedStays = (s : StartState) → is_ended s.phase ≡ true → StaysEnded s
@@ -75,7 +75,7 @@ pub record PollsEnd : Type 0 where
 -- A start-up keeps its plan, whatever is called.
 pub record KeepsPlan (s : StartState) : Type 0 where
   pub next_keeps : (asked s).plan ≡ s.plan
-  pub take_keeps : (payload : List ℕ) (is_kept : Bool) (new : StartState) → IsStartTaken s payload is_kept new → new.plan ≡ s.plan
+  pub take_keeps : (payload : List ℕ) (is_accepted : Bool) (new : StartState) → IsStartTaken s payload is_accepted new → new.plan ≡ s.plan
   pub give_up_keeps : (given_up s).plan ≡ s.plan
   pub restart_keeps : (restarted s).plan ≡ s.plan
 

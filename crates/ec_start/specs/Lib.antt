@@ -13,7 +13,7 @@ pub mod HeldPlans
 -- Laws: other words for these definitions, proved; ThreeSlaves is the plan of an example.
 pub mod ThreeSlaves
 pub mod Laws
-pub mod ShownFull
+pub mod AdvertisedFull
 -- what the crates above may know
 pub mod Interface
 -- To be believed, too: what an action must be for its own calls.

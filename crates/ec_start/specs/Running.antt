@@ -12,16 +12,16 @@ use Rattle.ec_start.specs.declared.action.Action.TheVariants.{CountSlaves, Await
 use Rattle.ec_start.specs.declared.error.StartError.{StartError}
 use Rattle.ec_start.specs.declared.error.StartError.TheVariants.{TooSlow, Lost, NumbersSpent}
 use Rattle.ec_start.specs.declared.verdict.Verdict.{Verdict}
-use Rattle.ec_start.specs.declared.verdict.Verdict.TheVariants.{Next, Shows, Again, Fails}
+use Rattle.ec_start.specs.declared.verdict.Verdict.TheVariants.{Next, Word, Again, Fails}
 use Rattle.ec_start.specs.declared.phase.Phase.{Phase}
 use Rattle.ec_start.specs.declared.phase.Phase.TheVariants.{Idle, Sent, Ready, Failed}
 use Rattle.ec_start.specs.declared.phase.NextFrame.{NextFrame}
 use Rattle.ec_start.specs.declared.phase.NextFrame.TheVariants.{Send, Waiting, Ended}
 use Rattle.ec_start.specs.declared.phase.Taken.{Taken}
-use Rattle.ec_start.specs.declared.phase.Taken.TheVariants.{Kept, Foreign}
+use Rattle.ec_start.specs.declared.phase.Taken.TheVariants.{Accepted, Foreign}
 use Rattle.ec_start.specs.Actions.{frame_of}
 use Rattle.ec_start.specs.Scripts.{script}
-use Rattle.ec_start.specs.Verdicts.{nothing_seen, with_word, verdict}
+use Rattle.ec_start.specs.Verdicts.{nothing_read, with_word, verdict}
 
 -- the value of a `Startup`
 pub record StartState : Type 0 where
@@ -32,13 +32,13 @@ pub record StartState : Type 0 where
   pub place : ℕ
   -- how many polls of the wait there have been
   pub polls : ℕ
-  -- what was seen of the identity that is being read
+  -- what was read of the identity so far
   pub seen : Device
   pub phase : Phase
 
 -- as it begins: no frame was sent
 unfoldable pub begun : List SlavePlan → ℕ → StartState
-begun plan number = record { plan = plan; next = number; place = 0; polls = 0; seen = nothing_seen; phase = Idle }
+begun plan number = record { plan = plan; next = number; place = 0; polls = 0; seen = nothing_read; phase = Idle }
 
 -- the action that it is at
 abbrev pub action_of : StartState → Action
@@ -94,9 +94,9 @@ advanced s seen = record s {
   phase = if nat_lt (s.place + 1) (length (script s.plan)) then Idle else Ready;
 }
 
-abbrev pub with_shown : StartState → Action → ℕ → Device
-with_shown s (AwaitWord i which) value = with_word s.seen which value
-with_shown s _ value = s.seen
+abbrev pub with_identity : StartState → Action → ℕ → Device
+with_identity s (AwaitWord i which) value = with_word s.seen which value
+with_identity s _ value = s.seen
 
 -- how often a wait is tried
 abbrev pub max_polls : ℕ
@@ -104,7 +104,7 @@ max_polls = 1000
 
 abbrev pub judged : StartState → Verdict → StartState
 judged s Next = advanced s s.seen
-judged s (Shows value) = advanced s (with_shown s (action_of s) value)
+judged s (Word value) = advanced s (with_identity s (action_of s) value)
 judged s Again = if s.polls + 1 == max_polls then record s { phase = Failed (TooSlow s.place) } else record s { polls = s.polls + 1; phase = Idle }
 judged s (Fails error) = record s { phase = Failed error }
 
@@ -122,14 +122,14 @@ pub record Shape : Type 0 where
 abbrev pub shape : Datagram → Shape
 shape d = record { command = d.command; index = d.index; bytes = length d.data_bytes }
 
-abbrev pub number_told : List Datagram → List ℕ
-number_told [] = []
-number_told (d ∷ ds) = take 8 d.data_bytes
+abbrev pub number_in : List Datagram → List ℕ
+number_in [] = []
+number_in (d ∷ ds) = take 8 d.data_bytes
 
 -- commands, Idx, lengths and order are those of the frame that was sent, and so is its number
 pub record IsStartAnswer (s : StartState) (number : ℕ) (ds : List Datagram) : Type 0 where
   pub shapes : map shape ds ≡ map shape (frame_of (action_of s) number)
-  pub number_is : number_told ds ≡ to_le_bytes w64 number
+  pub number_is : number_in ds ≡ to_le_bytes w64 number
 
 -- the second datagram of a frame
 abbrev pub second : List Datagram → Option Datagram
@@ -145,17 +145,17 @@ pub record IsOutstanding (s : StartState) (payload : List ℕ) : Type 0 where
   pub spelled : IsFrame payload frame
   pub answer : IsStartAnswer s number frame.datagrams
 
-abbrev pub is_kept : Taken → Bool
-is_kept Kept = true
-is_kept Foreign = false
+abbrev pub is_accepted : Taken → Bool
+is_accepted Accepted = true
+is_accepted Foreign = false
 
 -- what `take` does: an answer to the outstanding frame is kept and judged by its second datagram; any other payload changes
 -- nothing
-pub record IsStartTaken (old : StartState) (payload : List ℕ) (is_kept : Bool) (new : StartState) : Type 0 where
-  pub answers : (number : ℕ) (p : Payload) → old.phase ≡ Sent number → IsFrame payload p → (is_kept ≡ true) ↔ IsStartAnswer old number p.datagrams
-  pub only : is_kept ≡ true → IsOutstanding old payload
-  pub kept : (p : Payload) (d : Datagram) → is_kept ≡ true → IsFrame payload p → second p.datagrams ≡ Some d → new ≡ taken old d
-  pub foreign : is_kept ≡ false → new ≡ old
+pub record IsStartTaken (old : StartState) (payload : List ℕ) (is_accepted : Bool) (new : StartState) : Type 0 where
+  pub answers : (number : ℕ) (p : Payload) → old.phase ≡ Sent number → IsFrame payload p → (is_accepted ≡ true) ↔ IsStartAnswer old number p.datagrams
+  pub only : is_accepted ≡ true → IsOutstanding old payload
+  pub kept : (p : Payload) (d : Datagram) → is_accepted ≡ true → IsFrame payload p → second p.datagrams ≡ Some d → new ≡ taken old d
+  pub foreign : is_accepted ≡ false → new ≡ old
 
 -- ---- the end
 

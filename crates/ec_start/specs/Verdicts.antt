@@ -18,7 +18,7 @@ use Rattle.ec_start.specs.declared.action.Action.{Action}
 use Rattle.ec_start.specs.declared.action.Action.TheVariants.{CountSlaves, AskInit, AwaitInit, ClearFmmus, ClearManagers, ClearStations, NameSlave, AskWord, AwaitWord, SetManager, SetFmmu, AskState, AwaitState, SendRequest, AwaitReply}
 use Rattle.ec_start.specs.declared.error.StartError.TheVariants.{BadMailbox, Count, Identity, Counter, AlError, Abort, Mapping}
 use Rattle.ec_start.specs.declared.verdict.Verdict.{Verdict}
-use Rattle.ec_start.specs.declared.verdict.Verdict.TheVariants.{Next, Shows, Again, Fails}
+use Rattle.ec_start.specs.declared.verdict.Verdict.TheVariants.{Next, Word, Again, Fails}
 
 -- ---- numbers in the data, little-endian
 
@@ -30,8 +30,8 @@ long_at bytes k = slice_index bytes k + 256 * slice_index bytes (k + 1) + 65536 
 
 -- ---- the identity: the words that were read so far, 0 for each other
 
-abbrev pub nothing_seen : Device
-nothing_seen = record { vendor = 0; product = 0; revision = 0 }
+abbrev pub nothing_read : Device
+nothing_read = record { vendor = 0; product = 0; revision = 0 }
 
 -- word 0 is of another slave than the words before it, so it clears them
 abbrev pub with_word : Device → ℕ → ℕ → Device
@@ -41,9 +41,9 @@ with_word s which value =
     else record { vendor = s.vendor; product = s.product; revision = value })
 
 -- the words that were read from this slave before the word `which`
-abbrev pub seen_before : Device → ℕ → Device
-seen_before s which =
-    if which == 0 then nothing_seen else (if which == 1 then record { vendor = s.vendor; product = 0; revision = 0 } else record { vendor = s.vendor; product = s.product; revision = 0 })
+abbrev pub read_before : Device → ℕ → Device
+read_before s which =
+    if which == 0 then nothing_read else (if which == 1 then record { vendor = s.vendor; product = 0; revision = 0 } else record { vendor = s.vendor; product = s.product; revision = 0 })
 
 abbrev pub differs : ℕ → Device → Verdict
 differs i s = Fails (Identity i s)
@@ -55,10 +55,10 @@ is_device t s = (t.vendor == s.vendor) && ((t.product == s.product) && (t.revisi
 -- more poll, and after the third word the identity is compared with the type's
 abbrev pub word_verdict : Device → Device → ℕ → ℕ → List ℕ → Verdict
 word_verdict t s i which bytes =
-    if sii_error (word_at bytes 0) then differs i (seen_before s which)
+    if sii_error (word_at bytes 0) then differs i (read_before s which)
     else (if sii_busy (word_at bytes 0) then Again
     else (if (which == 2) && not (is_device t (with_word s which (long_at bytes 6))) then differs i (with_word s which (long_at bytes 6))
-    else Shows (long_at bytes 6)))
+    else Word (long_at bytes 6)))
 
 -- ---- states: the AL status, and at 4 its code; the error flag ends the start-up, and it waits for the state without error
 

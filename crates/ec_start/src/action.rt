@@ -2,7 +2,7 @@
 
 ghost use Rattle.std.specs.Prelude.{◌≡◌, ◌≤◌, ◌-◌, ◌%◌, ◌/◌, length};
 ghost use Rattle.ec_bits.specs.Bits.{zeros};
-ghost use Rattle.ec_start.specs.Actions.{station, slave_of_action, word_place, request_message, datagram_of};
+ghost use Rattle.ec_start.specs.Actions.{station, slave_of_action, word_address_of, request_message, datagram_of};
 ghost use Rattle.ec_start.specs.Scripts.{downloads, uploads};
 ghost use Rattle.ec_start.specs.Doable.{IsDoable};
 
@@ -257,7 +257,7 @@ impl Action {
                 bytes[..WORD_ADDRESS].copy_from_slice(
                     &SiiControl::new(SII_READ, false, false).0.to_le_bytes(),
                 );
-                bytes[WORD_ADDRESS..].copy_from_slice(&word_place(*which).to_le_bytes());
+                bytes[WORD_ADDRESS..].copy_from_slice(&word_address_of(*which).to_le_bytes());
             }
             Action::SetManager { settings, .. } => {
                 bytes.copy_from_slice(&encode_manager(settings));
@@ -323,9 +323,9 @@ fn position(slave: usize) -> u16
 }
 
 /// The SII word of a number of the identity: 0 the vendor, 1 the product, 2 the revision.
-fn word_place(which: usize) -> u32
+fn word_address_of(which: usize) -> u32
     requires { which ≤ 2 }
-    ensures { result ≡ word_place which }
+    ensures { result ≡ word_address_of which }
 {
     VENDOR_WORD + 2 * which as u32
 }

@@ -34,7 +34,7 @@ pub fn answer_in(payload: &[u8], action: &Action, number: u64) -> Option<Datagra
     let first = &payload[name.from..name.to];
     let second = &payload[answer.from..answer.to];
     let is_named = has_shape(first, Command::Nop, number, NAME_LEN);
-    let is_numbered = tells(first, number);
+    let is_numbered = begins_with(first, number);
     let is_answer = has_shape(second, command, number, bytes);
     if !is_named {
         return None;
@@ -59,7 +59,7 @@ fn is_pair(payload: &[u8]) -> bool
 }
 
 /// Whether the data of a datagram begin with a number of eight bytes, little-endian.
-fn tells(part: &[u8], number: u64) -> bool
+fn begins_with(part: &[u8], number: u64) -> bool
     requires { IsSpelling part.now }
     ensures { (more : Bool) (d : Datagram) → IsDatagram d → part.now ≡ spelling more d
         → (result ≡ true) ↔ (take 8 d.data_bytes ≡ to_le_bytes w64 number) }

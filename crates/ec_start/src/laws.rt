@@ -1,6 +1,6 @@
 //! Laws of the definitions of this crate. Each function does nothing: its contract is the law.
 
-ghost use Rattle.ec_start.specs.ShownFull.{ShownFullHasTheScript};
+ghost use Rattle.ec_start.specs.AdvertisedFull.{AdvertisedFullHasTheScript};
 ghost use Rattle.ec_start.specs.Interface.{PlannedSlavesAreStartable, ScriptsAreShort};
 ghost use Rattle.ec_start.specs.Laws.{IsScriptOfThree, UploadsComeFirst, CountersRunToSeven, EndedStays, PlansStay, PollsEnd, ForeignChangesNothing, FramesAreAnswered, StartablesAreTaken};
 
@@ -56,11 +56,11 @@ pub fn startables_are_taken()
     ensures { StartablesAreTaken }
 {}
 
-/// A master brings full slaves up by the script that it has for slaves that aren't full. A table that is shown in full has the
+/// A master brings full slaves up by the script that it has for slaves that aren't full. A table that is advertised in full has the
 /// script of the table.
 #[tactic(auto, using(crate::proofs::FullScripts::full_scripts))]
-pub fn shown_full_has_the_script()
-    ensures { ShownFullHasTheScript }
+pub fn advertised_full_has_the_script()
+    ensures { AdvertisedFullHasTheScript }
 {}
 
 /// A slave of a plan, of a type of its table, can be started up.

@@ -26,11 +26,11 @@ pub enum NextFrame {
     Ended,
 }
 
-/// Whether a payload was kept.
+/// Whether a payload was accepted.
 #[derive(Clone, Copy, Debug, PartialEq, Eq)]
 pub enum Taken {
-    /// It answers an outstanding frame, and was kept.
-    Kept,
+    /// It answers an outstanding frame, and was accepted.
+    Accepted,
     /// It answers none, and nothing changed.
     Foreign,
 }

@@ -171,7 +171,7 @@ pub fn first_step() -> Step
     }
 }
 
-#[tactic(auto, using(crate::proofs::Aheads::choice_steps))]
+#[tactic(auto, using(crate::proofs::CursorActions::choice_steps))]
 fn mapping(slave: usize, settings: &SlavePlan, place: usize) -> Option<Action>
     requires { slave < 64 }
     ensures value { result ≡ slice_get (mapped slave settings.now) place }

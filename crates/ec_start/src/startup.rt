@@ -10,7 +10,7 @@ ghost use Rattle.ec_start.specs.declared.phase.NextFrame.TheVariants.{Send};
 ghost use Rattle.ec_start.specs.Actions.{datagram_of, frame_of};
 ghost use Rattle.ec_start.specs.Planned.{HasFewAssigned};
 ghost use Rattle.ec_start.specs.Doable.{IsDoable};
-ghost use Rattle.ec_start.specs.Running.{begun, action_of, has_failed, asked, next_frame, IsStartTaken, is_kept, advanced, judged, given_up, restarted, outcome_of, is_sent, with_shown};
+ghost use Rattle.ec_start.specs.Running.{begun, action_of, has_failed, asked, next_frame, IsStartTaken, is_accepted, advanced, judged, given_up, restarted, outcome_of, is_sent, with_identity};
 
 use crate::action::{Action, MAX_DATA};
 use crate::answer::answer_in;
@@ -18,7 +18,7 @@ use crate::error::StartError;
 use crate::held::HeldPlan;
 use crate::phase::{NextFrame, Phase, Taken};
 use crate::script::{Step, first_step};
-use crate::verdict::{Verdict, nothing_seen, verdict_on, with_word};
+use crate::verdict::{Verdict, nothing_read, verdict_on, with_word};
 use ec_device::Device;
 use ec_frame::{Command, Frame, Sent, index_of, name_of, read_counter, read_data, write_pair};
 use ec_link::{Plan, SlavePlan};
@@ -34,7 +34,7 @@ const USUAL_MAILBOX: usize = 256;
 const MAX_POLLS: u16 = 1000;
 
 /// A start-up of a segment by init commands (ETG.1000.6, "AL state machine"), one frame at a time. `next` writes a frame, which
-/// is outstanding until `take` keeps its answer. The start-up ends Ready, with all slaves in OP, or with a failure.
+/// is outstanding until `take` accepts its answer. The start-up ends Ready, with all slaves in OP, or with a failure.
 #[derive(Drop)]
 pub struct Startup<'p> {
     held: HeldPlan<'p>,
@@ -99,7 +99,7 @@ impl<'p> Startup<'p> {
             next: from_number,
             place: 0,
             polls: 0,
-            seen: nothing_seen(),
+            seen: nothing_read(),
             phase: Phase::Idle,
             step: first_step(),
         }
@@ -146,7 +146,7 @@ impl<'p> Startup<'p> {
         ensures answer { result ≡ next_frame self.old }
         ensures state { self.new ≡ asked self.old }
         ensures written { result ≡ Send → IsFrame frame.new.items (bare_payload (frame_of (action_of self.old) self.old.next)) }
-        ensures kept { result ≢ Send → frame.new ≡ frame.old }
+        ensures unchanged { result ≢ Send → frame.new ≡ frame.old }
     {
         match self.phase {
             Phase::Sent(_) => return NextFrame::Waiting,
@@ -163,11 +163,11 @@ impl<'p> Startup<'p> {
         NextFrame::Send
     }
 
-    /// Takes a payload that came in. It is kept if it answers the outstanding frame: the commands, the indices, the lengths,
+    /// Takes a payload that came in. It is accepted if it answers the outstanding frame: the commands, the indices, the lengths,
     /// the order and the number are those of the frame. Its second datagram then decides: the next step, one more poll, or the
     /// end. Any other payload is foreign, and changes nothing.
     pub fn take(&mut self, payload: &[u8]) -> Taken
-        ensures { IsStartTaken self.old payload.now (is_kept result) self.new }
+        ensures { IsStartTaken self.old payload.now (is_accepted result) self.new }
     {
         let Phase::Sent(number) = self.phase else {
             return Taken::Foreign;
@@ -185,7 +185,7 @@ impl<'p> Startup<'p> {
             read_data(answer),
         );
         self.judge(verdict);
-        Taken::Kept
+        Taken::Accepted
     }
 
     /// Ends a start-up that runs, as `Lost`. One that has ended stays as it is.
@@ -214,7 +214,7 @@ impl<'p> Startup<'p> {
         self.next = from_number;
         self.place = 0;
         self.polls = 0;
-        self.seen = nothing_seen();
+        self.seen = nothing_read();
         self.phase = Phase::Idle;
         self.step = first_step();
     }
@@ -226,16 +226,16 @@ impl<'p> Startup<'p> {
     {
         match verdict {
             Verdict::Next => self.advance(self.seen),
-            Verdict::Shows(value) => self.advance(self.with_shown(value)),
+            Verdict::Word(value) => self.advance(self.with_identity(value)),
             Verdict::Again => self.poll(),
             Verdict::Fails(error) => self.phase = Phase::Failed(error),
         }
     }
 
     /// The identity that was read so far, with the word that was read now.
-    fn with_shown(&self, value: u32) -> Device
+    fn with_identity(&self, value: u32) -> Device
         requires { is_sent self.now.phase ≡ true }
-        ensures { result ≡ with_shown self.now (action_of self.now) value }
+        ensures { result ≡ with_identity self.now (action_of self.now) value }
     {
         match self.step.action {
             Action::AwaitWord { which, .. } => with_word(self.seen, which, value),

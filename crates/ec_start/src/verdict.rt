@@ -5,7 +5,7 @@ ghost use Rattle.ec_device.specs.declared.slave_type.Device.{Device};
 ghost use Rattle.ec_start.specs.Actions.{datagram_of};
 ghost use Rattle.ec_start.specs.Running.{type_of};
 ghost use Rattle.ec_start.specs.Answered.{answered, init_verdict};
-ghost use Rattle.ec_start.specs.Verdicts.{nothing_seen, with_word, seen_before, is_device, differs, word_verdict, state_verdict, upload_verdict, reply_verdict, counted, verdict};
+ghost use Rattle.ec_start.specs.Verdicts.{nothing_read, with_word, read_before, is_device, differs, word_verdict, state_verdict, upload_verdict, reply_verdict, counted, verdict};
 
 use crate::action::{Action, SdoRequest, Transfer};
 use crate::error::StartError;
@@ -28,7 +28,7 @@ pub enum Verdict {
     /// The action is done.
     Next,
     /// The action is done, and read this word of the SII.
-    Shows(u32),
+    Word(u32),
     /// The action must be tried again.
     Again,
     /// The start-up fails.
@@ -36,8 +36,8 @@ pub enum Verdict {
 }
 
 /// An identity of which no word was read yet: all 0.
-pub fn nothing_seen() -> Device
-    ensures { result ≡ nothing_seen }
+pub fn nothing_read() -> Device
+    ensures { result ≡ nothing_read }
 {
     Device {
         vendor: 0,
@@ -172,7 +172,7 @@ fn word_verdict(kind: Device, seen: Device, slave: usize, which: usize, bytes: &
 {
     let control = SiiControl(LittleEndian::read_u16(&bytes[0..2]));
     if control.has_error() {
-        return differs(slave, seen_before(seen, which));
+        return differs(slave, read_before(seen, which));
     }
     if control.is_busy() {
         return Verdict::Again;
@@ -182,7 +182,7 @@ fn word_verdict(kind: Device, seen: Device, slave: usize, which: usize, bytes: &
     if which == 2 && !is_device(kind, shown) {
         return differs(slave, shown);
     }
-    Verdict::Shows(value)
+    Verdict::Word(value)
 }
 
 fn differs(slave: usize, seen: Device) -> Verdict
@@ -198,7 +198,7 @@ fn type_of(slaves: &[SlavePlan], slave: usize) -> Device
     if slave < slaves.len() {
         slaves[slave].kind.device()
     } else {
-        nothing_seen()
+        nothing_read()
     }
 }
 
@@ -209,11 +209,11 @@ fn is_device(kind: Device, seen: Device) -> bool
 }
 
 /// The words of the identity that were read from this slave before word `which`.
-fn seen_before(seen: Device, which: usize) -> Device
-    ensures { result ≡ seen_before seen which }
+fn read_before(seen: Device, which: usize) -> Device
+    ensures { result ≡ read_before seen which }
 {
     match which {
-        0 => nothing_seen(),
+        0 => nothing_read(),
         1 => Device {
             vendor: seen.vendor,
             product: 0,

@@ -3,7 +3,7 @@ pub mod Lengths
 -- what readers get was published as a whole
 pub mod WholeValues
 -- a view and a draft, once opened, stay what they are until they are closed
-pub mod Openings
+pub mod ViewsStay
 -- a buffered manager shows what was published last
 pub mod Newest
 -- a mailbox gives each message once

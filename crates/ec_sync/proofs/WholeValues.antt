@@ -5,7 +5,7 @@ use Rattle.std.proofs.lemmas.List.Elements.{Contains-append_left, Contains-push}
 use Rattle.ec_bits.specs.Bits.{zeros}
 use Rattle.ec_sync.specs.Buffer.{Buffer, Got, app_written, app_read, publishing}
 use Rattle.ec_sync.specs.SyncManager.{SyncManager, no_manager, buffer_length, may_write, may_read, may_app_put, may_app_get, app_got, after_get, message_in, may_put_message, padded, is_enabled}
-use Rattle.ec_sync.specs.Runs.{Operation, Configure, Lock, Empty, PublishZeros, RingWrite, RingRead, AppPut, AppGet, MessageTake, MessagePut, step, run, draft_for, only, publications, history, shown_by, OnlyWholeValues, BytesOfTheView}
+use Rattle.ec_sync.specs.Runs.{Operation, Configure, Lock, Empty, PublishZeros, RingWrite, RingRead, AppPut, AppGet, MessageTake, MessagePut, step, run, draft_for, only, publications, history, visible_to, OnlyWholeValues, BytesOfTheView}
 
 -- all that a reader could get is in the history
 pub record Known (h : List (List ℕ)) (m : SyncManager) : Type 0 where
@@ -157,36 +157,36 @@ known-run h m (o ∷ ops) a =
 
 -- ---- what is shown
 
-known-shown : (h : List (List ℕ)) (m : SyncManager) (covered enabled ring is_mail : Bool) (mail : Option (List ℕ)) (v : List ℕ) → Contains h m.buffer.published → ((w : List ℕ) → mail ≡ Some w → Contains h w)
+known-visible : (h : List (List ℕ)) (m : SyncManager) (covered enabled ring is_mail : Bool) (mail : Option (List ℕ)) (v : List ℕ) → Contains h m.buffer.published → ((w : List ℕ) → mail ≡ Some w → Contains h w)
     → (if covered && (enabled && (ring && (if is_mail then is_some mail else true))) then Some (if is_mail then unwrap_or mail [] else m.buffer.published) else None) ≡ Some v → Contains h v
-known-shown h m false enabled ring is_mail mail v a k e = nothing h v e
-known-shown h m true false ring is_mail mail v a k e = nothing h v e
-known-shown h m true true false is_mail mail v a k e = nothing h v e
-known-shown h m true true true false mail v a k e = subst (λ (x : List ℕ). Contains h x) (some_same m.buffer.published v e) a
-known-shown h m true true true true None v a k e = nothing h v e
-known-shown h m true true true true (Some w) v a k e = k v e
+known-visible h m false enabled ring is_mail mail v a k e = nothing h v e
+known-visible h m true false ring is_mail mail v a k e = nothing h v e
+known-visible h m true true false is_mail mail v a k e = nothing h v e
+known-visible h m true true true false mail v a k e = subst (λ (x : List ℕ). Contains h x) (some_same m.buffer.published v e) a
+known-visible h m true true true true None v a k e = nothing h v e
+known-visible h m true true true true (Some w) v a k e = k v e
 
 known-if : (h : List (List ℕ)) (granted : Bool) (o : Option (List ℕ)) (v : List ℕ) → ((w : List ℕ) → o ≡ Some w → Contains h w) → (if granted then o else None) ≡ Some v → Contains h v
 known-if h true o v k e = k v e
 known-if h false o v k e = nothing h v e
 
-known-shown_by : (h : List (List ℕ)) (m : SyncManager) (o : Operation) (v : List ℕ) → Known h m → shown_by m o ≡ Some v → Contains h v
-known-shown_by h m (Configure settings) v a e = nothing h v e
-known-shown_by h m (Lock locked) v a e = nothing h v e
-known-shown_by h m Empty v a e = nothing h v e
-known-shown_by h m PublishZeros v a e = nothing h v e
-known-shown_by h m (RingWrite covered value) v a e = nothing h v e
-known-shown_by h m (RingRead covered) v a e = known-shown h m covered (is_enabled m) (m.settings.control / 4 % 4 == 0) (m.settings.control % 4 == 2) m.mail v a.published a.mail e
-known-shown_by h m (AppPut i x) v a e = nothing h v e
-known-shown_by h m (AppGet i) v a e = known-if h (is_some (app_got m i)) (if i == 0 then Some m.buffer.published else m.buffer.view) v (λ w f. known-viewed h m (i == 0) w a f) e
-known-shown_by h m MessageTake v a e = known-if h _ m.mail v a.mail e
-known-shown_by h m (MessagePut message) v a e = nothing h v e
+known-visible_to : (h : List (List ℕ)) (m : SyncManager) (o : Operation) (v : List ℕ) → Known h m → visible_to m o ≡ Some v → Contains h v
+known-visible_to h m (Configure settings) v a e = nothing h v e
+known-visible_to h m (Lock locked) v a e = nothing h v e
+known-visible_to h m Empty v a e = nothing h v e
+known-visible_to h m PublishZeros v a e = nothing h v e
+known-visible_to h m (RingWrite covered value) v a e = nothing h v e
+known-visible_to h m (RingRead covered) v a e = known-visible h m covered (is_enabled m) (m.settings.control / 4 % 4 == 0) (m.settings.control % 4 == 2) m.mail v a.published a.mail e
+known-visible_to h m (AppPut i x) v a e = nothing h v e
+known-visible_to h m (AppGet i) v a e = known-if h (is_some (app_got m i)) (if i == 0 then Some m.buffer.published else m.buffer.view) v (λ w f. known-viewed h m (i == 0) w a f) e
+known-visible_to h m MessageTake v a e = known-if h _ m.mail v a.mail e
+known-visible_to h m (MessagePut message) v a e = nothing h v e
 
 pub whole_values : OnlyWholeValues
 whole_values ops o v e =
     let first : List (List ℕ) = no_manager.buffer.published ∷ [] in
     let start : Known first no_manager = record { published = Contains-push [] no_manager.buffer.published; view = λ v e. nothing first v e; mail = λ v e. nothing first v e } in
-    known-shown_by (first ++ history no_manager ops) (run no_manager ops) o v (known-run first no_manager ops start) e
+    known-visible_to (first ++ history no_manager ops) (run no_manager ops) o v (known-run first no_manager ops start) e
 
 -- ---- the bytes of a view
 

@@ -5,7 +5,7 @@ use Rattle.std.specs.Int.{from_bool}
 use Rattle.std.specs.List.{position_from}
 use Rattle.ec_bits.specs.Bits.{within}
 use Rattle.ec_regs.specs.Managers.{is_set, span}
-use Rattle.ec_sync.specs.SyncManager.{SyncManager, may_read, may_write, shown, ring_written, ring_read}
+use Rattle.ec_sync.specs.SyncManager.{SyncManager, may_read, may_write, visible, ring_written, ring_read}
 
 -- its span has the byte
 abbrev pub governs : SyncManager → ℕ → Bool
@@ -47,5 +47,5 @@ manager_byte m k =
     else from_bool m.locked))))))
 
 -- the byte that a datagram reads at an address in its value
-abbrev pub shown_byte : SyncManager → ℕ → ℕ
-shown_byte m a = slice_index (shown m) (a - m.settings.start)
+abbrev pub visible_byte : SyncManager → ℕ → ℕ
+visible_byte m a = slice_index (visible m) (a - m.settings.start)

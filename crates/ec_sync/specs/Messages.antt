@@ -3,7 +3,7 @@
 use Rattle.std.specs.Prelude.{ℕ, ◌&&◌, ◌≡◌, List, [], ◌∷◌, ◌++◌, length, if◌then◌else◌, Option, Some, None, option_map}
 use Rattle.ec_regs.specs.Managers.{is_mailbox}
 use Rattle.ec_sync.specs.SyncManager.{SyncManager, no_manager, may_write, padded, may_put_message}
-use Rattle.ec_sync.specs.Runs.{Operation, Configure, Empty, RingWrite, RingRead, MessageTake, MessagePut, step, shown_by}
+use Rattle.ec_sync.specs.Runs.{Operation, Configure, Empty, RingWrite, RingRead, MessageTake, MessagePut, step, visible_to}
 
 pub data MailEvent : Type 0 where
   -- the ring or the firmware puts a message into the mailbox
@@ -19,8 +19,8 @@ mail_event m (Configure settings) = Some Cleared
 mail_event m Empty = Some Cleared
 mail_event m (RingWrite covered value) = if is_mailbox m.settings && (covered && may_write m) then Some (Put value) else None
 mail_event m (MessagePut message) = if may_put_message m (length message) then Some (Put (padded m message)) else None
-mail_event m (RingRead covered) = if is_mailbox m.settings then option_map Taken (shown_by m (RingRead covered)) else None
-mail_event m MessageTake = option_map Taken (shown_by m MessageTake)
+mail_event m (RingRead covered) = if is_mailbox m.settings then option_map Taken (visible_to m (RingRead covered)) else None
+mail_event m MessageTake = option_map Taken (visible_to m MessageTake)
 mail_event m o = None
 
 abbrev pub added : Option MailEvent → List MailEvent → List MailEvent

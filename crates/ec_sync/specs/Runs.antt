@@ -7,7 +7,7 @@ use Rattle.ec_bits.specs.Bits.{zeros}
 use Rattle.ec_regs.specs.declared.manager.SyncManagerSettings.{SyncManagerSettings}
 use Rattle.ec_regs.specs.Managers.{settings_of, manager_bytes, is_mailbox}
 use Rattle.ec_sync.specs.Buffer.{Got}
-use Rattle.ec_sync.specs.SyncManager.{SyncManager, no_manager, buffer_length, empty_manager, zeros_published, may_read, may_write, may_app_put, may_app_get, ring_written, ring_read, shown, app_put, app_got, after_get, message_in, message_taken, may_put_message, padded, message_put}
+use Rattle.ec_sync.specs.SyncManager.{SyncManager, no_manager, buffer_length, empty_manager, zeros_published, may_read, may_write, may_app_put, may_app_get, ring_written, ring_read, visible, app_put, app_got, after_get, message_in, message_taken, may_put_message, padded, message_put}
 use Rattle.ec_sync.specs.Sound.{IsManager}
 use Rattle.ec_sync.specs.Governing.{manager_byte, covers, after_ring_write, after_ring_read}
 
@@ -88,18 +88,18 @@ viewed m i =
     else None
 
 -- the whole value that a ring read or a message shows, and the value of which the application gets a byte
-abbrev pub shown_by : SyncManager → Operation → Option (List ℕ)
-shown_by m (RingRead covered) = if covered && may_read m then Some (shown m) else None
-shown_by m (AppGet i) = viewed m i
-shown_by m MessageTake = message_in m
-shown_by m o = None
+abbrev pub visible_to : SyncManager → Operation → Option (List ℕ)
+visible_to m (RingRead covered) = if covered && may_read m then Some (visible m) else None
+visible_to m (AppGet i) = viewed m i
+visible_to m MessageTake = message_in m
+visible_to m o = None
 
 -- ---- the laws
 
 -- Over every run from a new manager: what a reader gets was published as a whole, or is what a new manager holds.
 abbrev pub OnlyWholeValues : Type 0
 OnlyWholeValues =
-    (ops : List Operation) (o : Operation) (value : List ℕ) → shown_by (run no_manager ops) o ≡ Some value
+    (ops : List Operation) (o : Operation) (value : List ℕ) → visible_to (run no_manager ops) o ≡ Some value
     → Contains (no_manager.buffer.published ∷ history no_manager ops) value
 
 -- and the byte that the application gets is that value's
@@ -147,8 +147,8 @@ StaysBuffered (Configure settings) = is_mailbox settings ≡ false
 StaysBuffered o = Unit {0}
 
 -- Over every run: what a buffered manager shows is the value that was published last, and no older one.
-abbrev pub ShowsTheNewest : Type 0
-ShowsTheNewest =
+abbrev pub NewestIsVisible : Type 0
+NewestIsVisible =
     (m : SyncManager) (ops : List Operation) → is_mailbox m.settings ≡ false → All StaysBuffered ops
     → newest m.buffer.published (history m ops) ≡ (run m ops).buffer.published
 

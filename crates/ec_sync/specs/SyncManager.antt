@@ -50,8 +50,8 @@ abbrev pub may_write : SyncManager → Bool
 may_write m = is_enabled m && (is_master_written m.settings && (if is_mailbox m.settings then is_none m.mail else true))
 
 -- what a datagram reads: the message, or the last value that was published whole
-abbrev pub shown : SyncManager → List ℕ
-shown m = if is_mailbox m.settings then unwrap_or m.mail [] else m.buffer.published
+abbrev pub visible : SyncManager → List ℕ
+visible m = if is_mailbox m.settings then unwrap_or m.mail [] else m.buffer.published
 
 -- after a ring write of a whole value: a mailbox is full of it, a buffered manager has published it
 abbrev pub ring_written : SyncManager → List ℕ → SyncManager

@@ -20,17 +20,17 @@ impl SyncManager {
         self.is_enabled() && self.settings.is_buffered() && self.settings.is_master_written()
     }
 
-    /// The application writes byte `place`: byte 0 opens a draft of zeros, the last byte publishes it. Returns false and
+    /// The application writes byte `offset`: byte 0 opens a draft of zeros, the last byte publishes it. Returns false and
     /// changes nothing if it is denied. It is granted if this is an enabled buffered manager that the ring reads, and the
     /// place is below its length. Each byte after the first needs an open draft.
-    pub fn app_put(&mut self, place: usize, byte: u8) -> bool
-        ensures granted { result ≡ is_some (put_by_application self.old place byte) }
-        ensures after { self.new ≡ unwrap_or (put_by_application self.old place byte) self.old }
+    pub fn app_put(&mut self, offset: usize, byte: u8) -> bool
+        ensures granted { result ≡ is_some (put_by_application self.old offset byte) }
+        ensures after { self.new ≡ unwrap_or (put_by_application self.old offset byte) self.old }
     {
         if !self.may_app_put() {
             return false;
         }
-        self.buffer.put(place, byte)
+        self.buffer.put(offset, byte)
     }
 
     /// The application writes all bytes in turn, as by `app_put`: the last one publishes them. The caller has checked the right.
@@ -42,17 +42,17 @@ impl SyncManager {
         self.buffer.put_all(value);
     }
 
-    /// The application reads byte `place`: byte 0 opens a view of the published value, the last byte closes it. Returns none
+    /// The application reads byte `offset`: byte 0 opens a view of the published value, the last byte closes it. Returns none
     /// and changes nothing if it is denied. It is granted if this is an enabled buffered manager that the ring writes, and
     /// the place is below its length. Each byte after the first needs an open view.
-    pub fn app_get(&mut self, place: usize) -> Option<u8>
-        ensures byte { result ≡ option_map (λ got. got.byte) (app_got self.old place) }
-        ensures after { self.new ≡ after_get self.old (app_got self.old place) }
+    pub fn app_get(&mut self, offset: usize) -> Option<u8>
+        ensures byte { result ≡ option_map (λ got. got.byte) (app_got self.old offset) }
+        ensures after { self.new ≡ after_get self.old (app_got self.old offset) }
     {
         if !self.may_app_get() {
             return None;
         }
-        self.buffer.get(place)
+        self.buffer.get(offset)
     }
 
     /// The application reads all bytes of what is published in turn, as by `app_get`: the last one closes its view. The

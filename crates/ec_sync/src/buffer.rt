@@ -20,7 +20,7 @@ pub struct Buffer {
     published: Vec<u8>,
     draft: Vec<u8>,
     is_drafting: bool,
-    seen: Vec<u8>,
+    open_view: Vec<u8>,
     is_viewing: bool,
 }
 
@@ -33,12 +33,12 @@ impl Model for Buffer {
     ghost view = { λ b. record {
       published = take b.len b.published.items;
       draft = if b.is_drafting then Some (take b.len b.draft.items) else None;
-      view = if b.is_viewing then Some (take b.len b.seen.items) else None;
+      view = if b.is_viewing then Some (take b.len b.open_view.items) else None;
     } };
 
     ghost invariant = { λ b.
         (length b.published.items ≡ 2730) × (length b.draft.items ≡ 2730)
-        × (length b.seen.items ≡ 2730) × (b.len ≤ 2730) };
+        × (length b.open_view.items ≡ 2730) × (b.len ≤ 2730) };
 }
 
 impl Buffer {
@@ -51,7 +51,7 @@ impl Buffer {
             published: vec![in alloc; 0; MAX_BUFFER_LEN]?,
             draft: vec![in alloc; 0; MAX_BUFFER_LEN]?,
             is_drafting: false,
-            seen: vec![in alloc; 0; MAX_BUFFER_LEN]?,
+            open_view: vec![in alloc; 0; MAX_BUFFER_LEN]?,
             is_viewing: false,
         })
     }
@@ -105,20 +105,20 @@ impl Buffer {
 
     /// The application writes a byte. Returns false and changes nothing if there is no open draft, or no such byte.
     #[tactic(auto, unfolding(crate::specs::Buffer::app_written))]
-    pub fn put(&mut self, place: usize, byte: u8) -> bool
-        ensures granted { result ≡ is_some (app_written self.old place byte) }
-        ensures after { self.new ≡ unwrap_or (app_written self.old place byte) self.old }
+    pub fn put(&mut self, offset: usize, byte: u8) -> bool
+        ensures granted { result ≡ is_some (app_written self.old offset byte) }
+        ensures after { self.new ≡ unwrap_or (app_written self.old offset byte) self.old }
         ensures long { length self.new.published ≡ length self.old.published }
     {
-        if place >= self.len {
+        if offset >= self.len {
             return false;
         }
-        if place == 0 {
+        if offset == 0 {
             self.open_draft();
         } else if !self.is_drafting {
             return false;
         }
-        self.write_draft(place, byte);
+        self.write_draft(offset, byte);
         true
     }
 
@@ -133,21 +133,21 @@ impl Buffer {
 
     /// The application reads a byte. Returns none and changes nothing if there is no open view, or no such byte.
     #[tactic(auto, unfolding(crate::specs::Buffer::app_read))]
-    pub fn get(&mut self, place: usize) -> Option<u8>
-        ensures byte { result ≡ option_map (λ got. got.byte) (app_read self.old place) }
-        ensures after { self.new ≡ after_read self.old (app_read self.old place) }
+    pub fn get(&mut self, offset: usize) -> Option<u8>
+        ensures byte { result ≡ option_map (λ got. got.byte) (app_read self.old offset) }
+        ensures after { self.new ≡ after_read self.old (app_read self.old offset) }
         ensures long { length self.new.published ≡ length self.old.published }
     {
-        if place >= self.len {
+        if offset >= self.len {
             return None;
         }
-        if place == 0 {
-            copy_front(&mut self.seen, &self.published, self.len);
+        if offset == 0 {
+            copy_front(&mut self.open_view, &self.published, self.len);
         } else if !self.is_viewing {
             return None;
         }
-        self.is_viewing = place + 1 != self.len;
-        Some(self.seen[place])
+        self.is_viewing = offset + 1 != self.len;
+        Some(self.open_view[offset])
     }
 
     /// The application reads all bytes, which closes a view.
@@ -158,14 +158,14 @@ impl Buffer {
     }
 
     /// Writes a byte of the open draft, which the last one publishes.
-    fn write_draft(&mut self, place: usize, byte: u8)
+    fn write_draft(&mut self, offset: usize, byte: u8)
         requires open { is_some self.old.draft ≡ true }
-        requires inside { place < length self.old.published }
-        ensures after { Some self.new ≡ draft_next self.old place byte self.old.draft }
+        requires inside { offset < length self.old.published }
+        ensures after { Some self.new ≡ draft_next self.old offset byte self.old.draft }
         ensures long { length self.new.published ≡ length self.old.published }
     {
-        set_byte(&mut self.draft, self.len, place, byte);
-        if place + 1 == self.len {
+        set_byte(&mut self.draft, self.len, offset, byte);
+        if offset + 1 == self.len {
             self.is_drafting = false;
             mem::swap(&mut self.published, &mut self.draft);
         }
@@ -211,10 +211,10 @@ fn copy_front(storage: &mut [u8], from: &[u8], len: usize)
 }
 
 /// Sets a byte at the front.
-fn set_byte(storage: &mut [u8], len: usize, place: usize, byte: u8)
+fn set_byte(storage: &mut [u8], len: usize, offset: usize, byte: u8)
     requires room { len ≤ length storage.old }
-    requires inside { place < len }
-    ensures { take len storage.new ≡ slice_set (take len storage.old) place byte }
+    requires inside { offset < len }
+    ensures { take len storage.new ≡ slice_set (take len storage.old) offset byte }
 {
-    storage[place] = byte;
+    storage[offset] = byte;
 }

@@ -1,6 +1,6 @@
 //! Laws of the definitions, over every run of a manager. Each function does nothing: its contract is the law.
 
-ghost use Rattle.ec_sync.specs.Runs.{OnlyWholeValues, BytesOfTheView, ViewsStay, DraftsAreTheBytesPut, ShowsTheNewest, RegistersReadBack, CallsAreSteps};
+ghost use Rattle.ec_sync.specs.Runs.{OnlyWholeValues, BytesOfTheView, ViewsStay, DraftsAreTheBytesPut, NewestIsVisible, RegistersReadBack, CallsAreSteps};
 ghost use Rattle.ec_sync.specs.Messages.{MessagesAreGivenOnce};
 
 /// No reader ever gets a value that was not published as a whole, in whatever order the ring, the application and the
@@ -12,21 +12,21 @@ pub fn only_whole_values()
 {}
 
 /// All bytes of a view are those of one value: the one that was published as byte 0 was read.
-#[tactic(auto, using(crate::proofs::Openings::views_stay))]
+#[tactic(auto, using(crate::proofs::ViewsStay::views_stay))]
 pub fn views_stay()
     ensures { ViewsStay }
 {}
 
 /// A value that the application publishes has the bytes that it put since byte 0, and zeros elsewhere.
-#[tactic(auto, using(crate::proofs::Openings::drafts_are_the_bytes_put))]
+#[tactic(auto, using(crate::proofs::ViewsStay::drafts_are_the_bytes_put))]
 pub fn drafts_are_the_bytes_put()
     ensures { DraftsAreTheBytesPut }
 {}
 
 /// What a buffered manager shows is the value that was published last.
-#[tactic(auto, using(crate::proofs::Newest::shows_the_newest))]
-pub fn shows_the_newest()
-    ensures { ShowsTheNewest }
+#[tactic(auto, using(crate::proofs::Newest::newest_is_visible))]
+pub fn newest_is_visible()
+    ensures { NewestIsVisible }
 {}
 
 /// A mailbox gives each message once, in the order in which they were put, and loses none but by an emptying or a

@@ -4,9 +4,9 @@ ghost use Rattle.std.specs.Prelude.{◌≡◌, ◌-◌, ◌<◌, ◌≤◌, leng
 ghost use Rattle.std.specs.Bool.{OnTrue};
 ghost use Rattle.ec_bits.specs.Bits.{within};
 ghost use Rattle.ec_regs.specs.Managers.{is_set as is_set_of};
-ghost use Rattle.ec_sync.specs.SyncManager.{buffer_length as buffer_length_of, no_manager, LiesInRam, is_enabled as is_enabled_of, may_read as may_be_read, may_write as may_be_written, shown as value_shown};
+ghost use Rattle.ec_sync.specs.SyncManager.{buffer_length as buffer_length_of, no_manager, LiesInRam, is_enabled as is_enabled_of, may_read as may_be_read, may_write as may_be_written, visible as value_shown};
 ghost use Rattle.ec_sync.specs.Bounds.{bounds_of};
-ghost use Rattle.ec_sync.specs.Governing.{governs as governs_byte, covers, in_first_buffer as lies_in_first_buffer, manager_byte, shown_byte as byte_shown};
+ghost use Rattle.ec_sync.specs.Governing.{governs as governs_byte, covers, in_first_buffer as lies_in_first_buffer, manager_byte, visible_byte as byte_visible};
 
 use crate::bounds::Bounds;
 use crate::buffer::Buffer;
@@ -167,7 +167,7 @@ impl SyncManager {
     }
 
     /// What a datagram reads: the message of a mailbox, else the last value that was published whole.
-    pub fn shown(&self) -> &[u8]
+    pub fn visible(&self) -> &[u8]
         ensures { result.now ≡ value_shown self.now }
     {
         if self.settings.is_mailbox() {
@@ -178,11 +178,11 @@ impl SyncManager {
     }
 
     /// The byte that a datagram reads at an address in its value.
-    pub fn shown_byte(&self, address: usize) -> u8
-        ensures { result ≡ byte_shown self.now address }
+    pub fn visible_byte(&self, address: usize) -> u8
+        ensures { result ≡ byte_visible self.now address }
     {
-        let place = address.saturating_sub(self.bounds.first);
-        match self.shown().get(place) {
+        let offset = address.saturating_sub(self.bounds.first);
+        match self.visible().get(offset) {
             Some(byte) => *byte,
             None => 0,
         }

@@ -46,7 +46,7 @@ impl SyncManager {
         }
     }
 
-    /// A datagram reads what `shown_byte` returned before. A mailbox is empty then. Returns false and changes nothing
+    /// A datagram reads what `visible_byte` returned before. A mailbox is empty then. Returns false and changes nothing
     /// if it is denied: it must touch the first and the last byte of an enabled manager that the ring reads,
     /// and of a mailbox that is full.
     pub fn ring_read<T: Touching>(&mut self, access: &T) -> bool

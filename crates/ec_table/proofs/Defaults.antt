@@ -4,7 +4,7 @@ use Rattle.std.specs.Option.{ok_or}
 use Rattle.toml.specs.Data.{Data, Items, no_items, item, Members, get_member}
 use Rattle.ec_table.specs.declared.fault.Fault.{Fault}
 use Rattle.ec_table.specs.declared.fault.Fault.TheVariants.{BadKey, TwiceNamed, UnknownName}
-use Rattle.ec_table.specs.declared.fault.Place.{Place}
+use Rattle.ec_table.specs.declared.fault.Position.{Position}
 use Rattle.ec_table.specs.declared.rows.Version.{Version}
 use Rattle.ec_table.specs.declared.rows.Version.TheVariants.{One}
 use Rattle.ec_table.specs.declared.rows.ProcessData.{ProcessData}
@@ -14,43 +14,43 @@ use Rattle.ec_table.specs.declared.rows.VariableRow.{VariableRow}
 use Rattle.ec_table.specs.declared.keys.Shape.TheVariants as shape
 use Rattle.ec_table.specs.Fields.{must, keys_are, number_in, name_in, mailbox_in, truth_in, version_in, section_in, link_bits_in}
 use Rattle.ec_table.specs.InOrder.{rows_after}
-use Rattle.ec_table.specs.Names.{is_named, place_named}
+use Rattle.ec_table.specs.Names.{is_named, index_named}
 use Rattle.ec_table.specs.Pdos.{pdos_in, numbers_in, indices_of, has_twice}
 use Rattle.ec_table.specs.Reading.{device_in, process_in, process_twice, type_at, type_named, type_element, slave_at, slave_named, slave_of_type, slave_element, variable_element, all_bits, link_at, link_element, top, table_of_document, table_of_sections}
 use Rattle.ec_table.specs.Laws.{TypeDefaults, SlaveDefaults, LinkDefaults, DocumentDefaults, LeftOutIsDefault}
-use Rattle.ec_table.proofs.Meets.{Meets, meets_ok, meets_then, any_met, ok_or_met}
+use Rattle.ec_table.proofs.ValueTests.{Meets, meets_ok, meets_then, any_met, ok_or_met}
 use Rattle.ec_table.proofs.SoundRows.{Fits, assigned_met, number_or_0_met}
 
 -- ---- values
 
-no_mailbox : (p : Place) (v : Option Data) → Meets (mailbox_in p v) (λ o. v ≡ None → o ≡ None)
+no_mailbox : (p : Position) (v : Option Data) → Meets (mailbox_in p v) (λ o. v ≡ None → o ≡ None)
 unfolding mailbox_in
 no_mailbox p None = meets_ok (λ o. None ≡ None → o ≡ None) None (λ e. refl)
 no_mailbox p (Some d) = record { all = λ o is none. cc }
 
-no_pdos : (p : Place) (low high : ℕ) (v : Option Data) → Meets (pdos_in p low high v) (λ qs. v ≡ None → qs ≡ [])
+no_pdos : (p : Position) (low high : ℕ) (v : Option Data) → Meets (pdos_in p low high v) (λ qs. v ≡ None → qs ≡ [])
 no_pdos p low high None = meets_ok (λ qs. None ≡ None → qs ≡ []) [] (λ e. refl)
 no_pdos p low high (Some d) = record { all = λ qs is none. cc }
 
-truth : (p : Place) (v : Option Data) → Meets (truth_in p v) (λ b. v ≡ None → IsTrue b)
+truth : (p : Position) (v : Option Data) → Meets (truth_in p v) (λ b. v ≡ None → IsTrue b)
 truth p None = meets_ok (λ b. None ≡ None → IsTrue b) true (λ e. refl)
 truth p (Some d) = record { all = λ b is none. cc }
 
-no_numbers : (p : Place) (low high : ℕ) (v : Option Data) → Meets (numbers_in p low high v) (λ o. v ≡ None → o ≡ None)
+no_numbers : (p : Position) (low high : ℕ) (v : Option Data) → Meets (numbers_in p low high v) (λ o. v ≡ None → o ≡ None)
 no_numbers p low high None = meets_ok (λ o. None ≡ None → o ≡ None) None (λ e. refl)
 no_numbers p low high (Some d) = record { all = λ o is none. cc }
 
-no_bits : (p : Place) (v : Option Data) → Meets (link_bits_in p v) (λ o. v ≡ None → o ≡ None)
+no_bits : (p : Position) (v : Option Data) → Meets (link_bits_in p v) (λ o. v ≡ None → o ≡ None)
 unfolding link_bits_in
 no_bits p None = meets_ok (λ o. None ≡ None → o ≡ None) None (λ e. refl)
 no_bits p (Some d) = record { all = λ o is none. cc }
 
-first_version : (p : Place) (v : Option Data) → Meets (version_in p v) (λ o. v ≡ None → o ≡ One)
+first_version : (p : Position) (v : Option Data) → Meets (version_in p v) (λ o. v ≡ None → o ≡ One)
 unfolding version_in
 first_version p None = meets_ok (λ o. None ≡ None → o ≡ One) One (λ e. refl)
 first_version p (Some d) = record { all = λ o is none. cc }
 
-no_section : (p : Place) (v : Option Data) → Meets (section_in p v) (λ ds. v ≡ None → ds ≡ no_items)
+no_section : (p : Position) (v : Option Data) → Meets (section_in p v) (λ ds. v ≡ None → ds ≡ no_items)
 unfolding section_in
 no_section p None = meets_ok (λ ds. None ≡ None → ds ≡ no_items) no_items (λ e. refl)
 no_section p (Some d) = record { all = λ ds is none. cc }
@@ -65,7 +65,7 @@ no_rows row (item d ds) = record { all = λ xs is none. cc }
 abbrev NoPdos : Option Data → Option Data → ProcessData → Type 0
 NoPdos rxpdo txpdo d = (rxpdo ≡ None → d.outputs ≡ []) × (txpdo ≡ None → d.inputs ≡ [])
 
-no_process : (p : Place) (out_start in_start rxpdo txpdo : Option Data) → Meets (process_in p out_start in_start rxpdo txpdo) (NoPdos rxpdo txpdo)
+no_process : (p : Position) (out_start in_start rxpdo txpdo : Option Data) → Meets (process_in p out_start in_start rxpdo txpdo) (NoPdos rxpdo txpdo)
 unfolding process_in
 no_process p out_start in_start rxpdo txpdo =
     meets_then _ (NoPdos rxpdo txpdo) _ _ (any_met (number_in p 0 65535 out_start)) (λ a _.
@@ -74,7 +74,7 @@ no_process p out_start in_start rxpdo txpdo =
     meets_then _ (NoPdos rxpdo txpdo) _ _ (no_pdos p 0x1A00 0x1BFF txpdo) (λ is his.
     meets_ok (NoPdos rxpdo txpdo) (record { out_start = a; in_start = b; outputs = os; inputs = is }) (hos, his)))))
 
-type_defaults : (v : Version) (p : Place) (ms : Members) (found : List TypeRow) → Meets (type_at v p ms found) (TypeDefaults ms)
+type_defaults : (v : Version) (p : Position) (ms : Members) (found : List TypeRow) → Meets (type_at v p ms found) (TypeDefaults ms)
 unfolding type_at type_named
 type_defaults v p ms found =
     meets_then _ (TypeDefaults ms) _ _ (any_met (must (keys_are shape.Type v ms) (BadKey p))) (λ u _.
@@ -87,7 +87,7 @@ type_defaults v p ms found =
     meets_ok (TypeDefaults ms) (record { name = name; device = device; mailbox = mailbox; process = process; lrw = lrw })
     (record { mailbox = hmailbox; outputs = hprocess.0; inputs = hprocess.1; lrw = hlrw }))))))))
 
-slave_defaults : (v : Version) (ts : List TypeRow) (p : Place) (ms : Members) (found : List SlaveRow) → Meets (slave_at v ts p ms found) (SlaveDefaults ts ms)
+slave_defaults : (v : Version) (ts : List TypeRow) (p : Position) (ms : Members) (found : List SlaveRow) → Meets (slave_at v ts p ms found) (SlaveDefaults ts ms)
 unfolding slave_at slave_named slave_of_type
 slave_defaults v ts p ms found =
     meets_then _ (SlaveDefaults ts ms) _ _ (any_met (must (keys_are shape.Slave v ms) (BadKey p))) (λ u _.
@@ -98,9 +98,9 @@ slave_defaults v ts p ms found =
     meets_then _ (SlaveDefaults ts ms) _ _ (number_or_0_met p 4294967295 (get_member (codes "serial") ms)) (λ serial hserial.
     meets_then _ (SlaveDefaults ts ms) _ _ (number_or_0_met p 63 (get_member (codes "unit") ms)) (λ unit hunit.
     meets_then _ (SlaveDefaults ts ms) _ _ (any_met (must (not (is_named (λ (s : SlaveRow). s.name) name found || (has_twice (unwrap_or outputs []) || has_twice (unwrap_or inputs [])))) (TwiceNamed p))) (λ w _.
-    meets_then _ (SlaveDefaults ts ms) _ _ (any_met (ok_or (place_named (λ (t : TypeRow). t.name) type_name ts) (UnknownName p))) (λ place _.
+    meets_then _ (SlaveDefaults ts ms) _ _ (any_met (ok_or (index_named (λ (t : TypeRow). t.name) type_name ts) (UnknownName p))) (λ place _.
     meets_then _ (SlaveDefaults ts ms) _ _ (ok_or_met (slice_get ts place) (UnknownName p)) (λ t is.
-    let row : SlaveRow = record { name = name; type_place = place; outputs = unwrap_or outputs (indices_of t.process.outputs); inputs = unwrap_or inputs (indices_of t.process.inputs); serial = serial; unit = unit } in
+    let row : SlaveRow = record { name = name; type_index = place; outputs = unwrap_or outputs (indices_of t.process.outputs); inputs = unwrap_or inputs (indices_of t.process.inputs); serial = serial; unit = unit } in
     record {
       all = λ s done.
           let fits : Fits t row s = (assigned_met p t row).all s done in
@@ -112,7 +112,7 @@ slave_defaults v ts p ms found =
           });
     }))))))))))
 
-link_defaults : (v : Version) (ss : List SlaveRow) (ws : List VariableRow) (p : Place) (ms : Members) → Meets (link_at v ss ws p ms) (LinkDefaults ws ms)
+link_defaults : (v : Version) (ss : List SlaveRow) (ws : List VariableRow) (p : Position) (ms : Members) → Meets (link_at v ss ws p ms) (LinkDefaults ws ms)
 unfolding link_at
 link_defaults v ss ws p ms =
     meets_then _ (LinkDefaults ws ms) _ _ (any_met (must (keys_are shape.Link v ms) (BadKey p))) (λ u _.
@@ -121,9 +121,9 @@ link_defaults v ss ws p ms =
     meets_then _ (LinkDefaults ws ms) _ _ (any_met (number_in p 1 65535 (get_member (codes "index") ms))) (λ index _.
     meets_then _ (LinkDefaults ws ms) _ _ (any_met (number_in p 0 255 (get_member (codes "sub") ms))) (λ subindex _.
     meets_then _ (LinkDefaults ws ms) _ _ (no_bits p (get_member (codes "bits") ms)) (λ bits hbits.
-    meets_then _ (LinkDefaults ws ms) _ _ (any_met (ok_or (place_named (λ (w : VariableRow). w.name) variable_name ws) (UnknownName p))) (λ variable _.
+    meets_then _ (LinkDefaults ws ms) _ _ (any_met (ok_or (index_named (λ (w : VariableRow). w.name) variable_name ws) (UnknownName p))) (λ variable _.
     meets_then _ (LinkDefaults ws ms) _ _ (ok_or_met (slice_get ws variable) (UnknownName p)) (λ w is.
-    meets_then _ (LinkDefaults ws ms) _ _ (any_met (ok_or (place_named (λ (s : SlaveRow). s.name) slave_name ss) (UnknownName p))) (λ slave _.
+    meets_then _ (LinkDefaults ws ms) _ _ (any_met (ok_or (index_named (λ (s : SlaveRow). s.name) slave_name ss) (UnknownName p))) (λ slave _.
     meets_ok (LinkDefaults ws ms) (record { variable = variable; slave = slave; index = index; subindex = subindex; bits = unwrap_or bits (all_bits w) })
     (record { bits = λ none x at. let none_written : bits ≡ None = hbits none in let same : w ≡ x = cc in rw (none_written, same) refl }))))))))))
 

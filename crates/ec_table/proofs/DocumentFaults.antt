@@ -5,7 +5,7 @@ use Rattle.toml.specs.Data.{Data, no_items, Members, get_member, as_integer, as_
 use Rattle.toml.specs.Parse.{parse_document}
 use Rattle.ec_table.specs.declared.fault.Fault.{Fault}
 use Rattle.ec_table.specs.declared.fault.Fault.TheVariants.{Toml, BadKey, BadValue}
-use Rattle.ec_table.specs.declared.fault.Place.{Place}
+use Rattle.ec_table.specs.declared.fault.Position.{Position}
 use Rattle.ec_table.specs.declared.rows.Version.{Version}
 use Rattle.ec_table.specs.declared.keys.Shape.TheVariants as shape
 use Rattle.ec_table.specs.Fields.{◌>>=◌, must, keys_are, number_in, in_range, magnitude, version_in, section_in, are_tables}
@@ -34,16 +34,16 @@ only_if : {A : Type 0} (b : Bool) (x : A) (g : Fault) → Only (if b then Ok x e
 only_if true x g = only_ok x g
 only_if false x g = only_err g
 
-number_only : (p : Place) (low high : ℕ) (v : Option Data) → Only (number_in p low high v) (BadValue p)
+number_only : (p : Position) (low high : ℕ) (v : Option Data) → Only (number_in p low high v) (BadValue p)
 unfolding number_in
 number_only p low high v = only_then (ok_or (option_and_then as_integer v) (BadValue p)) (λ z. if in_range low high z then Ok (magnitude z) else Err (BadValue p)) (BadValue p) (only_none _ (BadValue p)) (λ z. only_if (in_range low high z) (magnitude z) (BadValue p))
 
-version_only : (p : Place) (v : Option Data) → Only (version_in p v) (BadValue p)
+version_only : (p : Position) (v : Option Data) → Only (version_in p v) (BadValue p)
 unfolding version_in
 version_only p None = only_ok _ (BadValue p)
 version_only p (Some d) = only_then (number_in p 1 2 (Some d)) _ (BadValue p) (number_only p 1 2 (Some d)) (λ n. only_ok _ (BadValue p))
 
-section_only : (p : Place) (v : Option Data) → Only (section_in p v) (BadValue p)
+section_only : (p : Position) (v : Option Data) → Only (section_in p v) (BadValue p)
 unfolding section_in
 section_only p None = only_ok no_items (BadValue p)
 section_only p (Some d) =

@@ -13,7 +13,7 @@ use Rattle.ec_table.specs.Contents.{Contents, as_stated}
 use Rattle.ec_table.specs.Fields.{◌>>=◌}
 use Rattle.ec_table.specs.InOrder.{rows_after}
 use Rattle.ec_table.specs.Reading.{type_element, slave_element, variable_element, link_element, table_of_document, table_of_sections}
-use Rattle.ec_table.specs.Laws.{HasSections, EachReads, AllRead, FirstFaultIsTold}
+use Rattle.ec_table.specs.Laws.{HasSections, EachReads, AllRead, FirstFaultIsReturned}
 
 next_is : {X : Type 0} (x : X) (xs : List X) (k : ℕ) → slice_get (x ∷ xs) (k + 1) ≡ slice_get xs k
 next_is x xs k = rw add-one refl
@@ -90,5 +90,5 @@ unfolding table_of_document table_of_sections
 link_told ms v types slaves variables before d after ts ss ws ls f h rt rs rv rl fault =
     rw (h.version, h.keys, h.types, h.slaves, h.variables, h.links, section_each (type_element v) types ts rt, section_each (slave_element v ts) slaves ss rs, section_each (variable_element v) variables ws rv, section_fails (link_element v ss ws) before d after ls f rl fault) refl
 
-pub first_told : FirstFaultIsTold
+pub first_told : FirstFaultIsReturned
 first_told = record { types = type_told; slaves = slave_told; variables = variable_told; links = link_told }

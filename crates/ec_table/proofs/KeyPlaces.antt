@@ -19,9 +19,9 @@ use Rattle.ec_table.specs.declared.keys.Shape.{Shape}
 use Rattle.ec_table.specs.declared.keys.Shape.TheVariants as shape
 use Rattle.ec_table.specs.declared.rows.Version.{Version}
 use Rattle.ec_table.specs.declared.rows.Version.TheVariants as versions
-use Rattle.ec_table.specs.Fields.{seen, required, optional, is_key, each_key, has_required, keys_are}
+use Rattle.ec_table.specs.Fields.{viewed, required, optional, is_key, each_key, has_required, keys_are}
 use Rattle.ec_table.specs.Values.{keys_of, AreUnder}
-use Rattle.ec_table.proofs.Naming.{has_place}
+use Rattle.ec_table.proofs.NameIndex.{has_place}
 use Rattle.ec_table.proofs.OnePass.{one_more_key, or_none}
 
 -- ---- the keys of a version
@@ -87,7 +87,7 @@ has_key s v key = has_place (bytes_eq key) (keys_of s v) ∙ list_any-append (by
 
 -- what was found of each key, with what the members left have, is what all members have
 abbrev pub Finds : List (Option (Bor Value)) → List (List ℕ) → Members → Members → Type 0
-Finds found keys rest whole = (name : List ℕ) (i : ℕ) → position (bytes_eq name) keys ≡ Some i → option_or (seen (get_or found i None)) (get_member name rest) ≡ get_member name whole
+Finds found keys rest whole = (name : List ℕ) (i : ℕ) → position (bytes_eq name) keys ≡ Some i → option_or (viewed (get_or found i None)) (get_member name rest) ≡ get_member name whole
 
 at_place : {X : Type 0} (p : X → Bool) (xs : List X) (i : ℕ) (d : X) (b : Bool) → nat_lt (position_or_len p xs) (length xs) ≡ b → cond b (Some (position_or_len p xs)) None ≡ Some i → p (get_or xs i d) ≡ true
 at_place p xs i d true lt is =
@@ -109,8 +109,8 @@ not_here Less d e = refl
 not_here Equal d e = cc
 not_here Greater d e = refl
 
-module _ (found : List (Option (Bor Value))) (keys : List (List ℕ)) (key : List ℕ) (d : Data) (p : ℕ) (new : Option (Bor Value)) (at : position (bytes_eq key) keys ≡ Some p) (inside : p < length found) (put : seen new ≡ option_or (seen (get_or found p None)) (Some d)) where
-  puts : (name : List ℕ) (i : ℕ) → position (bytes_eq name) keys ≡ Some i → (b : Bool) → bytes_eq name key ≡ b → seen (get_or (slice_set found p new) i None) ≡ option_or (seen (get_or found i None)) (get_member name (member key d no_members))
+module _ (found : List (Option (Bor Value))) (keys : List (List ℕ)) (key : List ℕ) (d : Data) (p : ℕ) (new : Option (Bor Value)) (at : position (bytes_eq key) keys ≡ Some p) (inside : p < length found) (put : viewed new ≡ option_or (viewed (get_or found p None)) (Some d)) where
+  puts : (name : List ℕ) (i : ℕ) → position (bytes_eq name) keys ≡ Some i → (b : Bool) → bytes_eq name key ≡ b → viewed (get_or (slice_set found p new) i None) ≡ option_or (viewed (get_or found i None)) (get_member name (member key d no_members))
   puts name i is true same =
       let e : name ≡ key = (bytes_eq-Decides name key).0 same in
       let i_is : p ≡ i = let f = ap (λ n. position (bytes_eq n) keys) e in cc in
@@ -123,7 +123,7 @@ module _ (found : List (Option (Bor Value))) (keys : List (List ℕ)) (key : Lis
       let n : bytes_eq name key ≡ true = (bytes_eq-Decides name key).1 (here ∙ (ap (λ k. get_or keys k []) e ∙ sym there)) in
       absurd (cc) in
       let none : get_member name (member key d no_members) ≡ None = not_here (slice_cmp nat_cmp name key) d (is_eq-slice_cmp name key ∙ other) in
-      rw (none, get_or-set_other found p i new None ne) (sym (or_none (seen (get_or found i None))))
+      rw (none, get_or-set_other found p i new None ne) (sym (or_none (viewed (get_or found i None))))
 
   pub one_more : (rest whole : Members) → Finds found keys (member key d rest) whole → Finds (slice_set found p new) keys rest whole
   one_more rest whole before name i is = one_more_key (get_or found i None) (get_or (slice_set found p new) i None) name key d rest (get_member name whole) (puts name i is (bytes_eq name key) refl) (before name i is)
@@ -132,10 +132,10 @@ module _ (found : List (Option (Bor Value))) (keys : List (List ℕ)) (key : Lis
 
 -- what was found of each key
 abbrev pub Found : List (Option (Bor Value)) → List (List ℕ) → Members → Type 0
-Found found keys ms = (name : List ℕ) (i : ℕ) → position (bytes_eq name) keys ≡ Some i → seen (get_or found i None) ≡ get_member name ms
+Found found keys ms = (name : List ℕ) (i : ℕ) → position (bytes_eq name) keys ≡ Some i → viewed (get_or found i None) ≡ get_member name ms
 
 pub found_all : (found : List (Option (Bor Value))) (keys : List (List ℕ)) (ms : Members) → Finds found keys no_members ms → Found found keys ms
-found_all found keys ms h name i is = sym (or_none (seen (get_or found i None))) ∙ h name i is
+found_all found keys ms h name i is = sym (or_none (viewed (get_or found i None))) ∙ h name i is
 
 both : (a b : Bool) → (a && b) ≡ true → (a ≡ true) × (b ≡ true)
 both true b e = (refl, e)
@@ -169,7 +169,7 @@ under_all shape.Type v found ms h none each = under_known shape.Type v found ms 
 under_all shape.Pdo v found ms h none each = under_known shape.Pdo v found ms h
 under_all shape.Slave versions.One found ms h none each =
     let u = under_known shape.Slave versions.One found ms h in
-    (u.0, (u.1.0, (u.1.1.0, (u.1.1.1.0, (u.1.1.1.1.0, (ap seen (none 5 (omega arith)) ∙ sym (not_there (is_key shape.Slave versions.One) (codes "unit") refl ms each), tt))))))
+    (u.0, (u.1.0, (u.1.1.0, (u.1.1.1.0, (u.1.1.1.1.0, (ap viewed (none 5 (omega arith)) ∙ sym (not_there (is_key shape.Slave versions.One) (codes "unit") refl ms each), tt))))))
 under_all shape.Slave versions.Two found ms h none each = under_known shape.Slave versions.Two found ms h
 under_all shape.Variable v found ms h none each = under_known shape.Variable v found ms h
 under_all shape.Link v found ms h none each = under_known shape.Link v found ms h
@@ -180,7 +180,7 @@ first_of : (found : List (Option (Bor Value))) (place : ℕ) (keys more : List (
 first_of found place [] more ms h = tt
 first_of found place (key ∷ keys) more ms h = (h.0, first_of found (place + 1) keys more ms h.1)
 
-is_seen : (o : Option (Bor Value)) → is_some o ≡ is_some (seen o)
+is_seen : (o : Option (Bor Value)) → is_some o ≡ is_some (viewed o)
 is_seen None = refl
 is_seen (Some x) = refl
 

@@ -7,13 +7,13 @@ pub mod OnePass
 -- the values under the keys of an element, found in one pass
 pub mod KeyPlaces
 -- a name's place, and one more name
-pub mod Naming
+pub mod NameIndex
 -- what stands under other keys once an entry is taken out of a table
-pub mod Taken
+pub mod KeysTaken
 -- one row of a section, and the end
-pub mod InOrder
+pub mod SectionRows
 -- what a value that was read meets, along a chain of tests
-pub mod Meets
+pub mod ValueTests
 -- the parts of a type as the reader finds them, each with its ranges, beside the limits of a slave's type
 pub mod Ranges
 -- what was read is sound: values and rows, and the whole
@@ -21,10 +21,10 @@ pub mod SoundReads
 pub mod SoundRows
 -- how many entries and bits a slave's objects have
 pub mod ObjectLemmas
--- a sound table is sound whether or not it is shown in full
-pub mod Shown
+-- a sound table is sound whether or not it is advertised in full
+pub mod AdvertisedFull
 -- each fault of an element carries the element's place
-pub mod Placed
+pub mod FaultPositions
 -- a sound table, written out, is read: values, rows, and the whole
 pub mod Written
 pub mod WrittenRows

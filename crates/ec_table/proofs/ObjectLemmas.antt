@@ -79,11 +79,11 @@ row_at ss ts s r same lt is = let here : r ≡ slice_index_or ts s r = rw same a
 
 pub entries_are : (c : Contents) (s : ℕ) (d : Direction) (r : SlaveRow) (t : TypeRow) → slice_get c.slaves s ≡ Some r → type_of c s ≡ Some t → entries_of c s d ≡ assigned_entries (pdos_toward d t) (assigned_toward d r)
 unfolding entries_of
-entries_are c s d r t is it = let at : slice_get c.types r.type_place ≡ Some t = rw is at it in rw (is, at)
+entries_are c s d r t is it = let at : slice_get c.types r.type_index ≡ Some t = rw is at it in rw (is, at)
 
 pub object_bounds : (c : Contents) (s : ℕ) (d : Direction) (r : SlaveRow) (t : TypeRow) → AreSlaves c.version c.types c.slaves → slice_get c.slaves s ≡ Some r → type_of c s ≡ Some t → IsType t → ObjectBounds (entries_of c s d)
 object_bounds c s d r t slaves is it kind =
-    let at : slice_get c.types r.type_place ≡ Some t = rw is at it in
+    let at : slice_get c.types r.type_index ≡ Some t = rw is at it in
     let row : IsSlave c.version c.types r = subst (IsSlave c.version c.types) (get_or_from_slice_get c.slaves s r r is) (slaves.each s r (slice_get_within c.slaves s r is)) in
     let each : All IsEntry (assigned_entries (pdos_toward d t) (assigned_toward d r)) = all_entries d (pdos_toward d t) (assigned_toward d r) (limits_toward t kind d) in
     let few : length (assigned_entries (pdos_toward d t) (assigned_toward d r)) ≤ 1024 = few_entries d t r (limits_toward t kind d) (row.assigned t d at) in

@@ -13,7 +13,7 @@ use Rattle.toml.specs.Data.{Data, Members, Items, get_member, at}
 use Rattle.ec_device.specs.declared.slave_type.Mailbox.{Mailbox}
 use Rattle.ec_table.specs.declared.fault.Fault.{Fault}
 use Rattle.ec_table.specs.declared.fault.Fault.TheVariants.{BadKey, BadValue, TwiceNamed}
-use Rattle.ec_table.specs.declared.fault.Place.{Place}
+use Rattle.ec_table.specs.declared.fault.Position.{Position}
 use Rattle.ec_table.specs.declared.rows.Version.{Version}
 use Rattle.ec_table.specs.declared.rows.Direction.{Direction}
 use Rattle.ec_table.specs.declared.rows.Direction.TheVariants.{Out, In}
@@ -29,11 +29,11 @@ use Rattle.ec_table.specs.Reading.{device_in, process_in, process_twice, type_at
 use Rattle.ec_table.specs.Names.{is_named}
 use Rattle.ec_table.specs.Sound.{IsOnce, IsDevice, IsType, AreTypes, IsVariable, AreVariables, first_index}
 use Rattle.ec_table.proofs.Ranges.{ReadMailbox, ReadEntry, ReadPdo, ReadPdos, last_index, type_read}
-use Rattle.ec_table.proofs.Meets.{Meets, meets_ok, meets_then, any_met, must_met, number_met, name_met, rows_met}
+use Rattle.ec_table.proofs.ValueTests.{Meets, meets_ok, meets_then, any_met, must_met, number_met, name_met, rows_met}
 
 -- ---- values
 
-pub mailbox_of_met : (p : Place) (d : Data) → Meets (mailbox_of p d) ReadMailbox
+pub mailbox_of_met : (p : Position) (d : Data) → Meets (mailbox_of p d) ReadMailbox
 unfolding mailbox_of
 mailbox_of_met p d =
     meets_then _ ReadMailbox _ _ (number_met p 0 65535 (at 0 d)) (λ a ha.
@@ -43,7 +43,7 @@ mailbox_of_met p d =
     meets_then _ ReadMailbox _ _ (any_met _) (λ u _.
     meets_ok ReadMailbox _ (record { receive_start = ha.1; receive_least = hb.0; receive_most = hb.1; send_start = he.1; send_least = hf.0; send_most = hf.1 }))))))
 
-pub mailbox_met : (p : Place) (v : Option Data) → Meets (mailbox_in p v) (λ o. (m : Mailbox) → o ≡ Some m → ReadMailbox m)
+pub mailbox_met : (p : Position) (v : Option Data) → Meets (mailbox_in p v) (λ o. (m : Mailbox) → o ≡ Some m → ReadMailbox m)
 unfolding mailbox_in
 mailbox_met p None = meets_ok (λ o. (m : Mailbox) → o ≡ Some m → ReadMailbox m) None (λ m is. cc)
 mailbox_met p (Some d) = meets_then ReadMailbox (λ o. (m : Mailbox) → o ≡ Some m → ReadMailbox m) _ _ (mailbox_of_met p d) (λ m hm. meets_ok (λ o. (k : Mailbox) → o ≡ Some k → ReadMailbox k) (Some m) (λ k is. let e : m ≡ k = cc in subst ReadMailbox e hm))
@@ -51,7 +51,7 @@ mailbox_met p (Some d) = meets_then ReadMailbox (λ o. (m : Mailbox) → o ≡ S
 gap_kept : (a b : ℕ) (c : Bool) → (c && (not (a == 0) || (b == 0))) ≡ true → a ≡ 0 → b ≡ 0
 gap_kept a b c h e = grind (arith, nat_tests)
 
-pub entry_met : (p : Place) (d : Data) → Meets (entry_of p d) ReadEntry
+pub entry_met : (p : Position) (d : Data) → Meets (entry_of p d) ReadEntry
 unfolding entry_of
 entry_met p d =
     meets_then _ ReadEntry _ _ (number_met p 0 65535 (at 0 d)) (λ a ha.
@@ -64,7 +64,7 @@ le_from_test : (n m : ℕ) → nat_le n m ≡ true → n ≤ m
 le_from_test n m h = grind (arith, nat_tests)
 
 -- a list of rows: each is as it must be, and they are few
-pub array_met : {X : Type 0} (P : X → Type 0) (row : ℕ → Data → List X → Result X Fault) (p : Place) (most : ℕ) → ((n : ℕ) (d : Data) (found : List X) → Meets (row n d found) P) → (v : Option Data) → Meets (array_in row p most v) (λ xs. All P xs × (length xs ≤ most))
+pub array_met : {X : Type 0} (P : X → Type 0) (row : ℕ → Data → List X → Result X Fault) (p : Position) (most : ℕ) → ((n : ℕ) (d : Data) (found : List X) → Meets (row n d found) P) → (v : Option Data) → Meets (array_in row p most v) (λ xs. All P xs × (length xs ≤ most))
 unfolding array_of
 array_met P row p most one None = meets_ok (λ xs. All P xs × (length xs ≤ most)) [] (All-nil P, omega arith)
 array_met P row p most one (Some d) =
@@ -73,10 +73,10 @@ array_met P row p most one (Some d) =
     meets_then _ (λ xs. All P xs × (length xs ≤ most)) _ _ (must_met (nat_le (length xs) most) (BadValue p)) (λ u hu.
     meets_ok (λ xs. All P xs × (length xs ≤ most)) xs (hxs, le_from_test (length xs) most hu))))
 
-pub members_met : {A : Type 0} (P : A → Type 0) (p : Place) (d : Data) (f : Members → Result A Fault) → ((ms : Members) → Meets (f ms) P) → Meets (members_in p d >>= f) P
+pub members_met : {A : Type 0} (P : A → Type 0) (p : Position) (d : Data) (f : Members → Result A Fault) → ((ms : Members) → Meets (f ms) P) → Meets (members_in p d >>= f) P
 members_met P p d f h = meets_then (λ _. Unit {0}) P (members_in p d) f (any_met _) (λ ms _. h ms)
 
-pub pdo_met : (direction : Direction) (p : Place) (ms : Members) → Meets (pdo_of p (first_index direction) (last_index direction) ms) (ReadPdo direction)
+pub pdo_met : (direction : Direction) (p : Position) (ms : Members) → Meets (pdo_of p (first_index direction) (last_index direction) ms) (ReadPdo direction)
 unfolding pdo_of
 pdo_met direction p ms =
     meets_then _ (ReadPdo direction) _ _ (any_met _) (λ u _.
@@ -84,7 +84,7 @@ pdo_met direction p ms =
     meets_then _ (ReadPdo direction) _ _ (array_met ReadEntry (entry_row p) p 64 (λ k d found. entry_met p d) (get_member (codes "entries") ms)) (λ es hes.
     meets_ok (ReadPdo direction) _ (record { first = hn.0; last = hn.1; entries = hes.0; few = hes.1 }))))
 
-pub pdos_met : (direction : Direction) (p : Place) (v : Option Data) → Meets (pdos_in p (first_index direction) (last_index direction) v) (λ qs. All (ReadPdo direction) qs × (length qs ≤ 16))
+pub pdos_met : (direction : Direction) (p : Position) (v : Option Data) → Meets (pdos_in p (first_index direction) (last_index direction) v) (λ qs. All (ReadPdo direction) qs × (length qs ≤ 16))
 pdos_met direction p v = array_met (ReadPdo direction) (pdo_row p (first_index direction) (last_index direction)) p 16 (λ n d found. members_met (ReadPdo direction) p d (pdo_of p (first_index direction) (last_index direction)) (pdo_met direction p)) v
 
 -- no number stands twice
@@ -106,7 +106,7 @@ not_true false h = refl
 
 -- ---- types
 
-pub device_met : (p : Place) (vendor product revision : Option Data) → Meets (device_in p vendor product revision) IsDevice
+pub device_met : (p : Position) (vendor product revision : Option Data) → Meets (device_in p vendor product revision) IsDevice
 unfolding device_in
 device_met p vendor product revision =
     meets_then _ IsDevice _ _ (number_met p 0 4294967295 vendor) (λ a ha.
@@ -123,7 +123,7 @@ pub record IsProcess (d : ProcessData) : Type 0 where
   pub inputs : All (ReadPdo In) d.inputs
   pub input_count : length d.inputs ≤ 16
 
-pub process_met : (p : Place) (out_start in_start rxpdo txpdo : Option Data) → Meets (process_in p out_start in_start rxpdo txpdo) IsProcess
+pub process_met : (p : Position) (out_start in_start rxpdo txpdo : Option Data) → Meets (process_in p out_start in_start rxpdo txpdo) IsProcess
 unfolding process_in
 process_met p out_start in_start rxpdo txpdo =
     meets_then _ IsProcess _ _ (number_met p 0 65535 out_start) (λ a ha.
@@ -147,7 +147,7 @@ pub record NewType (found : List TypeRow) (t : TypeRow) : Type 0 where
   pub sound : IsType t
   pub fresh : (k : ℕ) (d : TypeRow) → k < length found → (get_or found k d).name ≢ t.name
 
-pub type_met : (v : Version) (p : Place) (ms : Members) (found : List TypeRow) → Meets (type_at v p ms found) (NewType found)
+pub type_met : (v : Version) (p : Position) (ms : Members) (found : List TypeRow) → Meets (type_at v p ms found) (NewType found)
 unfolding type_at type_named
 type_met v p ms found =
     meets_then _ (NewType found) _ _ (any_met (must (keys_are shape.Type v ms) (BadKey p))) (λ u _.
@@ -175,7 +175,7 @@ pub record NewVariable (found : List VariableRow) (w : VariableRow) : Type 0 whe
   pub sound : IsVariable w
   pub fresh : (k : ℕ) (d : VariableRow) → k < length found → (get_or found k d).name ≢ w.name
 
-pub variable_met : (v : Version) (p : Place) (ms : Members) (found : List VariableRow) → Meets (variable_at v p ms found) (NewVariable found)
+pub variable_met : (v : Version) (p : Position) (ms : Members) (found : List VariableRow) → Meets (variable_at v p ms found) (NewVariable found)
 unfolding variable_at
 variable_met v p ms found =
     meets_then _ (NewVariable found) _ _ (any_met (must (keys_are shape.Variable v ms) (BadKey p))) (λ u _.

@@ -19,7 +19,7 @@ use Rattle.toml.specs.Parse.{parse_document}
 use Rattle.toml.specs.Data.{Data, Members, no_members, member, Items, at, get_member}
 use Rattle.ec_device.specs.declared.slave_type.Mailbox.{Mailbox}
 use Rattle.ec_table.specs.declared.fault.Fault.TheVariants.{Toml, BadKey, BadValue, TwiceNamed, UnknownName}
-use Rattle.ec_table.specs.declared.fault.Place.{Place}
+use Rattle.ec_table.specs.declared.fault.Position.{Position}
 use Rattle.ec_table.specs.declared.rows.Version.{Version}
 use Rattle.ec_table.specs.declared.rows.Version.TheVariants.{One, Two}
 use Rattle.ec_table.specs.declared.rows.Direction.{Direction}
@@ -35,11 +35,11 @@ use Rattle.ec_table.specs.Fields.{must, each_key, is_key, has_required, keys_are
 use Rattle.ec_table.specs.InOrder.{rows_after}
 use Rattle.ec_table.specs.Pdos.{indices_of, has_twice, numbers_in}
 use Rattle.ec_table.specs.Reading.{all_in, same_list, assigned_in, slave_at, slave_named, slave_of_type, slave_element, all_bits, link_at, link_element, type_element, variable_element, top, table_of_document, table_of_sections, table_of}
-use Rattle.ec_table.specs.Names.{is_named, place_named}
+use Rattle.ec_table.specs.Names.{is_named, index_named}
 use Rattle.ec_table.specs.Sound.{IsOnce, IsType, AreTypes, IsAssignment, IsSlave, AreSlaves, IsVariable, AreVariables, IsBits, IsLink, IsSound, IsName}
 use Rattle.ec_table.proofs.Ranges.{pdos_toward_read}
 use Rattle.ec_table.specs.Laws.{AcceptedIsSound}
-use Rattle.ec_table.proofs.Meets.{Meets, meets_ok, meets_then, any_met, must_met, ok_or_met, number_met, name_met, rows_met}
+use Rattle.ec_table.proofs.ValueTests.{Meets, meets_ok, meets_then, any_met, must_met, ok_or_met, number_met, name_met, rows_met}
 use Rattle.ec_table.proofs.SoundReads.{once_from_test, not_true, fresh, members_met, types_met, variables_met}
 
 -- ---- keys
@@ -66,7 +66,7 @@ pub no_unit : (v : Version) (ms : Members) → keys_are shape.Slave v ms ≡ tru
 no_unit One ms keys e = no_such_key (is_key shape.Slave One) (codes "unit") ms refl (and_parts (each_key (is_key shape.Slave One) ms) (has_required shape.Slave ms) keys).0
 no_unit Two ms keys e = cc
 
-pub number_or_0_met : (p : Place) (most : ℕ) (v : Option Data) → Meets (number_or_0 p most v) (λ n. (n ≤ most) × (v ≡ None → n ≡ 0))
+pub number_or_0_met : (p : Position) (most : ℕ) (v : Option Data) → Meets (number_or_0 p most v) (λ n. (n ≤ most) × (v ≡ None → n ≡ 0))
 number_or_0_met p most None = meets_ok (λ n. (n ≤ most) × (None ≡ None → n ≡ 0)) 0 (omega arith, λ e. refl)
 number_or_0_met p most (Some d) = record { all = λ n is. (((number_met p 0 most (Some d)).all n is).1, λ e. cc) }
 
@@ -93,7 +93,7 @@ either : (o : Option Mailbox) (b : Bool) → (is_some o || b) ≡ true → o ≡
 either None b h e = h
 either (Some m) b h e = cc
 
-pub assigned_met : (p : Place) (t : TypeRow) (s : SlaveRow) → Meets (assigned_in p t s) (Fits t s)
+pub assigned_met : (p : Position) (t : TypeRow) (s : SlaveRow) → Meets (assigned_in p t s) (Fits t s)
 unfolding assigned_in
 assigned_met p t s =
     let outs : Bool = all_in s.outputs (indices_of t.process.outputs) in
@@ -127,7 +127,7 @@ pub type_at_place : (ts : List TypeRow) (k : ℕ) (t : TypeRow) → AreTypes ts 
 type_at_place ts k t h is = subst IsType (get_or_from_slice_get ts k t t is) (All-get_or IsType ts k t (slice_get_within ts k t is) h.each)
 
 -- the row that the tests of a slave end with
-pub slave_sound : (v : Version) (ts : List TypeRow) (k : ℕ) (t : TypeRow) (s : SlaveRow) → AreTypes ts → slice_get ts k ≡ Some t → s.type_place ≡ k → Fits t s s → ((d : Direction) → IsOnce (assigned_toward d s)) → IsName s.name → s.serial ≤ 4294967295 → s.unit ≤ 63 → (v ≡ One → s.unit ≡ 0) → IsSlave v ts s
+pub slave_sound : (v : Version) (ts : List TypeRow) (k : ℕ) (t : TypeRow) (s : SlaveRow) → AreTypes ts → slice_get ts k ≡ Some t → s.type_index ≡ k → Fits t s s → ((d : Direction) → IsOnce (assigned_toward d s)) → IsName s.name → s.serial ≤ 4294967295 → s.unit ≤ 63 → (v ≡ One → s.unit ≡ 0) → IsSlave v ts s
 slave_sound v ts k t s types is place fits once name serial unit one = record {
   name = name;
   known = rw place (slice_get_within ts k t is);
@@ -138,7 +138,7 @@ slave_sound v ts k t s types is place fits once name serial unit one = record {
   one_unit = one;
 }
 
-pub slave_met : (v : Version) (ts : List TypeRow) (p : Place) (ms : Members) (found : List SlaveRow) → AreTypes ts → Meets (slave_at v ts p ms found) (NewSlave v ts found)
+pub slave_met : (v : Version) (ts : List TypeRow) (p : Position) (ms : Members) (found : List SlaveRow) → AreTypes ts → Meets (slave_at v ts p ms found) (NewSlave v ts found)
 unfolding slave_at slave_named slave_of_type
 slave_met v ts p ms found types =
     meets_then _ (NewSlave v ts found) _ _ (must_met (keys_are shape.Slave v ms) (BadKey p)) (λ u keys.
@@ -149,9 +149,9 @@ slave_met v ts p ms found types =
     meets_then _ (NewSlave v ts found) _ _ (number_or_0_met p 4294967295 (get_member (codes "serial") ms)) (λ serial hserial.
     meets_then _ (NewSlave v ts found) _ _ (number_or_0_met p 63 (get_member (codes "unit") ms)) (λ unit hunit.
     meets_then _ (NewSlave v ts found) _ _ (must_met (not (is_named (λ (s : SlaveRow). s.name) name found || (has_twice (unwrap_or outputs []) || has_twice (unwrap_or inputs [])))) (TwiceNamed p)) (λ w hw.
-    meets_then _ (NewSlave v ts found) _ _ (any_met (ok_or (place_named (λ (t : TypeRow). t.name) type_name ts) (UnknownName p))) (λ place _.
+    meets_then _ (NewSlave v ts found) _ _ (any_met (ok_or (index_named (λ (t : TypeRow). t.name) type_name ts) (UnknownName p))) (λ place _.
     meets_then _ (NewSlave v ts found) _ _ (ok_or_met (slice_get ts place) (UnknownName p)) (λ t is.
-    let row : SlaveRow = record { name = name; type_place = place; outputs = unwrap_or outputs (indices_of t.process.outputs); inputs = unwrap_or inputs (indices_of t.process.inputs); serial = serial; unit = unit } in
+    let row : SlaveRow = record { name = name; type_index = place; outputs = unwrap_or outputs (indices_of t.process.outputs); inputs = unwrap_or inputs (indices_of t.process.inputs); serial = serial; unit = unit } in
     let twice : (is_named (λ (s : SlaveRow). s.name) name found ≡ false) × ((has_twice (unwrap_or outputs []) || has_twice (unwrap_or inputs [])) ≡ false) = or_parts (is_named (λ (s : SlaveRow). s.name) name found) (has_twice (unwrap_or outputs []) || has_twice (unwrap_or inputs [])) (not_true _ hw) in
     let lists : (has_twice (unwrap_or outputs []) ≡ false) × (has_twice (unwrap_or inputs []) ≡ false) = or_parts (has_twice (unwrap_or outputs [])) (has_twice (unwrap_or inputs [])) twice.1 in
     let kind : IsType t = type_at_place ts place t types is in
@@ -177,7 +177,7 @@ slaves_met v ts ds types = rows_met (AreSlaves v ts) (NewSlave v ts) (slave_elem
 
 -- ---- links
 
-pub link_bits_of_met : (p : Place) (d : Data) → Meets (link_bits_of p d) IsBits
+pub link_bits_of_met : (p : Position) (d : Data) → Meets (link_bits_of p d) IsBits
 unfolding link_bits_of
 link_bits_of_met p d =
     meets_then _ IsBits _ _ (number_met p 0 63 (at 0 d)) (λ a ha.
@@ -186,7 +186,7 @@ link_bits_of_met p d =
     meets_then _ IsBits _ _ (any_met (must (not (is_some (at 3 d))) (BadValue p))) (λ u _.
     meets_ok IsBits (record { variable_bit = a; entry_bit = b; count = n }) (record { variable_bit = ha.1; entry_bit = hb.1; least = hn.0; most = hn.1 })))))
 
-pub link_bits_met : (p : Place) (v : Option Data) → Meets (link_bits_in p v) (λ o. (b : LinkBits) → o ≡ Some b → IsBits b)
+pub link_bits_met : (p : Position) (v : Option Data) → Meets (link_bits_in p v) (λ o. (b : LinkBits) → o ≡ Some b → IsBits b)
 unfolding link_bits_in
 link_bits_met p None = meets_ok (λ o. (b : LinkBits) → o ≡ Some b → IsBits b) None (λ m is. cc)
 link_bits_met p (Some d) = meets_then IsBits (λ o. (b : LinkBits) → o ≡ Some b → IsBits b) _ _ (link_bits_of_met p d) (λ m hm. meets_ok (λ o. (k : LinkBits) → o ≡ Some k → IsBits k) (Some m) (λ k is. let e : m ≡ k = cc in subst IsBits e hm))
@@ -202,7 +202,7 @@ position_within test (x ∷ xs) k h = (position-Some test (x ∷ xs) k x h).0
 variable_at_place : (ws : List VariableRow) (k : ℕ) (w : VariableRow) → AreVariables ws → slice_get ws k ≡ Some w → IsVariable w
 variable_at_place ws k w h is = subst IsVariable (get_or_from_slice_get ws k w w is) (All-get_or IsVariable ws k w (slice_get_within ws k w is) h.each)
 
-pub link_met : (v : Version) (ss : List SlaveRow) (ws : List VariableRow) (p : Place) (ms : Members) → AreVariables ws → Meets (link_at v ss ws p ms) (IsLink ss ws)
+pub link_met : (v : Version) (ss : List SlaveRow) (ws : List VariableRow) (p : Position) (ms : Members) → AreVariables ws → Meets (link_at v ss ws p ms) (IsLink ss ws)
 unfolding link_at
 link_met v ss ws p ms variables =
     meets_then _ (IsLink ss ws) _ _ (any_met (must (keys_are shape.Link v ms) (BadKey p))) (λ u keys.
@@ -211,9 +211,9 @@ link_met v ss ws p ms variables =
     meets_then _ (IsLink ss ws) _ _ (number_met p 1 65535 (get_member (codes "index") ms)) (λ index hindex.
     meets_then _ (IsLink ss ws) _ _ (number_met p 0 255 (get_member (codes "sub") ms)) (λ subindex hsubindex.
     meets_then _ (IsLink ss ws) _ _ (link_bits_met p (get_member (codes "bits") ms)) (λ bits hbits.
-    meets_then _ (IsLink ss ws) _ _ (any_met (ok_or (place_named (λ (w : VariableRow). w.name) variable_name ws) (UnknownName p))) (λ variable _.
+    meets_then _ (IsLink ss ws) _ _ (any_met (ok_or (index_named (λ (w : VariableRow). w.name) variable_name ws) (UnknownName p))) (λ variable _.
     meets_then _ (IsLink ss ws) _ _ (ok_or_met (slice_get ws variable) (UnknownName p)) (λ w is.
-    meets_then _ (IsLink ss ws) _ _ (ok_or_met (place_named (λ (s : SlaveRow). s.name) slave_name ss) (UnknownName p)) (λ slave hslave.
+    meets_then _ (IsLink ss ws) _ _ (ok_or_met (index_named (λ (s : SlaveRow). s.name) slave_name ss) (UnknownName p)) (λ slave hslave.
     meets_ok (IsLink ss ws) (record { variable = variable; slave = slave; index = index; subindex = subindex; bits = unwrap_or bits (all_bits w) })
     (record {
       variable = slice_get_within ws variable w is;

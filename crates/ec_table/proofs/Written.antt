@@ -14,7 +14,7 @@ use Rattle.ec_device.specs.declared.slave_type.Entry.{Entry}
 use Rattle.ec_device.specs.declared.slave_type.Pdo.{Pdo}
 use Rattle.ec_device.specs.declared.slave_type.Mailbox.{Mailbox}
 use Rattle.ec_table.specs.declared.fault.Fault.{Fault}
-use Rattle.ec_table.specs.declared.fault.Place.{Place}
+use Rattle.ec_table.specs.declared.fault.Position.{Position}
 use Rattle.ec_table.specs.declared.rows.Version.{Version}
 use Rattle.ec_table.specs.declared.rows.Direction.{Direction}
 use Rattle.ec_table.specs.declared.rows.Direction.TheVariants.{Out, In}
@@ -35,24 +35,24 @@ use Rattle.ec_table.specs.Writing.{number, array_of_all, entry_data, pdo_data, m
 test_from_le : (n m : ℕ) → n ≤ m → nat_le n m ≡ true
 test_from_le n m h = grind (arith, nat_tests)
 
-pub number_reads : (p : Place) (low high n : ℕ) → low ≤ n → n ≤ high → number_in p low high (Some (number n)) ≡ Ok n
+pub number_reads : (p : Position) (low high n : ℕ) → low ≤ n → n ≤ high → number_in p low high (Some (number n)) ≡ Ok n
 unfolding number_in
 number_reads p low high n least most = rw (test_from_le low n least, test_from_le n high most) refl
 
-pub name_reads : (p : Place) (s : List ℕ) → IsName s → name_in p (Some (string s)) ≡ Ok s
+pub name_reads : (p : Position) (s : List ℕ) → IsName s → name_in p (Some (string s)) ≡ Ok s
 unfolding name_in
 name_reads p s h = rw h refl
 
-pub direction_reads : (p : Place) (d : Direction) → direction_in p (Some (string (direction_text d))) ≡ Ok d
+pub direction_reads : (p : Position) (d : Direction) → direction_in p (Some (string (direction_text d))) ≡ Ok d
 unfolding direction_in
 direction_reads p Out = refl
 direction_reads p In = refl
 
-pub mailbox_reads : (p : Place) (m : Mailbox) → ReadMailbox m → mailbox_in p (Some (mailbox_data m)) ≡ Ok (Some m)
+pub mailbox_reads : (p : Position) (m : Mailbox) → ReadMailbox m → mailbox_in p (Some (mailbox_data m)) ≡ Ok (Some m)
 unfolding mailbox_in mailbox_of
 mailbox_reads p m h = rw (number_reads p 0 65535 m.receive_start (omega arith) h.receive_start, number_reads p 16 1024 m.receive_size h.receive_least h.receive_most, number_reads p 0 65535 m.send_start (omega arith) h.send_start, number_reads p 16 1024 m.send_size h.send_least h.send_most) refl
 
-pub bits_read : (p : Place) (b : LinkBits) → IsBits b → link_bits_in p (Some (bits_data b)) ≡ Ok (Some b)
+pub bits_read : (p : Position) (b : LinkBits) → IsBits b → link_bits_in p (Some (bits_data b)) ≡ Ok (Some b)
 unfolding link_bits_in link_bits_of
 bits_read p b h = rw (number_reads p 0 63 b.variable_bit (omega arith) h.variable_bit, number_reads p 0 63 b.entry_bit (omega arith) h.entry_bit, number_reads p 1 64 b.count h.least h.most) refl
 
@@ -78,24 +78,24 @@ middle P before x after xs e h =
 no_gap_name : (e : Entry) → ReadEntry e → (not (e.index == 0) || (e.subindex == 0)) ≡ true
 no_gap_name e h = let gap : e.index ≡ 0 → e.subindex ≡ 0 = h.gap in grind (arith, nat_tests, gap)
 
-pub entry_reads : (p : Place) (e : Entry) → ReadEntry e → entry_of p (entry_data e) ≡ Ok e
+pub entry_reads : (p : Position) (e : Entry) → ReadEntry e → entry_of p (entry_data e) ≡ Ok e
 unfolding entry_of
 entry_reads p e h = rw (number_reads p 0 65535 e.index (omega arith) h.index, number_reads p 0 255 e.subindex (omega arith) h.subindex, number_reads p 1 64 e.bits h.least h.most, no_gap_name e h) refl
 
-pub array_reads : {X : Type 0} (row : ℕ → Data → List X → Result X Fault) (spell : X → Data) (P : X → Type 0) (p : Place) (most : ℕ) (xs : List X) → ((n : ℕ) (x : X) (found : List X) → P x → row n (spell x) found ≡ Ok x) → All P xs → length xs ≤ most → array_in row p most (Some (array_of_all spell xs)) ≡ Ok xs
+pub array_reads : {X : Type 0} (row : ℕ → Data → List X → Result X Fault) (spell : X → Data) (P : X → Type 0) (p : Position) (most : ℕ) (xs : List X) → ((n : ℕ) (x : X) (found : List X) → P x → row n (spell x) found ≡ Ok x) → All P xs → length xs ≤ most → array_in row p most (Some (array_of_all spell xs)) ≡ Ok xs
 unfolding array_of
 array_reads row spell P p most xs one all few =
     let rows : rows_after row [] 0 (items_of (map spell xs)) ≡ Ok xs = rows_written row spell [] xs (λ before x after e. one (length before) x before (middle P before x after xs e all)) in
     rw (rows, test_from_le (length xs) most few) refl
 
-pub pdo_reads : (p : Place) (d : Direction) (q : Pdo) → ReadPdo d q → pdo_row p (first_index d) (last_index d) 0 (pdo_data q) [] ≡ Ok q
+pub pdo_reads : (p : Position) (d : Direction) (q : Pdo) → ReadPdo d q → pdo_row p (first_index d) (last_index d) 0 (pdo_data q) [] ≡ Ok q
 unfolding pdo_of
 pdo_reads p d q h = rw (number_reads p (first_index d) (last_index d) q.index h.first h.last, array_reads (entry_row p) entry_data ReadEntry p 64 q.entries (λ n e found he. entry_reads p e he) h.entries h.few) refl
 
-pub pdos_read : (p : Place) (d : Direction) (qs : List Pdo) → ReadPdos d qs → pdos_in p (first_index d) (last_index d) (Some (array_of_all pdo_data qs)) ≡ Ok qs
+pub pdos_read : (p : Position) (d : Direction) (qs : List Pdo) → ReadPdos d qs → pdos_in p (first_index d) (last_index d) (Some (array_of_all pdo_data qs)) ≡ Ok qs
 pdos_read p d qs h = array_reads (pdo_row p (first_index d) (last_index d)) pdo_data (ReadPdo d) p 16 qs (λ n q found hq. pdo_reads p d q hq) h.each h.few
 
-pub numbers_read : (p : Place) (low high : ℕ) (xs : List ℕ) → All (λ n. (low ≤ n) × (n ≤ high)) xs → numbers_in p low high (Some (array_of_all number xs)) ≡ Ok (Some xs)
+pub numbers_read : (p : Position) (low high : ℕ) (xs : List ℕ) → All (λ n. (low ≤ n) × (n ≤ high)) xs → numbers_in p low high (Some (array_of_all number xs)) ≡ Ok (Some xs)
 unfolding number_list
 numbers_read p low high xs h =
     let rows : rows_after (number_row p low high) [] 0 (items_of (map number xs)) ≡ Ok xs = rows_written (number_row p low high) number [] xs (λ before x after e. let fits : (low ≤ x) × (x ≤ high) = middle (λ n. (low ≤ n) × (n ≤ high)) before x after xs e h in number_reads p low high x fits.0 fits.1) in
@@ -119,6 +119,6 @@ not_before name_of before x after xs e h =
 
 -- ---- variables
 
-pub variable_reads : (v : Version) (p : Place) (w : VariableRow) (found : List VariableRow) → IsVariable w → is_named (λ (w : VariableRow). w.name) w.name found ≡ false → variable_at v p (variable_members w) found ≡ Ok w
+pub variable_reads : (v : Version) (p : Position) (w : VariableRow) (found : List VariableRow) → IsVariable w → is_named (λ (w : VariableRow). w.name) w.name found ≡ false → variable_at v p (variable_members w) found ≡ Ok w
 unfolding variable_at
 variable_reads v p w found h fresh = rw (name_reads p w.name h.name, direction_reads p w.direction, number_reads p 1 64 w.bits h.least h.most, fresh) refl

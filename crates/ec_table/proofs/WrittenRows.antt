@@ -7,7 +7,7 @@ use Rattle.std.proofs.lemmas.Bool.Decides.{Decides-eqb}
 use Rattle.toml.specs.Data.{table, get_member}
 use Rattle.toml.specs.View.{items_of}
 use Rattle.ec_device.specs.declared.slave_type.Mailbox.{Mailbox}
-use Rattle.ec_table.specs.declared.fault.Place.{Place}
+use Rattle.ec_table.specs.declared.fault.Position.{Position}
 use Rattle.ec_table.specs.declared.rows.Version.{Version}
 use Rattle.ec_table.specs.declared.rows.Direction.TheVariants.{Out, In}
 use Rattle.ec_device.specs.declared.slave_type.Device.{Device}
@@ -48,12 +48,12 @@ test_from_once (x ∷ xs) h = or_from _ _ (some_later x xs (once_head x xs h)) (
 abbrev row : List ℕ → Device → Option Mailbox → ProcessData → Bool → TypeRow
 row name device mailbox process lrw = record { name = name; device = device; mailbox = mailbox; process = process; lrw = lrw }
 
-device_reads : (p : Place) (name : List ℕ) (device : Device) (o : Option Mailbox) (process : ProcessData) (lrw : Bool) → IsDevice device → device_in p (get_member (codes "vendor") (type_members (row name device o process lrw))) (get_member (codes "product") (type_members (row name device o process lrw))) (get_member (codes "revision") (type_members (row name device o process lrw))) ≡ Ok device
+device_reads : (p : Position) (name : List ℕ) (device : Device) (o : Option Mailbox) (process : ProcessData) (lrw : Bool) → IsDevice device → device_in p (get_member (codes "vendor") (type_members (row name device o process lrw))) (get_member (codes "product") (type_members (row name device o process lrw))) (get_member (codes "revision") (type_members (row name device o process lrw))) ≡ Ok device
 unfolding device_in
 device_reads p name device None process lrw h = rw (number_reads p 0 4294967295 device.vendor (omega arith) h.vendor, number_reads p 0 4294967295 device.product (omega arith) h.product, number_reads p 0 4294967295 device.revision (omega arith) h.revision) refl
 device_reads p name device (Some m) process lrw h = rw (number_reads p 0 4294967295 device.vendor (omega arith) h.vendor, number_reads p 0 4294967295 device.product (omega arith) h.product, number_reads p 0 4294967295 device.revision (omega arith) h.revision) refl
 
-process_reads : (p : Place) (name : List ℕ) (device : Device) (o : Option Mailbox) (process : ProcessData) (lrw : Bool) → IsType (row name device o process lrw) → process_in p (get_member (codes "out_start") (type_members (row name device o process lrw))) (get_member (codes "in_start") (type_members (row name device o process lrw))) (get_member (codes "rxpdo") (type_members (row name device o process lrw))) (get_member (codes "txpdo") (type_members (row name device o process lrw))) ≡ Ok process
+process_reads : (p : Position) (name : List ℕ) (device : Device) (o : Option Mailbox) (process : ProcessData) (lrw : Bool) → IsType (row name device o process lrw) → process_in p (get_member (codes "out_start") (type_members (row name device o process lrw))) (get_member (codes "in_start") (type_members (row name device o process lrw))) (get_member (codes "rxpdo") (type_members (row name device o process lrw))) (get_member (codes "txpdo") (type_members (row name device o process lrw))) ≡ Ok process
 unfolding process_in
 process_reads p name device None process lrw h = rw (number_reads p 0 65535 process.out_start (omega arith) h.out_start, number_reads p 0 65535 process.in_start (omega arith) h.in_start, pdos_read p Out process.outputs (pdos_toward_read (row name device None process lrw) h Out), pdos_read p In process.inputs (pdos_toward_read (row name device None process lrw) h In)) refl
 process_reads p name device (Some m) process lrw h = rw (number_reads p 0 65535 process.out_start (omega arith) h.out_start, number_reads p 0 65535 process.in_start (omega arith) h.in_start, pdos_read p Out process.outputs (pdos_toward_read (row name device (Some m) process lrw) h Out), pdos_read p In process.inputs (pdos_toward_read (row name device (Some m) process lrw) h In)) refl
@@ -61,7 +61,7 @@ process_reads p name device (Some m) process lrw h = rw (number_reads p 0 65535 
 no_process_twice : (name : List ℕ) (device : Device) (o : Option Mailbox) (process : ProcessData) (lrw : Bool) → IsType (row name device o process lrw) → process_twice process ≡ false
 no_process_twice name device o process lrw h = or_from _ _ (test_from_once (indices_of process.outputs) (pdos_toward_read (row name device o process lrw) h Out).once) (test_from_once (indices_of process.inputs) (pdos_toward_read (row name device o process lrw) h In).once)
 
-fields_read : (v : Version) (p : Place) (name : List ℕ) (device : Device) (o : Option Mailbox) (process : ProcessData) (lrw : Bool) (found : List TypeRow) → IsType (row name device o process lrw) → is_named (λ (t : TypeRow). t.name) name found ≡ false → type_at v p (type_members (row name device o process lrw)) found ≡ Ok (row name device o process lrw)
+fields_read : (v : Version) (p : Position) (name : List ℕ) (device : Device) (o : Option Mailbox) (process : ProcessData) (lrw : Bool) (found : List TypeRow) → IsType (row name device o process lrw) → is_named (λ (t : TypeRow). t.name) name found ≡ false → type_at v p (type_members (row name device o process lrw)) found ≡ Ok (row name device o process lrw)
 unfolding type_at type_named mailbox_in
 fields_read v p name device None process lrw found h fresh =
     let r = row name device None process lrw in
@@ -69,7 +69,7 @@ fields_read v p name device None process lrw found h fresh =
 fields_read v p name device (Some m) process lrw found h fresh =
     rw (name_reads p name h.name, device_reads p name device (Some m) process lrw h.device, mailbox_reads p m (mailbox_read (row name device (Some m) process lrw) h m refl), process_reads p name device (Some m) process lrw h, fresh, no_process_twice name device (Some m) process lrw h) refl
 
-pub type_reads : (v : Version) (p : Place) (t : TypeRow) (found : List TypeRow) → IsType t → is_named (λ (t : TypeRow). t.name) t.name found ≡ false → type_at v p (type_members t) found ≡ Ok t
+pub type_reads : (v : Version) (p : Position) (t : TypeRow) (found : List TypeRow) → IsType t → is_named (λ (t : TypeRow). t.name) t.name found ≡ false → type_at v p (type_members t) found ≡ Ok t
 type_reads v p t found h fresh = fields_read v p t.name t.device t.mailbox t.process t.lrw found h fresh
 
 pub types_read : (v : Version) (ts : List TypeRow) → AreTypes ts → rows_after (type_element v) [] 0 (items_of (map (λ t. table (type_members t)) ts)) ≡ Ok ts

@@ -13,7 +13,7 @@ use Rattle.toml.specs.Data.{table, Members}
 use Rattle.toml.specs.View.{items_of}
 use Rattle.ec_device.specs.declared.slave_type.Mailbox.{Mailbox}
 use Rattle.ec_device.specs.declared.slave_type.Pdo.{Pdo}
-use Rattle.ec_table.specs.declared.fault.Place.{Place}
+use Rattle.ec_table.specs.declared.fault.Position.{Position}
 use Rattle.ec_table.specs.declared.rows.Version.{Version}
 use Rattle.ec_table.specs.declared.rows.Version.TheVariants.{One, Two}
 use Rattle.ec_table.specs.declared.rows.Direction.{Direction}
@@ -92,7 +92,7 @@ fixed_or_mailbox (Some m) same h = refl
 both : (a b : Bool) → a ≡ true → b ≡ true → (a && b) ≡ true
 both a b h k = rw (h, k) refl
 
-assignment_fits : (p : Place) (t : TypeRow) (s : SlaveRow) → ((d : Direction) → IsAssignment t.mailbox (pdos_toward d t) (assigned_toward d s)) → assigned_in p t s ≡ Ok s
+assignment_fits : (p : Position) (t : TypeRow) (s : SlaveRow) → ((d : Direction) → IsAssignment t.mailbox (pdos_toward d t) (assigned_toward d s)) → assigned_in p t s ≡ Ok s
 unfolding assigned_in
 assignment_fits p t s h =
     let same : (t.mailbox ≡ None) → (same_list s.outputs (indices_of t.process.outputs) && same_list s.inputs (indices_of t.process.inputs)) ≡ true =
@@ -102,10 +102,10 @@ assignment_fits p t s h =
 no_double : (s : SlaveRow) (t : TypeRow) (found : List SlaveRow) → ((d : Direction) → IsAssignment t.mailbox (pdos_toward d t) (assigned_toward d s)) → is_named (λ (s : SlaveRow). s.name) s.name found ≡ false → (is_named (λ (s : SlaveRow). s.name) s.name found || (has_twice s.outputs || has_twice s.inputs)) ≡ false
 no_double s t found h fresh = or_from (is_named (λ (s : SlaveRow). s.name) s.name found) (has_twice s.outputs || has_twice s.inputs) fresh (or_from (has_twice s.outputs) (has_twice s.inputs) (test_from_once s.outputs (h Out).once) (test_from_once s.inputs (h In).once))
 
-pub slave_reads : (v : Version) (ts : List TypeRow) (p : Place) (s : SlaveRow) (found : List SlaveRow) (t : TypeRow) → AreTypes ts → IsSlave v ts s → slice_get ts s.type_place ≡ Some t → is_named (λ (s : SlaveRow). s.name) s.name found ≡ false → slave_at v ts p (slave_members v ts s) found ≡ Ok s
+pub slave_reads : (v : Version) (ts : List TypeRow) (p : Position) (s : SlaveRow) (found : List SlaveRow) (t : TypeRow) → AreTypes ts → IsSlave v ts s → slice_get ts s.type_index ≡ Some t → is_named (λ (s : SlaveRow). s.name) s.name found ≡ false → slave_at v ts p (slave_members v ts s) found ≡ Ok s
 unfolding slave_at slave_named slave_of_type
 slave_reads One ts p s found t types h is fresh =
-    let kind : IsType t = type_at_place ts s.type_place t types is in
+    let kind : IsType t = type_at_place ts s.type_index t types is in
     let fits : (d : Direction) → IsAssignment t.mailbox (pdos_toward d t) (assigned_toward d s) = λ d. h.assigned t d is in
     let unit : s.unit ≡ 0 = h.one_unit refl in
     rw (
@@ -116,13 +116,13 @@ slave_reads One ts p s found t types h is fresh =
       numbers_read p 0x1A00 0x1BFF s.inputs (assigned_range In t.process.inputs s.inputs (pdos_toward_read t kind In).each (fits In).known),
       number_reads p 0 4294967295 s.serial (omega arith) h.serial,
       no_double s t found fits fresh,
-      name_place (λ (t : TypeRow). t.name) ts s.type_place t types.once is,
+      name_place (λ (t : TypeRow). t.name) ts s.type_index t types.once is,
       is,
       ← unit,
     )
     (assignment_fits p t s fits)
 slave_reads Two ts p s found t types h is fresh =
-    let kind : IsType t = type_at_place ts s.type_place t types is in
+    let kind : IsType t = type_at_place ts s.type_index t types is in
     let fits : (d : Direction) → IsAssignment t.mailbox (pdos_toward d t) (assigned_toward d s) = λ d. h.assigned t d is in
     rw (
       is,
@@ -133,7 +133,7 @@ slave_reads Two ts p s found t types h is fresh =
       number_reads p 0 4294967295 s.serial (omega arith) h.serial,
       number_reads p 0 63 s.unit (omega arith) h.unit,
       no_double s t found fits fresh,
-      name_place (λ (t : TypeRow). t.name) ts s.type_place t types.once is,
+      name_place (λ (t : TypeRow). t.name) ts s.type_index t types.once is,
       is,
     )
     (assignment_fits p t s fits)
@@ -141,7 +141,7 @@ slave_reads Two ts p s found t types h is fresh =
 pub slaves_read : (v : Version) (ts : List TypeRow) (ss : List SlaveRow) → AreTypes ts → AreSlaves v ts ss → rows_after (slave_element v ts) [] 0 (items_of (map (λ s. table (slave_members v ts s)) ss)) ≡ Ok ss
 slaves_read v ts ss types h = rows_written (slave_element v ts) (λ s. table (slave_members v ts s)) [] ss (λ before s after e.
     let this : IsSlave v ts s = middle (IsSlave v ts) before s after ss e h.each in
-    let kind = there_is ts s.type_place this.known in
+    let kind = there_is ts s.type_index this.known in
     slave_reads v ts _ s before kind.0 types this kind.1 (not_before (λ (s : SlaveRow). s.name) before s after ss e h.once))
 
 -- ---- links
@@ -152,7 +152,7 @@ slave_at_place v ts ss k s h is = subst (IsSlave v ts) (get_or_from_slice_get ss
 variable_at_place : (ws : List VariableRow) (k : ℕ) (w : VariableRow) → AreVariables ws → slice_get ws k ≡ Some w → IsVariable w
 variable_at_place ws k w h is = subst IsVariable (get_or_from_slice_get ws k w w is) (All-get_or IsVariable ws k w (slice_get_within ws k w is) h.each)
 
-link_reads : (v : Version) (ss : List SlaveRow) (ws : List VariableRow) (p : Place) (l : LinkRow) (s : SlaveRow) (w : VariableRow) → IsName s.name → IsName w.name → AllPairs (λ (s r : SlaveRow). s.name ≢ r.name) ss → AllPairs (λ (w x : VariableRow). w.name ≢ x.name) ws → slice_get ss l.slave ≡ Some s → slice_get ws l.variable ≡ Some w → IsLink ss ws l → link_at v ss ws p (link_members ss ws l) ≡ Ok l
+link_reads : (v : Version) (ss : List SlaveRow) (ws : List VariableRow) (p : Position) (l : LinkRow) (s : SlaveRow) (w : VariableRow) → IsName s.name → IsName w.name → AllPairs (λ (s r : SlaveRow). s.name ≢ r.name) ss → AllPairs (λ (w x : VariableRow). w.name ≢ x.name) ws → slice_get ss l.slave ≡ Some s → slice_get ws l.variable ≡ Some w → IsLink ss ws l → link_at v ss ws p (link_members ss ws l) ≡ Ok l
 unfolding link_at
 link_reads v ss ws p l s w slave_named variable_named slaves variables is iw h =
     rw (
@@ -181,11 +181,11 @@ all_tables : {X : Type 0} (spell : X → Members) (xs : List X) → are_tables (
 all_tables spell [] = refl
 all_tables spell (x ∷ xs) = all_tables spell xs
 
-section_reads : {X : Type 0} (p : Place) (spell : X → Members) (xs : List X) → section_in p (Some (array_of_all (λ x. table (spell x)) xs)) ≡ Ok (items_of (map (λ x. table (spell x)) xs))
+section_reads : {X : Type 0} (p : Position) (spell : X → Members) (xs : List X) → section_in p (Some (array_of_all (λ x. table (spell x)) xs)) ≡ Ok (items_of (map (λ x. table (spell x)) xs))
 unfolding section_in
 section_reads p spell xs = rw (all_tables spell xs) refl
 
-version_reads : (p : Place) (v : Version) → version_in p (Some (number (version_number v))) ≡ Ok v
+version_reads : (p : Position) (v : Version) → version_in p (Some (number (version_number v))) ≡ Ok v
 unfolding version_in number_in
 version_reads p One = refl
 version_reads p Two = refl

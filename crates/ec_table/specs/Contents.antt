@@ -20,12 +20,12 @@ pub record Contents : Type 0 where
   pub full : Bool
 
 -- the table with full slaves
-abbrev pub shown_full : Contents → Contents
-shown_full c = record c { full = true }
+abbrev pub advertised_full : Contents → Contents
+advertised_full c = record c { full = true }
 
 -- the table with full slaves if `full`
-abbrev pub shown_as : (full : Bool) → Contents → Contents
-shown_as full c = if full then shown_full c else c
+abbrev pub advertised_as : (full : Bool) → Contents → Contents
+advertised_as full c = if full then advertised_full c else c
 
 -- the table as its text states it, its slaves not full
 abbrev pub as_stated : Contents → Contents

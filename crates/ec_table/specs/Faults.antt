@@ -1,8 +1,8 @@
--- The refusals of a link table: their numbers, names and places.
+-- The refusals of a link table: their numbers, names and positions.
 use Rattle.std.specs.Prelude.{ℕ, List, codes, Option, Some, None}
 use Rattle.ec_table.specs.declared.fault.Section.{Section}
 use Rattle.ec_table.specs.declared.fault.Section.TheVariants as section
-use Rattle.ec_table.specs.declared.fault.Place.{Place}
+use Rattle.ec_table.specs.declared.fault.Position.{Position}
 use Rattle.ec_table.specs.declared.fault.Fault.{Fault}
 use Rattle.ec_table.specs.declared.fault.Fault.TheVariants.{Toml, BadKey, BadValue, TwiceNamed, UnknownName}
 use Rattle.ec_table.specs.declared.fault.TableError.{TableError}
@@ -29,12 +29,12 @@ fault_name (BadValue p) = codes "BadValue"
 fault_name (TwiceNamed p) = codes "TwiceNamed"
 fault_name (UnknownName p) = codes "UnknownName"
 
-abbrev pub fault_place : Fault → Option Place
-fault_place Toml = None
-fault_place (BadKey p) = Some p
-fault_place (BadValue p) = Some p
-fault_place (TwiceNamed p) = Some p
-fault_place (UnknownName p) = Some p
+abbrev pub fault_position : Fault → Option Position
+fault_position Toml = None
+fault_position (BadKey p) = Some p
+fault_position (BadValue p) = Some p
+fault_position (TwiceNamed p) = Some p
+fault_position (UnknownName p) = Some p
 
 abbrev pub error_number : TableError → ℕ
 error_number Memory = 1
@@ -44,6 +44,6 @@ abbrev pub error_name : TableError → List ℕ
 error_name Memory = codes "Memory"
 error_name (Refused f) = fault_name f
 
-abbrev pub error_place : TableError → Option Place
-error_place Memory = None
-error_place (Refused f) = fault_place f
+abbrev pub error_position : TableError → Option Position
+error_position Memory = None
+error_position (Refused f) = fault_position f

@@ -11,7 +11,7 @@ use Rattle.toml.specs.View.{view, items_view}
 use Rattle.toml.specs.declared.value.Value.{Value}
 use Rattle.ec_table.specs.declared.fault.Fault.{Fault}
 use Rattle.ec_table.specs.declared.fault.Fault.TheVariants.{BadValue}
-use Rattle.ec_table.specs.declared.fault.Place.{Place}
+use Rattle.ec_table.specs.declared.fault.Position.{Position}
 use Rattle.ec_table.specs.declared.rows.Direction.{Direction}
 use Rattle.ec_table.specs.declared.rows.Direction.TheVariants.{Out, In}
 use Rattle.ec_device.specs.declared.slave_type.Mailbox.{Mailbox}
@@ -30,8 +30,8 @@ abbrev pub is_name : List ℕ → Bool
 is_name s = (nat_le 1 (length s) && nat_le (length s) 32) && list_all is_name_byte s
 
 -- the value behind a reference
-abbrev pub seen : Option (Bor Value) → Option Data
-seen o = option_map (λ v. view v.now) o
+abbrev pub viewed : Option (Bor Value) → Option Data
+viewed o = option_map (λ v. view v.now) o
 
 -- the keys that a table of a shape must have
 abbrev pub required : Shape → List (List ℕ)
@@ -85,35 +85,35 @@ abbrev pub ◌>>=◌ : {A B : Type 0} → Result A Fault → (A → Result B Fau
 (Err e) >>= f = Err e
 
 -- a whole number from low to high
-unfoldable pub number_in : Place → ℕ → ℕ → Option Data → Result ℕ Fault
+unfoldable pub number_in : Position → ℕ → ℕ → Option Data → Result ℕ Fault
 number_in p low high value = do
   z ← ok_or (option_and_then as_integer value) (BadValue p)
   if in_range low high z then Ok (magnitude z) else Err (BadValue p)
 
 -- a name
-unfoldable pub name_in : Place → Option Data → Result (List ℕ) Fault
+unfoldable pub name_in : Position → Option Data → Result (List ℕ) Fault
 name_in p value = do
   s ← ok_or (option_and_then as_str value) (BadValue p)
   if is_name s then Ok s else Err (BadValue p)
 
 -- a direction, out or in
-unfoldable pub direction_in : Place → Option Data → Result Direction Fault
+unfoldable pub direction_in : Position → Option Data → Result Direction Fault
 direction_in p value = do
   s ← ok_or (option_and_then as_str value) (BadValue p)
   if bytes_eq s (codes "out") then Ok Out else if bytes_eq s (codes "in") then Ok In else Err (BadValue p)
 
 -- the version of the format, 1 if it is left out
-unfoldable pub version_in : Place → Option Data → Result Version Fault
+unfoldable pub version_in : Position → Option Data → Result Version Fault
 version_in p None = Ok versions.One
 version_in p (Some d) = number_in p 1 2 (Some d) >>= (λ n. Ok (if n == 1 then versions.One else versions.Two))
 
 -- a number up to `most`, 0 if it is left out
-abbrev pub number_or_0 : Place → ℕ → Option Data → Result ℕ Fault
+abbrev pub number_or_0 : Position → ℕ → Option Data → Result ℕ Fault
 number_or_0 p most None = Ok 0
 number_or_0 p most (Some d) = number_in p 0 most (Some d)
 
 -- a truth value, true if it is left out
-abbrev pub truth_in : Place → Option Data → Result Bool Fault
+abbrev pub truth_in : Position → Option Data → Result Bool Fault
 truth_in p None = Ok true
 truth_in p (Some d) = ok_or (as_bool d) (BadValue p)
 
@@ -122,7 +122,7 @@ abbrev pub must : Bool → Fault → Result (Unit {0}) Fault
 must b f = if b then Ok tt else Err f
 
 -- [receive start, size, send start, size]
-unfoldable pub mailbox_of : Place → Data → Result Mailbox Fault
+unfoldable pub mailbox_of : Position → Data → Result Mailbox Fault
 mailbox_of p d = do
   receive_start ← number_in p 0 65535 (at 0 d)
   receive_size ← number_in p 16 1024 (at 1 d)
@@ -132,12 +132,12 @@ mailbox_of p d = do
   Ok (record { receive_start = receive_start; receive_size = receive_size; send_start = send_start; send_size = send_size })
 
 -- a mailbox, if there is one
-unfoldable pub mailbox_in : Place → Option Data → Result (Option Mailbox) Fault
+unfoldable pub mailbox_in : Position → Option Data → Result (Option Mailbox) Fault
 mailbox_in p None = Ok None
 mailbox_in p (Some d) = mailbox_of p d >>= (λ m. Ok (Some m))
 
 -- [variable bit, entry bit, count]
-unfoldable pub link_bits_of : Place → Data → Result LinkBits Fault
+unfoldable pub link_bits_of : Position → Data → Result LinkBits Fault
 link_bits_of p d = do
   variable_bit ← number_in p 0 63 (at 0 d)
   entry_bit ← number_in p 0 63 (at 1 d)
@@ -146,7 +146,7 @@ link_bits_of p d = do
   Ok (record { variable_bit = variable_bit; entry_bit = entry_bit; count = count })
 
 -- a link's bits, if they are written
-unfoldable pub link_bits_in : Place → Option Data → Result (Option LinkBits) Fault
+unfoldable pub link_bits_in : Position → Option Data → Result (Option LinkBits) Fault
 link_bits_in p None = Ok None
 link_bits_in p (Some d) = link_bits_of p d >>= (λ b. Ok (Some b))
 
@@ -159,7 +159,7 @@ are_tables no_items = true
 are_tables (item d ds) = is_table d && are_tables ds
 
 -- the elements of a section, none if it is left out
-unfoldable pub section_in : Place → Option Data → Result Items Fault
+unfoldable pub section_in : Position → Option Data → Result Items Fault
 section_in p None = Ok no_items
 section_in p (Some d) = do
   ds ← ok_or (as_array d) (BadValue p)

@@ -7,7 +7,7 @@ use Rattle.ec_table.specs.declared.fault.Fault.{Fault}
 use Rattle.ec_table.specs.declared.fault.Fault.TheVariants.{Toml, BadKey, BadValue}
 use Rattle.ec_table.specs.declared.rows.Version.{Version}
 use Rattle.ec_table.specs.declared.rows.Version.TheVariants.{One}
-use Rattle.ec_table.specs.declared.fault.Place.{Place}
+use Rattle.ec_table.specs.declared.fault.Position.{Position}
 use Rattle.ec_table.specs.declared.fault.Section.{Section}
 use Rattle.ec_table.specs.declared.fault.Section.TheVariants as section
 use Rattle.ec_table.specs.declared.rows.Direction.{Direction}
@@ -17,7 +17,7 @@ use Rattle.ec_table.specs.declared.rows.VariableRow.{VariableRow}
 use Rattle.ec_table.specs.declared.rows.LinkRow.{LinkRow}
 use Rattle.ec_table.specs.Contents.{Contents, as_stated, pdos_toward, assigned_toward}
 use Rattle.ec_table.specs.Sound.{IsSound, AreSlaves, IsType}
-use Rattle.ec_table.specs.Faults.{fault_place}
+use Rattle.ec_table.specs.Faults.{fault_position}
 use Rattle.ec_table.specs.Pdos.{indices_of}
 use Rattle.ec_table.specs.Reading.{type_at, slave_at, link_at, type_element, slave_element, variable_element, link_element, top, table_of_document, table_of}
 use Rattle.ec_table.specs.Fields.{keys_are, version_in, section_in}
@@ -30,15 +30,15 @@ use Rattle.ec_table.specs.declared.keys.Shape.TheVariants as shape
 abbrev pub AcceptedIsSound : Type 0
 AcceptedIsSound = (text : List ℕ) (c : Contents) → table_of text ≡ Ok c → IsSound c
 
--- Every fault of an element has the element's section and place.
-abbrev pub place_in : Section → ℕ → Option Place
-place_in s n = Some (record { section = s; element = n })
+-- Every fault of an element has the element's section and index.
+abbrev pub position_in : Section → ℕ → Option Position
+position_in s n = Some (record { section = s; element = n })
 
-pub record FaultsHaveTheirPlace : Type 0 where
-  pub types : (v : Version) (n : ℕ) (d : Data) (found : List TypeRow) (f : Fault) → type_element v n d found ≡ Err f → fault_place f ≡ place_in section.Type n
-  pub slaves : (v : Version) (ts : List TypeRow) (n : ℕ) (d : Data) (found : List SlaveRow) (f : Fault) → slave_element v ts n d found ≡ Err f → fault_place f ≡ place_in section.Slave n
-  pub variables : (v : Version) (n : ℕ) (d : Data) (found : List VariableRow) (f : Fault) → variable_element v n d found ≡ Err f → fault_place f ≡ place_in section.Variable n
-  pub links : (v : Version) (ss : List SlaveRow) (ws : List VariableRow) (n : ℕ) (d : Data) (found : List LinkRow) (f : Fault) → link_element v ss ws n d found ≡ Err f → fault_place f ≡ place_in section.Link n
+pub record FaultsHaveTheirPosition : Type 0 where
+  pub types : (v : Version) (n : ℕ) (d : Data) (found : List TypeRow) (f : Fault) → type_element v n d found ≡ Err f → fault_position f ≡ position_in section.Type n
+  pub slaves : (v : Version) (ts : List TypeRow) (n : ℕ) (d : Data) (found : List SlaveRow) (f : Fault) → slave_element v ts n d found ≡ Err f → fault_position f ≡ position_in section.Slave n
+  pub variables : (v : Version) (n : ℕ) (d : Data) (found : List VariableRow) (f : Fault) → variable_element v n d found ≡ Err f → fault_position f ≡ position_in section.Variable n
+  pub links : (v : Version) (ss : List SlaveRow) (ws : List VariableRow) (n : ℕ) (d : Data) (found : List LinkRow) (f : Fault) → link_element v ss ws n d found ≡ Err f → fault_position f ≡ position_in section.Link n
 
 -- ---- element by element
 
@@ -68,7 +68,7 @@ abbrev pub AcceptedElementByElement : Type 0
 AcceptedElementByElement = (ms : Members) (types slaves variables links : List Data) (c : Contents) → HasSections ms c.version types slaves variables links → AllRead types slaves variables links c → table_of_document ms ≡ Ok (as_stated c)
 
 -- The fault of a table is that of the first element, in order, that fails a test: all types before it pass, then all types and all slaves before it, and so on.
-pub record FirstFaultIsTold : Type 0 where
+pub record FirstFaultIsReturned : Type 0 where
   pub types : (ms : Members) (v : Version) (before : List Data) (d : Data) (after slaves variables links : List Data) (ts : List TypeRow) (f : Fault) → HasSections ms v (before ++ d ∷ after) slaves variables links
       → EachReads (type_element v) before ts → type_element v (length before) d ts ≡ Err f → table_of_document ms ≡ Err f
   pub slaves : (ms : Members) (v : Version) (types before : List Data) (d : Data) (after variables links : List Data) (ts : List TypeRow) (ss : List SlaveRow) (f : Fault) → HasSections ms v types (before ++ d ∷ after) variables links
@@ -105,8 +105,8 @@ pub record TypeDefaults (ms : Members) (t : TypeRow) : Type 0 where
 
 -- a slave assigns then all PDOs of its type in order, has serial number 0 and is in sync unit 0
 pub record SlaveDefaults (ts : List TypeRow) (ms : Members) (s : SlaveRow) : Type 0 where
-  pub outputs : LeavesOut ms (codes "out") → (t : TypeRow) → slice_get ts s.type_place ≡ Some t → s.outputs ≡ indices_of t.process.outputs
-  pub inputs : LeavesOut ms (codes "in") → (t : TypeRow) → slice_get ts s.type_place ≡ Some t → s.inputs ≡ indices_of t.process.inputs
+  pub outputs : LeavesOut ms (codes "out") → (t : TypeRow) → slice_get ts s.type_index ≡ Some t → s.outputs ≡ indices_of t.process.outputs
+  pub inputs : LeavesOut ms (codes "in") → (t : TypeRow) → slice_get ts s.type_index ≡ Some t → s.inputs ≡ indices_of t.process.inputs
   pub serial : LeavesOut ms (codes "serial") → s.serial ≡ 0
   pub unit : LeavesOut ms (codes "unit") → s.unit ≡ 0
 
@@ -125,9 +125,9 @@ pub record DocumentDefaults (ms : Members) (c : Contents) : Type 0 where
 
 -- What an accepted element or document leaves out has its default.
 pub record LeftOutIsDefault : Type 0 where
-  pub types : (v : Version) (p : Place) (ms : Members) (found : List TypeRow) (t : TypeRow) → type_at v p ms found ≡ Ok t → TypeDefaults ms t
-  pub slaves : (v : Version) (ts : List TypeRow) (p : Place) (ms : Members) (found : List SlaveRow) (s : SlaveRow) → slave_at v ts p ms found ≡ Ok s → SlaveDefaults ts ms s
-  pub links : (v : Version) (ss : List SlaveRow) (ws : List VariableRow) (p : Place) (ms : Members) (l : LinkRow) → link_at v ss ws p ms ≡ Ok l → LinkDefaults ws ms l
+  pub types : (v : Version) (p : Position) (ms : Members) (found : List TypeRow) (t : TypeRow) → type_at v p ms found ≡ Ok t → TypeDefaults ms t
+  pub slaves : (v : Version) (ts : List TypeRow) (p : Position) (ms : Members) (found : List SlaveRow) (s : SlaveRow) → slave_at v ts p ms found ≡ Ok s → SlaveDefaults ts ms s
+  pub links : (v : Version) (ss : List SlaveRow) (ws : List VariableRow) (p : Position) (ms : Members) (l : LinkRow) → link_at v ss ws p ms ≡ Ok l → LinkDefaults ws ms l
   pub documents : (ms : Members) (c : Contents) → table_of_document ms ≡ Ok c → DocumentDefaults ms c
 
 -- ---- written out

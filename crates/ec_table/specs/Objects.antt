@@ -16,7 +16,7 @@ use Rattle.ec_table.specs.Contents.{Contents, pdos_toward, assigned_toward}
 
 -- the type of slave s
 abbrev pub type_of : Contents → ℕ → Option TypeRow
-type_of c s = option_and_then (λ (r : SlaveRow). slice_get c.types r.type_place) (slice_get c.slaves s)
+type_of c s = option_and_then (λ (r : SlaveRow). slice_get c.types r.type_index) (slice_get c.slaves s)
 
 -- the variable, and the slave, of link l
 abbrev pub variable_of : Contents → ℕ → Option VariableRow
@@ -27,7 +27,7 @@ slave_of c l = option_and_then (λ (r : LinkRow). slice_get c.slaves r.slave) (s
 
 -- the identity of slave s: its type's device, and its own serial number
 abbrev pub identity_of : Contents → ℕ → Option Identity
-identity_of c s = option_and_then (λ (r : SlaveRow). option_map (λ (t : TypeRow). device_identity t.device r.serial) (slice_get c.types r.type_place)) (slice_get c.slaves s)
+identity_of c s = option_and_then (λ (r : SlaveRow). option_map (λ (t : TypeRow). device_identity t.device r.serial) (slice_get c.types r.type_index)) (slice_get c.slaves s)
 
 -- a type as its slaves have it if they are not full
 abbrev pub kind_of_type : TypeRow → SlaveKind
@@ -56,7 +56,7 @@ kind_of c s = option_map (kind_at c s) (type_of c s)
 
 -- the entries of slave s in a direction
 unfoldable pub entries_of : Contents → ℕ → Direction → List Entry
-entries_of c s d = option_map_or (λ (r : SlaveRow). option_map_or (λ (t : TypeRow). assigned_entries (pdos_toward d t) (assigned_toward d r)) (slice_get c.types r.type_place) []) (slice_get c.slaves s) []
+entries_of c s d = option_map_or (λ (r : SlaveRow). option_map_or (λ (t : TypeRow). assigned_entries (pdos_toward d t) (assigned_toward d r)) (slice_get c.types r.type_index) []) (slice_get c.slaves s) []
 
 -- the object bits of slave s in a direction, in order, gaps with them
 abbrev pub object_bits : Contents → ℕ → Direction → List (Option ObjectBit)

@@ -7,7 +7,7 @@ use Rattle.toml.specs.Data.{Data, Items, Members, get_member}
 use Rattle.toml.specs.Parse.{parse_document}
 use Rattle.ec_table.specs.declared.fault.Fault.{Fault}
 use Rattle.ec_table.specs.declared.fault.Fault.TheVariants.{Toml, BadKey, BadValue, TwiceNamed, UnknownName}
-use Rattle.ec_table.specs.declared.fault.Place.{Place}
+use Rattle.ec_table.specs.declared.fault.Position.{Position}
 use Rattle.ec_table.specs.declared.fault.Section.TheVariants as section
 use Rattle.ec_table.specs.declared.rows.Version.{Version}
 use Rattle.ec_device.specs.declared.slave_type.Device.{Device}
@@ -22,14 +22,14 @@ use Rattle.ec_table.specs.declared.keys.Shape.TheVariants as shape
 use Rattle.ec_table.specs.declared.slaves.Written.{Written}
 use Rattle.ec_table.specs.Contents.{Contents}
 use Rattle.ec_table.specs.InOrder.{members_in, rows_after}
-use Rattle.ec_table.specs.Names.{is_named, place_named}
+use Rattle.ec_table.specs.Names.{is_named, index_named}
 use Rattle.ec_table.specs.Pdos.{last_output_index, last_input_index, pdos_in, indices_of, has_twice, numbers_in}
 use Rattle.ec_table.specs.Fields.{◌>>=◌, must, keys_are, name_in, direction_in, mailbox_in, section_in, number_in, number_or_0, truth_in, version_in, link_bits_in}
 
 -- ---- types
 
 -- vendor, product and revision, by the values under their keys
-unfoldable pub device_in : Place → Option Data → Option Data → Option Data → Result Device Fault
+unfoldable pub device_in : Position → Option Data → Option Data → Option Data → Result Device Fault
 device_in p vendor_written product_written revision_written = do
   vendor ← number_in p 0 4294967295 vendor_written
   product ← number_in p 0 4294967295 product_written
@@ -37,7 +37,7 @@ device_in p vendor_written product_written revision_written = do
   Ok (record { vendor = vendor; product = product; revision = revision })
 
 -- where the process data begin, and their objects, by the values under `out_start`, `in_start`, `rxpdo` and `txpdo`
-unfoldable pub process_in : Place → Option Data → Option Data → Option Data → Option Data → Result ProcessData Fault
+unfoldable pub process_in : Position → Option Data → Option Data → Option Data → Option Data → Result ProcessData Fault
 process_in p out_written in_written rxpdo txpdo = do
   out_start ← number_in p 0 65535 out_written
   in_start ← number_in p 0 65535 in_written
@@ -50,7 +50,7 @@ abbrev pub process_twice : ProcessData → Bool
 process_twice d = has_twice (indices_of d.outputs) || has_twice (indices_of d.inputs)
 
 -- the type of this name that an element states; whether another type has the name
-unfoldable pub type_named : Place → Members → List ℕ → Bool → Result TypeRow Fault
+unfoldable pub type_named : Position → Members → List ℕ → Bool → Result TypeRow Fault
 type_named p ms name is_taken = do
   device ← device_in p (get_member (codes "vendor") ms) (get_member (codes "product") ms) (get_member (codes "revision") ms)
   mailbox ← mailbox_in p (get_member (codes "mailbox") ms)
@@ -60,7 +60,7 @@ type_named p ms name is_taken = do
   Ok (record { name = name; device = device; mailbox = mailbox; process = process; lrw = lrw })
 
 -- the type that an element states, after those found
-unfoldable pub type_at : Version → Place → Members → List TypeRow → Result TypeRow Fault
+unfoldable pub type_at : Version → Position → Members → List TypeRow → Result TypeRow Fault
 type_at v p ms found = do
   _ ← must (keys_are shape.Type v ms) (BadKey p)
   name ← name_in p (get_member (codes "name") ms)
@@ -68,7 +68,7 @@ type_at v p ms found = do
 
 abbrev pub type_element : Version → ℕ → Data → List TypeRow → Result TypeRow Fault
 type_element v n d found =
-    let p : Place = record { section = section.Type; element = n } in
+    let p : Position = record { section = section.Type; element = n } in
     members_in p d >>= (λ ms. type_at v p ms found)
 
 -- ---- slaves
@@ -80,21 +80,21 @@ abbrev pub same_list : List ℕ → List ℕ → Bool
 same_list xs ys = bytes_eq xs ys
 
 -- the assigned objects are the type's, and without a mailbox all of them in order
-unfoldable pub assigned_in : Place → TypeRow → SlaveRow → Result SlaveRow Fault
+unfoldable pub assigned_in : Position → TypeRow → SlaveRow → Result SlaveRow Fault
 assigned_in p t s = do
   _ ← must (all_in s.outputs (indices_of t.process.outputs) && all_in s.inputs (indices_of t.process.inputs)) (UnknownName p)
   _ ← must (is_some t.mailbox || (same_list s.outputs (indices_of t.process.outputs) && same_list s.inputs (indices_of t.process.inputs))) (BadValue p)
   Ok s
 
 -- the slave of this name and type, with what its element writes; left out, `out` and `in` are all objects of the type in order
-unfoldable pub slave_of_type : List TypeRow → Place → List ℕ → List ℕ → Written → Result SlaveRow Fault
+unfoldable pub slave_of_type : List TypeRow → Position → List ℕ → List ℕ → Written → Result SlaveRow Fault
 slave_of_type types p name type_name w = do
-  at ← ok_or (place_named (λ (t : TypeRow). t.name) type_name types) (UnknownName p)
+  at ← ok_or (index_named (λ (t : TypeRow). t.name) type_name types) (UnknownName p)
   t ← ok_or (slice_get types at) (UnknownName p)
-  assigned_in p t (record { name = name; type_place = at; outputs = unwrap_or w.outputs (indices_of t.process.outputs); inputs = unwrap_or w.inputs (indices_of t.process.inputs); serial = w.serial; unit = w.unit })
+  assigned_in p t (record { name = name; type_index = at; outputs = unwrap_or w.outputs (indices_of t.process.outputs); inputs = unwrap_or w.inputs (indices_of t.process.inputs); serial = w.serial; unit = w.unit })
 
 -- the slave of this name that an element states; whether another slave has the name
-unfoldable pub slave_named : List TypeRow → Place → Members → List ℕ → Bool → Result SlaveRow Fault
+unfoldable pub slave_named : List TypeRow → Position → Members → List ℕ → Bool → Result SlaveRow Fault
 slave_named types p ms name is_taken = do
   type_name ← name_in p (get_member (codes "type") ms)
   outputs ← numbers_in p first_output_index last_output_index (get_member (codes "out") ms)
@@ -105,7 +105,7 @@ slave_named types p ms name is_taken = do
   slave_of_type types p name type_name (record { outputs = outputs; inputs = inputs; serial = serial; unit = unit })
 
 -- the slave that an element states, after those found
-unfoldable pub slave_at : Version → List TypeRow → Place → Members → List SlaveRow → Result SlaveRow Fault
+unfoldable pub slave_at : Version → List TypeRow → Position → Members → List SlaveRow → Result SlaveRow Fault
 slave_at v types p ms found = do
   _ ← must (keys_are shape.Slave v ms) (BadKey p)
   name ← name_in p (get_member (codes "name") ms)
@@ -113,13 +113,13 @@ slave_at v types p ms found = do
 
 abbrev pub slave_element : Version → List TypeRow → ℕ → Data → List SlaveRow → Result SlaveRow Fault
 slave_element v types n d found =
-    let p : Place = record { section = section.Slave; element = n } in
+    let p : Position = record { section = section.Slave; element = n } in
     members_in p d >>= (λ ms. slave_at v types p ms found)
 
 -- ---- variables
 
 -- the variable of this name, if no other has it, by the values under `dir` and `bits`
-abbrev pub variable_named : Place → Option Data → Option Data → List ℕ → Bool → Result VariableRow Fault
+abbrev pub variable_named : Position → Option Data → Option Data → List ℕ → Bool → Result VariableRow Fault
 variable_named p dir bits_written name is_taken = do
   direction ← direction_in p dir
   bits ← number_in p 1 64 bits_written
@@ -127,7 +127,7 @@ variable_named p dir bits_written name is_taken = do
   Ok (record { name = name; direction = direction; bits = bits })
 
 -- the variable that an element states, after those found
-unfoldable pub variable_at : Version → Place → Members → List VariableRow → Result VariableRow Fault
+unfoldable pub variable_at : Version → Position → Members → List VariableRow → Result VariableRow Fault
 variable_at v p ms found = do
   _ ← must (keys_are shape.Variable v ms) (BadKey p)
   name ← name_in p (get_member (codes "name") ms)
@@ -135,7 +135,7 @@ variable_at v p ms found = do
 
 abbrev pub variable_element : Version → ℕ → Data → List VariableRow → Result VariableRow Fault
 variable_element v n d found =
-    let p : Place = record { section = section.Variable; element = n } in
+    let p : Position = record { section = section.Variable; element = n } in
     members_in p d >>= (λ ms. variable_at v p ms found)
 
 -- ---- links
@@ -145,7 +145,7 @@ abbrev pub all_bits : VariableRow → LinkBits
 all_bits w = record { variable_bit = 0; entry_bit = 0; count = w.bits }
 
 -- the link that an element states; left out, `bits` are all of the variable's
-unfoldable pub link_at : Version → List SlaveRow → List VariableRow → Place → Members → Result LinkRow Fault
+unfoldable pub link_at : Version → List SlaveRow → List VariableRow → Position → Members → Result LinkRow Fault
 link_at v slaves variables p ms = do
   _ ← must (keys_are shape.Link v ms) (BadKey p)
   variable_name ← name_in p (get_member (codes "var") ms)
@@ -153,19 +153,19 @@ link_at v slaves variables p ms = do
   index ← number_in p 1 65535 (get_member (codes "index") ms)
   subindex ← number_in p 0 255 (get_member (codes "sub") ms)
   bits ← link_bits_in p (get_member (codes "bits") ms)
-  variable ← ok_or (place_named (λ (w : VariableRow). w.name) variable_name variables) (UnknownName p)
+  variable ← ok_or (index_named (λ (w : VariableRow). w.name) variable_name variables) (UnknownName p)
   w ← ok_or (slice_get variables variable) (UnknownName p)
-  slave ← ok_or (place_named (λ (s : SlaveRow). s.name) slave_name slaves) (UnknownName p)
+  slave ← ok_or (index_named (λ (s : SlaveRow). s.name) slave_name slaves) (UnknownName p)
   Ok (record { variable = variable; slave = slave; index = index; subindex = subindex; bits = unwrap_or bits (all_bits w) })
 
 abbrev pub link_element : Version → List SlaveRow → List VariableRow → ℕ → Data → List LinkRow → Result LinkRow Fault
 link_element v slaves variables n d found =
-    let p : Place = record { section = section.Link; element = n } in
+    let p : Position = record { section = section.Link; element = n } in
     members_in p d >>= (λ ms. link_at v slaves variables p ms)
 
 -- ---- the document
 
-abbrev pub top : Place
+abbrev pub top : Position
 top = record { section = section.Top; element = 0 }
 
 -- the table that the elements of the sections state

@@ -73,8 +73,8 @@ pub record IsAssignment (mailbox : Option Mailbox) (pdos : List Pdo) (assigned :
 
 pub record IsSlave (v : Version) (ts : List TypeRow) (s : SlaveRow) : Type 0 where
   pub name : IsName s.name
-  pub known : s.type_place < length ts
-  pub assigned : (t : TypeRow) (d : Direction) → slice_get ts s.type_place ≡ Some t → IsAssignment t.mailbox (pdos_toward d t) (assigned_toward d s)
+  pub known : s.type_index < length ts
+  pub assigned : (t : TypeRow) (d : Direction) → slice_get ts s.type_index ≡ Some t → IsAssignment t.mailbox (pdos_toward d t) (assigned_toward d s)
   pub serial : s.serial ≤ 4294967295
   pub unit : s.unit ≤ 63
   -- version 1 has one sync unit

@@ -3,7 +3,7 @@ use Rattle.std.specs.Prelude.{◌≡◌, ◌+◌, ◌++◌, List, [], ◌∷◌,
 use Rattle.std.specs.Borrow.{Bor}
 use Rattle.toml.specs.Data.{Members, get_member}
 use Rattle.toml.specs.declared.value.Value.{Value}
-use Rattle.ec_table.specs.Fields.{seen, required, optional}
+use Rattle.ec_table.specs.Fields.{viewed, required, optional}
 use Rattle.ec_table.specs.declared.keys.Shape.{Shape}
 use Rattle.ec_table.specs.declared.rows.Version.{Version}
 
@@ -13,5 +13,5 @@ keys_of s v = required s ++ optional s v
 
 -- the values that begin at a place are those under these keys
 abbrev pub AreUnder : List (Option (Bor Value)) → ℕ → List (List ℕ) → Members → Type 0
-AreUnder values place [] ms = Unit {0}
-AreUnder values place (key ∷ keys) ms = (seen (get_or values place None) ≡ get_member key ms) × AreUnder values (place + 1) keys ms
+AreUnder values index [] ms = Unit {0}
+AreUnder values index (key ∷ keys) ms = (viewed (get_or values index None) ≡ get_member key ms) × AreUnder values (index + 1) keys ms

@@ -67,7 +67,7 @@ slave_members v ts s =
     (member (codes "name") (string s.name)
     (member (codes "out") (array_of_all number s.outputs)
     (member (codes "serial") (number s.serial)
-    (member (codes "type") (string (type_name ts s.type_place))
+    (member (codes "type") (string (type_name ts s.type_index))
     (unit_members v s.unit)))))
 
 abbrev pub direction_text : Direction → List ℕ

@@ -1,6 +1,6 @@
 //! Why a text states no table, and where.
 ghost use Rattle.std.specs.Prelude.{◌≡◌};
-ghost use Rattle.ec_table.specs.Faults.{section_number, fault_number, fault_name, fault_place, error_number, error_name, error_place};
+ghost use Rattle.ec_table.specs.Faults.{section_number, fault_number, fault_name, fault_position, error_number, error_name, error_position};
 
 use std::alloc::{AllocError, AllocFailed};
 use std::fmt;
@@ -44,14 +44,14 @@ impl Section {
 
 /// An element of a section, counted from 0 in file order; the document itself is element 0 of `Top`.
 #[derive(Clone, Copy, Debug, PartialEq, Eq)]
-pub struct Place {
+pub struct Position {
     /// The section of the element.
     pub section: Section,
     /// The number of the element in its section, counted from 0.
     pub element: usize,
 }
 
-impl fmt::Display for Place {
+impl fmt::Display for Position {
     fn fmt<W: fmt::Write>(&self, f: &mut fmt::Formatter<W>) -> fmt::Result {
         match self.section {
             Section::Top => f.write_str("the document"),
@@ -68,16 +68,16 @@ pub enum Fault {
     Toml,
     /// A key that the section doesn't have, or one missing that it must have.
     #[error("{0}: a key is unknown, or one is missing")]
-    BadKey(Place),
+    BadKey(Position),
     /// A value of the wrong kind, out of its range, or with too few or too many items.
     #[error("{0}: a value has the wrong kind, range or number of items")]
-    BadValue(Place),
+    BadValue(Position),
     /// A name that its section has already, or a process data object that its list has already.
     #[error("{0}: a name or an index stands twice")]
-    TwiceNamed(Place),
+    TwiceNamed(Position),
     /// A reference to a type, slave, variable or process data object that doesn't exist.
     #[error("{0}: a name or an index is unknown")]
-    UnknownName(Place),
+    UnknownName(Position),
 }
 
 impl Fault {
@@ -108,15 +108,15 @@ impl Fault {
     }
 
     /// The place of the fault; none if the text is no TOML.
-    pub fn place(self) -> Option<Place>
-        ensures { result ≡ fault_place self }
+    pub fn place(self) -> Option<Position>
+        ensures { result ≡ fault_position self }
     {
         match self {
             Fault::Toml => None,
-            Fault::BadKey(place)
-            | Fault::BadValue(place)
-            | Fault::TwiceNamed(place)
-            | Fault::UnknownName(place) => Some(place),
+            Fault::BadKey(position)
+            | Fault::BadValue(position)
+            | Fault::TwiceNamed(position)
+            | Fault::UnknownName(position) => Some(position),
         }
     }
 }
@@ -154,8 +154,8 @@ impl TableError {
     }
 
     /// The place of the fault; none for memory and for a text that is no TOML.
-    pub fn place(self) -> Option<Place>
-        ensures { result ≡ error_place self }
+    pub fn place(self) -> Option<Position>
+        ensures { result ≡ error_position self }
     {
         match self {
             TableError::Memory => None,

@@ -4,11 +4,11 @@ ghost use Rattle.std.specs.List.{list_all};
 ghost use Rattle.std.specs.Str.{bytes_eq};
 ghost use Rattle.toml.specs.Data.{get_member};
 ghost use Rattle.toml.specs.View.{view, table_view, items_view};
-ghost use Rattle.ec_table.specs.Fields.{number_or_0, version_in, is_name_byte, is_name, number_in, name_in, is_table, are_tables, section_in, seen, result_elements, result_items};
+ghost use Rattle.ec_table.specs.Fields.{number_or_0, version_in, is_name_byte, is_name, number_in, name_in, is_table, are_tables, section_in, viewed, result_elements, result_items};
 ghost use Rattle.ec_table.specs.InOrder.{Gives, rows_after};
 ghost use Rattle.ec_table.specs.Pdos.{number_row, number_list, numbers_in};
 
-use crate::fault::{Fault, Place, TableError};
+use crate::fault::{Fault, Position, TableError};
 use crate::rows::{Name, Version};
 use ec_listed::Listed;
 use std::alloc::Global;
@@ -50,57 +50,62 @@ pub fn are_same(one: &str, other: &str) -> bool
 
 /// The value under a key.
 pub fn member<'a>(members: &'a toml::Table, key: &str) -> Option<&'a Value>
-    ensures { seen result ≡ get_member key.now (table_view members.now) }
+    ensures { viewed result ≡ get_member key.now (table_view members.now) }
 {
     members.get(key)
 }
 
 /// A number from `low` to `high`, or the fault `BadValue`.
 #[tactic(auto, unfolding(crate::specs::Fields::number_in))]
-pub fn number_in(place: Place, value: Option<&Value>, low: u32, high: u32) -> Result<u32, Fault>
-    ensures value { result ≡ number_in place low high (seen value.entry) }
+pub fn number_in(
+    position: Position,
+    value: Option<&Value>,
+    low: u32,
+    high: u32,
+) -> Result<u32, Fault>
+    ensures value { result ≡ number_in position low high (viewed value.entry) }
     ensures range { IfOk result (λ n. (low ≤ n) × (n ≤ high)) }
 {
     let Some(value) = value else {
-        return Err(Fault::BadValue(place));
+        return Err(Fault::BadValue(position));
     };
     let Some(number) = value.as_integer() else {
-        return Err(Fault::BadValue(place));
+        return Err(Fault::BadValue(position));
     };
     if i64::from(low) <= number && number <= i64::from(high) {
         Ok(number as u32)
     } else {
-        Err(Fault::BadValue(place))
+        Err(Fault::BadValue(position))
     }
 }
 
 /// A name, or the fault `BadValue`.
-#[tactic(auto, unfolding(crate::specs::Fields::name_in), using(crate::proofs::Naming::name_fits))]
-pub fn name_in(place: Place, value: Option<&Value>) -> Result<Name, Fault>
-    ensures { result ≡ name_in place (seen value.entry) }
+#[tactic(auto, unfolding(crate::specs::Fields::name_in), using(crate::proofs::NameIndex::name_fits))]
+pub fn name_in(position: Position, value: Option<&Value>) -> Result<Name, Fault>
+    ensures { result ≡ name_in position (viewed value.entry) }
 {
     let Some(value) = value else {
-        return Err(Fault::BadValue(place));
+        return Err(Fault::BadValue(position));
     };
     let Some(text) = value.as_str() else {
-        return Err(Fault::BadValue(place));
+        return Err(Fault::BadValue(position));
     };
     if is_name(text) {
         Ok(Name::new(text))
     } else {
-        Err(Fault::BadValue(place))
+        Err(Fault::BadValue(position))
     }
 }
 
 /// The version of the format, 1 if it is left out.
 #[tactic(auto, unfolding(crate::specs::Fields::version_in))]
-pub fn version_in(place: Place, value: Option<&Value>) -> Result<Version, Fault>
-    ensures { result ≡ version_in place (seen value.entry) }
+pub fn version_in(position: Position, value: Option<&Value>) -> Result<Version, Fault>
+    ensures { result ≡ version_in position (viewed value.entry) }
 {
     let Some(value) = value else {
         return Ok(Version::One);
     };
-    let number = number_in(place, Some(value), 1, 2)?;
+    let number = number_in(position, Some(value), 1, 2)?;
     if number == 1 {
         Ok(Version::One)
     } else {
@@ -109,64 +114,68 @@ pub fn version_in(place: Place, value: Option<&Value>) -> Result<Version, Fault>
 }
 
 /// A number up to `most`, 0 if it is left out.
-pub fn number_or_0(place: Place, value: Option<&Value>, most: u32) -> Result<u32, Fault>
-    ensures value { result ≡ number_or_0 place most (seen value.entry) }
+pub fn number_or_0(position: Position, value: Option<&Value>, most: u32) -> Result<u32, Fault>
+    ensures value { result ≡ number_or_0 position most (viewed value.entry) }
     ensures range { IfOk result (λ n. n ≤ most) }
 {
     match value {
         None => Ok(0),
-        Some(value) => number_in(place, Some(value), 0, most),
+        Some(value) => number_in(position, Some(value), 0, most),
     }
 }
 
 /// The numbers of an array, if there is one.
 pub fn numbers_in(
     alloc: Global,
-    place: Place,
+    position: Position,
     value: Option<&Value>,
     low: u16,
     high: u16,
 ) -> Result<Option<Listed<u16>>, TableError>
-    ensures { Gives result (numbers_in place low high (seen value.entry)) }
+    ensures { Gives result (numbers_in position low high (viewed value.entry)) }
 {
     match value {
         None => Ok(None),
-        Some(value) => Ok(Some(number_list(alloc, place, low, high, value)?)),
+        Some(value) => Ok(Some(number_list(alloc, position, low, high, value)?)),
     }
 }
 
 /// The elements of a section, none if it is left out.
 #[tactic(auto, unfolding(crate::specs::Fields::section_in))]
-pub fn section_in<'a>(place: Place, value: Option<&'a Value>) -> Result<&'a [Value], Fault>
-    ensures { result_items result ≡ section_in place (seen value.entry) }
+pub fn section_in<'a>(position: Position, value: Option<&'a Value>) -> Result<&'a [Value], Fault>
+    ensures { result_items result ≡ section_in position (viewed value.entry) }
 {
     let Some(value) = value else {
         return Ok(&[]);
     };
     let Some(elements) = value.as_array() else {
-        return Err(Fault::BadValue(place));
+        return Err(Fault::BadValue(position));
     };
     if are_tables(elements.as_slice()) {
         Ok(elements.as_slice())
     } else {
-        Err(Fault::BadValue(place))
+        Err(Fault::BadValue(position))
     }
 }
 
 /// The elements of a section that was taken out of its document, none if it is left out.
 #[tactic(auto, unfolding(crate::specs::Fields::section_in))]
-pub fn elements_in(alloc: Global, place: Place, value: Option<Value>) -> Result<Vec<Value>, Fault>
-    ensures { result_elements result ≡ section_in place (option_map view value) }
+pub fn elements_in(
+    alloc: Global,
+    position: Position,
+    value: Option<Value>,
+) -> Result<Vec<Value>, Fault>
+    ensures { result_elements result ≡ section_in position (option_map view value) }
 {
     let elements = match value {
         None => return Ok(Vec::new(alloc)),
         Some(Value::Array(elements)) => elements,
-        Some(_) => return Err(Fault::BadValue(place)),
+        Some(_) => return Err(Fault::BadValue(position)),
     };
     if are_tables(elements.as_slice()) {
         Ok(elements)
     } else {
-        Err(Fault::BadValue(place))
+        Err(Fault::BadValue(position))
     }
 }
 
@@ -185,32 +194,32 @@ fn are_name_bytes(bytes: &[u8]) -> bool
 #[tactic(auto, unfolding(crate::specs::Pdos::number_list))]
 fn number_list(
     alloc: Global,
-    place: Place,
+    position: Position,
     low: u16,
     high: u16,
     value: &Value,
 ) -> Result<Listed<u16>, TableError>
-    ensures { Gives result (number_list place low high (view value.now)) }
+    ensures { Gives result (number_list position low high (view value.now)) }
 {
     let Some(elements) = value.as_array() else {
-        return Err(TableError::Refused(Fault::BadValue(place)));
+        return Err(TableError::Refused(Fault::BadValue(position)));
     };
-    numbers_of(alloc, place, low, high, elements.as_slice())
+    numbers_of(alloc, position, low, high, elements.as_slice())
 }
 
-#[tactic(auto, using(crate::proofs::InOrder::rows_all))]
+#[tactic(auto, using(crate::proofs::SectionRows::rows_all))]
 fn numbers_of(
     alloc: Global,
-    place: Place,
+    position: Position,
     low: u16,
     high: u16,
     elements: &[Value],
 ) -> Result<Listed<u16>, TableError>
-    ensures { Gives result (rows_after (number_row place low high) [] 0 (items_view elements.now)) }
+    ensures { Gives result (rows_after (number_row position low high) [] 0 (items_view elements.now)) }
 {
     let mut found = Listed::new(alloc);
     for value in elements {
-        let number = number_in(place, Some(value), u32::from(low), u32::from(high))?;
+        let number = number_in(position, Some(value), u32::from(low), u32::from(high))?;
         found.push(number as u16)?;
     }
     Ok(found)

@@ -4,7 +4,7 @@ ghost use Rattle.std.specs.List.{list_all, position};
 ghost use Rattle.std.specs.Option.{option_or};
 ghost use Rattle.std.specs.Str.{bytes_eq};
 ghost use Rattle.toml.specs.View.{view, table_view};
-ghost use Rattle.ec_table.specs.Fields.{keys_are, required, seen};
+ghost use Rattle.ec_table.specs.Fields.{keys_are, required, viewed};
 ghost use Rattle.ec_table.specs.Values.{AreUnder, keys_of};
 ghost use Rattle.ec_table.specs.declared.rows.Version.TheVariants.{Two};
 
@@ -148,7 +148,7 @@ fn place_among(names: &[&str], key: &str) -> Option<usize>
 
 /// The first value that was met under a key: `found` if there is one, else `value`.
 fn first<'a>(found: Option<&'a Value>, value: &'a Value) -> Option<&'a Value>
-    ensures { seen result ≡ option_or (seen found.entry) (Some (view value.now)) }
+    ensures { viewed result ≡ option_or (viewed found.entry) (Some (view value.now)) }
 {
     match found {
         Some(_) => found,

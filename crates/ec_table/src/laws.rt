@@ -1,6 +1,6 @@
 //! What the definition of a link table's reading keeps, in the format's own words. Nothing runs here.
 
-ghost use Rattle.ec_table.specs.Laws.{AcceptedIsSound, FaultsHaveTheirPlace, AcceptedElementByElement, DocumentFaultsInOrder, FirstFaultIsTold, LeftOutIsDefault, WrittenIsRead, ObjectBitsAreCounted, EntriesAreAssigned, EntriesAreFew};
+ghost use Rattle.ec_table.specs.Laws.{AcceptedIsSound, FaultsHaveTheirPosition, AcceptedElementByElement, DocumentFaultsInOrder, FirstFaultIsReturned, LeftOutIsDefault, WrittenIsRead, ObjectBitsAreCounted, EntriesAreAssigned, EntriesAreFew};
 
 /// What is accepted has unique names, known references, values in range, and assigned objects of its type
 /// without a double.
@@ -28,14 +28,14 @@ pub fn left_out_is_default()
 
 /// The fault of a table is that of the first element, in order, that fails a test.
 #[tactic(auto, using(crate::proofs::ElementByElement::first_told))]
-pub fn first_fault_is_told()
-    ensures { FirstFaultIsTold }
+pub fn first_fault_is_returned()
+    ensures { FirstFaultIsReturned }
 {}
 
 /// A fault of an element carries its section and its place.
-#[tactic(auto, using(crate::proofs::Placed::placed))]
-pub fn faults_have_their_place()
-    ensures { FaultsHaveTheirPlace }
+#[tactic(auto, using(crate::proofs::FaultPositions::placed))]
+pub fn faults_have_their_position()
+    ensures { FaultsHaveTheirPosition }
 {}
 
 /// Each sound table is what some document states: its own, with each key written out.

@@ -15,7 +15,7 @@ mod table;
 mod types;
 mod variables;
 
-pub use crate::fault::{Fault, Place, Section, TableError};
+pub use crate::fault::{Fault, Position, Section, TableError};
 pub use crate::fields::{LAST_BIT, MAX_U8, MAX_U16, MAX_UNIT, MAX_VALUE_BITS};
 pub use crate::read::read_table;
 pub use crate::rows::{

@@ -1,11 +1,11 @@
 //! Reads the links that elements state.
 ghost use Rattle.std.specs.Prelude.{◌≡◌, [], unwrap_or};
 ghost use Rattle.toml.specs.View.{view, table_view, items_view};
-ghost use Rattle.ec_table.specs.Fields.{link_bits_of, link_bits_in, seen};
+ghost use Rattle.ec_table.specs.Fields.{link_bits_of, link_bits_in, viewed};
 ghost use Rattle.ec_table.specs.InOrder.{Gives, rows_after};
 ghost use Rattle.ec_table.specs.Reading.{all_bits, link_at, link_element};
 
-use crate::fault::{Fault, Place, Section, TableError};
+use crate::fault::{Fault, Position, Section, TableError};
 use crate::fields::{LAST_BIT, MAX_U8, MAX_U16, MAX_VALUE_BITS, name_in, number_in};
 use crate::keys::{Shape, values_of};
 use crate::named::NamedRows;
@@ -23,7 +23,7 @@ struct Near {
 
 /// The links of the section, in order. It frees each element as soon as it is read, while it is in the cache. It looks for a
 /// link's variable first behind that of the link before it, and for its slave first at the slave of that link.
-#[tactic(auto, using(crate::proofs::InOrder::rows_left))]
+#[tactic(auto, using(crate::proofs::SectionRows::rows_left))]
 pub fn links_of(
     alloc: Global,
     version: Version,
@@ -60,13 +60,13 @@ fn link_element(
 ) -> Result<LinkRow, Fault>
     ensures { result ≡ link_element version slaves.now variables.now element (view value.now) [] }
 {
-    let place = Place {
+    let position = Position {
         section: Section::Link,
         element,
     };
     match value.as_table() {
-        Some(members) => link_at(version, slaves, variables, place, members, near),
-        None => Err(Fault::BadValue(place)),
+        Some(members) => link_at(version, slaves, variables, position, members, near),
+        None => Err(Fault::BadValue(position)),
     }
 }
 
@@ -76,27 +76,27 @@ fn link_at(
     version: Version,
     slaves: &NamedRows<SlaveRow>,
     variables: &NamedRows<VariableRow>,
-    place: Place,
+    position: Position,
     members: &toml::Table,
     near: Near,
 ) -> Result<LinkRow, Fault>
-    ensures { result ≡ link_at version slaves.now variables.now place (table_view members.now) }
+    ensures { result ≡ link_at version slaves.now variables.now position (table_view members.now) }
 {
     let Some(values) = values_of(Shape::Link, version, members) else {
-        return Err(Fault::BadKey(place));
+        return Err(Fault::BadKey(position));
     };
     let (index, slave, subindex) = (values.at(0), values.at(1), values.at(2));
     let (variable, bits) = (values.at(3), values.at(4));
-    let variable_name = name_in(place, variable)?;
-    let slave_name = name_in(place, slave)?;
-    let index = number_in(place, index, 1, MAX_U16)?;
-    let subindex = number_in(place, subindex, 0, MAX_U8)?;
-    let bits = link_bits_in(place, bits)?;
+    let variable_name = name_in(position, variable)?;
+    let slave_name = name_in(position, slave)?;
+    let index = number_in(position, index, 1, MAX_U16)?;
+    let subindex = number_in(position, subindex, 0, MAX_U8)?;
+    let bits = link_bits_in(position, bits)?;
     let Some((at, variable)) = variables.find(&variable_name, near.variable) else {
-        return Err(Fault::UnknownName(place));
+        return Err(Fault::UnknownName(position));
     };
     let Some(slave) = slaves.place_of(&slave_name, near.slave) else {
-        return Err(Fault::UnknownName(place));
+        return Err(Fault::UnknownName(position));
     };
     Ok(LinkRow {
         variable: at,
@@ -109,24 +109,24 @@ fn link_at(
 
 /// A link's bits, if they are written.
 #[tactic(auto, unfolding(crate::specs::Fields::link_bits_in))]
-fn link_bits_in(place: Place, value: Option<&Value>) -> Result<Option<LinkBits>, Fault>
-    ensures { result ≡ link_bits_in place (seen value.entry) }
+fn link_bits_in(position: Position, value: Option<&Value>) -> Result<Option<LinkBits>, Fault>
+    ensures { result ≡ link_bits_in position (viewed value.entry) }
 {
     match value {
         None => Ok(None),
-        Some(value) => Ok(Some(link_bits_of(place, value)?)),
+        Some(value) => Ok(Some(link_bits_of(position, value)?)),
     }
 }
 
 #[tactic(auto, unfolding(crate::specs::Fields::link_bits_of))]
-fn link_bits_of(place: Place, value: &Value) -> Result<LinkBits, Fault>
-    ensures { result ≡ link_bits_of place (view value.now) }
+fn link_bits_of(position: Position, value: &Value) -> Result<LinkBits, Fault>
+    ensures { result ≡ link_bits_of position (view value.now) }
 {
-    let variable_bit = number_in(place, value.get(0), 0, LAST_BIT)?;
-    let entry_bit = number_in(place, value.get(1), 0, LAST_BIT)?;
-    let count = number_in(place, value.get(2), 1, MAX_VALUE_BITS)?;
+    let variable_bit = number_in(position, value.get(0), 0, LAST_BIT)?;
+    let entry_bit = number_in(position, value.get(1), 0, LAST_BIT)?;
+    let count = number_in(position, value.get(2), 1, MAX_VALUE_BITS)?;
     if value.get(3).is_some() {
-        return Err(Fault::BadValue(place));
+        return Err(Fault::BadValue(position));
     }
     Ok(LinkBits {
         variable_bit: variable_bit as u8,

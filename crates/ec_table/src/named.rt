@@ -1,6 +1,6 @@
 //! Rows with names, each of which stands once.
 ghost use Rattle.std.specs.Prelude.{◌≡◌, [], ◌∷◌, ◌++◌, false, IfOk, IfSome, Some, length, option_map, slice_get};
-ghost use Rattle.ec_table.specs.Names.{is_named, place_named};
+ghost use Rattle.ec_table.specs.Names.{is_named, index_named};
 
 use crate::fields::are_same;
 use crate::rows::Name;
@@ -32,14 +32,14 @@ impl<X: Named> Model for NamedRows<X> {
     ghost use Rattle.std.specs.Prelude.{◌≡◌, List, ℕ};
     ghost use Rattle.std.specs.Str.{bytes_eq};
     ghost use Rattle.std.specs.HashMap.{get_by};
-    ghost use Rattle.ec_table.specs.Names.{place_named};
+    ghost use Rattle.ec_table.specs.Names.{index_named};
     ghost use Rattle.ec_table.specs.Unique.{AreApart};
 
     ghost Value = { List X };
 
     ghost view = { λ a. a.rows };
 
-    ghost invariant = { λ a. ((q : List ℕ) → get_by (λ k. bytes_eq q k.bytes) a.places ≡ place_named X.name q a.rows) × AreApart X.name a.rows };
+    ghost invariant = { λ a. ((q : List ℕ) → get_by (λ k. bytes_eq q k.bytes) a.places ≡ index_named X.name q a.rows) × AreApart X.name a.rows };
 }
 
 impl<X: Named> NamedRows<X> {
@@ -55,7 +55,7 @@ impl<X: Named> NamedRows<X> {
 
     /// The place of the row with a name. It tries the row at `near` first: a good guess spares the look into the map.
     pub fn place_of(&self, name: &Name, near: usize) -> Option<usize>
-        ensures { result ≡ place_named X.name name.now self.now }
+        ensures { result ≡ index_named X.name name.now self.now }
     {
         let rows = self.rows.as_slice();
         if near < rows.len() && are_same(rows[near].own_name().as_str(), name.as_str()) {
@@ -67,15 +67,15 @@ impl<X: Named> NamedRows<X> {
 
     /// The row with a name, and its place. It tries the row at `near` first.
     pub fn find(&self, name: &Name, near: usize) -> Option<(usize, &X)>
-        ensures place { option_map (λ r. r.0) result ≡ place_named X.name name.now self.now }
+        ensures place { option_map (λ r. r.0) result ≡ index_named X.name name.now self.now }
         ensures row { IfSome result (λ r. slice_get self.now r.0 ≡ Some r.1.now) }
     {
-        let place = self.place_of(name, near)?;
-        Some((place, &self.rows.as_slice()[place]))
+        let index = self.place_of(name, near)?;
+        Some((index, &self.rows.as_slice()[index]))
     }
 
     /// Whether some row has the name.
-    #[tactic(auto, using(crate::proofs::Naming::named_at))]
+    #[tactic(auto, using(crate::proofs::NameIndex::named_at))]
     pub fn has(&self, name: &Name) -> bool
         ensures { result ≡ is_named X.name name.now self.now }
     {
@@ -98,7 +98,7 @@ impl<X: Named> NamedRows<X> {
 
     /// The place of the row with a name, from the map.
     fn by_map(&self, name: &Name) -> Option<usize>
-        ensures { result ≡ place_named X.name name.now self.now }
+        ensures { result ≡ index_named X.name name.now self.now }
     {
         self.places.get(&name.key()).copied()
     }

@@ -2,11 +2,11 @@
 ghost use Rattle.std.specs.Prelude.{◌≡◌, ◌==◌, ◌||◌, [], IfOk, not};
 ghost use Rattle.std.specs.List.{list_any};
 ghost use Rattle.toml.specs.View.{view, table_view, items_view};
-ghost use Rattle.ec_table.specs.Fields.{seen};
+ghost use Rattle.ec_table.specs.Fields.{viewed};
 ghost use Rattle.ec_table.specs.InOrder.{Gives, rows_after};
 ghost use Rattle.ec_table.specs.Pdos.{entry_of, entry_row, array_of, array_in, pdo_of, pdo_row, pdos_in, indices_of, has_twice};
 
-use crate::fault::{Fault, Place, TableError};
+use crate::fault::{Fault, Position, TableError};
 use crate::fields::{MAX_U8, MAX_U16, MAX_VALUE_BITS, number_in};
 use crate::keys::{Shape, values_of};
 use crate::rows::Version;
@@ -25,16 +25,16 @@ pub const LAST_INPUT_INDEX: u16 = FIRST_INPUT_INDEX + (PDO_INDICES - 1);
 /// The PDOs of one direction, none if they are left out.
 pub fn pdos_in(
     alloc: Global,
-    place: Place,
+    position: Position,
     value: Option<&Value>,
     low: u16,
     high: u16,
 ) -> Result<Listed<Pdo>, TableError>
-    ensures { Gives result (pdos_in place low high (seen value.entry)) }
+    ensures { Gives result (pdos_in position low high (viewed value.entry)) }
 {
     match value {
         None => Ok(Listed::new(alloc)),
-        Some(value) => pdo_array(alloc, place, low, high, value),
+        Some(value) => pdo_array(alloc, position, low, high, value),
     }
 }
 
@@ -89,36 +89,36 @@ pub fn is_in(number: u16, known: &[u16]) -> bool
 #[tactic(auto, unfolding(crate::specs::Pdos::array_of))]
 fn pdo_array(
     alloc: Global,
-    place: Place,
+    position: Position,
     low: u16,
     high: u16,
     value: &Value,
 ) -> Result<Listed<Pdo>, TableError>
-    ensures { Gives result (array_of (pdo_row place low high) place 16 (view value.now)) }
+    ensures { Gives result (array_of (pdo_row position low high) position 16 (view value.now)) }
 {
     let Some(elements) = value.as_array() else {
-        return Err(TableError::Refused(Fault::BadValue(place)));
+        return Err(TableError::Refused(Fault::BadValue(position)));
     };
-    let pdos = pdos_of(alloc, place, low, high, elements.as_slice())?;
+    let pdos = pdos_of(alloc, position, low, high, elements.as_slice())?;
     if pdos.len() > MAX_PDOS {
-        return Err(TableError::Refused(Fault::BadValue(place)));
+        return Err(TableError::Refused(Fault::BadValue(position)));
     }
     Ok(pdos)
 }
 
-#[tactic(auto, using(crate::proofs::InOrder::rows_all))]
+#[tactic(auto, using(crate::proofs::SectionRows::rows_all))]
 fn pdos_of(
     alloc: Global,
-    place: Place,
+    position: Position,
     low: u16,
     high: u16,
     elements: &[Value],
 ) -> Result<Listed<Pdo>, TableError>
-    ensures { Gives result (rows_after (pdo_row place low high) [] 0 (items_view elements.now)) }
+    ensures { Gives result (rows_after (pdo_row position low high) [] 0 (items_view elements.now)) }
 {
     let mut found = Listed::new(alloc);
     for value in elements {
-        let pdo = pdo_row(alloc, place, low, high, value)?;
+        let pdo = pdo_row(alloc, position, low, high, value)?;
         found.push(pdo)?;
     }
     Ok(found)
@@ -126,35 +126,35 @@ fn pdos_of(
 
 fn pdo_row(
     alloc: Global,
-    place: Place,
+    position: Position,
     low: u16,
     high: u16,
     value: &Value,
 ) -> Result<Pdo, TableError>
-    ensures { Gives result (pdo_row place low high 0 (view value.now) []) }
+    ensures { Gives result (pdo_row position low high 0 (view value.now) []) }
 {
     match value.as_table() {
-        Some(members) => pdo_of(alloc, place, low, high, members),
-        None => Err(TableError::Refused(Fault::BadValue(place))),
+        Some(members) => pdo_of(alloc, position, low, high, members),
+        None => Err(TableError::Refused(Fault::BadValue(position))),
     }
 }
 
 #[tactic(auto, unfolding(crate::specs::Pdos::pdo_of))]
 fn pdo_of(
     alloc: Global,
-    place: Place,
+    position: Position,
     low: u16,
     high: u16,
     members: &toml::Table,
 ) -> Result<Pdo, TableError>
-    ensures { Gives result (pdo_of place low high (table_view members.now)) }
+    ensures { Gives result (pdo_of position low high (table_view members.now)) }
 {
     let Some(values) = values_of(Shape::Pdo, Version::Two, members) else {
-        return Err(TableError::Refused(Fault::BadValue(place)));
+        return Err(TableError::Refused(Fault::BadValue(position)));
     };
     let (entries, index) = (values.at(0), values.at(1));
-    let index = number_in(place, index, u32::from(low), u32::from(high))?;
-    let entries = entries_in(alloc, place, entries)?;
+    let index = number_in(position, index, u32::from(low), u32::from(high))?;
+    let entries = entries_in(alloc, position, entries)?;
     Ok(Pdo {
         index: index as u16,
         entries,
@@ -163,52 +163,60 @@ fn pdo_of(
 
 fn entries_in(
     alloc: Global,
-    place: Place,
+    position: Position,
     value: Option<&Value>,
 ) -> Result<Listed<Entry>, TableError>
-    ensures { Gives result (array_in (entry_row place) place 64 (seen value.entry)) }
+    ensures { Gives result (array_in (entry_row position) position 64 (viewed value.entry)) }
 {
     match value {
         None => Ok(Listed::new(alloc)),
-        Some(value) => entry_array(alloc, place, value),
+        Some(value) => entry_array(alloc, position, value),
     }
 }
 
 #[tactic(auto, unfolding(crate::specs::Pdos::array_of))]
-fn entry_array(alloc: Global, place: Place, value: &Value) -> Result<Listed<Entry>, TableError>
-    ensures { Gives result (array_of (entry_row place) place 64 (view value.now)) }
+fn entry_array(
+    alloc: Global,
+    position: Position,
+    value: &Value,
+) -> Result<Listed<Entry>, TableError>
+    ensures { Gives result (array_of (entry_row position) position 64 (view value.now)) }
 {
     let Some(elements) = value.as_array() else {
-        return Err(TableError::Refused(Fault::BadValue(place)));
+        return Err(TableError::Refused(Fault::BadValue(position)));
     };
-    let entries = entries_of(alloc, place, elements.as_slice())?;
+    let entries = entries_of(alloc, position, elements.as_slice())?;
     if entries.len() > MAX_ENTRIES {
-        return Err(TableError::Refused(Fault::BadValue(place)));
+        return Err(TableError::Refused(Fault::BadValue(position)));
     }
     Ok(entries)
 }
 
-#[tactic(auto, using(crate::proofs::InOrder::rows_all))]
-fn entries_of(alloc: Global, place: Place, elements: &[Value]) -> Result<Listed<Entry>, TableError>
-    ensures { Gives result (rows_after (entry_row place) [] 0 (items_view elements.now)) }
+#[tactic(auto, using(crate::proofs::SectionRows::rows_all))]
+fn entries_of(
+    alloc: Global,
+    position: Position,
+    elements: &[Value],
+) -> Result<Listed<Entry>, TableError>
+    ensures { Gives result (rows_after (entry_row position) [] 0 (items_view elements.now)) }
 {
     let mut found = Listed::new(alloc);
     for value in elements {
-        let entry = entry_of(place, value)?;
+        let entry = entry_of(position, value)?;
         found.push(entry)?;
     }
     Ok(found)
 }
 
 #[tactic(auto, unfolding(crate::specs::Pdos::entry_of))]
-fn entry_of(place: Place, value: &Value) -> Result<Entry, Fault>
-    ensures { result ≡ entry_of place (view value.now) }
+fn entry_of(position: Position, value: &Value) -> Result<Entry, Fault>
+    ensures { result ≡ entry_of position (view value.now) }
 {
-    let index = number_in(place, value.get(0), 0, MAX_U16)?;
-    let subindex = number_in(place, value.get(1), 0, MAX_U8)?;
-    let bits = number_in(place, value.get(2), 1, MAX_VALUE_BITS)?;
+    let index = number_in(position, value.get(0), 0, MAX_U16)?;
+    let subindex = number_in(position, value.get(1), 0, MAX_U8)?;
+    let bits = number_in(position, value.get(2), 1, MAX_VALUE_BITS)?;
     if value.get(3).is_some() || is_bad_gap(index, subindex) {
-        return Err(Fault::BadValue(place));
+        return Err(Fault::BadValue(position));
     }
     Ok(Entry {
         index: index as u16,

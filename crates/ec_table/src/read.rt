@@ -7,7 +7,7 @@ ghost use Rattle.toml.specs.View.{items_view, table_view, view};
 ghost use Rattle.ec_table.specs.InOrder.{Gives};
 ghost use Rattle.ec_table.specs.Reading.{table_of_document, table_of_sections, table_of};
 
-use crate::fault::{Fault, Place, Section, TableError};
+use crate::fault::{Fault, Position, Section, TableError};
 use crate::fields::{elements_in, member, section_in, version_in};
 use crate::keys::{Shape, values_of};
 use crate::links::links_of;
@@ -41,7 +41,7 @@ pub fn read_table(alloc: Global, text: &str) -> Result<Table, TableError>
 fn table_of_document(alloc: Global, document: &mut toml::Table) -> Result<Table, TableError>
     ensures { Gives result (table_of_document (table_view document.old)) }
 {
-    let top = Place {
+    let top = Position {
         section: Section::Top,
         element: 0,
     };

@@ -103,13 +103,13 @@ impl TypeRow {
     }
 }
 
-/// A row of the section `slave`: a slave, of the type at place `type_place`.
+/// A row of the section `slave`: a slave, of the type at place `type_index`.
 #[derive(Debug, Drop)]
 pub struct SlaveRow {
     /// Its name, which no other slave has.
     pub name: Name,
     /// The place of its type in the section `type`, counted from 0.
-    pub type_place: usize,
+    pub type_index: usize,
     /// The indices of the output objects that it assigns, in order.
     pub outputs: Listed<u16>,
     /// The indices of the input objects that it assigns, in order.

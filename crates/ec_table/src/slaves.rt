@@ -7,7 +7,7 @@ ghost use Rattle.ec_table.specs.Names.{is_named};
 ghost use Rattle.ec_table.specs.declared.rows.SlaveRow.{SlaveRow};
 ghost use Rattle.ec_table.specs.Reading.{all_in, assigned_in, same_list, slave_at, slave_element, slave_of_type};
 
-use crate::fault::{Fault, Place, Section, TableError};
+use crate::fault::{Fault, Position, Section, TableError};
 use crate::fields::{MAX_UNIT, name_in, number_or_0, numbers_in};
 use crate::keys::{Shape, values_of};
 use crate::named::{Named, NamedRows};
@@ -36,7 +36,7 @@ pub struct Written {
 }
 
 /// The slaves of the section, in order.
-#[tactic(auto, using(crate::proofs::InOrder::rows_all))]
+#[tactic(auto, using(crate::proofs::SectionRows::rows_all))]
 pub fn slaves_of(
     alloc: Global,
     version: Version,
@@ -65,13 +65,13 @@ fn slave_element(
     ensures value { Gives result (slave_element version types.now element (view value.now) found.now) }
     ensures fresh { IfOk result (λ s. is_named (λ (s : SlaveRow). s.name) s.name found.now ≡ false) }
 {
-    let place = Place {
+    let position = Position {
         section: Section::Slave,
         element,
     };
     match value.as_table() {
-        Some(members) => slave_at(alloc, version, types, place, members, found),
-        None => Err(TableError::Refused(Fault::BadValue(place))),
+        Some(members) => slave_at(alloc, version, types, position, members, found),
+        None => Err(TableError::Refused(Fault::BadValue(position))),
     }
 }
 
@@ -81,29 +81,29 @@ fn slave_at(
     alloc: Global,
     version: Version,
     types: &NamedRows<TypeRow>,
-    place: Place,
+    position: Position,
     members: &toml::Table,
     found: &NamedRows<SlaveRow>,
 ) -> Result<SlaveRow, TableError>
-    ensures value { Gives result (slave_at version types.now place (table_view members.now) found.now) }
+    ensures value { Gives result (slave_at version types.now position (table_view members.now) found.now) }
     ensures fresh { IfOk result (λ s. is_named (λ (s : SlaveRow). s.name) s.name found.now ≡ false) }
 {
     let Some(values) = values_of(Shape::Slave, version, members) else {
-        return Err(TableError::Refused(Fault::BadKey(place)));
+        return Err(TableError::Refused(Fault::BadKey(position)));
     };
     let (name, type_name) = (values.at(0), values.at(1));
     let (inputs, outputs) = (values.at(2), values.at(3));
     let (serial, unit) = (values.at(4), values.at(5));
-    let name = name_in(place, name)?;
-    let type_name = name_in(place, type_name)?;
+    let name = name_in(position, name)?;
+    let type_name = name_in(position, type_name)?;
     let (first, last) = (FIRST_OUTPUT_INDEX, LAST_OUTPUT_INDEX);
-    let outputs = numbers_in(alloc, place, outputs, first, last)?;
+    let outputs = numbers_in(alloc, position, outputs, first, last)?;
     let (first, last) = (FIRST_INPUT_INDEX, LAST_INPUT_INDEX);
-    let inputs = numbers_in(alloc, place, inputs, first, last)?;
-    let serial = number_or_0(place, serial, u32::MAX)?;
-    let unit = number_or_0(place, unit, MAX_UNIT)?;
+    let inputs = numbers_in(alloc, position, inputs, first, last)?;
+    let serial = number_or_0(position, serial, u32::MAX)?;
+    let unit = number_or_0(position, unit, MAX_UNIT)?;
     if is_twice(found.has(&name), &outputs, &inputs) {
-        return Err(TableError::Refused(Fault::TwiceNamed(place)));
+        return Err(TableError::Refused(Fault::TwiceNamed(position)));
     }
     let written = Written {
         outputs,
@@ -111,7 +111,7 @@ fn slave_at(
         serial,
         unit: unit as u8,
     };
-    slave_of_type(alloc, types, place, name, &type_name, written)
+    slave_of_type(alloc, types, position, name, &type_name, written)
 }
 
 /// The slave of this name and type, with what its element states.
@@ -119,19 +119,19 @@ fn slave_at(
 fn slave_of_type(
     alloc: Global,
     types: &NamedRows<TypeRow>,
-    place: Place,
+    position: Position,
     name: Name,
     type_name: &Name,
     written: Written,
 ) -> Result<SlaveRow, TableError>
-    ensures value { Gives result (slave_of_type types.now place name type_name.now written) }
+    ensures value { Gives result (slave_of_type types.now position name type_name.now written) }
     ensures name { IfOk result (λ s. s.name ≡ name) }
 {
     let Some((at, slave_type)) = types.find(type_name, 0) else {
-        return Err(TableError::Refused(Fault::UnknownName(place)));
+        return Err(TableError::Refused(Fault::UnknownName(position)));
     };
     let row = row_of(alloc, name, at, &slave_type.process, written)?;
-    test_assigned(place, slave_type, &row)?;
+    test_assigned(position, slave_type, &row)?;
     Ok(row)
 }
 
@@ -139,13 +139,13 @@ fn slave_of_type(
 fn row_of(
     alloc: Global,
     name: Name,
-    type_place: usize,
+    type_index: usize,
     process: &ProcessData,
     written: Written,
 ) -> Result<SlaveRow, AllocError>
     ensures { IfOk result (λ s. s ≡ record {
       name = name;
-      type_place = type_place;
+      type_index = type_index;
       outputs = unwrap_or written.outputs (indices_of process.now.outputs);
       inputs = unwrap_or written.inputs (indices_of process.now.inputs);
       serial = written.serial;
@@ -154,7 +154,7 @@ fn row_of(
 {
     Ok(SlaveRow {
         name,
-        type_place,
+        type_index,
         outputs: written_or_all(alloc, written.outputs, process.outputs.as_slice())?,
         inputs: written_or_all(alloc, written.inputs, process.inputs.as_slice())?,
         serial: written.serial,
@@ -164,9 +164,9 @@ fn row_of(
 
 /// Tests whether the objects that a slave assigns are its type's, and, without a mailbox, all of them in order.
 #[tactic(auto, unfolding(crate::specs::Reading::assigned_in))]
-fn test_assigned(place: Place, slave_type: &TypeRow, row: &SlaveRow) -> Result<(), Fault>
-    ensures passes { OnOk result (assigned_in place slave_type.now row.now ≡ Ok row.now) }
-    ensures fails { IfErr result (λ f. assigned_in place slave_type.now row.now ≡ Err f) }
+fn test_assigned(position: Position, slave_type: &TypeRow, row: &SlaveRow) -> Result<(), Fault>
+    ensures passes { OnOk result (assigned_in position slave_type.now row.now ≡ Ok row.now) }
+    ensures fails { IfErr result (λ f. assigned_in position slave_type.now row.now ≡ Err f) }
 {
     let (outputs, inputs) = (row.outputs.as_slice(), row.inputs.as_slice());
     let (all_outputs, all_inputs) = (
@@ -174,11 +174,11 @@ fn test_assigned(place: Place, slave_type: &TypeRow, row: &SlaveRow) -> Result<(
         slave_type.process.inputs.as_slice(),
     );
     if !are_among(outputs, all_outputs) || !are_among(inputs, all_inputs) {
-        return Err(Fault::UnknownName(place));
+        return Err(Fault::UnknownName(position));
     }
     let are_all = are_indices(outputs, all_outputs) && are_indices(inputs, all_inputs);
     if slave_type.mailbox.is_none() && !are_all {
-        return Err(Fault::BadValue(place));
+        return Err(Fault::BadValue(position));
     }
     Ok(())
 }

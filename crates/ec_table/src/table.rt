@@ -4,7 +4,7 @@ ghost use Rattle.std.specs.Option.{option_copied};
 ghost use Rattle.ec_device.specs.declared.slave_type.Pdo.{Pdo};
 ghost use Rattle.ec_device.specs.Types.{IsEntry, IsFace};
 ghost use Rattle.ec_device.specs.Objects.{bits_of, entries_at, assigned_entries};
-ghost use Rattle.ec_table.specs.Contents.{shown_as, shown_full};
+ghost use Rattle.ec_table.specs.Contents.{advertised_as, advertised_full};
 ghost use Rattle.ec_table.specs.Sound.{IsSound, IsType, AreTypes, AreSlaves, IsVariable, AreVariables, IsLink};
 ghost use Rattle.ec_table.specs.Objects.{type_of, variable_of, slave_of, identity_of, face_of, kind_of, entries_of};
 
@@ -14,7 +14,7 @@ use ec_listed::Listed;
 use std::alloc::{AllocError, Global};
 use std::marker::Model;
 
-/// What a text states: a version, and the rows of each section in file order. A table is also shown in full or not, which no
+/// What a text states: a version, and the rows of each section in file order. A table is also advertised in full or not, which no
 /// text states. If it is, its slaves have a face: they look to common masters as those expect.
 ///
 /// Each table is sound. Names stand once in their section, and each reference to a row finds one. Assigned objects are
@@ -55,7 +55,7 @@ impl Model for Table {
 }
 
 impl Table {
-    /// A table of rows that were read, which isn't shown in full.
+    /// A table of rows that were read, which isn't advertised in full.
     pub(crate) fn new(
         version: Version,
         types: Listed<TypeRow>,
@@ -92,19 +92,19 @@ impl Table {
 
     /// Shows the table in full. Each slave then has a face with the name of its type, and the last one says that it is the
     /// last of its ring. No row changes.
-    #[tactic(auto, using(crate::proofs::Shown::sound_shown))]
-    pub fn show_full(&mut self)
-        ensures { self.new ≡ shown_full self.old }
+    #[tactic(auto, using(crate::proofs::AdvertisedFull::sound_shown))]
+    pub fn advertise_full(&mut self)
+        ensures { self.new ≡ advertised_full self.old }
     {
         self.is_full = true;
     }
 
     /// Shows the table in full if `full`; otherwise it stays as it is.
-    pub fn show_as(&mut self, full: bool)
-        ensures { self.new ≡ shown_as full self.old }
+    pub fn advertise_as(&mut self, full: bool)
+        ensures { self.new ≡ advertised_as full self.old }
     {
         if full {
-            self.show_full();
+            self.advertise_full();
         }
     }
 
@@ -162,7 +162,7 @@ impl Table {
         ensures sound { IsType result.now }
     {
         let row = &self.slaves.as_slice()[slave];
-        &self.types.as_slice()[row.type_place]
+        &self.types.as_slice()[row.type_index]
     }
 
     /// The variable of the link at a place.
@@ -190,11 +190,11 @@ impl Table {
         ensures { identity_of self.now slave ≡ Some result }
     {
         let row = &self.slaves.as_slice()[slave];
-        let device = self.types.as_slice()[row.type_place].device;
+        let device = self.types.as_slice()[row.type_index].device;
         device.identity(row.serial)
     }
 
-    /// The type of the slave at a place, as a slave has it: with a face if the table is shown in full. The error says that
+    /// The type of the slave at a place, as a slave has it: with a face if the table is advertised in full. The error says that
     /// memory was refused.
     pub fn kind_of(&self, alloc: Global, slave: usize) -> Result<SlaveType, AllocError>
         requires { slave < length self.now.slaves }
@@ -237,7 +237,7 @@ impl Table {
         assigned_entries(alloc, slave_type.pdos(direction), row.assigned(direction))
     }
 
-    /// The face of the slave at a place, if the table is shown in full. The error says that memory was refused.
+    /// The face of the slave at a place, if the table is advertised in full. The error says that memory was refused.
     fn face(&self, alloc: Global, slave: usize) -> Result<Face, AllocError>
         requires { slave < length self.now.slaves }
         ensures value { IfOk result (λ f. option_map (face_of self.now slave) (type_of self.now slave) ≡ Some f) }

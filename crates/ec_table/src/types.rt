@@ -1,13 +1,13 @@
 //! Reads the types of slaves that elements state.
 ghost use Rattle.std.specs.Prelude.{◌≡◌, ◌||◌, [], false, IfOk};
 ghost use Rattle.toml.specs.View.{view, table_view, items_view};
-ghost use Rattle.ec_table.specs.Fields.{mailbox_of, mailbox_in, seen, truth_in};
+ghost use Rattle.ec_table.specs.Fields.{mailbox_of, mailbox_in, viewed, truth_in};
 ghost use Rattle.ec_table.specs.InOrder.{Gives, rows_after};
 ghost use Rattle.ec_table.specs.Names.{is_named};
 ghost use Rattle.ec_table.specs.declared.rows.TypeRow.{TypeRow};
 ghost use Rattle.ec_table.specs.Reading.{device_in, process_in, process_twice, type_at, type_element};
 
-use crate::fault::{Fault, Place, Section, TableError};
+use crate::fault::{Fault, Position, Section, TableError};
 use crate::fields::{MAX_U16, name_in, number_in};
 use crate::keys::{Shape, values_of};
 use crate::named::{Named, NamedRows};
@@ -28,7 +28,7 @@ impl Named for TypeRow {
 }
 
 /// The types of the section, in order.
-#[tactic(auto, using(crate::proofs::InOrder::rows_all))]
+#[tactic(auto, using(crate::proofs::SectionRows::rows_all))]
 pub fn types_of(
     alloc: Global,
     version: Version,
@@ -55,13 +55,13 @@ fn type_element(
     ensures value { Gives result (type_element version element (view value.now) found.now) }
     ensures fresh { IfOk result (λ t. is_named (λ (t : TypeRow). t.name) t.name found.now ≡ false) }
 {
-    let place = Place {
+    let position = Position {
         section: Section::Type,
         element,
     };
     match value.as_table() {
-        Some(members) => type_at(alloc, version, place, members, found),
-        None => Err(TableError::Refused(Fault::BadValue(place))),
+        Some(members) => type_at(alloc, version, position, members, found),
+        None => Err(TableError::Refused(Fault::BadValue(position))),
     }
 }
 
@@ -70,27 +70,27 @@ fn type_element(
 fn type_at(
     alloc: Global,
     version: Version,
-    place: Place,
+    position: Position,
     members: &toml::Table,
     found: &NamedRows<TypeRow>,
 ) -> Result<TypeRow, TableError>
-    ensures value { Gives result (type_at version place (table_view members.now) found.now) }
+    ensures value { Gives result (type_at version position (table_view members.now) found.now) }
     ensures fresh { IfOk result (λ t. is_named (λ (t : TypeRow). t.name) t.name found.now ≡ false) }
 {
     let Some(values) = values_of(Shape::Type, version, members) else {
-        return Err(TableError::Refused(Fault::BadKey(place)));
+        return Err(TableError::Refused(Fault::BadKey(position)));
     };
     let (in_start, name, out_start) = (values.at(0), values.at(1), values.at(2));
     let (product, revision, vendor) = (values.at(3), values.at(4), values.at(5));
     let (lrw, mailbox) = (values.at(6), values.at(7));
     let (outputs, inputs) = (values.at(8), values.at(9));
-    let name = name_in(place, name)?;
-    let device = device_in(place, vendor, product, revision)?;
-    let mailbox = mailbox_in(place, mailbox)?;
-    let process = process_in(alloc, place, out_start, in_start, outputs, inputs)?;
-    let lrw = truth_in(place, lrw)?;
+    let name = name_in(position, name)?;
+    let device = device_in(position, vendor, product, revision)?;
+    let mailbox = mailbox_in(position, mailbox)?;
+    let process = process_in(alloc, position, out_start, in_start, outputs, inputs)?;
+    let lrw = truth_in(position, lrw)?;
     if found.has(&name) || is_twice(&process) {
-        return Err(TableError::Refused(Fault::TwiceNamed(place)));
+        return Err(TableError::Refused(Fault::TwiceNamed(position)));
     }
     Ok(TypeRow {
         name,
@@ -112,18 +112,24 @@ fn is_twice(process: &ProcessData) -> bool
 #[tactic(auto, unfolding(crate::specs::Reading::process_in))]
 fn process_in(
     alloc: Global,
-    place: Place,
+    position: Position,
     out_start: Option<&Value>,
     in_start: Option<&Value>,
     outputs: Option<&Value>,
     inputs: Option<&Value>,
 ) -> Result<ProcessData, TableError>
-    ensures { Gives result (process_in place (seen out_start.entry) (seen in_start.entry) (seen outputs.entry) (seen inputs.entry)) }
+    ensures { Gives result (process_in position (viewed out_start.entry) (viewed in_start.entry) (viewed outputs.entry) (viewed inputs.entry)) }
 {
-    let out_start = number_in(place, out_start, 0, MAX_U16)?;
-    let in_start = number_in(place, in_start, 0, MAX_U16)?;
-    let outputs = pdos_in(alloc, place, outputs, FIRST_OUTPUT_INDEX, LAST_OUTPUT_INDEX)?;
-    let inputs = pdos_in(alloc, place, inputs, FIRST_INPUT_INDEX, LAST_INPUT_INDEX)?;
+    let out_start = number_in(position, out_start, 0, MAX_U16)?;
+    let in_start = number_in(position, in_start, 0, MAX_U16)?;
+    let outputs = pdos_in(
+        alloc,
+        position,
+        outputs,
+        FIRST_OUTPUT_INDEX,
+        LAST_OUTPUT_INDEX,
+    )?;
+    let inputs = pdos_in(alloc, position, inputs, FIRST_INPUT_INDEX, LAST_INPUT_INDEX)?;
     Ok(ProcessData {
         out_start: out_start as u16,
         in_start: in_start as u16,
@@ -135,16 +141,16 @@ fn process_in(
 /// Vendor, product and revision.
 #[tactic(auto, unfolding(crate::specs::Reading::device_in))]
 fn device_in(
-    place: Place,
+    position: Position,
     vendor: Option<&Value>,
     product: Option<&Value>,
     revision: Option<&Value>,
 ) -> Result<Device, Fault>
-    ensures { result ≡ device_in place (seen vendor.entry) (seen product.entry) (seen revision.entry) }
+    ensures { result ≡ device_in position (viewed vendor.entry) (viewed product.entry) (viewed revision.entry) }
 {
-    let vendor = number_in(place, vendor, 0, u32::MAX)?;
-    let product = number_in(place, product, 0, u32::MAX)?;
-    let revision = number_in(place, revision, 0, u32::MAX)?;
+    let vendor = number_in(position, vendor, 0, u32::MAX)?;
+    let product = number_in(position, product, 0, u32::MAX)?;
+    let revision = number_in(position, revision, 0, u32::MAX)?;
     Ok(Device {
         vendor,
         product,
@@ -154,26 +160,26 @@ fn device_in(
 
 /// A mailbox, if there is one.
 #[tactic(auto, unfolding(crate::specs::Fields::mailbox_in))]
-fn mailbox_in(place: Place, value: Option<&Value>) -> Result<Option<Mailbox>, Fault>
-    ensures { result ≡ mailbox_in place (seen value.entry) }
+fn mailbox_in(position: Position, value: Option<&Value>) -> Result<Option<Mailbox>, Fault>
+    ensures { result ≡ mailbox_in position (viewed value.entry) }
 {
     match value {
         None => Ok(None),
-        Some(value) => Ok(Some(mailbox_of(place, value)?)),
+        Some(value) => Ok(Some(mailbox_of(position, value)?)),
     }
 }
 
 #[tactic(auto, unfolding(crate::specs::Fields::mailbox_of))]
-fn mailbox_of(place: Place, value: &Value) -> Result<Mailbox, Fault>
-    ensures { result ≡ mailbox_of place (view value.now) }
+fn mailbox_of(position: Position, value: &Value) -> Result<Mailbox, Fault>
+    ensures { result ≡ mailbox_of position (view value.now) }
 {
     let (least, most) = (MIN_MAILBOX_SIZE as u32, MAX_MAILBOX_SIZE as u32);
-    let receive_start = number_in(place, value.get(0), 0, MAX_U16)?;
-    let receive_size = number_in(place, value.get(1), least, most)?;
-    let send_start = number_in(place, value.get(2), 0, MAX_U16)?;
-    let send_size = number_in(place, value.get(3), least, most)?;
+    let receive_start = number_in(position, value.get(0), 0, MAX_U16)?;
+    let receive_size = number_in(position, value.get(1), least, most)?;
+    let send_start = number_in(position, value.get(2), 0, MAX_U16)?;
+    let send_size = number_in(position, value.get(3), least, most)?;
     if value.get(4).is_some() {
-        return Err(Fault::BadValue(place));
+        return Err(Fault::BadValue(position));
     }
     Ok(Mailbox {
         receive_start: receive_start as u16,
@@ -184,14 +190,14 @@ fn mailbox_of(place: Place, value: &Value) -> Result<Mailbox, Fault>
 }
 
 /// A truth value, true if it is left out.
-fn truth_in(place: Place, value: Option<&Value>) -> Result<bool, Fault>
-    ensures { result ≡ truth_in place (seen value.entry) }
+fn truth_in(position: Position, value: Option<&Value>) -> Result<bool, Fault>
+    ensures { result ≡ truth_in position (viewed value.entry) }
 {
     let Some(value) = value else {
         return Ok(true);
     };
     match value.as_bool() {
         Some(truth) => Ok(truth),
-        None => Err(Fault::BadValue(place)),
+        None => Err(Fault::BadValue(position)),
     }
 }

@@ -1,13 +1,13 @@
 //! Reads the variables that elements state.
 ghost use Rattle.std.specs.Prelude.{◌≡◌, [], false, IfOk};
 ghost use Rattle.toml.specs.View.{view, table_view, items_view};
-ghost use Rattle.ec_table.specs.Fields.{direction_in, seen};
+ghost use Rattle.ec_table.specs.Fields.{direction_in, viewed};
 ghost use Rattle.ec_table.specs.Names.{is_named};
 ghost use Rattle.ec_table.specs.declared.rows.VariableRow.{VariableRow};
 ghost use Rattle.ec_table.specs.InOrder.{Gives, rows_after};
 ghost use Rattle.ec_table.specs.Reading.{variable_at, variable_element};
 
-use crate::fault::{Fault, Place, Section, TableError};
+use crate::fault::{Fault, Position, Section, TableError};
 use crate::fields::{MAX_VALUE_BITS, name_in, number_in};
 use crate::keys::{Shape, values_of};
 use crate::named::{Named, NamedRows};
@@ -24,7 +24,7 @@ impl Named for VariableRow {
 }
 
 /// The variables of the section, in order. It frees each element as soon as it is read, while it is in the cache.
-#[tactic(auto, using(crate::proofs::InOrder::rows_left))]
+#[tactic(auto, using(crate::proofs::SectionRows::rows_left))]
 pub fn variables_of(
     alloc: Global,
     version: Version,
@@ -50,13 +50,13 @@ fn variable_element(
     ensures value { result ≡ variable_element version element (view value.now) found.now }
     ensures fresh { IfOk result (λ w. is_named (λ (w : VariableRow). w.name) w.name found.now ≡ false) }
 {
-    let place = Place {
+    let position = Position {
         section: Section::Variable,
         element,
     };
     match value.as_table() {
-        Some(members) => variable_at(version, place, members, found),
-        None => Err(Fault::BadValue(place)),
+        Some(members) => variable_at(version, position, members, found),
+        None => Err(Fault::BadValue(position)),
     }
 }
 
@@ -64,21 +64,21 @@ fn variable_element(
 #[tactic(auto, unfolding(crate::specs::Reading::variable_at))]
 fn variable_at(
     version: Version,
-    place: Place,
+    position: Position,
     members: &toml::Table,
     found: &NamedRows<VariableRow>,
 ) -> Result<VariableRow, Fault>
-    ensures value { result ≡ variable_at version place (table_view members.now) found.now }
+    ensures value { result ≡ variable_at version position (table_view members.now) found.now }
     ensures fresh { IfOk result (λ w. is_named (λ (w : VariableRow). w.name) w.name found.now ≡ false) }
 {
     let Some(values) = values_of(Shape::Variable, version, members) else {
-        return Err(Fault::BadKey(place));
+        return Err(Fault::BadKey(position));
     };
-    let name = name_in(place, values.at(2))?;
-    let direction = direction_in(place, values.at(1))?;
-    let bits = number_in(place, values.at(0), 1, MAX_VALUE_BITS)?;
+    let name = name_in(position, values.at(2))?;
+    let direction = direction_in(position, values.at(1))?;
+    let bits = number_in(position, values.at(0), 1, MAX_VALUE_BITS)?;
     if found.has(&name) {
-        return Err(Fault::TwiceNamed(place));
+        return Err(Fault::TwiceNamed(position));
     }
     Ok(VariableRow {
         name,
@@ -89,20 +89,20 @@ fn variable_at(
 
 /// A direction, "out" or "in".
 #[tactic(auto, unfolding(crate::specs::Fields::direction_in))]
-fn direction_in(place: Place, value: Option<&Value>) -> Result<Direction, Fault>
-    ensures { result ≡ direction_in place (seen value.entry) }
+fn direction_in(position: Position, value: Option<&Value>) -> Result<Direction, Fault>
+    ensures { result ≡ direction_in position (viewed value.entry) }
 {
     let Some(value) = value else {
-        return Err(Fault::BadValue(place));
+        return Err(Fault::BadValue(position));
     };
     let Some(text) = value.as_str() else {
-        return Err(Fault::BadValue(place));
+        return Err(Fault::BadValue(position));
     };
     if text == "out" {
         Ok(Direction::Out)
     } else if text == "in" {
         Ok(Direction::In)
     } else {
-        Err(Fault::BadValue(place))
+        Err(Fault::BadValue(position))
     }
 }

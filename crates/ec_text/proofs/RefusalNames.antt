@@ -18,12 +18,12 @@ use Rattle.ec_start.specs.declared.error.StartError.{StartError}
 use Rattle.ec_start.specs.declared.error.StartError.TheVariants as start
 use Rattle.ec_cycle.specs.declared.error.CycleError.{CycleError}
 use Rattle.ec_cycle.specs.declared.error.CycleError.TheVariants as cycle
-use Rattle.ec_text.specs.RefusalText.{Told, cycle_told, decode_told, frame_told, link_told, start_told, table_told}
+use Rattle.ec_text.specs.RefusalText.{RefusalRow, cycle_row, decode_row, frame_row, link_row, start_row, table_row}
 
-abbrev IsShort : Told → Type 0
+abbrev IsShort : RefusalRow → Type 0
 IsShort told = length told.name ≤ 16
 
-pub short_frame : (e : FrameError) → IsShort (frame_told e)
+pub short_frame : (e : FrameError) → IsShort (frame_row e)
 short_frame frame.Short = omega arith
 short_frame frame.BadType = omega arith
 short_frame frame.BadLength = omega arith
@@ -31,7 +31,7 @@ short_frame frame.BadMore = omega arith
 short_frame frame.BadCommand = omega arith
 short_frame frame.TooLong = omega arith
 
-pub short_decode : (e : DecodeError) → IsShort (decode_told e)
+pub short_decode : (e : DecodeError) → IsShort (decode_row e)
 short_decode decode.Memory = omega arith
 short_decode (decode.BadScript n) = omega arith
 
@@ -42,7 +42,7 @@ short_fault (fault.BadValue p) = omega arith
 short_fault (fault.TwiceNamed p) = omega arith
 short_fault (fault.UnknownName p) = omega arith
 
-pub short_table : (e : TableError) → IsShort (table_told e)
+pub short_table : (e : TableError) → IsShort (table_row e)
 short_table table.Memory = omega arith
 short_table (table.Refused f) = short_fault f
 
@@ -59,11 +59,11 @@ short_misfit (misfit.AreasOverlap k) = omega arith
 short_misfit (misfit.OutsideRam k) = omega arith
 short_misfit (misfit.SplitVariable k) = omega arith
 
-pub short_link : (e : LinkError) → IsShort (link_told e)
+pub short_link : (e : LinkError) → IsShort (link_row e)
 short_link link.Memory = omega arith
 short_link (link.Refused f) = short_misfit f
 
-pub short_start : (e : StartError) → IsShort (start_told e)
+pub short_start : (e : StartError) → IsShort (start_row e)
 short_start (start.BadMailbox slave) = omega arith
 short_start (start.Count seen) = omega arith
 short_start (start.Identity slave seen) = omega arith
@@ -75,7 +75,7 @@ short_start start.Lost = omega arith
 short_start start.NumbersSpent = omega arith
 short_start (start.Mapping slave index subindex seen) = omega arith
 
-pub short_cycle : (e : CycleError) → IsShort (cycle_told e)
+pub short_cycle : (e : CycleError) → IsShort (cycle_row e)
 short_cycle cycle.NotReady = omega arith
 short_cycle cycle.Open = omega arith
 short_cycle cycle.NotOpen = omega arith

@@ -21,5 +21,5 @@ abbrev pub inputs_text : (ℕ → ℕ) → Contents → List ℕ
 inputs_text value t = lines_from (input_line value) 0 t.variables
 
 -- the value of the n-th variable of a master
-abbrev pub shown : MasterState → ℕ → ℕ
-shown m n = value_at m (slice_get m.plan.variables n)
+abbrev pub value_of_variable : MasterState → ℕ → ℕ
+value_of_variable m n = value_at m (slice_get m.plan.variables n)

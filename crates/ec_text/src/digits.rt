@@ -25,7 +25,7 @@ pub fn write_counter(
 ) -> Result<(), AllocError>
     ensures added { OnOk result
         (string_bytes text.new ≡ string_bytes text.old ++ counter_text part.now predicted) }
-    ensures kept { OnErr result (string_bytes text.new ≡ string_bytes text.old) }
+    ensures unchanged { OnErr result (string_bytes text.new ≡ string_bytes text.old) }
 {
     text.push_str(counter_of(part, predicted).as_str())
 }

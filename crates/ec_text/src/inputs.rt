@@ -1,6 +1,6 @@
 //! Input variables as text.
 ghost use Rattle.std.specs.Prelude.{◌≡◌, ◌++◌, IfOk, OnOk, string_bytes};
-ghost use Rattle.ec_text.specs.InputText.{input_by, input_line, inputs_text, shown};
+ghost use Rattle.ec_text.specs.InputText.{input_by, input_line, inputs_text, value_of_variable};
 ghost use Rattle.ec_text.specs.PlanText.{lines_from};
 
 use ec_cycle::Master;
@@ -9,11 +9,11 @@ use std::alloc::{AllocError, Global};
 use std::fmt::Write as _;
 
 /// The value of a variable of a master; 0 if it has no such variable.
-pub fn value_of(master: &Master<'_>, place: usize) -> u64
-    ensures { result ≡ shown master.now place }
+pub fn value_of(master: &Master<'_>, index: usize) -> u64
+    ensures { result ≡ value_of_variable master.now index }
 {
-    if place < master.variables() {
-        master.get(place)
+    if index < master.variables() {
+        master.get(index)
     } else {
         0
     }
@@ -25,7 +25,7 @@ pub fn value_of(master: &Master<'_>, place: usize) -> u64
 ///
 /// `AllocError` if memory ran out.
 pub fn input_lines(alloc: Global, table: &Table, master: &Master<'_>) -> Result<String, AllocError>
-    ensures { IfOk result (λ text. string_bytes text ≡ inputs_text (shown master.now) table.now) }
+    ensures { IfOk result (λ text. string_bytes text ≡ inputs_text (value_of_variable master.now) table.now) }
 {
     let mut text = String::new(alloc);
     write_inputs(&mut text, master, table.variables())?;
@@ -53,10 +53,10 @@ fn write_inputs(
     rows: &[VariableRow],
 ) -> Result<(), AllocError>
     ensures { OnOk result (string_bytes text.new
-        ≡ string_bytes text.old ++ lines_from (input_line (shown master.now)) 0 rows.now) }
+        ≡ string_bytes text.old ++ lines_from (input_line (value_of_variable master.now)) 0 rows.now) }
 {
-    for (place, row) in rows.iter().enumerate() {
-        write_input(text, row, value_of(master, place))?;
+    for (index, row) in rows.iter().enumerate() {
+        write_input(text, row, value_of(master, index))?;
     }
     Ok(())
 }

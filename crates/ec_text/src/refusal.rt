@@ -1,7 +1,7 @@
 //! Refusals: the number, name and values of each error by which the program is refused, and its text.
 ghost use Rattle.std.specs.Prelude.{◌≡◌, ◌+◌, ◌*◌, ◌≤◌, ◌++◌, length};
 ghost use Rattle.arrayvec.specs.ArrayString.{array_string_len};
-ghost use Rattle.ec_text.specs.RefusalText.{told_line, told_text, values_text};
+ghost use Rattle.ec_text.specs.RefusalText.{row_line, row_text, values_text};
 
 use crate::digits::{push_number, push_value};
 use arrayvec::{ArrayString, ArrayVec};
@@ -25,23 +25,23 @@ const LINE_SIZE: usize = 160;
 /// An error by which the program is refused. It has a row in the table of refusals: a number, a name, and the values that stand
 /// behind them.
 pub trait Refused {
-    ghost use Rattle.ec_text.specs.RefusalText.{Told};
+    ghost use Rattle.ec_text.specs.RefusalText.{RefusalRow};
 
     /// Its number, its name and its values.
-    ghost told: { Self → Told };
+    ghost row_of: { Self → RefusalRow };
 
     /// The number of the refusal.
     fn number(&self) -> u8
-        ensures { result ≡ (told self.now).number };
+        ensures { result ≡ (row_of self.now).number };
 
     /// The name of the refusal, one word of at most 16 letters.
     fn name(&self) -> &'static str
-        ensures value { result.now ≡ (told self.now).name }
+        ensures value { result.now ≡ (row_of self.now).name }
         ensures short { length result.now ≤ 16 };
 
     /// The values behind the name, at most four, in the order in which they are printed.
     fn values(&self) -> Values
-        ensures { result.items ≡ (told self.now).values };
+        ensures { result.items ≡ (row_of self.now).values };
 }
 
 /// These values, at most four, as a list.
@@ -55,9 +55,9 @@ pub fn listed(values: &[u64]) -> Values
 }
 
 impl Refused for FrameError {
-    ghost use Rattle.ec_text.specs.RefusalText.{frame_told};
+    ghost use Rattle.ec_text.specs.RefusalText.{frame_row};
 
-    ghost told = { frame_told };
+    ghost row_of = { frame_row };
 
     fn number(&self) -> u8 {
         (*self).number()
@@ -74,9 +74,9 @@ impl Refused for FrameError {
 }
 
 impl Refused for DecodeError {
-    ghost use Rattle.ec_text.specs.RefusalText.{decode_told};
+    ghost use Rattle.ec_text.specs.RefusalText.{decode_row};
 
-    ghost told = { decode_told };
+    ghost row_of = { decode_row };
 
     fn number(&self) -> u8 {
         (*self).number()
@@ -96,9 +96,9 @@ impl Refused for DecodeError {
 }
 
 impl Refused for TableError {
-    ghost use Rattle.ec_text.specs.RefusalText.{table_told};
+    ghost use Rattle.ec_text.specs.RefusalText.{table_row};
 
-    ghost told = { table_told };
+    ghost row_of = { table_row };
 
     fn number(&self) -> u8 {
         (*self).number()
@@ -118,9 +118,9 @@ impl Refused for TableError {
 }
 
 impl Refused for LinkError {
-    ghost use Rattle.ec_text.specs.RefusalText.{link_told};
+    ghost use Rattle.ec_text.specs.RefusalText.{link_row};
 
-    ghost told = { link_told };
+    ghost row_of = { link_row };
 
     fn number(&self) -> u8 {
         (*self).number()
@@ -140,9 +140,9 @@ impl Refused for LinkError {
 }
 
 impl Refused for StartError {
-    ghost use Rattle.ec_text.specs.RefusalText.{start_told};
+    ghost use Rattle.ec_text.specs.RefusalText.{start_row};
 
-    ghost told = { start_told };
+    ghost row_of = { start_row };
 
     fn number(&self) -> u8 {
         (*self).number()
@@ -159,9 +159,9 @@ impl Refused for StartError {
 }
 
 impl Refused for CycleError {
-    ghost use Rattle.ec_text.specs.RefusalText.{cycle_told};
+    ghost use Rattle.ec_text.specs.RefusalText.{cycle_row};
 
-    ghost told = { cycle_told };
+    ghost row_of = { cycle_row };
 
     fn number(&self) -> u8 {
         (*self).number()
@@ -179,7 +179,7 @@ impl Refused for CycleError {
 
 /// The text of a refusal: its number, its name and its values in decimal, with blanks between. It allocates nothing.
 pub fn refusal_text<E: Refused>(error: &E) -> ArrayString<TEXT_SIZE>
-    ensures { result.bytes ≡ told_text (E.told error.now) }
+    ensures { result.bytes ≡ row_text (E.row_of error.now) }
 {
     let mut text = ArrayString::new();
     push_number(&mut text, u64::from(error.number()));
@@ -191,7 +191,7 @@ pub fn refusal_text<E: Refused>(error: &E) -> ArrayString<TEXT_SIZE>
 
 /// The line of a refusal: `ecat: NUMBER NAME VALUES` and its end. It allocates nothing.
 pub fn refusal_line<E: Refused>(error: &E) -> ArrayString<LINE_SIZE>
-    ensures { result.bytes ≡ told_line (E.told error.now) }
+    ensures { result.bytes ≡ row_line (E.row_of error.now) }
 {
     let mut line = ArrayString::new();
     line.push_str("ecat: ");

@@ -68,8 +68,8 @@ fn write_counters(
     ensures { OnOk result (string_bytes text.new
         ≡ string_bytes text.old ++ lines_from (counter_at counters.now) 0 parts.now) }
 {
-    for (place, part) in parts.iter().enumerate() {
-        write_part(text, counters, place, part)?;
+    for (index, part) in parts.iter().enumerate() {
+        write_part(text, counters, index, part)?;
     }
     Ok(())
 }
@@ -78,14 +78,14 @@ fn write_counters(
 fn write_part(
     text: &mut String,
     counters: &[Option<ExpectedCounters>],
-    place: usize,
+    index: usize,
     part: &PartPlan,
 ) -> Result<(), AllocError>
     ensures { OnOk result
-        (string_bytes text.new ≡ string_bytes text.old ++ counter_at counters.now place part.now) }
+        (string_bytes text.new ≡ string_bytes text.old ++ counter_at counters.now index part.now) }
 {
     text.push_str(" ")?;
-    write_kept(text, part, counters.get(place).copied().unwrap_or(None))
+    write_kept(text, part, counters.get(index).copied().unwrap_or(None))
 }
 
 /// Adds the working counters of a part, or `-` if it wasn't kept.
@@ -120,19 +120,19 @@ fn write_unit_list(text: &mut String, units: &[u8], taken: &[bool]) -> Result<()
     ensures { OnOk result
         (string_bytes text.new ≡ string_bytes text.old ++ lines_from (unit_at taken.now) 0 units.now) }
 {
-    for (place, unit) in units.iter().enumerate() {
-        write_unit(text, taken, place, *unit)?;
+    for (index, unit) in units.iter().enumerate() {
+        write_unit(text, taken, index, *unit)?;
     }
     Ok(())
 }
 
 /// Adds a unit, and whether its inputs were taken.
-fn write_unit(text: &mut String, taken: &[bool], place: usize, unit: u8) -> Result<(), AllocError>
+fn write_unit(text: &mut String, taken: &[bool], index: usize, unit: u8) -> Result<(), AllocError>
     ensures { OnOk result
-        (string_bytes text.new ≡ string_bytes text.old ++ unit_at taken.now place unit) }
+        (string_bytes text.new ≡ string_bytes text.old ++ unit_at taken.now index unit) }
 {
     write!(text, " {unit}")?;
-    write_taken(text, taken.get(place).copied().unwrap_or(false))
+    write_taken(text, taken.get(index).copied().unwrap_or(false))
 }
 
 /// Adds whether inputs were taken.

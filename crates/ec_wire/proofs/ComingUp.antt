@@ -3,7 +3,7 @@ use Rattle.std.proofs.Common.{ℕ, suc, ◌+◌, ◌<◌, ◌≤◌, ◌≡◌, 
 use Rattle.std.proofs.lemmas.Bool.{both_ways, cases_Bool, cases_eq, eq-eqb, ne_eqb}
 use Rattle.std.proofs.lemmas.List.{append-nil, append_cancel_left}
 use Rattle.ec_bits.proofs.AnyLaws.{if_true, if_false}
-use Rattle.ec_frame.proofs.Verdict.{no_refusal}
+use Rattle.ec_frame.proofs.FrameOrFault.{no_refusal}
 use Rattle.ec_sync.specs.SyncManager.{may_app_get, may_app_put}
 use Rattle.ec_slave.specs.State.{SlaveState, manager_at}
 use Rattle.ec_slave.specs.Application.{get_size, put_size, is_running}
@@ -18,15 +18,15 @@ use Rattle.ec_bringup.specs.Undisturbed.{Rising, turned, ArePlans, AreDevices}
 use Rattle.ec_bringup.specs.BringUp.{rising}
 use Rattle.ec_bringup.specs.ComesUp.{IsOnItsWay, IsUpAndWorks}
 use Rattle.ec_bringup.specs.Applied.{Applied, Rests as Idles, Reads, Writes, AreApplied, TurnsTo, Stays}
-use Rattle.ec_bringup.proofs.Applying.{turns-on}
-use Rattle.ec_bringup.proofs.BringUp.{is-sending, turn-kept, turn-made}
-use Rattle.ec_bringup.proofs.ComesUp.{applied_up}
-use Rattle.ec_wire.specs.Wires.{Carries, Nothing, Number, Payloads, Told, WireState, grown, is_fault, tells_all}
+use Rattle.ec_bringup.proofs.AllSlaves.Applications.{turns-on}
+use Rattle.ec_bringup.proofs.StartUp.BringUp.{is-sending, turn-kept, turn-made}
+use Rattle.ec_bringup.proofs.StartUp.ComesUpLaw.{applied_up}
+use Rattle.ec_wire.specs.Wires.{Carries, Nothing, Number, Payloads, Trace, WireState, grown, is_fault, has_payloads}
 use Rattle.ec_wire.specs.Applications.{IsServed, AreServed, has_data, inputs_written, outputs_read}
 use Rattle.ec_wire.specs.Segments.{IsAnswer, IsTreated, AreTreated}
 use Rattle.ec_wire.specs.BringingUp.{IsBroughtUp, IsNextFrame, Rests, Waits, Loses, Goes}
 use Rattle.ec_wire.specs.ComingUp.{AnyInputs, ComesUpOver}
-use Rattle.ec_wire.proofs.Carrying.{carries-none, carries-then, fault-from, fine-same}
+use Rattle.ec_wire.proofs.WireCalls.{carries-none, carries-then, fault-from, fine-same}
 
 -- ---- applications
 
@@ -72,18 +72,18 @@ all-applied (s ∷ ss) (t ∷ ts) h = (
 same-payloads : (xs ys : List (List ℕ)) → Payloads xs ≡ Payloads ys → xs ≡ ys
 same-payloads xs ys e = cc
 
-went-so : (old new : Told) (xs ys : List (List ℕ)) → tells_all old ≡ true → new ≡ grown old xs → new ≡ grown old ys → xs ≡ ys
+went-so : (old new : Trace) (xs ys : List (List ℕ)) → has_payloads old ≡ true → new ≡ grown old xs → new ≡ grown old ys → xs ≡ ys
 went-so Nothing new xs ys told g h = absurd (both_ways false refl told)
 went-so (Number n) new xs ys told g h = absurd (both_ways false refl told)
 went-so (Payloads zs) new xs ys told g h = append_cancel_left zs xs ys (same-payloads (zs ++ xs) (zs ++ ys) (sym g ∙ h))
 
-tells-by : (old : Told) (xs : List (List ℕ)) → tells_all old ≡ true → tells_all (grown old xs) ≡ true
+tells-by : (old : Trace) (xs : List (List ℕ)) → has_payloads old ≡ true → has_payloads (grown old xs) ≡ true
 tells-by Nothing xs told = told
 tells-by (Number n) xs told = told
 tells-by (Payloads zs) xs told = refl
 
-still-told : (old new : Told) (xs : List (List ℕ)) → tells_all old ≡ true → new ≡ grown old xs → tells_all new ≡ true
-still-told old new xs told g = ap tells_all g ∙ tells-by old xs told
+still-told : (old new : Trace) (xs : List (List ℕ)) → has_payloads old ≡ true → new ≡ grown old xs → has_payloads new ≡ true
+still-told old new xs told g = ap has_payloads g ∙ tells-by old xs told
 
 pub record HasCarried (w x : WireState) : Type 0 where
   pub sent : List (List ℕ)
@@ -184,11 +184,11 @@ by-answer s t ss mid frame answer a (p ∷ ps) rest more sends spelled h strange
 abbrev FromHere : (ps : List SlavePlan) (from : ℕ) (first : List SlaveState) → (s e : StartState) (w x : WireState) → Type 0
 FromHere ps from first s e w x =
     (k : ℕ) (ss tt : List SlaveState) (sent received : List (List ℕ)) → k ≤ length (script ps) → TurnsTo k (rising (begun ps from) first) (rising s ss)
-    → tells_all w.sent ≡ true → tells_all w.received ≡ true → is_fault w x ≡ false → Carries w x sent received → AreTreated AnyInputs ss sent tt received → IsUpAndWorks ps (from + length (script ps)) (rising e tt)
+    → has_payloads w.sent ≡ true → has_payloads w.received ≡ true → is_fault w x ≡ false → Carries w x sent received → AreTreated AnyInputs ss sent tt received → IsUpAndWorks ps (from + length (script ps)) (rising e tt)
 
 -- a start-up that sends no frame has made all turns
 rests-up : (ps : List SlavePlan) (from k : ℕ) (s e : StartState) (w : WireState) (ss tt : List SlaveState) (sent received : List (List ℕ)) → (k ≡ length (script ps) → IsUpAndWorks ps (from + k) (rising s ss))
-    → k ≡ length (script ps) → e ≡ s → tells_all w.sent ≡ true → Carries w w sent received → AreTreated AnyInputs ss sent tt received → IsUpAndWorks ps (from + length (script ps)) (rising e tt)
+    → k ≡ length (script ps) → e ≡ s → has_payloads w.sent ≡ true → Carries w w sent received → AreTreated AnyInputs ss sent tt received → IsUpAndWorks ps (from + length (script ps)) (rising e tt)
 rests-up ps from k s e w ss tt sent received up last same told carried treated =
     let none : sent ≡ [] = went-so w.sent w.sent sent [] told carried.sends (carries-none w).sends in
     let h : AreTreated AnyInputs ss [] tt received = subst (λ (l : List (List ℕ)). AreTreated AnyInputs ss l tt received) none treated in
@@ -262,4 +262,4 @@ pub comes_up_over : (s e : StartState) (w x : WireState) → IsBroughtUp s w e x
 comes_up_over s e w x up ps from before after plans new devices few past =
     comes-up-over ps plans from before devices few s e w x up 0 before after past.sent past.received (omega arith)
     (subst (λ (y : StartState). TurnsTo 0 (rising (begun ps from) before) (rising y before)) (sym new) (Stays (rising (begun ps from) before)))
-    past.tells_sent past.tells_received past.fine past.carried past.treated
+    past.sent_is_known past.received_is_known past.fine past.carried past.treated

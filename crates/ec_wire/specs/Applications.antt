@@ -24,12 +24,12 @@ with_published m inputs = record m { buffer = record m.buffer { published = inpu
 abbrev pub inputs_written : SlaveState → List ℕ → SlaveState
 inputs_written s inputs = if put_size s == 0 then s else with_manager s 3 (with_published (manager_at s.managers 3) inputs)
 
--- An application steps: from its outputs it makes as many bytes of inputs as it may publish. `shows` relates the outputs to the
+-- An application steps: from its outputs it makes as many bytes of inputs as it may publish. `may_produce` relates the outputs to the
 -- inputs that it may make.
-pub record HasStepped (shows : List ℕ → List ℕ → Type 0) (old new : SlaveState) : Type 0 where
+pub record HasStepped (may_produce : List ℕ → List ℕ → Type 0) (old new : SlaveState) : Type 0 where
   pub inputs : List ℕ
   pub size : length inputs ≡ put_size old
-  pub made : shows (outputs_seen old) inputs
+  pub made : may_produce (outputs_seen old) inputs
   pub slave : new ≡ inputs_written (outputs_read old) inputs
 
 -- the application may read outputs or write inputs now
@@ -37,14 +37,14 @@ abbrev pub has_data : SlaveState → Bool
 has_data s = if get_size s == 0 && (put_size s == 0) then false else true
 
 -- A slave makes a firmware step, and then its application steps, if it has process data.
-pub record IsServed (shows : List ℕ → List ℕ → Type 0) (old new : SlaveState) : Type 0 where
+pub record IsServed (may_produce : List ℕ → List ℕ → Type 0) (old new : SlaveState) : Type 0 where
   pub idle : has_data (served old) ≡ false → new ≡ served old
-  pub works : has_data (served old) ≡ true → HasStepped shows (served old) new
+  pub works : has_data (served old) ≡ true → HasStepped may_produce (served old) new
 
 -- each slave is served
-pub record AreServed (shows : List ℕ → List ℕ → Type 0) (old new : List SlaveState) : Type 0 where
+pub record AreServed (may_produce : List ℕ → List ℕ → Type 0) (old new : List SlaveState) : Type 0 where
   pub count : length new ≡ length old
-  pub each : (i : ℕ) (s t : SlaveState) → slice_get old i ≡ Some s → slice_get new i ≡ Some t → IsServed shows s t
+  pub each : (i : ℕ) (s t : SlaveState) → slice_get old i ≡ Some s → slice_get new i ≡ Some t → IsServed may_produce s t
 
 -- The application of `ecat loop` and `ecat segment` copies its outputs to its inputs, and sets the inputs beyond them to 0.
 abbrev pub IsEchoed : List ℕ → List ℕ → Type 0

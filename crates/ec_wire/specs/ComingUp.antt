@@ -7,7 +7,7 @@ use Rattle.ec_start.specs.Running.{StartState, begun, last_number}
 use Rattle.ec_bringup.specs.Undisturbed.{ArePlans, AreDevices}
 use Rattle.ec_bringup.specs.BringUp.{rising}
 use Rattle.ec_bringup.specs.ComesUp.{IsUpAndWorks}
-use Rattle.ec_wire.specs.Wires.{WireState, Carries, is_fault, tells_all}
+use Rattle.ec_wire.specs.Wires.{WireState, Carries, is_fault, has_payloads}
 use Rattle.ec_wire.specs.Segments.{AreTreated}
 
 -- an application that may make any inputs
@@ -17,8 +17,8 @@ AnyInputs outputs inputs = Unit {0}
 -- The wire's state has each payload that it carried, and no call was a fault. At the other end, a segment treated each sent payload,
 -- in order. A frame passed all slaves, each of which then served and let its application step. The answers are what was received.
 pub record IsCarriedPast (old new : WireState) (before after : List SlaveState) : Type 0 where
-  pub tells_sent : tells_all old.sent ≡ true
-  pub tells_received : tells_all old.received ≡ true
+  pub sent_is_known : has_payloads old.sent ≡ true
+  pub received_is_known : has_payloads old.received ≡ true
   pub fine : is_fault old new ≡ false
   pub sent : List (List ℕ)
   pub received : List (List ℕ)

@@ -14,7 +14,7 @@ frames_of (Some c) = c.frames
 -- Payloads were given to `take` one after the other, each while a part was missing.
 abbrev pub AreTaken : MasterState → List (List ℕ) → MasterState → Type 0
 AreTaken old [] new = new ≡ old
-AreTaken old (p ∷ ps) new = (0 < missing_of old.cycle) × ((is_kept : Bool) × (m : MasterState) × IsTaken old p is_kept m × AreTaken m ps new)
+AreTaken old (p ∷ ps) new = (0 < missing_of old.cycle) × ((is_accepted : Bool) × (m : MasterState) × IsTaken old p is_accepted m × AreTaken m ps new)
 
 -- the most payloads that a cycle of so many parts receives
 abbrev pub max_received : ℕ → ℕ

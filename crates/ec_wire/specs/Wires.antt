@@ -2,15 +2,15 @@
 use Rattle.std.specs.Prelude.{◌≡◌, ◌≢◌, ◌≤◌, ◌++◌, ◌||◌, ◌==◌, ◌+◌, if◌then◌else◌, ℕ, List, length, Bool, true, false, Option, is_some, nat_lt}
 
 -- What a wire's state says of the payloads that went one way: nothing, their number, or each of them.
-pub data Told : Type 0 where
-  Nothing : Told
-  Number : ℕ → Told
-  Payloads : List (List ℕ) → Told
+pub data Trace : Type 0 where
+  Nothing : Trace
+  Number : ℕ → Trace
+  Payloads : List (List ℕ) → Trace
 
 -- What a wire's state says of the payloads sent and received so far, and how many of its calls were faults.
 pub record WireState : Type 0 where
-  pub sent : Told
-  pub received : Told
+  pub sent : Trace
+  pub received : Trace
   pub failed : ℕ
 
 -- the last value of the count of faults: every call is a fault then, and the count stays
@@ -22,16 +22,16 @@ abbrev pub is_fault : WireState → WireState → Bool
 is_fault old new = nat_lt old.failed new.failed || (old.failed == max_failed)
 
 -- what the state says after these payloads went that way too
-abbrev pub grown : Told → List (List ℕ) → Told
+abbrev pub grown : Trace → List (List ℕ) → Trace
 grown Nothing payloads = Nothing
 grown (Number count) payloads = Number (count + length payloads)
 grown (Payloads told) payloads = Payloads (told ++ payloads)
 
 -- the state has each payload
-abbrev pub tells_all : Told → Bool
-tells_all Nothing = false
-tells_all (Number count) = false
-tells_all (Payloads told) = true
+abbrev pub has_payloads : Trace → Bool
+has_payloads Nothing = false
+has_payloads (Number count) = false
+has_payloads (Payloads told) = true
 
 -- These payloads were sent and these received, in one call or in several.
 pub record Carries (old new : WireState) (sent received : List (List ℕ)) : Type 0 where

@@ -13,17 +13,17 @@ use ec_sync::MAX_BUFFER_LEN;
 /// A slave's application, which makes the slave's inputs from its outputs.
 pub trait App {
     /// Relates outputs to the inputs that the application may make from them, now or later.
-    ghost shows: { Self → List ℕ → List ℕ → Type 0 } = { λ app outputs inputs. Unit {0} };
+    ghost may_produce: { Self → List ℕ → List ℕ → Type 0 } = { λ app outputs inputs. Unit {0} };
 
     /// Sets the bytes of `inputs` from the bytes of `outputs`. Before the call, all bytes of `inputs` are 0.
     fn step(&mut self, outputs: &[u8], inputs: &mut [u8])
         requires { inputs.old ≡ zeros (length inputs.old) }
-        ensures made { shows self.old outputs.now inputs.new }
-        ensures later { (o i : List ℕ) → shows self.new o i → shows self.old o i };
+        ensures made { may_produce self.old outputs.now inputs.new }
+        ensures later { (o i : List ℕ) → may_produce self.new o i → may_produce self.old o i };
 }
 
 impl App for &mut dyn App {
-    ghost shows = { λ app. (App-dyn app.now).shows app.now.1 };
+    ghost may_produce = { λ app. (App-dyn app.now).may_produce app.now.1 };
 
     fn step(&mut self, outputs: &[u8], inputs: &mut [u8]) {
         (**self).step(outputs, inputs);
@@ -37,7 +37,7 @@ pub struct Echo;
 impl App for Echo {
     ghost use Rattle.ec_wire.specs.Applications.{IsEchoed};
 
-    ghost shows = { λ app. IsEchoed };
+    ghost may_produce = { λ app. IsEchoed };
 
     fn step(&mut self, outputs: &[u8], inputs: &mut [u8]) {
         let shown = outputs.len().min(inputs.len());
@@ -48,10 +48,10 @@ impl App for Echo {
 /// Passes a payload through all slaves, and then serves each of them. Returns whether the payload was a frame; if it wasn't, the
 /// slaves stay as they were.
 pub(crate) fn answer<A: App>(ring: &mut Ring, app: &mut A, payload: &mut [u8]) -> bool
-    ensures answered { result ≡ true → IsAnswer (A.shows app.old) ring.old payload.old ring.new payload.new }
+    ensures answered { result ≡ true → IsAnswer (A.may_produce app.old) ring.old payload.old ring.new payload.new }
     ensures refused { result ≡ false → IsNoFrame payload.old }
-    ensures kept { result ≡ false → ring.new ≡ ring.old }
-    ensures later { (o i : List ℕ) → A.shows app.new o i → A.shows app.old o i }
+    ensures unchanged { result ≡ false → ring.new ≡ ring.old }
+    ensures later { (o i : List ℕ) → A.may_produce app.new o i → A.may_produce app.old o i }
 {
     if ring.pass_all(payload).is_err() {
         return false;
@@ -62,21 +62,21 @@ pub(crate) fn answer<A: App>(ring: &mut Ring, app: &mut A, payload: &mut [u8]) -
 
 /// Serves each slave, in the order of the ring.
 fn serve_slaves<A: App>(ring: &mut Ring, app: &mut A)
-    ensures served { AreServed (A.shows app.old) ring.old ring.new }
-    ensures later { (o i : List ℕ) → A.shows app.new o i → A.shows app.old o i }
+    ensures served { AreServed (A.may_produce app.old) ring.old ring.new }
+    ensures later { (o i : List ℕ) → A.may_produce app.new o i → A.may_produce app.old o i }
 {
     let mut inputs = [0; MAX_BUFFER_LEN];
-    for place in 0..ring.len() {
-        serve_slave(ring.slave_mut(place), app, &mut inputs);
+    for index in 0..ring.len() {
+        serve_slave(ring.slave_mut(index), app, &mut inputs);
     }
 }
 
 /// Makes a firmware step of a slave, and steps its application if it has process data now. `inputs` is the buffer for its inputs.
-#[tactic(auto, using(ec_slave::proofs::Wholes::few_inputs))]
+#[tactic(auto, using(ec_slave::proofs::AppAccess::ApplicationsGoWhole::few_inputs))]
 fn serve_slave<A: App>(slave: &mut Slave, app: &mut A, inputs: &mut [u8])
     requires { length inputs.old ≡ 2730 }
-    ensures served { IsServed (A.shows app.old) slave.old slave.new }
-    ensures later { (o i : List ℕ) → A.shows app.new o i → A.shows app.old o i }
+    ensures served { IsServed (A.may_produce app.old) slave.old slave.new }
+    ensures later { (o i : List ℕ) → A.may_produce app.new o i → A.may_produce app.old o i }
 {
     slave.serve();
     let (output_count, input_count) = slave.app_sizes();
@@ -90,8 +90,8 @@ fn serve_slave<A: App>(slave: &mut Slave, app: &mut A, inputs: &mut [u8])
 fn step_application<A: App>(slave: &mut Slave, app: &mut A, output_count: usize, inputs: &mut [u8])
     requires outputs { output_count ≡ get_size slave.old }
     requires inputs { length inputs.old ≡ put_size slave.old }
-    ensures stepped { HasStepped (A.shows app.old) slave.old slave.new }
-    ensures later { (o i : List ℕ) → A.shows app.new o i → A.shows app.old o i }
+    ensures stepped { HasStepped (A.may_produce app.old) slave.old slave.new }
+    ensures later { (o i : List ℕ) → A.may_produce app.new o i → A.may_produce app.old o i }
 {
     inputs.fill(0);
     app.step(outputs_of(slave, output_count), inputs);

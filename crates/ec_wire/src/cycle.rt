@@ -23,7 +23,7 @@ pub fn run_cycle<W: Wire>(master: &mut Master<'_>, wire: &mut W) -> Result<Repor
     ensures refused { (e : CycleError) → begin_refusal master.old ≡ Some e → result ≡ Err (Refused e) }
     ensures refused_master { (e : CycleError) → begin_refusal master.old ≡ Some e → master.new ≡ master.old }
     ensures refused_wire { (e : CycleError) → begin_refusal master.old ≡ Some e → wire.new ≡ wire.old }
-    ensures kept { IsErr result → master.new.inputs ≡ master.old.inputs }
+    ensures unchanged { IsErr result → master.new.inputs ≡ master.old.inputs }
 {
     master.begin()?;
     if !exchange(master, wire) {

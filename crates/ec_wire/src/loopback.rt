@@ -210,7 +210,7 @@ impl<A: App + Drop> LoopWire<A> {
 
     /// Receives a payload over the master's socket. Returns its length in bytes, or `None` at a fault.
     fn receive(&mut self, buffer: &mut [u8]) -> Option<usize>
-        ensures kept { self.new ≡ self.old }
+        ensures unchanged { self.new ≡ self.old }
         ensures within { IfSome result (λ count. count ≤ length buffer.new) }
     {
         receive_on(&mut self.sockets.master, buffer)

@@ -78,7 +78,7 @@ impl MemoryWire {
 
     /// Counts a call, and returns whether it may carry something.
     fn begin_call(&mut self) -> bool
-        ensures kept { self.new ≡ self.old }
+        ensures unchanged { self.new ≡ self.old }
         ensures few { result ≡ true → self.old.failed < max_failed }
     {
         let call = self.calls;

@@ -42,7 +42,7 @@ impl Patience {
     }
 
     /// How long one part of a wait is, `None` if it has no end, and how many parts there are.
-    #[tactic(auto, using(crate::proofs::Waiting::parts_within))]
+    #[tactic(auto, using(crate::proofs::PatientCalls::parts_within))]
     fn parts(self) -> (Option<Duration>, u64)
         ensures { AreWithin self result.0 result.1 }
     {

@@ -44,9 +44,9 @@ pub fn serve_counted<W: Wire>(
     wire: &mut W,
     frames: u32,
 ) -> Result<Served, Served>
-    ensures served { IfOk result (λ s. HasServed (shows app.old) ring.old ring.new (W.state wire.old) (W.state wire.new) frames s.answered s.refused) }
+    ensures served { IfOk result (λ s. HasServed (may_produce app.old) ring.old ring.new (W.state wire.old) (W.state wire.new) frames s.answered s.refused) }
     ensures same { OnOk result ((W.state wire.new).failed ≡ (W.state wire.old).failed) }
-    ensures cut { IfErr result (λ s. WasCutOff (shows app.old) ring.old ring.new (W.state wire.old) (W.state wire.new) frames s.answered s.refused) }
+    ensures cut { IfErr result (λ s. WasCutOff (may_produce app.old) ring.old ring.new (W.state wire.old) (W.state wire.new) frames s.answered s.refused) }
 {
     let mut app = app;
     serve_payloads(ring, &mut app, wire, frames)
@@ -64,9 +64,9 @@ pub fn serve_segment<W: Wire>(
     wire: &mut W,
     frames: u32,
 ) -> Result<Served, SocketFault>
-    ensures served { IfOk result (λ s. HasServed (shows app.old) ring.old ring.new (W.state wire.old) (W.state wire.new) frames s.answered s.refused) }
+    ensures served { IfOk result (λ s. HasServed (may_produce app.old) ring.old ring.new (W.state wire.old) (W.state wire.new) frames s.answered s.refused) }
     ensures same { OnOk result ((W.state wire.new).failed ≡ (W.state wire.old).failed) }
-    ensures cut { IsErr result → (answered : ℕ) × (refused : ℕ) × WasCutOff (shows app.old) ring.old ring.new (W.state wire.old) (W.state wire.new) frames answered refused }
+    ensures cut { IsErr result → (answered : ℕ) × (refused : ℕ) × WasCutOff (may_produce app.old) ring.old ring.new (W.state wire.old) (W.state wire.new) frames answered refused }
 {
     match serve_counted(ring, app, wire, frames) {
         Ok(served) => Ok(served),
@@ -82,9 +82,9 @@ fn serve_payloads<A: App, W: Wire>(
     wire: &mut W,
     frames: u32,
 ) -> Result<Served, Served>
-    ensures served { IfOk result (λ s. HasServed (A.shows app.old) ring.old ring.new (W.state wire.old) (W.state wire.new) frames s.answered s.refused) }
+    ensures served { IfOk result (λ s. HasServed (A.may_produce app.old) ring.old ring.new (W.state wire.old) (W.state wire.new) frames s.answered s.refused) }
     ensures same { OnOk result ((W.state wire.new).failed ≡ (W.state wire.old).failed) }
-    ensures cut { IfErr result (λ s. WasCutOff (A.shows app.old) ring.old ring.new (W.state wire.old) (W.state wire.new) frames s.answered s.refused) }
+    ensures cut { IfErr result (λ s. WasCutOff (A.may_produce app.old) ring.old ring.new (W.state wire.old) (W.state wire.new) frames s.answered s.refused) }
 {
     let mut served = Served {
         answered: 0,
@@ -101,12 +101,12 @@ fn serve_payloads<A: App, W: Wire>(
 
 /// Receives one payload, and answers it if it is a frame. Returns whether it was one, or `None` at a fault of the wire.
 fn serve_payload<A: App, W: Wire>(ring: &mut Ring, app: &mut A, wire: &mut W) -> Option<bool>
-    ensures later { (o i : List ℕ) → A.shows app.new o i → A.shows app.old o i }
+    ensures later { (o i : List ℕ) → A.may_produce app.new o i → A.may_produce app.old o i }
     ensures done { IfSome result (λ is_answered. (payload : List ℕ) × (sent : List (List ℕ))
-        × Carries (W.state wire.old) (W.state wire.new) sent (payload ∷ []) × AreTreated (A.shows app.old) ring.old (payload ∷ []) ring.new sent
+        × Carries (W.state wire.old) (W.state wire.new) sent (payload ∷ []) × AreTreated (A.may_produce app.old) ring.old (payload ∷ []) ring.new sent
         × (length sent ≡ (if is_answered then 1 else 0))) }
     ensures same { IfSome result (λ is_answered. (W.state wire.new).failed ≡ (W.state wire.old).failed) }
-    ensures cut { IfNone result (WasCutOff (A.shows app.old) ring.old ring.new (W.state wire.old) (W.state wire.new) 1 0 0) }
+    ensures cut { IfNone result (WasCutOff (A.may_produce app.old) ring.old ring.new (W.state wire.old) (W.state wire.new) 1 0 0) }
 {
     let mut buffer = [0; MAX_FRAME_LEN];
     let count = receive_on(wire, &mut buffer)?;

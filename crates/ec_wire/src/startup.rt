@@ -58,7 +58,7 @@ fn turn<W: Wire>(startup: &mut Startup<'_>, wire: &mut W, frame: &mut Frame) -> 
 fn exchange<W: Wire>(startup: &mut Startup<'_>, wire: &mut W, frame: &[u8]) -> bool
     ensures answered { result ≡ true → IsAnswered startup.old startup.new frame.now (W.state wire.old) (W.state wire.new) }
     ensures unanswered { result ≡ false → IsUnanswered startup.old frame.now (W.state wire.old) (W.state wire.new) }
-    ensures kept { result ≡ false → startup.new ≡ startup.old }
+    ensures unchanged { result ≡ false → startup.new ≡ startup.old }
 {
     let mut buffer = [0; MAX_FRAME_LEN];
     if !send_on(wire, frame) {
@@ -69,7 +69,7 @@ fn exchange<W: Wire>(startup: &mut Startup<'_>, wire: &mut W, frame: &[u8]) -> b
             return false;
         };
         match startup.take(&buffer[..count]) {
-            Taken::Kept => return true,
+            Taken::Accepted => return true,
             Taken::Foreign => {}
         }
     }

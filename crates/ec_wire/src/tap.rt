@@ -1,7 +1,7 @@
 //! A wire that notes its payloads in a capture.
 ghost use Rattle.std.specs.Prelude.{◌≡◌, ℕ, [], ◌∷◌};
 ghost use Rattle.ec_capture.specs.Recordings.{Notes};
-ghost use Rattle.ec_wire.specs.Taps.{has_passed, seen_of};
+ghost use Rattle.ec_wire.specs.Taps.{has_passed, captured_of};
 
 use crate::wire::{Wire, receive_on, send_on};
 use ec_capture::{Packet, Recorder};
@@ -39,12 +39,12 @@ impl<'c, W: Wire + Drop, O: Write + Drop, C: Clock> Model for CapturedWire<'c, W
 }
 
 impl<'c, W: Wire + Drop, O: Write + Drop, C: Clock> CapturedWire<'c, W, O, C> {
-    ghost use Rattle.ec_wire.specs.Taps.{IsTapped, Tells};
+    ghost use Rattle.ec_wire.specs.Taps.{IsTapped, IsTraceOf};
 
     /// Joins a wire that has carried nothing yet with a capture.
     pub fn new(wire: W, capture: Recorder<O>, side: Side, clock: &'c C) -> CapturedWire<'c, W, O, C>
-        requires sent { Tells (W.state wire).sent [] }
-        requires received { Tells (W.state wire).received [] }
+        requires sent { IsTraceOf (W.state wire).sent [] }
+        requires received { IsTraceOf (W.state wire).received [] }
         ensures { result ≡ record { side = side; wire = W.state wire; capture = capture } }
     {
         CapturedWire {
@@ -107,7 +107,7 @@ fn note<O: Write + Drop, C: Clock>(
     is_sent: bool,
     payload: &[u8],
 )
-    ensures { (time : ℕ) × Notes (seen_of side (record { is_sent = is_sent; time = time; payload = payload.now }) ∷ []) capture.old capture.new }
+    ensures { (time : ℕ) × Notes (captured_of side (record { is_sent = is_sent; time = time; payload = payload.now }) ∷ []) capture.old capture.new }
 {
     let time = micros_now(clock);
     capture.note(&Packet {

@@ -20,19 +20,19 @@ unfoldable pub use Rattle.ec_bits.specs.Bits.{bit}
 pub use Rattle.ec_bits.proofs.AnyLaws.{if_true, if_false, within_true, within_parts}
 pub use Rattle.ec_bits.proofs.BitLaws.{from_bool-lt, overlay_alike, bit-overlay, bit-zeros, length-overlay}
 pub use Rattle.ec_bits.proofs.Numbers.{bits_number-lt, bit_at-bits_number}
-pub use Rattle.ec_frame.proofs.Verdict.{one_payload}
+pub use Rattle.ec_frame.proofs.FrameOrFault.{one_payload}
 unfoldable pub use Rattle.ec_regs.specs.Managers.{is_set}
 unfoldable pub use Rattle.ec_sync.specs.Buffer.{app_written, app_read}
 pub use Rattle.ec_fmmu.proofs.RunLaws.{read_set_is_run, write_set_is_run}
-pub use Rattle.ec_slave.specs.Interface.{SlaveState, manager_at, power_on, served, emptied_buffer, Buffer, Got, drafted, draft_next, view_next, SyncManager, no_manager, empty_manager, buffer_length, Init, Identity, SlaveKind, Sii, faulted, is_running, input_put, output_got, output_taken, with_manager, Datagram, Place, outputs_from, inputs_into, Area, Spans, bare_payload, status_word, with_answer, byte_at, retold, adp_of, ado_of, Payload, IsFrame, with_datagrams, meets, passes, Passed, IsPassed, inputs_of, SyncManagerSettings, is_buffered, SafeOp, Op, Al, with_memory, with_outputs, with_published, outputs_shown, FmmuSettings, fmmu_of, may_read, may_write, publishing, inside_place, target, source, readers, writers, fmmus_of, IsMapped, takes, gives, Misses, no_settings, is_mailbox, span, ram_start, ram_end, may_app_put, may_app_get, governs, governor, no_fmmu, fmmus, IsBufferAt, Met, place_of, meets_logically, Lrd, Lwr, Lrw as SlaveLrw, AreWhole, State, IsDatagram, slave_met, datagram_met, al_word, state_number, PreOp, plain_kind, device_identity}
-pub use Rattle.ec_slave.proofs.Broadcast.{broadcast_read}
-pub use Rattle.ec_slave.proofs.ExchangeLaw.{exchange}
-pub use Rattle.ec_slave.proofs.Kept.{outputs_published, mapped_kept}
-pub use Rattle.ec_slave.proofs.Meetings.{faults, logical_meet}
-pub use Rattle.ec_slave.proofs.Misses.{misses}
-pub use Rattle.ec_slave.proofs.RegisterAccess.{shows_itself, retold_by_place}
-pub use Rattle.ec_slave.proofs.StayWhole.{stay_whole}
-pub use Rattle.ec_slave.proofs.SwitchedOn.{switched_on, on_whole}
+pub use Rattle.ec_slave.specs.Interface.{SlaveState, manager_at, power_on, served, emptied_buffer, Buffer, Got, drafted, draft_next, view_next, SyncManager, no_manager, empty_manager, buffer_length, Init, Identity, SlaveKind, Sii, faulted, is_running, input_put, output_got, output_taken, with_manager, Datagram, LogicalSpan, outputs_from, inputs_into, Area, Spans, bare_payload, status_word, with_answer, byte_at, updated, adp_of, ado_of, Payload, IsFrame, with_datagrams, meets, passes, Passed, IsPassed, inputs_of, SyncManagerSettings, is_buffered, SafeOp, Op, Al, with_memory, with_outputs, with_published, outputs_shown, FmmuSettings, fmmu_of, may_read, may_write, publishing, inside_span, target, source, readers, writers, fmmus_of, IsMapped, takes, gives, Misses, no_settings, is_mailbox, span, ram_start, ram_end, may_app_put, may_app_get, governs, governor, no_fmmu, fmmus, IsBufferAt, Met, span_of, meets_logically, Lrd, Lwr, Lrw as SlaveLrw, AreWhole, State, IsDatagram, slave_met, datagram_met, al_word, state_number, PreOp, plain_kind, device_identity}
+pub use Rattle.ec_slave.proofs.Memory.BroadcastLaw.{broadcast_read}
+pub use Rattle.ec_slave.proofs.LogicalAccess.ExchangeLaw.{exchange}
+pub use Rattle.ec_slave.proofs.LogicalAccess.OutputsPublished.{outputs_published, mapped_kept}
+pub use Rattle.ec_slave.proofs.Commands.CommandLaws.{faults, logical_meet}
+pub use Rattle.ec_slave.proofs.LogicalAccess.MissesLaw.{misses}
+pub use Rattle.ec_slave.proofs.Memory.RegisterLaws.{shows_itself, updated_by_index}
+pub use Rattle.ec_slave.proofs.Always.ValuesStayWhole.{stay_whole}
+pub use Rattle.ec_slave.proofs.Always.SlavesAreSwitchedOn.{switched_on, on_whole}
 pub use Rattle.ec_ring.specs.Rings.{IsPassedAt, passes_ring}
 pub use Rattle.ec_link.specs.declared.image.Variable.{Variable}
 pub use Rattle.ec_link.specs.declared.plan.ExpectedCounters.{ExpectedCounters}
@@ -40,11 +40,11 @@ pub use Rattle.ec_link.specs.declared.plan.ExpectedCounters.TheVariants.{Lrw, Sp
 pub use Rattle.ec_link.specs.declared.plan.PartPlan.{PartPlan}
 pub use Rattle.ec_link.specs.declared.settings.Share.{Share}
 pub use Rattle.ec_link.specs.declared.settings.SlavePlan.{SlavePlan}
-pub use Rattle.ec_link.specs.Interface.{slave_at, AreListed, output_manager, IsUsable, Contents, Meaning, meaning, PlanState, plan_of, same_counters, unit_of_part, predicted, Gave, counters_of, sum_of, lwr_count, lrd_count, lrw_count, whole_share, nothing_given, share_of, Linked, area_at, in_source, place_of_part, part_at, no_part, compile_fault, IsLaid, has_outs, has_ins, out_source, Direction, Out, In, SlaveRow, IsLinked, is_out, image_from, placed, IsPair, AreItsLinks, part_of, IsInImage, HasBit, IsPlaced, image, object_bits, no_slave as no_slave_plan, area_of, process_manager, has_byte, FitsRam, input_manager, fmmu_of as link_fmmu_of, share_in}
-pub use Rattle.ec_link.proofs.InputsBack.{links_are_the_tables}
+pub use Rattle.ec_link.specs.Interface.{slave_at, AreListed, output_manager, IsUsable, Contents, Meaning, meaning, PlanState, plan_of, same_counters, unit_of_part, predicted, Gave, counters_of, sum_of, lwr_count, lrd_count, lrw_count, whole_share, nothing_given, share_of, Linked, area_at, in_source, span_of_part, part_at, no_part, compile_fault, IsLaid, has_outs, has_ins, out_source, Direction, Out, In, SlaveRow, IsLinked, is_out, image_from, placed, IsPair, AreItsLinks, part_of, IsInImage, HasBit, IsPlaced, image, object_bits, no_slave as no_slave_plan, area_of, process_manager, has_byte, FitsRam, input_manager, fmmu_of as link_fmmu_of, share_in}
+pub use Rattle.ec_link.proofs.PlansHaveTheLinks.{links_are_the_tables}
 pub use Rattle.ec_link.proofs.LinkLaws.{linked_inputs}
-pub use Rattle.ec_link.proofs.Listed.{listed}
-pub use Rattle.ec_link.proofs.Placed.{variables_are_placed, linked_bits_are_there}
+pub use Rattle.ec_link.proofs.SettingsAreListed.{listed}
+pub use Rattle.ec_link.proofs.VariablesArePlaced.{variables_are_placed, linked_bits_are_there}
 pub use Rattle.ec_link.proofs.Soundness.{plan_sound}
 pub use Rattle.ec_link.proofs.UnitsListed.{lists_units}
 pub use Rattle.ec_link.proofs.UsableLaws.{plan_usable}
@@ -54,45 +54,45 @@ pub use Rattle.ec_start.specs.declared.error.StartError.TheVariants.{Lost, Numbe
 pub use Rattle.ec_start.specs.declared.phase.NextFrame.TheVariants.{Send, Ended}
 pub use Rattle.ec_start.specs.declared.phase.Phase.{Phase}
 pub use Rattle.ec_start.specs.declared.phase.Phase.TheVariants.{Idle, Ready, Failed, Sent}
-pub use Rattle.ec_start.specs.Interface.{script, StartState, last_number, HasFewAssigned, IsStartable, numbered, datagram_of, IsStartTaken, IsOutstanding, action_of, second, sending, shape as shape_sent, frame_of, taken, given_up_by, asked, asked_by, next_frame, next_frame_by, IsStartAnswer, is_kept}
+pub use Rattle.ec_start.specs.Interface.{script, StartState, last_number, HasFewAssigned, IsStartable, numbered, datagram_of, IsStartTaken, IsOutstanding, action_of, second, sending, shape as shape_sent, frame_of, taken, given_up_by, asked, asked_by, next_frame, next_frame_by, IsStartAnswer, is_accepted}
 unfoldable pub use Rattle.ec_start.specs.Running.{begun}
 pub use Rattle.ec_start.proofs.Assigned.{startable_is_taken}
 pub use Rattle.ec_start.proofs.LawLemmas.{plans_stay}
 pub use Rattle.ec_start.proofs.ScriptLengths.{scripts_are_short}
 pub use Rattle.ec_bringup.specs.Instants.{Starts, Between, UnderWay, Adrift, Over, IsReady}
-pub use Rattle.ec_bringup.specs.Interface.{IsOfType, IsGenuine, AreGenuine, plan_at, slave_of as bringup_slave_of, Rising as BringupRising, turns, no_identity, switched_on as bringup_switched_on, IsUpAndWorks, AreStartable, trouble_at, no_plan, is_beginning, end_of, IsOfKind, unviewed, Config, Starting, kind_at, ends_of, HoldsAll, Shown, Carried, flags_sent, with_begun, with_slave as with_slave_at, Sends as SendsNext, Passes as PassesOne, Loses as LosesOne, Returns as ReturnsOne, Strays, Closes as ClosesOne, Serves as BringupServes, Puts as PutsOne, Gets as GetsOne, Faults, Resets, all_passed, all_met, turned, IsRound, AreSlaves}
+pub use Rattle.ec_bringup.specs.Interface.{IsOfType, IsGenuine, AreGenuine, plan_at, slave_of as bringup_slave_of, Rising as BringupRising, turns, no_identity, switched_on as bringup_switched_on, IsUpAndWorks, AreStartable, trouble_at, no_plan, is_beginning, end_of, IsOfKind, unviewed, Config, Starting, kind_at, ends_of, HoldsAll, SlaveHealth, Carried, flags_sent, with_begun, with_slave as with_slave_at, Sends as SendsNext, Passes as PassesOne, Loses as LosesOne, Returns as ReturnsOne, Strays, Closes as ClosesOne, Serves as BringupServes, Puts as PutsOne, Gets as GetsOne, Faults, Resets, all_passed, all_met, turned, IsRound, AreSlaves}
 pub use Rattle.ec_bringup.specs.Slots.{IsCarried}
-pub use Rattle.ec_bringup.proofs.ComesUp.{compiled-up}
-pub use Rattle.ec_bringup.proofs.CompleteLaws.{are-plans}
-pub use Rattle.ec_bringup.proofs.Decodes.{fmmus-held}
-pub use Rattle.ec_bringup.proofs.Genuine.{stay, stays}
-pub use Rattle.ec_bringup.proofs.OfTable.{of-types, with-types}
-pub use Rattle.ec_bringup.proofs.Resets.{power_on_is}
-pub use Rattle.ec_bringup.proofs.Rounds.{round}
-pub use Rattle.ec_bringup.proofs.Theorem.{ready-shown, taken-plan, happens-starts, begun-starts, frame-passes}
+pub use Rattle.ec_bringup.proofs.StartUp.ComesUpLaw.{compiled-up}
+pub use Rattle.ec_bringup.proofs.Script.CompiledPlansLaw.{are-plans}
+pub use Rattle.ec_bringup.proofs.OneSlave.FmmusHeld.{fmmus-held}
+pub use Rattle.ec_bringup.proofs.OneSlave.DevicesLaw.{stay, stays}
+pub use Rattle.ec_bringup.proofs.OneSlave.SlavesOfLaw.{of-types, with-types}
+pub use Rattle.ec_bringup.proofs.OneSlave.Reset.{power_on_is}
+pub use Rattle.ec_bringup.proofs.AllSlaves.RoundLaw.{round}
+pub use Rattle.ec_bringup.proofs.StartUp.StartUpLaw.{ready-shown, taken-plan, happens-starts, begun-starts, frame-passes}
 pub use Rattle.ec_cycle.specs.declared.error.CycleError.{CycleError}
-pub use Rattle.ec_cycle.specs.Interface.{nones, OpenCycle, cycle_limit, KeptPart, is_good, unit_taken, bytes_of, returned_bit, inputs_closed, report_of, kept_of, Answers, IsKept, MasterState, readied, sent_datagrams, Begun, frame_of as cycle_frame_of, bytes_at, name_datagram, status_datagram, process_datagrams, process_bytes, returned_first, ReportState, value_at, value_of, joined, word_of_kept, IsAnswer, IsTaken, closed, holds_value, value_put, variable_set, process_datagram, all_from, name_of, with_kept, cyclic_datagrams}
-pub use Rattle.ec_cycle.proofs.Answering.{names_tell}
+pub use Rattle.ec_cycle.specs.Interface.{nones, OpenCycle, cycle_limit, ReturnedPart, is_good, unit_taken, bytes_of, returned_bit, inputs_closed, report_of, returned_part_of, Answers, IsReturned, MasterState, readied, sent_datagrams, Begun, frame_of as cycle_frame_of, bytes_at, name_datagram, status_datagram, process_datagrams, process_bytes, returned_first, ReportState, value_at, value_of, joined, word_of_returned, IsAnswer, IsTaken, closed, holds_value, value_put, variable_set, process_datagram, all_from, name_of, with_returned, cyclic_datagrams}
+pub use Rattle.ec_cycle.proofs.AnswersFrame.{names_tell}
 pub use Rattle.ec_cycle.proofs.Matches.{taken_plan as master_plan}
-pub use Rattle.ec_cycle.proofs.OnTheirWay.{answer_on_their_way, frames_are_kept, data_fill_their_part}
+pub use Rattle.ec_cycle.proofs.OnTheirWay.{answer_on_their_way, frames_are_returned, data_fill_their_part}
 pub use Rattle.ec_cycle.proofs.ProcessBits.{outputs_by_source}
 pub use Rattle.ec_world.specs.AlWords.{said_by, IsHeard, AreHeard, PartSays, IsNotBack, IsBack, WordShows, WordLaw, OpWordLaw}
 pub use Rattle.ec_world.specs.Exchanging.{given_in, slave_left, given_by}
-pub use Rattle.ec_world.specs.FrameShows.{note_at, GaveAs, DatagramsShow, KeptShows, ShowsData, FrameShows, out_bit}
+pub use Rattle.ec_world.specs.FrameRefines.{note_at, GaveAs, DatagramsRefine, KeptRefines, DataRefines, FrameRefines, out_bit}
 pub use Rattle.ec_world.specs.Headline.{HeadlineShows, Says, IsMade, IsBegun as HeadlineIsBegun, HasLost, IsUnderWay, HadTrouble, IsInOp, progress_at, variable_bit, output_bits, input_bits, GivesLess, unit_of, unit_of_part as headline_unit_of_part, IsRead, IsTaken as HeadlineIsTaken, FellShort as HeadlineFellShort, Cause, ByLoss, ByEarlyClose, ByFallingShort, IsMissed as HeadlineIsMissed, ListsUnits, CloseShows, HeadlineLaw, EachIsPromised, ShowsLinked, PassShows, HasPassed as HeadlineHasPassed, IsRunWithoutStart, begins_start, input_bit, variable, buffer_of, published, with_buffer, OnlyPublishes, broadcast_at, SetShows, TouchShows, PutShows, FallShows}
 pub use Rattle.ec_world.specs.Held.{AreFrames, cycle_frames, AreOfPlan, IsAnswered, IsTakenIn, IsHandedIn}
-pub use Rattle.ec_world.specs.Laws.{IsRun, BringsWord, notes_round, SlavesFrom, RoundTrip, word_past, in_op, CycleLaw, StepsShow, RunsShow, RunsJoin, StepShows}
+pub use Rattle.ec_world.specs.Laws.{IsRun, BringsWord, notes_round, SlavesFrom, RoundTrip, word_past, in_op, CycleLaw, StepsRefine, RunsRefine, RunsJoin, StepRefines}
 pub use Rattle.ec_world.specs.Lengths.{IsOfLength}
 pub use Rattle.ec_world.specs.NewWorld.{IsTurn, AreTurns, BringUp, IsToStart, IsBroughtUp, NewLaw, MachineLaw, rising_of, IsRest, Passes as NewWorldPasses, Returns as NewWorldReturns, Serves, Ends, servings, TurnLaw}
 pub use Rattle.ec_world.specs.Plain.{Plain, PlainSlave, Health, Working, Faulted, Reset, plain_slave, no_plain_slave, is_working, failing, restarting, at_slave, is_reset, got_byte, PlainFrame, Cycle, unit_full, step, run, frame_at, filled, new_frames, progress_of, moved, keeping, with_note, met_note, all_progress, is_older, lets_by, may_pass, may_return, Note, Other, Short, Full, is_full, all_full, noted_bit, notes_of_part, taken_bit, inputs_taken, linked_outputs, with_slot, giving, met_slave, passing, losing, taking, setting, beginning, closing, Closed, returning}
 pub use Rattle.ec_world.specs.Promises.{IsBegun, IsClosedAs, IsCounted, FallsShort, QuietLaw, unit_of_slave, is_of_unit, holds_of_unit, still_comes, is_awaited, disturbs, IsNoted, IsMissed, NotBack, FellShort, IsNotedAt, IsQuiet as PromisesIsQuiet, AreLinked, SnapshotsLaw, WorkingLaw, has_outputs_for, IsPublished, OutputsLaw, NotesLaw, InputsLaw, PublishedLaw, TakenLaw, HasNoFrame}
-pub use Rattle.ec_world.specs.Rising.{Rising, SlotsHold, seen_of, IsInSlot}
+pub use Rattle.ec_world.specs.Rising.{Rising, SlotsHold, starting_of, IsInSlot}
 pub use Rattle.ec_world.specs.RunLaws.{OrderLaw, OneOutcomeLaw, TroubleLaw, BegunOnceLaw, PassedOnceLaw}
-pub use Rattle.ec_world.specs.Shows.{Shows, CyclesShow, CycleShows, said, CountersPredicted, ReportShows}
-pub use Rattle.ec_world.specs.SlaveShows.{IsQuiet, Holds, IsWorking, IsFaulted, IsReset, IsAs, SlaveShows, HoldsData}
-pub use Rattle.ec_world.specs.Slots.{HavePassed, AreInUse, way_behind, AreFreeFrom, HasPassed, HasWay, no_end, HoldsFrame}
+pub use Rattle.ec_world.specs.Refines.{Refines, CyclesRefine, CycleRefines, said, CountersPredicted, ReportRefines}
+pub use Rattle.ec_world.specs.SlaveRefines.{IsQuiet, Holds, IsWorking, IsFaulted, IsReset, IsAs, SlaveRefines, HoldsData}
+pub use Rattle.ec_world.specs.Slots.{HavePassed, AreInUse, clearance_behind, AreFreeFrom, HasPassed, HasClearance, no_end, HoldsFrame}
 pub use Rattle.ec_world.specs.Undisturbed.{rounds_of, IsAtRest, Rests, round_of, cycle_of, IsSpoiled, LossLaw, EarlyLaw, ShortLaw, IsExchanged, UndisturbedLaw}
-pub use Rattle.ec_world.specs.Whole.{IsNew, plain_of, new_world, Told, no_trouble, slot_count, flags_after, flags_of, IsReadyWorld, health_of, plain_slave_of, ShowsZeros, HasStarted, NotYet, Started, WholeLaw, CompiledLaw}
+pub use Rattle.ec_world.specs.Whole.{IsNew, plain_of, new_world, RunOutcome, no_trouble, slot_count, flags_after, flags_of, IsReadyWorld, health_of, plain_slave_of, ShowsZeros, HasStarted, NotYet, Started, WholeLaw, CompiledLaw}
 pub use Rattle.ec_world.specs.World.{WorldState, slave_of, no_slave, with_slave, Puts, Gets, is_up, flight_at, flight_progress, IsStep, Flight, phase_ready, phase_awaits, awaits, resumed, ready_with, flights_from, flights_progress, Passes, ByStart, GivesUp, Closes, can_start, StartReturns, Returns, Begins, can_begin, Happens, is_slave, can_happen, Sends}
 pub use Rattle.ec_world.specs.declared.event.Event.{Event}
 pub use Rattle.ec_world.specs.declared.event.Event.TheVariants.{Begin, Close, Pass, Return, Lose, Fault, Reset as ResetSlave, StartNext, Set, Serve, AppPut, AppGet}

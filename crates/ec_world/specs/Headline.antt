@@ -11,7 +11,7 @@
 --   `object_bits` (ec_table's Objects, ec_device's Objects), over a table's rows (`Contents`);
 -- * when a start-up is at its first frame: `is_beginning` (ec_bringup's Runs) and `resumed` (World);
 -- * what a slave, its sync managers and an open cycle are as values: `SlaveState`, `SyncManager`, `Buffer`, `OpenCycle`,
---   `KeptPart`; and of bits in bytes `bit`, `bit_at` and `bytes_of_bits`.
+--   `ReturnedPart`; and of bits in bytes `bit`, `bit_at` and `bytes_of_bits`.
 use Rattle.std.specs.Prelude.{ℕ, ◌+◌, ◌<◌, ◌≡◌, ◌≢◌, ◌⊎◌, ◌==◌, ◌&&◌, List, [], ◌∷◌, ◌++◌, length, get_or, set, Bool, true, false, Option, Some, None, option_map, option_and_then, slice_get}
 use Rattle.std.specs.Option.{option_map_or}
 use Rattle.std.specs.List.{Contains}
@@ -31,7 +31,7 @@ use Rattle.ec_table.specs.Objects.{object_bits}
 use Rattle.ec_link.specs.LinkRuns.{IsLinked}
 use Rattle.ec_link.specs.Shares.{predicted}
 use Rattle.ec_link.specs.Plan.{plan_of, part_of, part_at}
-use Rattle.ec_cycle.specs.Closing.{KeptPart, ReportState}
+use Rattle.ec_cycle.specs.Closing.{ReturnedPart, ReportState}
 use Rattle.ec_cycle.specs.Master.{OpenCycle, value_at}
 use Rattle.ec_bringup.specs.Runs.{is_beginning}
 use Rattle.ec_world.specs.declared.event.Event.{Event}
@@ -242,7 +242,7 @@ Says r u taken = (i : ℕ) → i < length r.units → get_or r.units i 0 ≡ u �
 
 -- how many slaves the broadcast in the frame of part k of the open cycle counted, if that frame is back
 abbrev pub broadcast_at : WorldState → ℕ → Option ℕ
-broadcast_at w k = option_and_then (λ (c : OpenCycle). option_map (λ (p : KeptPart). p.broadcast) (get_or c.kept k None)) w.master.cycle
+broadcast_at w k = option_and_then (λ (c : OpenCycle). option_map (λ (p : ReturnedPart). p.broadcast) (get_or c.kept k None)) w.master.cycle
 
 -- Unit u is taken: every linked input bit of its slaves was read in this cycle, each of its parts came back with the working
 -- counters that the plan predicts, its broadcast counted every slave, and there is no cause against it.

@@ -28,14 +28,14 @@ AreFrames frames = (k : ℕ) → k < length frames → (p : Payload) × IsFrame 
 
 -- a payload came back to the start-up; if the start-up is Ready then, the master becomes ready
 pub record IsAnswered (s : StartState) (m : MasterState) (payload : List ℕ) (t : StartState) (n : MasterState) : Type 0 where
-  pub is_kept : Bool
-  pub start : IsStartTaken s payload is_kept t
+  pub is_accepted : Bool
+  pub start : IsStartTaken s payload is_accepted t
   pub master : n ≡ ready_with m t
 
 -- or to the master
 pub record IsTakenIn (s : StartState) (m : MasterState) (payload : List ℕ) (t : StartState) (n : MasterState) : Type 0 where
-  pub is_kept : Bool
-  pub master : IsTaken m payload is_kept n
+  pub is_accepted : Bool
+  pub master : IsTaken m payload is_accepted n
   pub start : t ≡ s
 
 abbrev pub IsHandedIn : StartState → MasterState → List ℕ → StartState → MasterState → Type 0

@@ -16,9 +16,9 @@ use Rattle.ec_cycle.specs.Frames.{cyclic_datagrams, sent_datagrams}
 use Rattle.ec_world.specs.declared.event.Event.{Event}
 use Rattle.ec_world.specs.Plain.{Plain, PlainSlave, PlainFrame, Working, Note, step, run, met_note, no_plain_slave, linked_outputs}
 use Rattle.ec_world.specs.World.{WorldState, IsStep, no_slave}
-use Rattle.ec_world.specs.Shows.{Shows}
-use Rattle.ec_world.specs.SlaveShows.{IsWorking, SlaveShows}
-use Rattle.ec_world.specs.FrameShows.{DatagramsShow}
+use Rattle.ec_world.specs.Refines.{Refines}
+use Rattle.ec_world.specs.SlaveRefines.{IsWorking, SlaveRefines}
+use Rattle.ec_world.specs.FrameRefines.{DatagramsRefine}
 use Rattle.ec_world.specs.Exchanging.{slave_left}
 
 -- ---- a frame round the ring
@@ -27,9 +27,9 @@ abbrev pub notes_round : Meaning → ℕ → PlainFrame → List PlainSlave → 
 notes_round m t f [] = []
 notes_round m t f (q ∷ qs) = met_note m t f q ∷ notes_round m (t + 1) f qs
 
--- the slaves show these plain slaves; the first of both has number t
+-- the slaves refine these plain slaves; the first of both has number t
 abbrev pub SlavesFrom : PlanState → ℕ → List SlaveState → List PlainSlave → Type 0
-SlavesFrom plan t ss qs = (i : ℕ) → i < length ss → SlaveShows (t + i) (slave_at plan (t + i)) (get_or ss i no_slave) (get_or qs i no_plain_slave)
+SlavesFrom plan t ss qs = (i : ℕ) → i < length ss → SlaveRefines (t + i) (slave_at plan (t + i)) (get_or ss i no_slave) (get_or qs i no_plain_slave)
 
 -- a cyclic frame brings this AL word, which has one byte
 abbrev pub BringsWord : List Datagram → ℕ → Type 0
@@ -42,7 +42,7 @@ word_past word ss = fold (λ w s. bit_or w (status_word s.al)) word ss
 
 pub record RoundTripped (plan : PlanState) (f : PlainFrame) (ss : List SlaveState) (qs : List PlainSlave) (ds : List Datagram) (after : RingPassed) : Type 0 where
   pub slaves : (i : ℕ) → i < length ss → get_or after.slaves i no_slave ≡ slave_left (meaning plan) (length f.notes + i) f (get_or qs i no_plain_slave) (get_or ss i no_slave)
-  pub frame : DatagramsShow plan (record f { notes = f.notes ++ notes_round (meaning plan) (length f.notes) f qs }) after.datagrams
+  pub frame : DatagramsRefine plan (record f { notes = f.notes ++ notes_round (meaning plan) (length f.notes) f qs }) after.datagrams
   pub word : (w : ℕ) → BringsWord ds w → BringsWord after.datagrams (word_past w ss)
 
 -- A cyclic frame that goes round leaves each slave, working or not, as the plain machine says, and brings back what it says.
@@ -50,7 +50,7 @@ abbrev pub RoundTrip : Type 0
 RoundTrip =
     (plan : PlanState) (f : PlainFrame) (ss : List SlaveState) (qs : List PlainSlave) (ds : List Datagram)
     → IsUsable plan → length f.notes + length ss ≡ length plan.slaves → length qs ≡ length ss
-    → SlavesFrom plan (length f.notes) ss qs → DatagramsShow plan f ds → RoundTripped plan f ss qs ds (passes_ring ss ds)
+    → SlavesFrom plan (length f.notes) ss qs → DatagramsRefine plan f ds → RoundTripped plan f ss qs ds (passes_ring ss ds)
 
 -- ---- a cycle past slaves in OP
 
@@ -82,16 +82,16 @@ CycleLaw =
 
 -- ---- one event, and a run
 
--- One event: a world that shows a plain state shows the plain machine's next one, and the two make the same events.
-pub record StepShows (old : WorldState) (event : Event) (new : WorldState) (made : Bool) : Type 0 where
-  pub same_plan : (p : Plain) → Shows old p → new.plan ≡ old.plan
-  pub made_is : (p : Plain) → Shows old p → made ≡ is_some (step (meaning old.plan) p event)
-  pub shown : (p : Plain) → Shows old p → Shows new (unwrap_or (step (meaning old.plan) p event) p)
+-- One event: a world that refines a plain state refines the plain machine's next one, and the two make the same events.
+pub record StepRefines (old : WorldState) (event : Event) (new : WorldState) (made : Bool) : Type 0 where
+  pub same_plan : (p : Plain) → Refines old p → new.plan ≡ old.plan
+  pub made_is : (p : Plain) → Refines old p → made ≡ is_some (step (meaning old.plan) p event)
+  pub shown : (p : Plain) → Refines old p → Refines new (unwrap_or (step (meaning old.plan) p event) p)
 
-abbrev pub StepsShow : Type 0
-StepsShow =
+abbrev pub StepsRefine : Type 0
+StepsRefine =
     (old : WorldState) (event : Event) (new : WorldState) (made : Bool) → IsUsable old.plan
-    → IsStep old event new made → StepShows old event new made
+    → IsStep old event new made → StepRefines old event new made
 
 -- No event changes the plan, whether it can be made or not.
 abbrev pub PlanLaw : Type 0
@@ -103,15 +103,15 @@ IsRun old [] new made = (new ≡ old) × (made ≡ 0)
 IsRun old (e ∷ es) new made =
     (mid : WorldState) × (one : Bool) × (rest : ℕ) × IsStep old e mid one × IsRun mid es new rest × (made ≡ (if one then 1 else 0) + rest)
 
--- A run from a world that shows a plain state ends in one that shows the plain run's, and makes as many events.
-pub record RunShows (old : WorldState) (events : List Event) (new : WorldState) (made : ℕ) : Type 0 where
-  pub shown : (p : Plain) → Shows old p → Shows new (run (meaning old.plan) p events).plain
-  pub made_is : (p : Plain) → Shows old p → made ≡ (run (meaning old.plan) p events).made
+-- A run from a world that refines a plain state ends in one that refines the plain run's, and makes as many events.
+pub record RunRefines (old : WorldState) (events : List Event) (new : WorldState) (made : ℕ) : Type 0 where
+  pub shown : (p : Plain) → Refines old p → Refines new (run (meaning old.plan) p events).plain
+  pub made_is : (p : Plain) → Refines old p → made ≡ (run (meaning old.plan) p events).made
 
-abbrev pub RunsShow : Type 0
-RunsShow =
+abbrev pub RunsRefine : Type 0
+RunsRefine =
     (old : WorldState) (events : List Event) (new : WorldState) (made : ℕ) → IsUsable old.plan
-    → IsRun old events new made → RunShows old events new made
+    → IsRun old events new made → RunRefines old events new made
 
 -- Two runs, one after the other, are one.
 abbrev pub RunsJoin : Type 0

@@ -13,11 +13,11 @@ pub mod Undisturbed
 pub mod Plain
 -- the world as a value, when each event can be made, and what it does
 pub mod World
--- when a slave, a frame, a world shows what the plain machine says
+-- when a slave, a frame, a world refines what the plain machine says
 pub mod Lengths
-pub mod SlaveShows
-pub mod FrameShows
-pub mod Shows
+pub mod SlaveRefines
+pub mod FrameRefines
+pub mod Refines
 -- what is promised to a user, in words of the image, the links and the slaves' values
 pub mod Promises
 -- the laws under it: of one frame, of a step and a run, of a world since it was made
@@ -27,7 +27,7 @@ pub mod Whole
 pub mod NewWorld
 -- what the AL word of a report says
 pub mod AlWords
--- what can be seen of its frames
+-- what can be captured of its frames
 pub mod Watching
 -- Private: the rest serves the code and the proofs alone, and no public clause cites it.
 -- slots in use, and a frame in its slot as it passes its next slave

@@ -8,14 +8,14 @@ use Rattle.ec_link.specs.Shares.{has_outs, has_ins, predicted, unit_of_part}
 use Rattle.ec_link.specs.Meaning.{Meaning, Linked, share_of, meaning}
 use Rattle.ec_link.specs.Plan.{PlanState}
 use Rattle.ec_link.specs.Usable.{IsUsable}
-use Rattle.ec_cycle.specs.Closing.{KeptPart, ReportState, nones}
+use Rattle.ec_cycle.specs.Closing.{ReturnedPart, ReportState, nones}
 use Rattle.ec_cycle.specs.Master.{OpenCycle}
 use Rattle.ec_world.specs.declared.event.Event.{Event}
 use Rattle.ec_world.specs.declared.event.Event.TheVariants.{StartNext, Set, Begin, Pass, Lose, Return, Close, Serve, AppPut, AppGet, Fault, Reset as ResetSlave}
 use Rattle.ec_world.specs.Plain.{Plain, PlainSlave, PlainFrame, Note, Short, Full, Cycle, Working, Faulted, Reset, unit_full, met_note, plain_slave, frame_at, step, run}
 use Rattle.ec_world.specs.World.{WorldState, Flight, IsStep, slave_of, flight_progress}
-use Rattle.ec_world.specs.FrameShows.{out_bit}
-use Rattle.ec_world.specs.Shows.{Shows}
+use Rattle.ec_world.specs.FrameRefines.{out_bit}
+use Rattle.ec_world.specs.Refines.{Refines}
 
 -- ---- a cyclic frame passes a slave in OP
 
@@ -49,7 +49,7 @@ pub record IsPublished (old : WorldState) (k : ℕ) (f : PlainFrame) (new : Worl
 
 abbrev pub OutputsLaw : Type 0
 OutputsLaw =
-    (old : WorldState) (p : Plain) (k : ℕ) (f : PlainFrame) (new : WorldState) → IsUsable old.plan → Shows old p → frame_at p k ≡ Some f
+    (old : WorldState) (p : Plain) (k : ℕ) (f : PlainFrame) (new : WorldState) → IsUsable old.plan → Refines old p → frame_at p k ≡ Some f
     → (plain_slave p (next_slave f)).health ≡ Working → IsStep old (Pass k) new true → IsPublished old k f new
 
 -- ---- what a frame notes of a slave
@@ -87,8 +87,8 @@ abbrev pub unit_of_slave : Meaning → ℕ → ℕ
 unit_of_slave m s = unit_of_part m (share_of m s).part
 
 -- Part k came back: every slave answered its broadcast, and its working counters, which the report gives, are the predicted ones.
-pub record IsCounted (plan : PlanState) (kept : List (Option KeptPart)) (report : ReportState) (k : ℕ) : Type 0 where
-  pub part : KeptPart
+pub record IsCounted (plan : PlanState) (kept : List (Option ReturnedPart)) (report : ReportState) (k : ℕ) : Type 0 where
+  pub part : ReturnedPart
   pub back : get_or kept k None ≡ Some part
   pub broadcast : part.broadcast ≡ length plan.slaves
   pub counters : part.counters ≡ predicted plan k
@@ -119,7 +119,7 @@ pub record IsClosedAs (old : WorldState) (c : Cycle) (new : WorldState) : Type 0
 
 abbrev pub InputsLaw : Type 0
 InputsLaw =
-    (old : WorldState) (p : Plain) (c : Cycle) (new : WorldState) → IsUsable old.plan → Shows old p → p.cycle ≡ Some c
+    (old : WorldState) (p : Plain) (c : Cycle) (new : WorldState) → IsUsable old.plan → Refines old p → p.cycle ≡ Some c
     → IsStep old Close new true → IsClosedAs old c new
 
 -- ---- over a run

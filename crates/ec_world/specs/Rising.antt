@@ -22,13 +22,13 @@ SlotsHold slots None = (k : ℕ) → get_or slots k None ≡ None
 SlotsHold slots (Some c) = IsInSlot slots c
 
 -- what the start-up's invariant sees of a world
-abbrev pub seen_of : WorldState → List Bool → Option Carried → Starting
-seen_of w flags slot = record { start = w.start; slaves = w.slaves; troubles = flags; slot = slot }
+abbrev pub starting_of : WorldState → List Bool → Option Carried → Starting
+starting_of w flags slot = record { start = w.start; slaves = w.slaves; troubles = flags; slot = slot }
 
 pub record Rising (flags : List Bool) (w : WorldState) : Type 0 where
   pub same_plan : w.start.plan ≡ w.plan.slaves
   pub slot : Option Carried
-  pub starts : Starts (ends_of w.plan.slaves) (seen_of w flags slot)
+  pub starts : Starts (ends_of w.plan.slaves) (starting_of w flags slot)
   pub slots : SlotsHold w.slots slot
   pub some_slots : 0 < length w.slots
   pub fit : (i : ℕ) → AreWhole (slave_of w i)

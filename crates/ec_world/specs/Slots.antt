@@ -22,20 +22,20 @@ abbrev pub no_end : ℕ
 no_end = 2 ^ 64 - 1
 
 -- `far` slaves, but no more than an older frame has passed
-abbrev pub way_behind : Progress → ℕ → Option Progress → ℕ
-way_behind f far None = far
-way_behind f far (Some g) = if is_older g f then min far g.passed else far
+abbrev pub clearance_behind : Progress → ℕ → Option Progress → ℕ
+clearance_behind f far None = far
+clearance_behind f far (Some g) = if is_older g f then min far g.passed else far
 
 -- every frame that is older than the one in slot k has passed at least `until` slaves
-abbrev pub HasWay : List (Option Flight) → ℕ → ℕ → Type 0
-HasWay slots k until =
+abbrev pub HasClearance : List (Option Flight) → ℕ → ℕ → Type 0
+HasClearance slots k until =
     (i : ℕ) (f g : Flight) → get_or slots k None ≡ Some f → get_or slots i None ≡ Some g → is_older (flight_progress g) (flight_progress f) ≡ true
     → until ≤ g.passed
 
--- what slots keep true: those with number `used` or more are free, and the frame in slot k has its way
+-- what slots keep true: those with number `used` or more are free, and the frame in slot k has its clearance
 pub record AreHeld (slots : List (Option Flight)) (used k until : ℕ) : Type 0 where
   pub free : AreFreeFrom slots used
-  pub way : HasWay slots k until
+  pub clearance : HasClearance slots k until
 
 -- what is in a slot is a frame of datagrams
 abbrev pub HoldsFrame : Option Progress → List ℕ → Type 0

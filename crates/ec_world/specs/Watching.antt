@@ -1,4 +1,4 @@
--- What can be seen of the frames of a world.
+-- What can be captured of the frames of a world.
 use Rattle.std.specs.Prelude.{ℕ, ◌&&◌, List, length, nat_lt, Option, None, Some, is_some, if◌then◌else◌}
 use Rattle.ec_cycle.specs.Master.{frame_of}
 use Rattle.ec_world.specs.World.{WorldState}

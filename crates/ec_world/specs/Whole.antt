@@ -20,7 +20,7 @@ use Rattle.ec_world.specs.declared.event.Event.{Event}
 use Rattle.ec_world.specs.declared.event.Event.TheVariants.{StartNext, Set, Begin, Pass, Lose, Return, Close, Serve, AppPut, AppGet, Fault, Reset as ResetSlave}
 use Rattle.ec_world.specs.Plain.{Plain, PlainSlave, Health, Working, Faulted, Reset, plain_slave, run}
 use Rattle.ec_world.specs.World.{WorldState, is_up, resumed, IsStep}
-use Rattle.ec_world.specs.Shows.{Shows}
+use Rattle.ec_world.specs.Refines.{Refines}
 use Rattle.ec_world.specs.Laws.{IsRun}
 use Rattle.ec_table.specs.Sound as table
 
@@ -73,7 +73,7 @@ plain_of w = record {
 -- It shows this. Each slave that doesn't work had a fault or a reset since the first frame of that start-up was sent. The outputs
 -- of each slave are zeros.
 pub record IsReadyWorld (flags : List Bool) (w : WorldState) : Type 0 where
-  pub shows : Shows w (plain_of w)
+  pub shows : Refines w (plain_of w)
   pub told : (i : ℕ) → i < length w.plan.slaves → ((plain_slave (plain_of w) i).health ≡ Working) ⊎ (trouble_at flags i ≡ true)
   pub zeros : (i : ℕ) → i < length w.plan.slaves → ShowsZeros (plain_slave (plain_of w) i).outputs
 
@@ -131,25 +131,25 @@ pub record HasStarted (old : WorldState) (es : List Event) (new : WorldState) (m
   pub step : IsStep mid event ready true
   pub plan_is : ready.plan ≡ old.plan
   pub is_ready : IsReadyWorld (flags_after mid event (flags_of old before mid first to_mid flags)) ready
-  pub shown : Shows new (run (meaning ready.plan) (plain_of ready) after).plain
+  pub shown : Refines new (run (meaning ready.plan) (plain_of ready) after).plain
   pub made_is : made ≡ first + 1 + (run (meaning ready.plan) (plain_of ready) after).made
 
 -- a run up to its last event: still starting, or it started on the way
-pub data Told (old : WorldState) (es : List Event) (new : WorldState) (made : ℕ) (flags : List Bool) : Type 0 where
-  NotYet : is_up new.start ≡ false → ((p : Plain) → Shows new p → ⊥) → Told old es new made flags
-  Started : HasStarted old es new made flags → Told old es new made flags
+pub data RunOutcome (old : WorldState) (es : List Event) (new : WorldState) (made : ℕ) (flags : List Bool) : Type 0 where
+  NotYet : is_up new.start ≡ false → ((p : Plain) → Refines new p → ⊥) → RunOutcome old es new made flags
+  Started : HasStarted old es new made flags → RunOutcome old es new made flags
 
 -- A new world of a usable plan that can be started up, over every list of events: nothing is shown until the start-up is ready.
--- Then the world shows the run of the plain machine, beginning with the state that it is ready in.
+-- Then the world refines the run of the plain machine, beginning with the state that it is ready in.
 abbrev pub WholeLaw : Type 0
 WholeLaw =
     (plan : PlanState) (identities : List Identity) → IsUsable plan → AreStartable plan.slaves → length identities ≡ length plan.slaves
     → (es : List Event) (w : WorldState) (made : ℕ) → IsRun (new_world plan identities) es w made
-    → Told (new_world plan identities) es w made (replicate (length plan.slaves) false)
+    → RunOutcome (new_world plan identities) es w made (replicate (length plan.slaves) false)
 
 -- As above, for a table that `compile` accepts.
 abbrev pub CompiledLaw : Type 0
 CompiledLaw =
     (t : Contents) (identities : List Identity) → table.IsSound t → compile_fault t ≡ None → length identities ≡ length t.slaves
     → (es : List Event) (w : WorldState) (made : ℕ) → IsRun (new_world (plan_of t) identities) es w made
-    → Told (new_world (plan_of t) identities) es w made (replicate (length (plan_of t).slaves) false)
+    → RunOutcome (new_world (plan_of t) identities) es w made (replicate (length (plan_of t).slaves) false)

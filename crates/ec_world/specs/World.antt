@@ -130,8 +130,8 @@ pub record Passes (old : WorldState) (k : ℕ) (new : WorldState) : Type 0 where
 pub record Returns (old : WorldState) (k : ℕ) (new : WorldState) : Type 0 where
   pub flight : Flight
   pub there : flight_at old k ≡ Some flight
-  pub is_kept : Bool
-  pub master : IsTaken old.master flight.bytes is_kept new.master
+  pub is_accepted : Bool
+  pub master : IsTaken old.master flight.bytes is_accepted new.master
   pub is : new ≡ record old { master = new.master; slots = set old.slots k None }
 
 pub record Closes (old new : WorldState) : Type 0 where
@@ -175,8 +175,8 @@ ready_with m s = if is_up s then readied m s.next else m
 pub record StartReturns (old : WorldState) (k : ℕ) (new : WorldState) : Type 0 where
   pub flight : Flight
   pub there : flight_at old k ≡ Some flight
-  pub is_kept : Bool
-  pub start : IsStartTaken old.start flight.bytes is_kept new.start
+  pub is_accepted : Bool
+  pub start : IsStartTaken old.start flight.bytes is_accepted new.start
   pub is : new ≡ record old { start = new.start; master = ready_with old.master new.start; slots = set old.slots k None }
 
 -- the start-up is given up

@@ -1,5 +1,5 @@
 //! What is promised of a world, and laws of the definitions. Each function does nothing: its contract is the law.
-ghost use Rattle.ec_world.specs.Laws.{RoundTrip, CycleLaw, StepsShow, PlanLaw, RunsShow, RunsJoin};
+ghost use Rattle.ec_world.specs.Laws.{RoundTrip, CycleLaw, StepsRefine, PlanLaw, RunsRefine, RunsJoin};
 ghost use Rattle.ec_world.specs.Whole.{WholeLaw, CompiledLaw};
 ghost use Rattle.ec_world.specs.NewWorld.{NewLaw, MachineLaw, TurnLaw};
 ghost use Rattle.ec_world.specs.AlWords.{WordLaw, OpWordLaw};
@@ -10,7 +10,7 @@ ghost use Rattle.ec_world.specs.Promises.{OutputsLaw, SnapshotsLaw, NotesLaw, In
 
 /// A cyclic frame that passes a slave in OP gives its outputs exactly the linked bits of the image that it was made of, and 0
 /// elsewhere; it changes nothing else of the slave, no other slave, no other frame and nothing of the image.
-#[tactic(auto, using(crate::proofs::Promising::outputs_law))]
+#[tactic(auto, using(crate::proofs::Cycles::InputsLaw::outputs_law))]
 pub fn outputs_are_linked()
     ensures { OutputsLaw }
 {}
@@ -22,7 +22,7 @@ pub fn frames_keep_their_image()
 
 /// A frame notes of a slave of its part what the slave publishes as the frame passes. A slave falls short only if it was reset
 /// and has bits, or had a fault and has outputs.
-#[tactic(auto, using(crate::proofs::Promising::notes_law))]
+#[tactic(auto, using(crate::proofs::Cycles::InputsLaw::notes_law))]
 pub fn notes_are_published()
     ensures { NotesLaw }
 {}
@@ -31,20 +31,20 @@ pub fn notes_are_published()
 /// passed: each part came back, all slaves answered its broadcast, and its working counters are the predicted ones. If not, none
 /// of them changes: a frame of the unit was lost, isn't back, or passed a slave that fell short. The report says which units
 /// were taken, and how many parts are missing.
-#[tactic(auto, using(crate::proofs::Promising::inputs_law))]
+#[tactic(auto, using(crate::proofs::Cycles::InputsLaw::inputs_law))]
 pub fn inputs_are_linked()
     ensures { InputsLaw }
 {}
 
 /// What a cycle keeps of a slave was noted when the frame of the slave's part passed it, in an event since this cycle began. If
 /// the slave gave its whole share, these are the inputs that it published at that moment.
-#[tactic(auto, using(crate::proofs::Published::published_law))]
+#[tactic(auto, using(crate::proofs::Runs::PublishedLaw::published_law))]
 pub fn notes_are_of_their_pass()
     ensures { PublishedLaw }
 {}
 
 /// A slave in OP stays there until it has a fault or is reset.
-#[tactic(auto, using(crate::proofs::Histories::working_law))]
+#[tactic(auto, using(crate::proofs::Runs::SnapshotsLaw::working_law))]
 pub fn slaves_stay_in_op()
     ensures { WorkingLaw }
 {}
@@ -67,39 +67,39 @@ pub fn round_trips()
 {}
 
 /// Past slaves in OP a cyclic frame publishes the linked outputs, and brings back the inputs and the predicted counters.
-#[tactic(auto, using(crate::proofs::RoundTrips::cycle_law))]
+#[tactic(auto, using(crate::proofs::Refinement::RoundTrip::cycle_law))]
 pub fn cycles_exchange()
     ensures { CycleLaw }
 {}
 
-/// In a world that shows a plain state, an event is made exactly if the plain machine makes it, and the world then shows the
+/// In a world that refines a plain state, an event is made exactly if the plain machine makes it, and the world then refines the
 /// plain machine's next state.
-#[tactic(auto, using(crate::proofs::StepLaws::steps_show))]
-pub fn steps_show()
-    ensures { StepsShow }
+#[tactic(auto, using(crate::proofs::Refinement::StepsRefine::steps_refine))]
+pub fn steps_refine()
+    ensures { StepsRefine }
 {}
 
-/// If a world shows a plain state, every list of events leads it to a world that shows the plain machine's run of these events,
+/// If a world refines a plain state, every list of events leads it to a world that refines the plain machine's run of these events,
 /// and as many of them are made.
-#[tactic(auto, using(crate::proofs::StepLaws::runs_show))]
-pub fn runs_show()
-    ensures { RunsShow }
+#[tactic(auto, using(crate::proofs::Refinement::StepsRefine::runs_refine))]
+pub fn runs_refine()
+    ensures { RunsRefine }
 {}
 
 /// No event changes the plan of a world, whether it can be made or not.
-#[tactic(auto, using(crate::proofs::Plans::plan_stays))]
+#[tactic(auto, using(crate::proofs::Runs::PlanLaw::plan_stays))]
 pub fn plans_stay()
     ensures { PlanLaw }
 {}
 
 /// Two runs, one after the other, are one: you may make the events of a list piece by piece.
-#[tactic(auto, using(crate::proofs::StepLaws::runs_join))]
+#[tactic(auto, using(crate::proofs::Refinement::StepsRefine::runs_join))]
 pub fn runs_join()
     ensures { RunsJoin }
 {}
 
 /// A new world of a usable plan that can be started up (`IsUsable`, `AreStartable`), over every list of events. Nothing is shown
-/// until the start-up is ready; then the world shows the run of the plain machine. Each slave that doesn't work when the
+/// until the start-up is ready; then the world refines the run of the plain machine. Each slave that doesn't work when the
 /// start-up is ready had a fault or a reset since that start-up began.
 pub fn whole_runs()
     ensures { WholeLaw }
@@ -132,13 +132,13 @@ pub fn turns_of_a_script()
 /// broadcasts counted every slave. If not, no linked input bit of them changes, and there is a cause: a frame of the unit was
 /// lost since the cycle began, is under way, or passed a slave that gave less than its share after a fault or a reset. If there
 /// is a cause, the unit is not taken. Each other event touches only the slave or the variable that it names, or none.
-#[tactic(auto, using(crate::proofs::HeadlineInputs::headline_law))]
+#[tactic(auto, using(crate::proofs::Headline::HeadlineLaw::headline_law))]
 pub fn headline()
     ensures { HeadlineLaw }
 {}
 
 /// A run has one outcome: the same events lead a new world to the same world, and as many of them are made.
-#[tactic(auto, using(crate::proofs::OneOutcome::one_outcome))]
+#[tactic(auto, using(crate::proofs::Runs::OneOutcomeLaw::one_outcome))]
 pub fn runs_have_one_outcome()
     ensures { OneOutcomeLaw }
 {}
@@ -170,7 +170,7 @@ pub fn reports_say_op()
 {}
 
 /// The flag of a slave is set only by a fault or a reset that was made since the last start-up began.
-#[tactic(auto, using(crate::proofs::Origins::trouble_law))]
+#[tactic(auto, using(crate::proofs::Runs::TroubleLaw::trouble_law))]
 pub fn troubles_are_faults()
     ensures { TroubleLaw }
 {}

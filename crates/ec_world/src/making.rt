@@ -36,7 +36,7 @@ fn resume(start: &mut Startup)
 /// Gives a payload to the start-up. If the start-up is Ready then, the master becomes ready.
 fn answer(start: &mut Startup, master: &mut Master<'_>, payload: &[u8])
     requires same { start.old.plan ≡ master.old.plan.slaves }
-    ensures taken { (is_kept : Bool) × IsStartTaken start.old payload.now is_kept start.new }
+    ensures taken { (is_accepted : Bool) × IsStartTaken start.old payload.now is_accepted start.new }
     ensures ready { master.new ≡ ready_with master.old start.new }
 {
     let _ = start.take(payload);
@@ -85,8 +85,8 @@ impl World<'_> {
             Event::Return(slot) => self.take_back(slot),
             Event::Close => self.close(),
             Event::Serve(slave) => self.serve(slave),
-            Event::AppPut(slave, place, byte) => self.put(slave, place, byte),
-            Event::AppGet(slave, place) => self.get(slave, place),
+            Event::AppPut(slave, offset, byte) => self.put(slave, offset, byte),
+            Event::AppGet(slave, offset) => self.get(slave, offset),
             Event::Fault(slave) => self.fault(slave),
             Event::Reset(slave) => self.reset(slave),
         }
@@ -94,7 +94,7 @@ impl World<'_> {
 
     /// Whether the start-up goes on, or begins again: it isn't Ready, it awaits no frame, none is on its way, and a number is
     /// left.
-    #[tactic(auto, using(crate::proofs::Filling::nones_counted))]
+    #[tactic(auto, using(crate::proofs::SlotLaws::Filled::nones_counted))]
     fn can_start(&self) -> bool
         ensures { result ≡ can_start self.now }
     {
@@ -131,7 +131,7 @@ impl World<'_> {
     }
 
     /// Whether a cycle can begin: the master is ready and has none open, a slot is free for each part, and a number is left.
-    #[tactic(auto, using(crate::proofs::Filling::nones_counted))]
+    #[tactic(auto, using(crate::proofs::SlotLaws::Filled::nones_counted))]
     fn can_begin(&self) -> bool
         ensures { result ≡ can_begin self.now }
     {
@@ -220,23 +220,23 @@ impl World<'_> {
     }
 
     /// A slave's application writes a byte of its inputs.
-    fn put(&mut self, slave: usize, place: usize, byte: u8) -> bool
-        ensures { IsStep self.old (AppPut slave place byte) self.new result }
+    fn put(&mut self, slave: usize, offset: usize, byte: u8) -> bool
+        ensures { IsStep self.old (AppPut slave offset byte) self.new result }
     {
         if slave >= self.ring.len() {
             return false;
         }
-        self.ring.slave_mut(slave).app_put(place, byte)
+        self.ring.slave_mut(slave).app_put(offset, byte)
     }
 
     /// A slave's application reads a byte of its outputs.
-    fn get(&mut self, slave: usize, place: usize) -> bool
-        ensures { IsStep self.old (AppGet slave place) self.new result }
+    fn get(&mut self, slave: usize, offset: usize) -> bool
+        ensures { IsStep self.old (AppGet slave offset) self.new result }
     {
         if slave >= self.ring.len() {
             return false;
         }
-        match self.ring.slave_mut(slave).app_get(place) {
+        match self.ring.slave_mut(slave).app_get(offset) {
             Some(byte) => {
                 self.got = Some(byte);
                 true

@@ -1,7 +1,7 @@
 //! How far a frame is on its way.
 ghost use Rattle.std.specs.Prelude.{◌≡◌};
 ghost use Rattle.ec_world.specs.Plain.{is_older};
-ghost use Rattle.ec_world.specs.Slots.{way_behind};
+ghost use Rattle.ec_world.specs.Slots.{clearance_behind};
 
 /// How far a frame is on its way. Of two frames the older one has the lower number, or the lower part of the same number.
 #[derive(Clone, Copy, Debug, PartialEq, Eq)]
@@ -23,8 +23,8 @@ impl Progress {
     }
 
     /// The least of `far` and how many slaves an older frame in another slot has passed, if there is one: no frame overtakes.
-    pub(crate) fn way_behind(&self, far: usize, other: Option<Progress>) -> usize
-        ensures { result ≡ way_behind self.now far other }
+    pub(crate) fn clearance_behind(&self, far: usize, other: Option<Progress>) -> usize
+        ensures { result ≡ clearance_behind self.now far other }
     {
         match other {
             Some(other) if other.is_older(self) => far.min(other.passed),

@@ -4,7 +4,7 @@ ghost use Rattle.std.specs.List.{list_all, count_by, fold};
 ghost use Rattle.ec_frame.specs.Frame.{Payload, IsFrame};
 ghost use Rattle.ec_world.specs.Plain.{lets_by, may_pass, may_return, filled};
 ghost use Rattle.ec_world.specs.World.{Flight, flight_progress, flights_progress};
-ghost use Rattle.ec_world.specs.Slots.{AreInUse, HavePassed, no_end, way_behind};
+ghost use Rattle.ec_world.specs.Slots.{AreInUse, HavePassed, no_end, clearance_behind};
 
 use crate::progress::Progress;
 use crate::slot::Slot;
@@ -19,7 +19,7 @@ pub struct Slots {
     // all slots with this number or more are free
     used: usize,
     // spares a frame the look at all others before each slave
-    way: Clearance,
+    clearance: Clearance,
 }
 
 /// How many slaves the frame in a slot may pass. No other frame can lower it before a new frame comes.
@@ -47,7 +47,7 @@ impl Model for Slots {
 
     ghost view = { λ s. s.slots.items };
 
-    ghost invariant = { λ s. AreHeld s.slots.items s.used s.way.slot s.way.until };
+    ghost invariant = { λ s. AreHeld s.slots.items s.used s.clearance.slot s.clearance.until };
 }
 
 impl Slots {
@@ -62,7 +62,7 @@ impl Slots {
         Ok(Slots {
             slots,
             used: 0,
-            way: Clearance::none(),
+            clearance: Clearance::none(),
         })
     }
 
@@ -95,12 +95,12 @@ impl Slots {
     /// Whether the frame in a slot may pass its next slave, of `slaves`: there is one, and every older frame has passed it.
     pub fn may_pass(&mut self, slot: usize, slaves: usize) -> bool
         ensures may { result ≡ may_pass slaves (flights_progress self.old) (option_map flight_progress (get_or self.old slot None)) }
-        ensures kept { self.new ≡ self.old }
+        ensures unchanged { self.new ≡ self.old }
     {
         let Some(frame) = self.progress(slot) else {
             return false;
         };
-        frame.passed < slaves && frame.passed < self.way_of(slot, &frame)
+        frame.passed < slaves && frame.passed < self.clearance_of(slot, &frame)
     }
 
     /// Whether the frame in a slot has passed all slaves, which are `slaves`.
@@ -128,7 +128,7 @@ impl Slots {
         ensures { self.new ≡ filled (record { bytes = bytes.now; number = number; part = part; passed = 0 } ∷ []) self.old }
     {
         if let Some(place) = self.lowest_free() {
-            self.way = Clearance::none();
+            self.clearance = Clearance::none();
             self.slots[place].put(bytes, number, part);
             self.used = self.used.max(place + 1);
         }
@@ -162,17 +162,17 @@ impl Slots {
     }
 
     /// A number of slaves that the frame in a slot may pass. It is above `frame.passed` exactly if the next one may be passed.
-    fn way_of(&mut self, slot: usize, frame: &Progress) -> usize
+    fn clearance_of(&mut self, slot: usize, frame: &Progress) -> usize
         requires there { option_map flight_progress (get_or self.old slot None) ≡ Some frame.now }
         requires few { frame.now.passed < no_end }
-        ensures way { nat_lt frame.now.passed result ≡ list_all (lets_by frame.now) (flights_progress self.old) }
-        ensures kept { self.new ≡ self.old }
+        ensures clearance { nat_lt frame.now.passed result ≡ list_all (lets_by frame.now) (flights_progress self.old) }
+        ensures unchanged { self.new ≡ self.old }
     {
-        if self.way.slot == slot && frame.passed < self.way.until {
-            return self.way.until;
+        if self.clearance.slot == slot && frame.passed < self.clearance.until {
+            return self.clearance.until;
         }
-        let until = way_behind(self.in_use(), frame);
-        self.way = Clearance { slot, until };
+        let until = clearance_behind(self.in_use(), frame);
+        self.clearance = Clearance { slot, until };
         until
     }
 
@@ -193,13 +193,13 @@ impl Slots {
 }
 
 /// How many slaves a frame may pass without overtaking an older frame in these slots.
-fn way_behind(slots: &[Slot], frame: &Progress) -> usize
-    ensures { result ≡ fold (way_behind frame.now) no_end (flights_progress slots.now) }
+fn clearance_behind(slots: &[Slot], frame: &Progress) -> usize
+    ensures { result ≡ fold (clearance_behind frame.now) no_end (flights_progress slots.now) }
 {
-    slots
-        .iter()
-        .map(|slot| slot.progress())
-        .fold(usize::MAX, |far, other| frame.way_behind(far, other))
+    slots.iter().map(|slot| slot.progress()).fold(
+        usize::MAX,
+        |far, other| frame.clearance_behind(far, other),
+    )
 }
 
 /// The lowest free slot of these.

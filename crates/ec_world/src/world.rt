@@ -9,10 +9,10 @@ ghost use Rattle.ec_link.specs.Usable.{IsUsable};
 ghost use Rattle.ec_start.specs.Planned.{HasFewAssigned};
 ghost use Rattle.ec_start.specs.Running.{begun, outcome_of};
 ghost use Rattle.ec_cycle.specs.Master.{new_master, value_at};
-ghost use Rattle.ec_world.specs.Laws.{IsRun, StepShows, RunShows};
+ghost use Rattle.ec_world.specs.Laws.{IsRun, StepRefines, RunRefines};
 ghost use Rattle.ec_world.specs.Headline.{HeadlineShows, EachIsPromised};
 ghost use Rattle.ec_world.specs.NewWorld.{BringUp, IsBroughtUp, IsToStart};
-ghost use Rattle.ec_world.specs.Whole.{IsNew, IsOfMachine, Told, no_trouble};
+ghost use Rattle.ec_world.specs.Whole.{IsNew, IsOfMachine, RunOutcome, no_trouble};
 ghost use Rattle.ec_world.specs.Watching.{sent_of};
 ghost use Rattle.ec_world.specs.World.{WorldState, IsStep, slave_of, flight_at, flight_progress, is_up};
 
@@ -122,12 +122,12 @@ impl<'p> World<'p> {
     /// cause. `Set` gives its variable the value, and touches no other variable and no slave. `AppPut`, `AppGet`, `Fault` and
     /// `Reset` touch only their slave, and no variable. All other events touch no slave and no variable.
     ///
-    /// If the world shows a plain state, the event is made exactly if the plain machine makes it, and the world then shows the
+    /// If the world refines a plain state, the event is made exactly if the plain machine makes it, and the world then refines the
     /// plain machine's next state. The plan stays.
     pub fn step(&mut self, event: Event) -> bool
         ensures step { IsStep self.old event self.new result }
         ensures plan { self.new.plan ≡ self.old.plan }
-        ensures shows { StepShows self.old event self.new result }
+        ensures refines { StepRefines self.old event self.new result }
         ensures headline { (t : Contents) (identities : List Identity) (first : WorldState) (events : List Event) (made : ℕ) → IsNew t identities first → IsRun first events self.old made → is_up self.old.start ≡ true → result ≡ true → HeadlineShows t first events self.old event self.new }
     {
         self.is_sound();
@@ -136,17 +136,17 @@ impl<'p> World<'p> {
 
     /// Makes those of the events that can be made, in their order, and returns how many they were.
     ///
-    /// If the world shows a plain state, it ends in one that shows the run of the plain machine, of as many events. A new world
-    /// shows nothing until its start-up is Ready. With the event that makes it so, it shows a plain state in which each slave
-    /// that isn't in OP had a fault or a reset since that start-up began. Then it shows the run of the plain machine. If nothing
+    /// If the world refines a plain state, it ends in one that refines the run of the plain machine, of as many events. A new world
+    /// shows nothing until its start-up is Ready. With the event that makes it so, it refines a plain state in which each slave
+    /// that isn't in OP had a fault or a reset since that start-up began. Then it refines the run of the plain machine. If nothing
     /// disturbs it, a start-up is Ready after as many frames as it has steps. This holds for a new world of devices of its
     /// table's types, and for one whose last start-up failed and that has no frame on its way. Each event that is made once the
     /// start-up is Ready does what `step` says of it. The plan stays.
     pub fn run(&mut self, events: &[Event]) -> usize
         ensures steps { IsRun self.old events.now self.new result }
         ensures plan { self.new.plan ≡ self.old.plan }
-        ensures shows { RunShows self.old events.now self.new result }
-        ensures whole { (t : Contents) (identities : List Identity) → IsNew t identities self.old → Told self.old events.now self.new result (no_trouble self.old) }
+        ensures refines { RunRefines self.old events.now self.new result }
+        ensures whole { (t : Contents) (identities : List Identity) → IsNew t identities self.old → RunOutcome self.old events.now self.new result (no_trouble self.old) }
         ensures up { (t : Contents) → IsToStart t self.old → BringUp t events.now → IsBroughtUp t self.old events.now self.new result }
         ensures headline { (t : Contents) (identities : List Identity) (first : WorldState) (past : List Event) (count : ℕ) → IsNew t identities first → IsRun first past self.old count → EachIsPromised t first past self.old events.now self.new }
     {

@@ -22,7 +22,7 @@ use std::alloc::{AllocError, Global};
 use std::io;
 use std::io::Write;
 
-/// What a function answered, and what it answered when it was called again after a refusal.
+/// What a function returned, and what it returned when it was called again after a refusal.
 #[derive(Drop)]
 struct Answers {
     first: Answer,
@@ -36,7 +36,7 @@ impl Answers {
     }
 }
 
-/// Whether an answer is the figure that there must be, or want of memory.
+/// Whether a result is the figure that there must be, or want of memory.
 fn is_right(answer: Answer, call: Call) -> bool {
     match answer {
         Ok(figure) => figure == call.figure(),
@@ -44,7 +44,7 @@ fn is_right(answer: Answer, call: Call) -> bool {
     }
 }
 
-/// What a function answers when it is called again.
+/// What a function returns when it is called again.
 fn again(alloc: Global, call: Call, table: &Table, plan: &Plan, identities: &[Identity]) -> Answer
     requires usable { IsUsable plan.now }
     requires accepted { compile_fault table.now ≡ None }
@@ -88,7 +88,7 @@ fn call_twice(alloc: Global, call: Call) -> Result<Answers, AllocError> {
     call_over(alloc, call, &table)
 }
 
-/// Prints an answer behind what the line has.
+/// Prints a result behind what the line has.
 fn print_answer<W: Write>(answer: Answer, output: &mut W) -> io::Result<()> {
     match answer {
         Ok(figure) => write!(output, " 0 {figure}"),
@@ -96,7 +96,7 @@ fn print_answer<W: Write>(answer: Answer, output: &mut W) -> io::Result<()> {
     }
 }
 
-/// Prints what a function answers, and answers whether that is right.
+/// Prints what a function returns. Returns whether that is right.
 fn print_call<W: Write>(alloc: Global, call: Call, output: &mut W) -> io::Result<bool> {
     let Ok(answers) = call_twice(alloc, call) else {
         writeln!(output, "prepared {MEMORY}")?;
@@ -111,7 +111,7 @@ fn print_call<W: Write>(alloc: Global, call: Call, output: &mut W) -> io::Result
     Ok(answers.are_right(call))
 }
 
-/// Prints what each function answers, and answers whether all of that is right.
+/// Prints what each function returns. Returns whether all of that is right.
 fn print_calls<W: Write>(alloc: Global, calls: &[Call], output: &mut W) -> io::Result<bool> {
     let mut are_right = true;
     for call in calls {

@@ -17,10 +17,10 @@ use crate::runs::life::{Seen, live};
 use ec_bringup::identities_of;
 use ec_link::{Plan, compile};
 use ec_table::{Table, read_table};
-use ec_test_data::{Random, random_table};
 use std::alloc::{AllocError, Global};
 use std::io;
 use std::io::Write;
+use test_data::{Random, random_table};
 
 /// The worlds of each table.
 const WORLDS: [Kind; 10] = [

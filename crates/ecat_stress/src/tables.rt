@@ -10,12 +10,12 @@ use ec_link::Machine;
 use ec_script::{Line, read_script};
 use ec_simulation::run_line;
 use ec_table::Table;
-use ec_test_data::{Random, random_script, random_table};
 use ec_text::plan_text;
 use ec_world::World;
 use std::alloc::{AllocError, Global};
 use std::io;
 use std::io::Write;
+use test_data::{Random, random_script, random_table};
 
 /// The cycles of each table.
 const CYCLES: u64 = 3;

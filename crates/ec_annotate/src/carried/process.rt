@@ -2,7 +2,7 @@
 ghost use Rattle.std.specs.Prelude.{◌≡◌, ◌<◌, IfSome, length, position};
 ghost use Rattle.ec_link.specs.Plan.{part_at};
 ghost use Rattle.ec_link.specs.Shares.{predicted};
-ghost use Rattle.ec_annotate.specs.Processes.{counter_of, is_of, is_split, process_by, process_of, way_of};
+ghost use Rattle.ec_annotate.specs.Processes.{counter_of, is_of, is_split, process_by, process_of, process_command_of};
 
 use ec_frame::Command;
 use ec_link::{ExpectedCounters, PartPlan, Plan};
@@ -24,13 +24,13 @@ pub struct Process {
     /// The part whose data it carries.
     pub part: usize,
     /// How it moves the part's data.
-    pub way: ProcessCommand,
+    pub command: ProcessCommand,
 }
 
 impl ProcessCommand {
     /// How a logical command moves process data; `None` for any other command.
     pub fn of(command: Command) -> Option<ProcessCommand>
-        ensures { result ≡ way_of command }
+        ensures { result ≡ process_command_of command }
     {
         match command {
             Command::Lrw => Some(ProcessCommand::Both),
@@ -54,7 +54,7 @@ impl ProcessCommand {
 /// The part of a plan whose data a datagram carries, by its command, logical address and bytes of data, and how it
 /// moves them. `None` if it is no process datagram of the plan.
 pub fn find_process(plan: &Plan, command: Command, address: u32, size: usize) -> Option<Process>
-    ensures value { result ≡ process_of plan.now (way_of command) address size }
+    ensures value { result ≡ process_of plan.now (process_command_of command) address size }
     ensures there { IfSome result (λ process. process.part < length plan.now.parts) }
     ensures whole { IfSome result (λ process. size ≡ (part_at plan.now.parts process.part).bytes) }
 {
@@ -65,9 +65,9 @@ pub fn find_process(plan: &Plan, command: Command, address: u32, size: usize) ->
 /// the part has no such datagram.
 pub fn predicted_counter(plan: &Plan, process: Process) -> Option<usize>
     requires { process.part < length plan.now.parts }
-    ensures { result ≡ counter_of process.way (predicted plan.now process.part) }
+    ensures { result ≡ counter_of process.command (predicted plan.now process.part) }
 {
-    match (process.way, plan.predicted(process.part)) {
+    match (process.command, plan.predicted(process.part)) {
         (ProcessCommand::Both, ExpectedCounters::Lrw(count)) => Some(count),
         (ProcessCommand::Write, ExpectedCounters::Split { write, read: _ }) => Some(write),
         (ProcessCommand::Read, ExpectedCounters::Split { write: _, read }) => Some(read),
@@ -75,14 +75,14 @@ pub fn predicted_counter(plan: &Plan, process: Process) -> Option<usize>
     }
 }
 
-/// The part of a plan whose data a datagram carries that moves them this way; `None` if there is none.
-fn find_by(plan: &Plan, address: u32, size: usize, way: ProcessCommand) -> Option<Process>
-    ensures value { result ≡ process_by plan.now address size way }
+/// The part of a plan whose data a datagram carries by this command; `None` if there is none.
+fn find_by(plan: &Plan, address: u32, size: usize, command: ProcessCommand) -> Option<Process>
+    ensures value { result ≡ process_by plan.now address size command }
     ensures there { IfSome result (λ process. process.part < length plan.now.parts) }
     ensures whole { IfSome result (λ process. size ≡ (part_at plan.now.parts process.part).bytes) }
 {
-    let part = find_part(plan, way.is_split(), address, size)?;
-    Some(Process { part, way })
+    let part = find_part(plan, command.is_split(), address, size)?;
+    Some(Process { part, command })
 }
 
 /// The place of the part whose data a datagram over these bytes carries; `None` if there is none.

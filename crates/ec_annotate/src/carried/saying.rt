@@ -13,7 +13,7 @@ use std::fmt::Write as _;
 
 /// What a datagram with process data says.
 #[derive(Clone, Copy, Debug)]
-pub struct Told<'a> {
+pub struct ProcessDatagram<'a> {
     /// What the slaves are asked to do.
     pub command: Command,
     /// The logical address.
@@ -33,19 +33,24 @@ pub fn write_process(
     text: &mut String,
     table: &Table,
     plan: &Plan,
-    told: Told<'_>,
+    datagram: ProcessDatagram<'_>,
 ) -> Result<(), AllocError>
     requires { IsUsable plan.now }
 {
-    let Some(process) = find_process(plan, told.command, told.address, told.content.len()) else {
+    let Some(process) = find_process(
+        plan,
+        datagram.command,
+        datagram.address,
+        datagram.content.len(),
+    ) else {
         return Ok(());
     };
-    write_part(text, plan, process, told.counter)?;
-    if process.way != ProcessCommand::Read {
-        write_direction(alloc, text, table, plan, process, Direction::Out, told)?;
+    write_part(text, plan, process, datagram.counter)?;
+    if process.command != ProcessCommand::Read {
+        write_direction(alloc, text, table, plan, process, Direction::Out, datagram)?;
     }
-    if process.way != ProcessCommand::Write && told.counter > 0 {
-        write_direction(alloc, text, table, plan, process, Direction::In, told)?;
+    if process.command != ProcessCommand::Write && datagram.counter > 0 {
+        write_direction(alloc, text, table, plan, process, Direction::In, datagram)?;
     }
     Ok(())
 }
@@ -58,15 +63,15 @@ fn write_direction(
     plan: &Plan,
     process: Process,
     direction: Direction,
-    told: Told<'_>,
+    datagram: ProcessDatagram<'_>,
 ) -> Result<(), AllocError>
     requires usable { IsUsable plan.now }
     requires part { process.part < length plan.now.parts }
-    requires whole { length told.content.now ≡ (part_at plan.now.parts process.part).bytes }
+    requires whole { length datagram.content.now ≡ (part_at plan.now.parts process.part).bytes }
 {
-    let found = carried_bits(alloc, plan, process.part, direction, told.content)?;
+    let found = carried_bits(alloc, plan, process.part, direction, datagram.content)?;
     for one in found.as_slice() {
-        if direction == Direction::Out && told.counter > 0 && is_covered(plan, &one.link) {
+        if direction == Direction::Out && datagram.counter > 0 && is_covered(plan, &one.link) {
             continue;
         }
         write_carried(text, table, plan, direction, one)?;

@@ -4,23 +4,27 @@ use crate::remark::mailbox::write_message;
 use crate::remark::value::write_value;
 use ec_coe::read_message;
 use ec_frame::Command;
+use ec_names::{DatagramFields, register_at, register_bytes, registers_within};
 use ec_regs::registers::RAM_START;
-use ec_seen::{Seen, register_at, register_bytes, registers_within};
 use std::alloc::{AllocError, Global};
 use std::fmt::Write as _;
 
 /// Adds what a datagram says, for people, in lines. Each register that it has whole has a line with its value;
 /// without one, a line names the register in which it begins. A mailbox message in the memory behind the
 /// registers has a line. A logical datagram and a NOP have none. `AllocError` if memory ran out.
-pub fn write_remarks(alloc: Global, text: &mut String, seen: Seen<'_>) -> Result<(), AllocError> {
-    if !is_physical(seen.command) {
+pub fn write_remarks(
+    alloc: Global,
+    text: &mut String,
+    fields: DatagramFields<'_>,
+) -> Result<(), AllocError> {
+    if !is_physical(fields.command) {
         return Ok(());
     }
-    let from = (seen.address / 65536) as usize;
+    let from = (fields.address / 65536) as usize;
     if from >= RAM_START {
-        return write_memory(text, seen.content);
+        return write_memory(text, fields.content);
     }
-    if !write_registers(alloc, text, from, seen.content)? {
+    if !write_registers(alloc, text, from, fields.content)? {
         write_part(text, from)?;
     }
     Ok(())

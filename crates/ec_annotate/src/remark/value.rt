@@ -2,8 +2,8 @@
 
 use crate::remark::sii::sii_text;
 use crate::remark::state::{state_name, status_name};
+use ec_names::Register;
 use ec_regs::{AlWord, FmmuSettings, SiiControl, SyncManagerSettings, decode_fmmu, decode_manager};
-use ec_seen::Register;
 use std::alloc::AllocError;
 use std::fmt::Write as _;
 

@@ -4,7 +4,7 @@ ghost use Rattle.std.specs.Prelude.{◌≡◌, ◌<◌, ◌≤◌, ◌+◌, ◌*
 ghost use Rattle.ec_bits.specs.Bits.{bit};
 ghost use Rattle.ec_regs.specs.Memory.{ram_end};
 ghost use Rattle.ec_sync.specs.SyncManager.{ring_written};
-ghost use Rattle.ec_fmmu.specs.Applied.{Place, touched_by_reading, touched_by_writing};
+ghost use Rattle.ec_fmmu.specs.Applied.{LogicalSpan, touched_by_reading, touched_by_writing};
 ghost use Rattle.ec_slave.specs.Managers.{is_ungoverned, is_written_by, manager_after};
 ghost use Rattle.ec_slave.specs.Logical.{logical_managers, plain_bit, logical_value};
 ghost use Rattle.ec_slave.specs.Written.{some_manager_written};
@@ -24,7 +24,7 @@ struct ReadBits<'a> {
 }
 
 impl Touching for ReadBits<'_> {
-    ghost use Rattle.ec_fmmu.specs.Applied.{Place, touched_by_reading};
+    ghost use Rattle.ec_fmmu.specs.Applied.{LogicalSpan, touched_by_reading};
 
     ghost touched = { λ r a. touched_by_reading r.fmmus.now
         (record { from = r.from; bits = r.bits }) a };
@@ -46,7 +46,7 @@ struct Bits<'a> {
 
 impl Touching for Bits<'_> {
     ghost use Rattle.std.specs.Prelude.{◌*◌, length};
-    ghost use Rattle.ec_fmmu.specs.Applied.{Place, touched_by_writing};
+    ghost use Rattle.ec_fmmu.specs.Applied.{LogicalSpan, touched_by_writing};
 
     ghost touched = { λ w a. touched_by_writing w.fmmus.now
         (record { from = w.from; bits = 8 * length w.bytes.now }) a };
@@ -59,7 +59,7 @@ impl Touching for Bits<'_> {
 
 impl Writing for Bits<'_> {
     ghost use Rattle.std.specs.Prelude.{◌*◌, length};
-    ghost use Rattle.ec_fmmu.specs.Applied.{Place};
+    ghost use Rattle.ec_fmmu.specs.Applied.{LogicalSpan};
     ghost use Rattle.ec_slave.specs.Logical.{logical_value};
     ghost use Rattle.ec_slave.specs.Untouched.{untouched-zero};
 
@@ -124,9 +124,9 @@ pub(crate) fn access_managers(
 ) -> bool
     requires four { length managers.old ≡ 4 }
     requires fits { from + 8 * length bytes.now < 2 ^ 64 }
-    ensures any { let place : Place = record { from = from; bits = 8 * length bytes.now } in
+    ensures any { let place : LogicalSpan = record { from = from; bits = 8 * length bytes.now } in
         result ≡ (writing && some_manager_written [] fmmus.now place bytes.now managers.old) }
-    ensures after { let place : Place = record { from = from; bits = 8 * length bytes.now } in
+    ensures after { let place : LogicalSpan = record { from = from; bits = 8 * length bytes.now } in
         managers.new
         ≡ logical_managers [] reading writing fmmus.now place bytes.now managers.old }
 {
@@ -150,9 +150,9 @@ fn access_manager(
     bytes: &[u8],
 ) -> bool
     requires { from + 8 * length bytes.now < 2 ^ 64 }
-    ensures written { let place : Place = record { from = from; bits = 8 * length bytes.now } in
+    ensures written { let place : LogicalSpan = record { from = from; bits = 8 * length bytes.now } in
         result ≡ (writing && is_written_by (touched_by_writing fmmus.now place) (is_ungoverned lower.now) manager.old) }
-    ensures after { let place : Place = record { from = from; bits = 8 * length bytes.now } in
+    ensures after { let place : LogicalSpan = record { from = from; bits = 8 * length bytes.now } in
         manager.new ≡ manager_after reading writing
         (touched_by_reading fmmus.now place) (touched_by_writing fmmus.now place)
         (is_ungoverned lower.now) (logical_value lower.now fmmus.now place bytes.now) manager.old }
@@ -176,9 +176,9 @@ fn access_manager(
 /// A manager takes what is brought to it, if the datagram gets at it and the ring may write it. Returns whether it does. Usually
 /// all of its value is brought as one run: then the datagram gets at it, and the value is one copy.
 fn write_bits(manager: &mut SyncManager, access: &Bits<'_>) -> bool
-    ensures written { let place : Place = record { from = access.now.from; bits = 8 * length access.now.bytes.now } in
+    ensures written { let place : LogicalSpan = record { from = access.now.from; bits = 8 * length access.now.bytes.now } in
         result ≡ is_written_by (touched_by_writing access.now.fmmus.now place) (is_ungoverned access.now.lower.now) manager.old }
-    ensures after { let place : Place = record { from = access.now.from; bits = 8 * length access.now.bytes.now } in
+    ensures after { let place : LogicalSpan = record { from = access.now.from; bits = 8 * length access.now.bytes.now } in
         let m = manager.old in
         manager.new ≡ (if is_written_by (touched_by_writing access.now.fmmus.now place) (is_ungoverned access.now.lower.now) m
         then ring_written m (logical_value access.now.lower.now access.now.fmmus.now place access.now.bytes.now m.settings.start m.settings.length) else m) }

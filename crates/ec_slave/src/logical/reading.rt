@@ -5,50 +5,50 @@ ghost use Rattle.ec_bits.specs.Bits.{overlay};
 ghost use Rattle.ec_regs.specs.Memory.{ram_end};
 ghost use Rattle.ec_sync.specs.SyncManager.{may_read};
 ghost use Rattle.ec_sync.specs.Governing.{covers, governor as governor_of, in_first_buffer};
-ghost use Rattle.ec_fmmu.specs.Applied.{Place, touched_by_reading};
+ghost use Rattle.ec_fmmu.specs.Applied.{LogicalSpan, touched_by_reading};
 ghost use Rattle.ec_slave.specs.Logical.{read_bit, some_read};
 ghost use Rattle.ec_slave.specs.State.{manager_at};
-ghost use Rattle.ec_slave.specs.Sights.{HasRoom, run_over, some_of_run, seen_behind as behind_it, seen_bit as bit_seen};
+ghost use Rattle.ec_slave.specs.ReadViews.{HasRoom, run_over, some_of_run, view_behind as behind_it, view_bit as bit_in_view};
 
 use crate::runs::count_alike;
 use ec_bits::{copy_by_words, get};
 use ec_exchange::governor;
 use ec_fmmu::{
-    FmmuTable, ReadableBits, ReadableRuns, apply_read, is_touched_by_reading, show_by_bits,
+    FmmuTable, ReadableBits, ReadableRuns, apply_read, is_touched_by_reading, read_by_bits,
 };
 use ec_sync::SyncManager;
 
 /// A slave's memory and managers as a datagram sees them. `readable` says of each manager whether
 /// the datagram gets at it: it is found once for all bits of the manager.
 #[derive(Clone, Copy)]
-struct Sight<'a> {
+struct ReadView<'a> {
     memory: &'a [u8],
     managers: &'a [SyncManager],
     readable: &'a [bool],
 }
 
-impl ReadableBits for Sight<'_> {
+impl ReadableBits for ReadView<'_> {
     ghost use Rattle.std.specs.Prelude.{◌≡◌, length};
-    ghost use Rattle.ec_slave.specs.Sights.{seen_bit as bit_seen};
+    ghost use Rattle.ec_slave.specs.ReadViews.{view_bit as bit_in_view};
 
-    ghost can_show = { λ s. (length s.memory.now ≡ ram_end)
+    ghost can_read = { λ s. (length s.memory.now ≡ ram_end)
         × (length s.managers.now ≡ length s.readable.now) };
 
-    ghost shown = { λ s q. bit_seen s.memory.now s.managers.now s.readable.now q };
+    ghost visible = { λ s q. bit_in_view s.memory.now s.managers.now s.readable.now q };
 
-    fn shown_bit(&self, physical: u32) -> Option<bool> {
-        seen_bit(self.memory, self.managers, self.readable, physical)
+    fn visible_bit(&self, physical: u32) -> Option<bool> {
+        view_bit(self.memory, self.managers, self.readable, physical)
     }
 }
 
-impl ReadableRuns for Sight<'_> {
-    fn show_run(&self, physical: u32, count: usize, bytes: &mut [u8], to: usize) -> bool {
+impl ReadableRuns for ReadView<'_> {
+    fn read_run(&self, physical: u32, count: usize, bytes: &mut [u8], to: usize) -> bool {
         let mut any = false;
         let mut done = 0;
         while done < count {
             let next = physical + done as u32;
             let alike = count_alike(self.managers, next, count - done);
-            any |= show_alike(self, next, alike, bytes, to + done);
+            any |= read_alike(self, next, alike, bytes, to + done);
             done += alike;
         }
         any
@@ -68,9 +68,9 @@ pub(crate) fn read_logical(
     requires room { length memory.now ≡ ram_end }
     requires four { length managers.now ≡ 4 }
     requires fits { from + 8 * length bytes.old < 2 ^ 64 }
-    ensures bits { let place : Place = record { from = from; bits = 8 * length bytes.old } in
+    ensures bits { let place : LogicalSpan = record { from = from; bits = 8 * length bytes.old } in
         bytes.new ≡ overlay bytes.old (read_bit memory.now managers.now fmmus.now place) }
-    ensures any { let place : Place = record { from = from; bits = 8 * length bytes.old } in
+    ensures any { let place : LogicalSpan = record { from = from; bits = 8 * length bytes.old } in
         result ≡ some_read memory.now managers.now fmmus.now place }
 {
     let bits = 8 * bytes.len() as u64;
@@ -80,38 +80,38 @@ pub(crate) fn read_logical(
         is_readable(&managers[2], fmmus, from, bits),
         is_readable(&managers[3], fmmus, from, bits),
     ];
-    let sight = Sight {
+    let view = ReadView {
         memory,
         managers,
         readable: &readable,
     };
-    apply_read(fmmus, &sight, from, bytes)
+    apply_read(fmmus, &view, from, bytes)
 }
 
 /// Brings a run of bits to the data. They lie in bytes that are alike: one manager governs all of
 /// them, or none, and all lie before the end of its value, or none. Returns whether one was read.
-fn show_alike(sight: &Sight<'_>, physical: u32, count: usize, bytes: &mut [u8], to: usize) -> bool
+fn read_alike(view: &ReadView<'_>, physical: u32, count: usize, bytes: &mut [u8], to: usize) -> bool
     requires some { 0 < count }
-    requires room { length sight.now.memory.now ≡ ram_end }
-    requires four { length sight.now.managers.now ≡ length sight.now.readable.now }
+    requires room { length view.now.memory.now ≡ ram_end }
+    requires four { length view.now.managers.now ≡ length view.now.readable.now }
     requires alike { (a : ℕ) → physical / 8 ≤ a → a ≤ (physical + count - 1) / 8
-        → governor_of sight.now.managers.now a ≡ governor_of sight.now.managers.now (physical / 8) }
-    requires front { (n a : ℕ) → governor_of sight.now.managers.now (physical / 8) ≡ Some n → physical / 8 ≤ a → a ≤ (physical + count - 1) / 8
-        → in_first_buffer (manager_at sight.now.managers.now n) a ≡ in_first_buffer (manager_at sight.now.managers.now n) (physical / 8) }
+        → governor_of view.now.managers.now a ≡ governor_of view.now.managers.now (physical / 8) }
+    requires front { (n a : ℕ) → governor_of view.now.managers.now (physical / 8) ≡ Some n → physical / 8 ≤ a → a ≤ (physical + count - 1) / 8
+        → in_first_buffer (manager_at view.now.managers.now n) a ≡ in_first_buffer (manager_at view.now.managers.now n) (physical / 8) }
     requires run { HasRoom physical to count (length bytes.old) }
-    ensures any { result ≡ some_of_run (bit_seen sight.now.memory.now sight.now.managers.now sight.now.readable.now) physical to count bytes.old }
-    ensures bits { bytes.new ≡ run_over (bit_seen sight.now.memory.now sight.now.managers.now sight.now.readable.now) physical to count bytes.old }
+    ensures any { result ≡ some_of_run (bit_in_view view.now.memory.now view.now.managers.now view.now.readable.now) physical to count bytes.old }
+    ensures bits { bytes.new ≡ run_over (bit_in_view view.now.memory.now view.now.managers.now view.now.readable.now) physical to count bytes.old }
 {
-    match governor(sight.managers, physical as usize / 8) {
-        None => show_plain(sight, physical, count, bytes, to),
-        Some(place) => show_value(sight, place, physical, count, bytes, to),
+    match governor(view.managers, physical as usize / 8) {
+        None => read_plain(view, physical, count, bytes, to),
+        Some(place) => read_value(view, place, physical, count, bytes, to),
     }
 }
 
 /// Brings a run of bits of a manager's value to the data, if it may be read. All bits lie before the
 /// end of the value, or none. Returns whether one was read.
-fn show_value(
-    sight: &Sight<'_>,
+fn read_value(
+    view: &ReadView<'_>,
     place: usize,
     physical: u32,
     count: usize,
@@ -119,52 +119,52 @@ fn show_value(
     to: usize,
 ) -> bool
     requires some { 0 < count }
-    requires room { length sight.now.memory.now ≡ ram_end }
-    requires four { length sight.now.managers.now ≡ length sight.now.readable.now }
+    requires room { length view.now.memory.now ≡ ram_end }
+    requires four { length view.now.managers.now ≡ length view.now.readable.now }
     requires governed { (a : ℕ) → physical / 8 ≤ a
         → a ≤ (physical + count - 1) / 8
-        → governor_of sight.now.managers.now a ≡ Some place }
+        → governor_of view.now.managers.now a ≡ Some place }
     requires front { (a : ℕ) → physical / 8 ≤ a → a ≤ (physical + count - 1) / 8
-        → in_first_buffer (manager_at sight.now.managers.now place) a ≡ in_first_buffer (manager_at sight.now.managers.now place) (physical / 8) }
+        → in_first_buffer (manager_at view.now.managers.now place) a ≡ in_first_buffer (manager_at view.now.managers.now place) (physical / 8) }
     requires run { HasRoom physical to count (length bytes.old) }
-    ensures any { result ≡ some_of_run (bit_seen sight.now.memory.now sight.now.managers.now sight.now.readable.now) physical to count bytes.old }
-    ensures bits { bytes.new ≡ run_over (bit_seen sight.now.memory.now sight.now.managers.now sight.now.readable.now) physical to count bytes.old }
+    ensures any { result ≡ some_of_run (bit_in_view view.now.memory.now view.now.managers.now view.now.readable.now) physical to count bytes.old }
+    ensures bits { bytes.new ≡ run_over (bit_in_view view.now.memory.now view.now.managers.now view.now.readable.now) physical to count bytes.old }
 {
-    if !sight.readable[place] {
+    if !view.readable[place] {
         return false;
     }
-    let manager = &sight.managers[place];
+    let manager = &view.managers[place];
     let start = manager.settings().start as usize;
     let last = (physical as usize + count - 1) / 8;
     if !manager.in_first_buffer(last) {
         return false;
     }
-    let value = manager.shown();
+    let value = manager.visible();
     if last - start >= value.len() {
-        return show_by_bits(sight, physical, count, bytes, to);
+        return read_by_bits(view, physical, count, bytes, to);
     }
     copy_by_words(bytes, to, value, physical as usize - 8 * start, count);
     true
 }
 
 /// Brings a run of bits that no manager governs to the data. Returns true.
-fn show_plain(sight: &Sight<'_>, physical: u32, count: usize, bytes: &mut [u8], to: usize) -> bool
+fn read_plain(view: &ReadView<'_>, physical: u32, count: usize, bytes: &mut [u8], to: usize) -> bool
     requires some { 0 < count }
-    requires room { length sight.now.memory.now ≡ ram_end }
+    requires room { length view.now.memory.now ≡ ram_end }
     requires plain { (a : ℕ) → physical / 8 ≤ a
         → a ≤ (physical + count - 1) / 8
-        → governor_of sight.now.managers.now a ≡ None }
+        → governor_of view.now.managers.now a ≡ None }
     requires run { HasRoom physical to count (length bytes.old) }
-    ensures any { result ≡ some_of_run (bit_seen sight.now.memory.now sight.now.managers.now sight.now.readable.now) physical to count bytes.old }
-    ensures bits { bytes.new ≡ run_over (bit_seen sight.now.memory.now sight.now.managers.now sight.now.readable.now) physical to count bytes.old }
+    ensures any { result ≡ some_of_run (bit_in_view view.now.memory.now view.now.managers.now view.now.readable.now) physical to count bytes.old }
+    ensures bits { bytes.new ≡ run_over (bit_in_view view.now.memory.now view.now.managers.now view.now.readable.now) physical to count bytes.old }
 {
-    copy_by_words(bytes, to, sight.memory, physical as usize, count);
+    copy_by_words(bytes, to, view.memory, physical as usize, count);
     true
 }
 
 /// What a physical bit shows. `readable` says of each manager whether the datagram gets at
 /// it.
-fn seen_bit(
+fn view_bit(
     memory: &[u8],
     managers: &[SyncManager],
     readable: &[bool],
@@ -173,22 +173,22 @@ fn seen_bit(
     requires room { length memory.now ≡ ram_end }
     requires four { length managers.now ≡ length readable.now }
     requires inside { physical < 8 * ram_end }
-    ensures { result ≡ bit_seen memory.now managers.now readable.now physical }
+    ensures { result ≡ bit_in_view memory.now managers.now readable.now physical }
 {
     match governor(managers, physical as usize / 8) {
-        Some(place) => seen_behind(&managers[place], readable[place], physical),
+        Some(place) => view_behind(&managers[place], readable[place], physical),
         None => Some(get(memory, physical as usize)),
     }
 }
 
 /// What a physical bit shows that a manager governs.
-fn seen_behind(manager: &SyncManager, is_readable: bool, physical: u32) -> Option<bool>
+fn view_behind(manager: &SyncManager, is_readable: bool, physical: u32) -> Option<bool>
     requires { manager.now.settings.start ≤ physical / 8 }
     ensures { result ≡ behind_it manager.now is_readable physical }
 {
     let address = physical as usize / 8;
     if manager.in_first_buffer(address) && is_readable {
-        let byte = manager.shown_byte(address);
+        let byte = manager.visible_byte(address);
         Some(get(&[byte], physical as usize % 8))
     } else {
         None
@@ -198,7 +198,7 @@ fn seen_behind(manager: &SyncManager, is_readable: bool, physical: u32) -> Optio
 /// Whether a datagram that reads gets at a manager: it touches its first and its last byte, and it
 /// may read there.
 fn is_readable(manager: &SyncManager, fmmus: &FmmuTable, from: u64, bits: u64) -> bool
-    ensures { let place : Place = record { from = from; bits = bits } in
+    ensures { let place : LogicalSpan = record { from = from; bits = bits } in
         result ≡ (covers (touched_by_reading fmmus.now place) manager.now && may_read manager.now) }
 {
     if !manager.may_read() {

@@ -3,7 +3,7 @@
 ghost use Rattle.std.specs.Prelude.{◌≡◌, ◌<◌, ◌+◌, ◌*◌, ◌^◌, length};
 ghost use Rattle.ec_regs.specs.Memory.{ram_end};
 ghost use Rattle.ec_bits.specs.Bits.{overlay};
-ghost use Rattle.ec_fmmu.specs.Applied.{Place};
+ghost use Rattle.ec_fmmu.specs.Applied.{LogicalSpan};
 ghost use Rattle.ec_slave.specs.Logical.{plain_bit};
 ghost use Rattle.ec_slave.specs.Written.{some_plain_written};
 
@@ -48,9 +48,9 @@ pub(crate) fn write_logical(
 ) -> bool
     requires room { length memory.old ≡ ram_end }
     requires fits { from + 8 * length bytes.now < 2 ^ 64 }
-    ensures memory { let place : Place = record { from = from; bits = 8 * length bytes.now } in
+    ensures memory { let place : LogicalSpan = record { from = from; bits = 8 * length bytes.now } in
         memory.new ≡ overlay memory.old (plain_bit managers.now fmmus.now place bytes.now) }
-    ensures any { let place : Place = record { from = from; bits = 8 * length bytes.now } in
+    ensures any { let place : LogicalSpan = record { from = from; bits = 8 * length bytes.now } in
         result ≡ some_plain_written managers.now fmmus.now place bytes.now }
 {
     apply_write(fmmus, &Ungoverned { managers }, from, bytes, 0, memory)

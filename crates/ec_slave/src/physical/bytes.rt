@@ -3,10 +3,10 @@
 ghost use Rattle.std.specs.Prelude.{◌≡◌, ◌+◌, ◌-◌, ◌<◌, ◌≤◌, ◌^◌, ℕ, Bool, List, if◌then◌else◌, bit_or, length, slice_index, Some, None, IfSome};
 ghost use Rattle.std.specs.Bool.{OnTrue};
 ghost use Rattle.ec_bits.specs.Bits.{within};
-ghost use Rattle.ec_regs.specs.Memory.{fmmu_place, ram_start, ram_end};
+ghost use Rattle.ec_regs.specs.Memory.{fmmu_start, ram_start, ram_end};
 ghost use Rattle.ec_sync.specs.Governing.{governor as governor_of};
 ghost use Rattle.ec_sync.specs.SyncManager.{SyncManager};
-ghost use Rattle.ec_slave.specs.Physical.{byte_from, is_kept, may_read_byte, may_write_byte, memory_written, retold, some_byte_written};
+ghost use Rattle.ec_slave.specs.Physical.{byte_from, is_stored_at, may_read_byte, may_write_byte, memory_written, updated, some_byte_written};
 
 use crate::runs::{cut, end_of_alike};
 use ec_exchange::owner_of;
@@ -37,8 +37,8 @@ pub(crate) fn reads_byte(
     }
     match owner {
         None => true,
-        Some(place) => {
-            let manager = &managers[place];
+        Some(index) => {
+            let manager = &managers[index];
             manager.in_first_buffer(address) & (manager.is_covered(from, len) & manager.may_read())
         }
     }
@@ -100,48 +100,48 @@ pub(crate) fn write_physical(
 pub(crate) fn byte_for(from: usize, bytes: &[u8], address: usize) -> Option<u8>
     ensures { result ≡ byte_from (record { from = from; bytes = bytes.now }) address }
 {
-    let place = address.checked_sub(from)?;
-    bytes.get(place).copied()
+    let offset = address.checked_sub(from)?;
+    bytes.get(offset).copied()
 }
 
-/// A data byte after a read that shows `shown`: joined by OR, or replaced.
-pub(crate) fn read_over(joining: bool, byte: u8, shown: u8) -> u8
-    ensures { result ≡ (if joining then bit_or byte shown else shown) }
+/// A data byte after a read that shows `visible`: joined by OR, or replaced.
+pub(crate) fn read_over(joining: bool, byte: u8, visible: u8) -> u8
+    ensures { result ≡ (if joining then bit_or byte visible else visible) }
 {
-    if joining { byte | shown } else { shown }
+    if joining { byte | visible } else { visible }
 }
 
-/// Reads `shown` into as many data bytes: joined by OR, or replaced.
-pub(crate) fn read_slice(joining: bool, bytes: &mut [u8], shown: &[u8])
-    requires { length shown.now ≡ length bytes.old }
-    ensures { bytes.new ≡ retold bytes.old (λ k. Some (if joining
-        then bit_or (slice_index bytes.old k) (slice_index shown.now k) else slice_index shown.now k)) }
+/// Reads `visible` into as many data bytes: joined by OR, or replaced.
+pub(crate) fn read_slice(joining: bool, bytes: &mut [u8], visible: &[u8])
+    requires { length visible.now ≡ length bytes.old }
+    ensures { bytes.new ≡ updated bytes.old (λ k. Some (if joining
+        then bit_or (slice_index bytes.old k) (slice_index visible.now k) else slice_index visible.now k)) }
 {
     if joining {
-        join_slice(bytes, shown);
+        join_slice(bytes, visible);
     } else {
-        bytes.copy_from_slice(shown);
+        bytes.copy_from_slice(visible);
     }
 }
 
 /// Whether the memory itself keeps a byte: a register that it stores, or a byte of the RAM that no manager governs. `owner` is
 /// the byte's governor, if it lies in the RAM.
-#[tactic(auto, unfolding(crate::specs::Physical::is_kept))]
-fn is_kept(owner: Option<usize>, address: usize) -> bool
-    ensures value { (ms : List SyncManager) → (ram_start ≤ address → owner ≡ governor_of ms address) → result ≡ is_kept ms address }
+#[tactic(auto, unfolding(crate::specs::Physical::is_stored_at))]
+fn is_stored_at(owner: Option<usize>, address: usize) -> bool
+    ensures value { (ms : List SyncManager) → (ram_start ≤ address → owner ≡ governor_of ms address) → result ≡ is_stored_at ms address }
     ensures inside { OnTrue result (address < ram_end) }
 {
     if address < RAM_START {
-        return is_kept_register(address);
+        return is_stored_register(address);
     }
     address < RAM_END && owner.is_none()
 }
 
 /// Whether the memory itself keeps a register: a stored one that is no sync manager's.
-#[tactic(auto, unfolding(crate::specs::Physical::is_kept))]
-fn is_kept_register(address: usize) -> bool
+#[tactic(auto, unfolding(crate::specs::Physical::is_stored_at))]
+fn is_stored_register(address: usize) -> bool
     requires { address < ram_start }
-    ensures { (ms : List SyncManager) → result ≡ is_kept ms address }
+    ensures { (ms : List SyncManager) → result ≡ is_stored_at ms address }
 {
     is_stored(address) && !(SYNC_MANAGERS..SYNC_MANAGERS_END).contains(&address)
 }
@@ -169,8 +169,8 @@ fn writes_byte(
     }
     match owner {
         None => true,
-        Some(place) => {
-            let manager = &managers[place];
+        Some(index) => {
+            let manager = &managers[index];
             manager.in_first_buffer(address) & (manager.is_covered(from, len) & manager.may_write())
         }
     }
@@ -179,7 +179,7 @@ fn writes_byte(
 /// Stores bytes at the addresses that begin at `start`.
 fn store_slice(memory: &mut [u8], start: usize, bytes: &[u8])
     requires { start + length bytes.now ≤ length memory.old }
-    ensures { memory.new ≡ retold memory.old (λ a. if within start (length bytes.now) a
+    ensures { memory.new ≡ updated memory.old (λ a. if within start (length bytes.now) a
         then Some (slice_index bytes.now (a - start)) else None) }
 {
     memory[start..start + bytes.len()].copy_from_slice(bytes);
@@ -190,11 +190,11 @@ fn store_part(memory: &mut [u8], owner: Option<usize>, start: usize, bytes: &[u8
     requires room { length memory.old ≡ ram_end }
     requires aside { start < ram_end → start + length bytes.now ≤ ram_end }
     ensures { (ms : List SyncManager) → (ram_start ≤ start → owner ≡ governor_of ms start)
-        → ((a : ℕ) → start ≤ a → a < start + length bytes.now → is_kept ms a ≡ is_kept ms start)
-        → memory.new ≡ retold memory.old (λ a. if within start (length bytes.now) a
-        then (if is_kept ms a then Some (slice_index bytes.now (a - start)) else None) else None) }
+        → ((a : ℕ) → start ≤ a → a < start + length bytes.now → is_stored_at ms a ≡ is_stored_at ms start)
+        → memory.new ≡ updated memory.old (λ a. if within start (length bytes.now) a
+        then (if is_stored_at ms a then Some (slice_index bytes.now (a - start)) else None) else None) }
 {
-    if is_kept(owner, start) {
+    if is_stored_at(owner, start) {
         store_slice(memory, start, bytes);
     }
 }
@@ -207,7 +207,7 @@ fn end_of_written(managers: &[SyncManager], start: usize, end: usize) -> usize
     ensures aside { start < ram_end → result ≤ ram_end }
     ensures writes { (busy : Bool) (touched : ℕ → Bool) (a : ℕ) → start ≤ a → a < result
         → may_write_byte managers.now busy touched a ≡ may_write_byte managers.now busy touched start }
-    ensures kept { (a : ℕ) → start ≤ a → a < result → is_kept managers.now a ≡ is_kept managers.now start }
+    ensures alike { (a : ℕ) → start ≤ a → a < result → is_stored_at managers.now a ≡ is_stored_at managers.now start }
 {
     if start < RAM_START {
         return start + 1;
@@ -220,8 +220,8 @@ fn end_of_written(managers: &[SyncManager], start: usize, end: usize) -> usize
 /// memory itself keeps all of them.
 fn write_fmmus(memory: &mut [u8], from: usize, bytes: &[u8]) -> bool
     requires room { length memory.old ≡ ram_end }
-    requires low { fmmu_place 0 ≤ from }
-    requires high { from + length bytes.now ≤ fmmu_place 4 }
+    requires low { fmmu_start 0 ≤ from }
+    requires high { from + length bytes.now ≤ fmmu_start 4 }
     ensures memory { (ms : List SyncManager) → memory.new ≡ memory_written ms (record { from = from; bytes = bytes.now }) memory.old }
     ensures some { (ms : List SyncManager) (busy : Bool) → result ≡ some_byte_written ms busy (record { from = from; bytes = bytes.now }) }
 {
@@ -230,14 +230,14 @@ fn write_fmmus(memory: &mut [u8], from: usize, bytes: &[u8]) -> bool
 }
 
 /// Stores, byte by byte, what the memory itself keeps of a datagram that lies within the registers.
-fn keep_each(memory: &mut [u8], from: usize, bytes: &[u8])
+fn store_each(memory: &mut [u8], from: usize, bytes: &[u8])
     requires room { length memory.old ≡ ram_end }
     requires inside { from + length bytes.now ≤ ram_start }
     ensures { (ms : List SyncManager) → memory.new ≡ memory_written ms (record { from = from; bytes = bytes.now }) memory.old }
 {
     for (i, byte) in bytes.iter().enumerate() {
         let address = from + i;
-        if is_kept_register(address) {
+        if is_stored_register(address) {
             memory[address] = *byte;
         }
     }
@@ -245,13 +245,13 @@ fn keep_each(memory: &mut [u8], from: usize, bytes: &[u8])
 
 /// Stores what the memory itself keeps of a datagram that lies within the registers. It keeps no byte of the managers'
 /// registers.
-fn keep_registers(memory: &mut [u8], from: usize, bytes: &[u8])
+fn store_registers(memory: &mut [u8], from: usize, bytes: &[u8])
     requires room { length memory.old ≡ ram_end }
     requires inside { from + length bytes.now ≤ ram_start }
     ensures { (ms : List SyncManager) → memory.new ≡ memory_written ms (record { from = from; bytes = bytes.now }) memory.old }
 {
     if from < SYNC_MANAGERS || SYNC_MANAGERS_END < from + bytes.len() {
-        keep_each(memory, from, bytes);
+        store_each(memory, from, bytes);
     }
 }
 
@@ -279,16 +279,16 @@ fn write_registers(memory: &mut [u8], is_busy: bool, from: usize, bytes: &[u8]) 
     if FMMUS <= from && from + bytes.len() <= FMMUS_END {
         return write_fmmus(memory, from, bytes);
     }
-    keep_registers(memory, from, bytes);
+    store_registers(memory, from, bytes);
     takes_some(is_busy, from, bytes)
 }
 
 /// Joins bytes to data bytes by OR.
-fn join_slice(bytes: &mut [u8], shown: &[u8])
-    requires { length shown.now ≡ length bytes.old }
-    ensures { bytes.new ≡ retold bytes.old (λ k. Some (bit_or (slice_index bytes.old k) (slice_index shown.now k))) }
+fn join_slice(bytes: &mut [u8], visible: &[u8])
+    requires { length visible.now ≡ length bytes.old }
+    ensures { bytes.new ≡ updated bytes.old (λ k. Some (bit_or (slice_index bytes.old k) (slice_index visible.now k))) }
 {
     for (k, byte) in bytes.iter_mut().enumerate() {
-        *byte |= shown[k];
+        *byte |= visible[k];
     }
 }

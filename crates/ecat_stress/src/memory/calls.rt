@@ -18,7 +18,7 @@ use std::alloc::{AllocError, Global};
 /// The number of the refusal that says that memory ran out.
 pub const MEMORY: u8 = 1;
 
-/// What a function answers: a figure of what it made, or the number of its refusal.
+/// What a function returns: a figure of what it made, or the number of its refusal.
 pub type Answer = Result<usize, u8>;
 
 /// A function that takes memory.

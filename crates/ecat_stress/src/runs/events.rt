@@ -1,8 +1,8 @@
 //! Events at random.
 use crate::runs::model::Model;
 use ec_link::Plan;
-use ec_test_data::Random;
 use ec_world::{Event, World};
+use test_data::Random;
 
 /// What events a world gets.
 #[derive(Clone, Copy)]

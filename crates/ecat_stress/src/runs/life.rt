@@ -9,9 +9,9 @@ use ec_cycle::Report;
 use ec_device::Identity;
 use ec_link::Plan;
 use ec_table::Table;
-use ec_test_data::Random;
 use ec_world::{Event, World};
 use std::alloc::{AllocError, Global};
+use test_data::Random;
 
 /// So many events make a list.
 const LIST: u32 = 40;

@@ -12,7 +12,7 @@ const MANY_BYTES: usize = 4096;
 /// More frames than any start-up has.
 const MANY_FRAMES: usize = 20_000;
 
-/// Makes an event, as it may. What that does is told by no clause, so that what calls it is quickly checked.
+/// Makes an event, as it may. No clause says what that does, so that what calls it is quickly checked.
 fn make(world: &mut World<'_>, event: Event) -> bool {
     world.step(event)
 }

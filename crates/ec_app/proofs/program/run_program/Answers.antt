@@ -8,4 +8,4 @@ returns-in-Ok-collected-clause-ends g c =
 
 pub returns-in-Err-collected-clause-ends : goal.returns-in-Err-collected-clause-ends
 returns-in-Err-collected-clause-ends g c =
-    given_lost c.args.given c.in-Ok.given _ _ _ _ _ c.in-Ok.is (c.tell_and_end.ensures.status, c.tell_and_end.ensures.told)
+    given_lost c.args.given c.in-Ok.given _ _ _ _ _ c.in-Ok.is (c.eprint_refusal.ensures.status, c.eprint_refusal.ensures.eprinted)

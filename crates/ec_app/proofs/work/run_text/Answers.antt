@@ -25,5 +25,5 @@ returns-clause-runs g c = inl (
   c.in_ok-stated.stated.lines,
   stated_as c.source.result (source_of c.args.work) c.form.result (form_of c.args.work) c.args.text.now c.in_ok-stated.stated.machine c.in_ok-stated.stated.lines c.source.ensures c.form.ensures
       c.in_ok-stated.ensures.states,
-  captured_end _ c.run_on-ended.new.capture _ _ c.run_on-ended.result _ (c.run_on-ended.ensures.kept ∙ c.in_ok-capture.ensures.opened) c.close_capture.ensures c.run_on-ended.ensures.runs,
+  captured_end _ c.run_on-ended.new.capture _ _ c.run_on-ended.result _ (c.run_on-ended.ensures.still_open ∙ c.in_ok-capture.ensures.opened) c.close_capture.ensures c.run_on-ended.ensures.runs,
 )

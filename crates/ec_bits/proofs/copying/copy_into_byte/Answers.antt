@@ -3,7 +3,7 @@ use Rattle.std.specs.Int.{bit_at, from_bool}
 use Rattle.std.proofs.lemmas.Bool.{cases_lt}
 use Rattle.ec_bits.specs.Bits.{bit, within}
 use Rattle.ec_bits.proofs.AnyLaws.{if_true, if_false, within_true, within_below, within_above}
-use Rattle.ec_bits.specs.Bits.{run_told}
+use Rattle.ec_bits.specs.Bits.{run_updates}
 use Rattle.ec_bits.proofs.BitLaws.{bit_number}
 use Rattle.ec_bits.proofs.Overlays.{byte_is_overlay}
 use Rattle.ec_bits.proofs.copying.copy_into_byte.Goals as goal
@@ -17,7 +17,7 @@ returns c =
     let from = c.args.from in
     let k = to / 8 in
     let s = to % 8 in
-    let g = run_told to src from n in
+    let g = run_updates to src from n in
     byte_is_overlay dst g k (c.merge.result) (omega arith) (omega arith) (omega arith)
     (λ j l.
     let goes : bit_at (c.merge.result) j ≡ (if within s n j then bit_at (c.fetch-value.result) (j - s) else bit_at (get_or dst k 0) j) = c.merge.ensures j l in

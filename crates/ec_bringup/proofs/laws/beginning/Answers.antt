@@ -1,4 +1,4 @@
-use Rattle.ec_bringup.proofs.Beginnings.{beginning}
+use Rattle.ec_bringup.proofs.StartUp.BeginningLaw.{beginning}
 use Rattle.ec_bringup.proofs.laws.beginning.Goals as goal
 
 pub returns : goal.returns

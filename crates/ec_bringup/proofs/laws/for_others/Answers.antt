@@ -1,4 +1,4 @@
-use Rattle.ec_bringup.proofs.Keeping.{for-others}
+use Rattle.ec_bringup.proofs.OneSlave.SlaveLaw.{for-others}
 use Rattle.ec_bringup.proofs.laws.for_others.Goals as goal
 
 pub returns : goal.returns

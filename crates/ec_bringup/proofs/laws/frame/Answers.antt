@@ -1,4 +1,4 @@
-use Rattle.ec_bringup.proofs.PassLaws.{pass-law}
+use Rattle.ec_bringup.proofs.OneFrame.FrameLaw.{pass-law}
 use Rattle.ec_bringup.proofs.laws.frame.Goals as goal
 
 pub returns : goal.returns

@@ -1,4 +1,4 @@
-use Rattle.ec_bringup.proofs.Keeping.{gone-is-silent}
+use Rattle.ec_bringup.proofs.OneSlave.SlaveLaw.{gone-is-silent}
 use Rattle.ec_bringup.proofs.laws.gone.Goals as goal
 
 pub returns : goal.returns

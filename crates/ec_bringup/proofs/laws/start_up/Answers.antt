@@ -1,4 +1,4 @@
-use Rattle.ec_bringup.proofs.Theorem.{start-up}
+use Rattle.ec_bringup.proofs.StartUp.StartUpLaw.{start-up}
 use Rattle.ec_bringup.proofs.laws.start_up.Goals as goal
 
 pub returns : goal.returns

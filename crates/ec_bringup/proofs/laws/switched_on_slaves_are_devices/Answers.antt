@@ -1,5 +1,5 @@
-use Rattle.ec_bringup.proofs.Genuine.{switched_on}
-use Rattle.ec_bringup.proofs.OfTable.{of-types, slaves_of, with-types}
+use Rattle.ec_bringup.proofs.OneSlave.DevicesLaw.{switched_on}
+use Rattle.ec_bringup.proofs.OneSlave.SlavesOfLaw.{of-types, slaves_of, with-types}
 use Rattle.ec_bringup.proofs.laws.switched_on_slaves_are_devices.Goals as goal
 
 pub returns-clause-one : goal.returns-clause-one

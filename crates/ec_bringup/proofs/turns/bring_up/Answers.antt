@@ -1,5 +1,5 @@
 use Rattle.ec_bringup.specs.BringUp.{rising}
-use Rattle.ec_bringup.proofs.BringUp.{has-ended, keeps-plan, not-given-up, up}
+use Rattle.ec_bringup.proofs.StartUp.BringUp.{has-ended, keeps-plan, not-given-up, up}
 use Rattle.ec_bringup.proofs.turns.bring_up.Goals as goal
 
 pub returns-clause-plan : goal.returns-clause-plan

@@ -1,5 +1,5 @@
 use Rattle.ec_bringup.specs.BringUp.{rising}
-use Rattle.ec_bringup.proofs.BringUp.{AreTurns}
+use Rattle.ec_bringup.proofs.StartUp.BringUp.{AreTurns}
 use Rattle.ec_bringup.proofs.turns.make_turns.Given as goal
 
 abbrev pub invariant-loop : goal.invariant-loop

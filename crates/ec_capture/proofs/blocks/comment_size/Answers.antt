@@ -1,5 +1,5 @@
 use Rattle.std.proofs.Common.{sym, ◌∙◌}
-use Rattle.ec_capture.proofs.Spelled.{options-length}
+use Rattle.ec_capture.proofs.BlockBytes.{options-length}
 use Rattle.ec_capture.proofs.blocks.comment_size.Goals as goal
 
 pub returns-in-Some-clause-size : goal.returns-in-Some-clause-size

@@ -1,6 +1,6 @@
 use Rattle.std.proofs.Common.{refl, ap}
 use Rattle.ec_capture.specs.Blocks.{zeros}
-use Rattle.ec_capture.proofs.Growing.{refused_first, writes_same, writes_then}
+use Rattle.ec_capture.proofs.AppendedBytes.{refused_first, writes_same, writes_then}
 use Rattle.ec_capture.proofs.blocks.write_frame.Goals as goal
 
 pub returns-in_err-write_bytes : goal.returns-in_err-write_bytes

@@ -1,8 +1,8 @@
 use Rattle.std.proofs.Common.{◌+◌, ◌≡◌, refl, arith}
 use Rattle.ec_capture.specs.Blocks.{block_size}
 use Rattle.ec_capture.specs.Captures.{interface_block}
-use Rattle.ec_capture.proofs.Growing.{refused_first, writes_same, writes_then}
-use Rattle.ec_capture.proofs.Spelled.{interface-length, interface_spelled}
+use Rattle.ec_capture.proofs.AppendedBytes.{refused_first, writes_same, writes_then}
+use Rattle.ec_capture.proofs.BlockBytes.{interface-length, interface_spelled}
 use Rattle.ec_capture.proofs.blocks.write_interface.Goals as goal
 
 pub returns-in_err-write_numbers : goal.returns-in_err-write_numbers

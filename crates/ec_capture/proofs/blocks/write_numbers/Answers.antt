@@ -3,8 +3,8 @@ use Rattle.std.specs.List.{flat_map}
 use Rattle.std.specs.Io.KnownBytes.{Appends}
 use Rattle.ec_capture.specs.Blocks.{number}
 use Rattle.ec_capture.specs.Writing.{AppendsPart}
-use Rattle.ec_capture.proofs.Growing.{appends_more, part_first, part_then, refused}
-use Rattle.ec_capture.proofs.Spelled.{number_spelled, numbers_more, numbers_split}
+use Rattle.ec_capture.proofs.AppendedBytes.{appends_more, part_first, part_then, refused}
+use Rattle.ec_capture.proofs.BlockBytes.{number_spelled, numbers_more, numbers_split}
 use Rattle.ec_capture.proofs.blocks.write_numbers.Goals as goal
 
 pub returns-in_err-write_bytes : goal.returns-in_err-write_bytes

@@ -1,7 +1,7 @@
 use Rattle.std.proofs.Common.{◌∙◌, ap}
 use Rattle.ec_capture.specs.Blocks.{zeros}
-use Rattle.ec_capture.proofs.Growing.{refused_first, writes_then}
-use Rattle.ec_capture.proofs.Spelled.{code_spelled, half_spelled}
+use Rattle.ec_capture.proofs.AppendedBytes.{refused_first, writes_then}
+use Rattle.ec_capture.proofs.BlockBytes.{code_spelled, half_spelled}
 use Rattle.ec_capture.proofs.blocks.write_options.Goals as goal
 
 pub returns-in_err-write_bytes : goal.returns-in_err-write_bytes

@@ -1,6 +1,6 @@
 use Rattle.std.proofs.Common.{refl}
 use Rattle.ec_capture.specs.Blocks.{half, number}
-use Rattle.ec_capture.proofs.Growing.{writes_same}
+use Rattle.ec_capture.proofs.AppendedBytes.{writes_same}
 use Rattle.ec_capture.proofs.blocks.write_section.Goals as goal
 
 pub returns : goal.returns

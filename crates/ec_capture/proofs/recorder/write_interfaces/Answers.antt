@@ -3,7 +3,7 @@ use Rattle.std.specs.Io.KnownBytes.{Appends}
 use Rattle.ec_capture.specs.Blocks.{block_bytes}
 use Rattle.ec_capture.specs.Captures.{IsText, interface_block}
 use Rattle.ec_capture.specs.Writing.{AppendsPart}
-use Rattle.ec_capture.proofs.Growing.{appends_more, part_first, part_then, refused}
+use Rattle.ec_capture.proofs.AppendedBytes.{appends_more, part_first, part_then, refused}
 use Rattle.ec_capture.proofs.Named.{named, names_more, names_split, text_at}
 use Rattle.ec_capture.proofs.recorder.write_interfaces.Goals as goal
 

@@ -1,5 +1,5 @@
 use Rattle.std.proofs.Common.{refl}
-use Rattle.ec_capture.proofs.Growing.{kept_part}
+use Rattle.ec_capture.proofs.AppendedBytes.{kept_part}
 use Rattle.ec_capture.proofs.recorder.write_through.Goals as goal
 
 pub returns-then-write_fitting-clause-part : goal.returns-then-write_fitting-clause-part

@@ -1,4 +1,4 @@
-use Rattle.ec_capture.proofs.Growing.{appends_kept, part_after}
+use Rattle.ec_capture.proofs.AppendedBytes.{appends_kept, part_after}
 use Rattle.ec_capture.proofs.writing.write_bytes.Goals as goal
 use Rattle.ec_capture.proofs.writing.write_bytes.Goals.{in-Ok, in-Err}
 

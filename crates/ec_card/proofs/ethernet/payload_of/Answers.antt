@@ -1,6 +1,6 @@
 use Rattle.std.proofs.Common.{rules, arith}
 use Rattle.std.proofs.lemmas.Bool.{false≢true}
-use Rattle.ec_card.proofs.Through.{not_handed_on, handed_on}
+use Rattle.ec_card.proofs.PayloadsComeThrough.{not_handed_on, handed_on}
 use Rattle.ec_card.proofs.ethernet.payload_of.Goals as goal
 
 pub returns-else-is_handed_on-clause-none : goal.returns-else-is_handed_on-clause-none

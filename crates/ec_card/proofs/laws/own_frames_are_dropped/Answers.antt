@@ -1,4 +1,4 @@
-use Rattle.ec_card.proofs.Through.{own_dropped}
+use Rattle.ec_card.proofs.PayloadsComeThrough.{own_dropped}
 use Rattle.ec_card.proofs.laws.own_frames_are_dropped.Goals as goal
 
 pub returns : goal.returns

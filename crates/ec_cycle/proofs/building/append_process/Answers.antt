@@ -1,7 +1,7 @@
 use Rattle.std.proofs.Common.{◌≡◌, ◌∙◌, ap, take, length}
 use Rattle.std.proofs.lemmas.List.{length-replicate}
 use Rattle.ec_bits.specs.Bits.{zeros}
-use Rattle.ec_cycle.proofs.Makes.{split_room, split_small, split_appended}
+use Rattle.ec_cycle.proofs.SplitDatagrams.{split_room, split_small, split_appended}
 use Rattle.ec_cycle.proofs.Runs.{take_zeros}
 use Rattle.ec_cycle.proofs.building.append_process.Goals as goal
 

@@ -1,7 +1,7 @@
 use Rattle.std.proofs.Common.{◌<◌, ◌≤◌, ◌∙◌, Bool, false, true, List, ap, arith, get_or, length, sym}
 use Rattle.std.proofs.lemmas.List.{length-replicate}
 use Rattle.std.proofs.Math.ListN.{length-set}
-use Rattle.ec_cycle.proofs.Judging.{judged_more, judged_all}
+use Rattle.ec_cycle.proofs.UnitLoops.{judged_more, judged_all}
 use Rattle.ec_cycle.proofs.States.{all_on}
 use Rattle.ec_cycle.proofs.closing.judged.Goals as goal
 

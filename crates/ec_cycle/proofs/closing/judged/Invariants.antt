@@ -1,5 +1,5 @@
 use Rattle.std.proofs.Common.{ℕ, ◌<◌, ◌≡◌, false, get_or, length}
-use Rattle.ec_cycle.proofs.Judging.{judged_below}
+use Rattle.ec_cycle.proofs.UnitLoops.{judged_below}
 use Rattle.ec_cycle.proofs.closing.judged.Given as goal
 
 abbrev pub invariant-loop-k : goal.invariant-loop-k

@@ -1,4 +1,4 @@
-use Rattle.ec_cycle.proofs.Answering.{answers_by_sent, sent_by_answers}
+use Rattle.ec_cycle.proofs.AnswersFrame.{answers_by_sent, sent_by_answers}
 use Rattle.ec_cycle.proofs.laws.answers_by_sent.Goals as goal
 
 pub returns : goal.returns

@@ -1,4 +1,4 @@
-use Rattle.ec_cycle.proofs.Answering.{names_tell}
+use Rattle.ec_cycle.proofs.AnswersFrame.{names_tell}
 use Rattle.ec_cycle.proofs.OnTheirWay.{data_fill_their_part}
 use Rattle.ec_cycle.proofs.laws.frames_are_of_their_part.Goals as goal
 

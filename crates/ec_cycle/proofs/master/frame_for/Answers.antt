@@ -2,7 +2,7 @@ use Rattle.std.proofs.Common.{ℕ, ◌≡◌, ◌∙◌, ap, arith, get_or, leng
 use Rattle.std.proofs.lemmas.List.{length-replicate}
 use Rattle.ec_bits.specs.Bits.{zeros}
 use Rattle.ec_link.specs.Plan.{part_at, no_part}
-use Rattle.ec_cycle.proofs.Answering.{length-process_bytes}
+use Rattle.ec_cycle.proofs.AnswersFrame.{length-process_bytes}
 use Rattle.ec_cycle.proofs.Runs.{few_of, take_zeros}
 use Rattle.ec_cycle.proofs.master.frame_for.Goals as goal
 

@@ -1,5 +1,5 @@
 use Rattle.std.proofs.Common.{ℕ, ◌<◌, ◌≡◌, [], get_or, length}
-use Rattle.ec_cycle.specs.Kept.{IsMade}
+use Rattle.ec_cycle.specs.MasterFields.{IsMade}
 use Rattle.ec_cycle.proofs.master.frames_of.Given as goal
 
 abbrev pub invariant-loop-part : goal.invariant-loop-part

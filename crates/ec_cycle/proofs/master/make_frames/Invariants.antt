@@ -2,7 +2,7 @@ use Rattle.std.proofs.Common.{ℕ, ◌<◌, [], get_or}
 use Rattle.ec_frame.specs.Building.{bare_payload}
 use Rattle.ec_frame.specs.Frame.{IsFrame}
 use Rattle.ec_cycle.specs.Frames.{sent_datagrams}
-use Rattle.ec_cycle.specs.Kept.{IsMade}
+use Rattle.ec_cycle.specs.MasterFields.{IsMade}
 use Rattle.std.proofs.Common.{length}
 use Rattle.ec_cycle.proofs.master.make_frames.Given as goal
 

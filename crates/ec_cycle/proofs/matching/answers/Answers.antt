@@ -1,8 +1,8 @@
 use Rattle.std.proofs.Common.{◌<◌, Bool, arith, ap, drop, length, subst}
 use Rattle.ec_frame.specs.Frame.{Payload}
-use Rattle.ec_frame.proofs.Verdict.{one_payload}
+use Rattle.ec_frame.proofs.FrameOrFault.{one_payload}
 use Rattle.ec_cycle.specs.Matching.{NextAre}
-use Rattle.ec_cycle.proofs.Stepping.{comparing, compared, differs, all_compared}
+use Rattle.ec_cycle.proofs.CursorSteps.{comparing, compared, differs, all_compared}
 use Rattle.ec_cycle.proofs.matching.answers.Goals as goal
 
 pub loop-n-init : goal.loop-n-init

@@ -1,5 +1,5 @@
 use Rattle.ec_frame.specs.Frame.{Payload, IsFrame}
-use Rattle.ec_cycle.proofs.Stepping.{IsComparing}
+use Rattle.ec_cycle.proofs.CursorSteps.{IsComparing}
 use Rattle.ec_cycle.proofs.matching.answers.Given as goal
 
 abbrev pub invariant-loop-n : goal.invariant-loop-n

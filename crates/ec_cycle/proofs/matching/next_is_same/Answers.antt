@@ -1,5 +1,5 @@
 use Rattle.std.proofs.Common.{rules, ◌<◌, arith, inl, inr}
-use Rattle.ec_cycle.proofs.Stepping.{next_are, next_ends, spells}
+use Rattle.ec_cycle.proofs.CursorSteps.{next_are, next_ends, spells}
 use Rattle.ec_cycle.proofs.matching.next_is_same.Goals as goal
 
 pub returns-then-here-eq0 : goal.returns-then-here-eq0

@@ -1,4 +1,4 @@
-use Rattle.ec_cycle.proofs.Stepping.{stepped_on, stepped_off}
+use Rattle.ec_cycle.proofs.CursorSteps.{stepped_on, stepped_off}
 use Rattle.ec_cycle.proofs.matching.next_place.Goals as goal
 
 pub returns-in-Some : goal.returns-in-Some

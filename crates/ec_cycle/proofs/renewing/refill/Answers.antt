@@ -2,8 +2,8 @@ use Rattle.std.proofs.Common.{◌+◌, ◌-◌, ◌≤◌, ◌≡◌, ◌∙◌,
 use Rattle.ec_link.specs.Plan.{part_at, no_part}
 use Rattle.ec_cycle.specs.Frames.{process_bytes}
 use Rattle.ec_cycle.specs.Renewing.{process_spelled}
-use Rattle.ec_cycle.proofs.Answering.{length-process_bytes}
-use Rattle.ec_cycle.proofs.Renewed.{refilled, room_in, sent_in}
+use Rattle.ec_cycle.proofs.AnswersFrame.{length-process_bytes}
+use Rattle.ec_cycle.proofs.RenewedFrame.{refilled, room_in, sent_in}
 use Rattle.ec_cycle.proofs.renewing.refill.Goals as goal
 
 pub slice_bounds-sent-end : goal.slice_bounds-sent-end

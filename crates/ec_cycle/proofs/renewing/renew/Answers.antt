@@ -4,8 +4,8 @@ use Rattle.ec_link.specs.declared.plan.PartPlan.{PartPlan}
 use Rattle.ec_link.specs.Plan.{part_at, no_part}
 use Rattle.ec_cycle.specs.Frames.{process_bytes}
 use Rattle.ec_cycle.specs.Renewing.{process_spelled}
-use Rattle.ec_cycle.proofs.Answering.{length-process_bytes}
-use Rattle.ec_cycle.proofs.Renewed.{cut, rejoined}
+use Rattle.ec_cycle.proofs.AnswersFrame.{length-process_bytes}
+use Rattle.ec_cycle.proofs.RenewedFrame.{cut, rejoined}
 use Rattle.ec_cycle.proofs.renewing.renew.Goals as goal
 
 pub renumber_process-requires : goal.renumber_process-requires

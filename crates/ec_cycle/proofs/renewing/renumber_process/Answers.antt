@@ -1,4 +1,4 @@
-use Rattle.ec_cycle.proofs.Renewed.{split_renumbered}
+use Rattle.ec_cycle.proofs.RenewedFrame.{split_renumbered}
 use Rattle.ec_cycle.proofs.renewing.renumber_process.Goals as goal
 
 pub returns-then-part : goal.returns-then-part

@@ -1,7 +1,7 @@
 use Rattle.std.proofs.Common.{ℕ, List, ◌++◌, ap, ◌∙◌, arith}
 use Rattle.byteorder.specs.Endian.{little_bytes}
 use Rattle.ec_frame.proofs.Numbers.{all_append, all_bytes, word_bytes}
-use Rattle.ec_decode.proofs.Holdings.{four_parts}
+use Rattle.ec_decode.proofs.ReaderFields.{four_parts}
 use Rattle.ec_decode.proofs.begun.payload_of.Goals as goal
 
 pub returns-clause-parts : goal.returns-clause-parts

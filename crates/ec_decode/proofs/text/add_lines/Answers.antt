@@ -1,6 +1,6 @@
 use Rattle.std.proofs.Common.{string_bytes, subst}
 use Rattle.ec_decode.specs.Steps.{AddsLine}
-use Rattle.ec_decode.proofs.Adding.{all_added, no_more}
+use Rattle.ec_decode.proofs.LinesAdded.{all_added, no_more}
 use Rattle.ec_decode.proofs.text.add_lines.Goals as goal
 
 pub returns-then-not-branch : goal.returns-then-not-branch

@@ -1,5 +1,5 @@
 use Rattle.std.proofs.Common.{string_bytes}
-use Rattle.ec_decode.proofs.Adding.{AreAdded}
+use Rattle.ec_decode.proofs.LinesAdded.{AreAdded}
 use Rattle.ec_decode.proofs.text.add_lines.Given as goal
 
 abbrev pub invariant-loop-line : goal.invariant-loop-line

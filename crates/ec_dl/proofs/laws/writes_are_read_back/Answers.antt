@@ -1,4 +1,4 @@
-use Rattle.ec_dl.proofs.Kept.{read_back}
+use Rattle.ec_dl.proofs.StoredRegisters.{read_back}
 use Rattle.ec_dl.proofs.laws.writes_are_read_back.Goals as goal
 
 pub returns : goal.returns

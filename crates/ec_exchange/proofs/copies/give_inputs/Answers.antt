@@ -2,7 +2,7 @@ use Rattle.std.proofs.Common.{ℕ, ◌≡◌, ◌-◌, ◌*◌, ◌<◌, ◌∙�
 use Rattle.std.proofs.lemmas.Bool.{and_from, lt-ltb}
 use Rattle.ec_bits.proofs.AnyLaws.{if_true}
 use Rattle.ec_bits.specs.Bits.{copied}
-use Rattle.ec_fmmu.specs.Applied.{Place}
+use Rattle.ec_fmmu.specs.Applied.{LogicalSpan}
 use Rattle.ec_fmmu.specs.Areas.{area}
 use Rattle.ec_sync.specs.SyncManager.{may_read}
 use Rattle.ec_sync.proofs.Lengths.{buffer_length_set}
@@ -23,7 +23,7 @@ copy_by_words-requires-clause-there c =
 pub returns : goal.returns
 returns c =
     let m = c.args.manager.now in
-    let place : Place = record { from = c.args.from; bits = 8 * length c.args.bytes.now } in
+    let place : LogicalSpan = record { from = c.args.from; bits = 8 * length c.args.bytes.now } in
     let some : 0 < c.args.mapped.now.ins = let z = c.if-mapped-eq0.false in omega arith in
     let given : (nat_lt 0 c.args.mapped.now.ins && may_read m) ≡ true
     = and_from (nat_lt 0 c.args.mapped.now.ins) (may_read m) (lt-ltb 0 c.args.mapped.now.ins some) (sym c.if-not-may_read.ensures.value) in

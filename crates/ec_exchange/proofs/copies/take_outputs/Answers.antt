@@ -1,7 +1,7 @@
 use Rattle.std.proofs.Common.{ℕ, ◌≡◌, ◌*◌, ◌<◌, ◌∙◌, ◌&&◌, List, length, nat_lt, true, ap, sym, arith}
 use Rattle.std.proofs.lemmas.Bool.{and_from, lt-ltb}
 use Rattle.ec_bits.proofs.AnyLaws.{if_true, if_false}
-use Rattle.ec_fmmu.specs.Applied.{Place}
+use Rattle.ec_fmmu.specs.Applied.{LogicalSpan}
 use Rattle.ec_fmmu.specs.Areas.{area}
 use Rattle.ec_sync.specs.SyncManager.{may_write}
 use Rattle.ec_exchange.specs.Values.{with_published}
@@ -14,7 +14,7 @@ returns c =
     let bytes : List ℕ = c.args.bytes.now in
     let outs : ℕ = c.args.mapped.now.outs in
     let start : ℕ = c.args.mapped.now.out_start in
-    let place : Place = record { from = c.args.from; bits = 8 * length bytes } in
+    let place : LogicalSpan = record { from = c.args.from; bits = 8 * length bytes } in
     let some : 0 < outs = let z = c.if-mapped-eq0.false in omega arith in
     let buffer = c.requires.buffer some in
     let taken : (nat_lt 0 outs && may_write m) ≡ true

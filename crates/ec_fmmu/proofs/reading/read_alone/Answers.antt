@@ -3,13 +3,13 @@ use Rattle.ec_bits.specs.Bits.{bit}
 use Rattle.ec_bits.proofs.BitLaws.{overlay_own, overlay_alike}
 use Rattle.ec_bits.proofs.AnyLaws.{any_below_none, any_below-alike}
 use Rattle.ec_fmmu.specs.Alone.{run_mapped}
-use Rattle.ec_fmmu.specs.Apart.{run_shown}
+use Rattle.ec_fmmu.specs.Apart.{run_visible}
 use Rattle.ec_fmmu.proofs.AloneLaws.{run_tells, run_empty}
 use Rattle.ec_fmmu.proofs.reading.read_alone.Goals as goal
 
 pub returns-then-end-first-clause-any : goal.returns-then-end-first-clause-any
 returns-then-end-first-clause-any g c =
-    let shown = g.M.ReadableBits.shown c.args.memory.now in
+    let visible = g.M.ReadableBits.visible c.args.memory.now in
     let from = c.args.from in
     let xs = c.args.bytes.now in
     let bits = 8 * length xs in
@@ -20,16 +20,16 @@ returns-then-end-first-clause-any g c =
     let end = c.min-end.result in
     let a : first ≡ max logical from - from = ap (λ (m : ℕ). m - from) c.max.ensures in
     let b : end ≡ min (max (logical + n) from - from) bits = c.min-end.ensures ∙ ap (λ (m : ℕ). min (m - from) bits) c.max-2.ensures in
-    let told = λ (i : ℕ). option_and_then shown (run_mapped logical physical n (from + i)) in
-    let same : (i : ℕ) → i < bits → told i ≡ run_shown shown (physical + (from + first - logical)) first (end - first) i
-    = λ i l. run_tells shown from i logical physical n bits first end a b l in
-    let none : (i : ℕ) → i < bits → told i ≡ None
-    = λ i l. same i l ∙ run_empty shown (physical + (from + first - logical)) first end i c.if-end-first.true in
-    sym (any_below_none bits (λ i. is_some (told i)) (λ i l. ap is_some (none i l)))
+    let update = λ (i : ℕ). option_and_then visible (run_mapped logical physical n (from + i)) in
+    let same : (i : ℕ) → i < bits → update i ≡ run_visible visible (physical + (from + first - logical)) first (end - first) i
+    = λ i l. run_tells visible from i logical physical n bits first end a b l in
+    let none : (i : ℕ) → i < bits → update i ≡ None
+    = λ i l. same i l ∙ run_empty visible (physical + (from + first - logical)) first end i c.if-end-first.true in
+    sym (any_below_none bits (λ i. is_some (update i)) (λ i l. ap is_some (none i l)))
 
 pub returns-then-end-first-clause-bits : goal.returns-then-end-first-clause-bits
 returns-then-end-first-clause-bits g c =
-    let shown = g.M.ReadableBits.shown c.args.memory.now in
+    let visible = g.M.ReadableBits.visible c.args.memory.now in
     let from = c.args.from in
     let xs = c.args.bytes.now in
     let bits = 8 * length xs in
@@ -40,16 +40,16 @@ returns-then-end-first-clause-bits g c =
     let end = c.min-end.result in
     let a : first ≡ max logical from - from = ap (λ (m : ℕ). m - from) c.max.ensures in
     let b : end ≡ min (max (logical + n) from - from) bits = c.min-end.ensures ∙ ap (λ (m : ℕ). min (m - from) bits) c.max-2.ensures in
-    let told = λ (i : ℕ). option_and_then shown (run_mapped logical physical n (from + i)) in
-    let same : (i : ℕ) → i < bits → told i ≡ run_shown shown (physical + (from + first - logical)) first (end - first) i
-    = λ i l. run_tells shown from i logical physical n bits first end a b l in
-    let none : (i : ℕ) → i < bits → told i ≡ None
-    = λ i l. same i l ∙ run_empty shown (physical + (from + first - logical)) first end i c.if-end-first.true in
-    sym (overlay_own xs told (λ i l. ap (λ (o : Option Bool). unwrap_or o (bit xs i)) (none i l)))
+    let update = λ (i : ℕ). option_and_then visible (run_mapped logical physical n (from + i)) in
+    let same : (i : ℕ) → i < bits → update i ≡ run_visible visible (physical + (from + first - logical)) first (end - first) i
+    = λ i l. run_tells visible from i logical physical n bits first end a b l in
+    let none : (i : ℕ) → i < bits → update i ≡ None
+    = λ i l. same i l ∙ run_empty visible (physical + (from + first - logical)) first end i c.if-end-first.true in
+    sym (overlay_own xs update (λ i l. ap (λ (o : Option Bool). unwrap_or o (bit xs i)) (none i l)))
 
 pub returns-clause-any : goal.returns-clause-any
 returns-clause-any g c =
-    let shown = g.M.ReadableBits.shown c.args.memory.now in
+    let visible = g.M.ReadableBits.visible c.args.memory.now in
     let from = c.args.from in
     let xs = c.args.bytes.now in
     let bits = 8 * length xs in
@@ -60,16 +60,16 @@ returns-clause-any g c =
     let end = c.min-end.result in
     let a : first ≡ max logical from - from = ap (λ (m : ℕ). m - from) c.max.ensures in
     let b : end ≡ min (max (logical + n) from - from) bits = c.min-end.ensures ∙ ap (λ (m : ℕ). min (m - from) bits) c.max-2.ensures in
-    let told = λ (i : ℕ). option_and_then shown (run_mapped logical physical n (from + i)) in
-    let same : (i : ℕ) → i < bits → told i ≡ run_shown shown (physical + (from + first - logical)) first (end - first) i
-    = λ i l. run_tells shown from i logical physical n bits first end a b l in
-    c.show_run.ensures.any
-    ∙ any_below-alike bits (λ i. is_some (run_shown shown (physical + (from + first - logical)) first (end - first) i)) (λ i. is_some (told i))
+    let update = λ (i : ℕ). option_and_then visible (run_mapped logical physical n (from + i)) in
+    let same : (i : ℕ) → i < bits → update i ≡ run_visible visible (physical + (from + first - logical)) first (end - first) i
+    = λ i l. run_tells visible from i logical physical n bits first end a b l in
+    c.read_run.ensures.any
+    ∙ any_below-alike bits (λ i. is_some (run_visible visible (physical + (from + first - logical)) first (end - first) i)) (λ i. is_some (update i))
     (λ i l. ap is_some (sym (same i l)))
 
 pub returns-clause-bits : goal.returns-clause-bits
 returns-clause-bits g c =
-    let shown = g.M.ReadableBits.shown c.args.memory.now in
+    let visible = g.M.ReadableBits.visible c.args.memory.now in
     let from = c.args.from in
     let xs = c.args.bytes.now in
     let bits = 8 * length xs in
@@ -80,9 +80,9 @@ returns-clause-bits g c =
     let end = c.min-end.result in
     let a : first ≡ max logical from - from = ap (λ (m : ℕ). m - from) c.max.ensures in
     let b : end ≡ min (max (logical + n) from - from) bits = c.min-end.ensures ∙ ap (λ (m : ℕ). min (m - from) bits) c.max-2.ensures in
-    let told = λ (i : ℕ). option_and_then shown (run_mapped logical physical n (from + i)) in
-    let same : (i : ℕ) → i < bits → told i ≡ run_shown shown (physical + (from + first - logical)) first (end - first) i
-    = λ i l. run_tells shown from i logical physical n bits first end a b l in
-    c.show_run.ensures.bits
-    ∙ overlay_alike xs (run_shown shown (physical + (from + first - logical)) first (end - first)) told
+    let update = λ (i : ℕ). option_and_then visible (run_mapped logical physical n (from + i)) in
+    let same : (i : ℕ) → i < bits → update i ≡ run_visible visible (physical + (from + first - logical)) first (end - first) i
+    = λ i l. run_tells visible from i logical physical n bits first end a b l in
+    c.read_run.ensures.bits
+    ∙ overlay_alike xs (run_visible visible (physical + (from + first - logical)) first (end - first)) update
     (λ i l. ap (λ (o : Option Bool). unwrap_or o (bit xs i)) (sym (same i l)))

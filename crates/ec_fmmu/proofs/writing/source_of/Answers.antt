@@ -7,10 +7,10 @@ use Rattle.ec_fmmu.proofs.writing.source_of.Goals as goal
 pub returns-in-Alone-clause-pairs : goal.returns-in-Alone-clause-pairs
 returns-in-Alone-clause-pairs c =
     let fs = c.args.fmmus.now in
-    let place = c.args.place in
+    let place = c.args.index in
     let from = c.args.from in
     let bits = c.args.bits in
-    let w = c.in-Alone.ensures.way in
+    let w = c.in-Alone.ensures.mode in
     let logical = c.in-Alone.run'.logical in
     let physical = c.in-Alone.run'.physical in
     let n = c.in-Alone.run'.count in

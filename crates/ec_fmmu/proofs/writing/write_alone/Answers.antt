@@ -23,12 +23,12 @@ returns-then-end-first-clause-any g c =
     let b : end ≡ min (min (from + 8 * length bytes - logical) (origin + bits - physical)) n = omega arith in
     let to = physical + first - origin in
     let at = logical + first - from in
-    let told = λ (k : ℕ). brought_by allowed from bytes (origin + k) (run_unmapped logical physical n (origin + k)) in
-    let same : (k : ℕ) → k < bits → told k ≡ run_written allowed (physical + first) bytes at to (end - first) k
+    let update = λ (k : ℕ). brought_by allowed from bytes (origin + k) (run_unmapped logical physical n (origin + k)) in
+    let same : (k : ℕ) → k < bits → update k ≡ run_written allowed (physical + first) bytes at to (end - first) k
     = λ k l. run_brings allowed from bytes origin bits k logical physical n first end l a b in
-    let none : (k : ℕ) → k < bits → told k ≡ None
+    let none : (k : ℕ) → k < bits → update k ≡ None
     = λ k l. same k l ∙ nothing_brought allowed (physical + first) bytes at to first end k c.if-end-first.true in
-    sym (any_below_none bits (λ k. is_some (told k)) (λ k l. ap is_some (none k l)))
+    sym (any_below_none bits (λ k. is_some (update k)) (λ k l. ap is_some (none k l)))
 
 pub returns-then-end-first-clause-bits : goal.returns-then-end-first-clause-bits
 returns-then-end-first-clause-bits g c =
@@ -47,12 +47,12 @@ returns-then-end-first-clause-bits g c =
     let b : end ≡ min (min (from + 8 * length bytes - logical) (origin + bits - physical)) n = omega arith in
     let to = physical + first - origin in
     let at = logical + first - from in
-    let told = λ (k : ℕ). brought_by allowed from bytes (origin + k) (run_unmapped logical physical n (origin + k)) in
-    let same : (k : ℕ) → k < bits → told k ≡ run_written allowed (physical + first) bytes at to (end - first) k
+    let update = λ (k : ℕ). brought_by allowed from bytes (origin + k) (run_unmapped logical physical n (origin + k)) in
+    let same : (k : ℕ) → k < bits → update k ≡ run_written allowed (physical + first) bytes at to (end - first) k
     = λ k l. run_brings allowed from bytes origin bits k logical physical n first end l a b in
-    let none : (k : ℕ) → k < bits → told k ≡ None
+    let none : (k : ℕ) → k < bits → update k ≡ None
     = λ k l. same k l ∙ nothing_brought allowed (physical + first) bytes at to first end k c.if-end-first.true in
-    sym (overlay_own xs told (λ k l. ap (λ (o : Option Bool). unwrap_or o (bit xs k)) (none k l)))
+    sym (overlay_own xs update (λ k l. ap (λ (o : Option Bool). unwrap_or o (bit xs k)) (none k l)))
 
 pub returns-clause-any : goal.returns-clause-any
 returns-clause-any g c =
@@ -71,13 +71,13 @@ returns-clause-any g c =
     let b : end ≡ min (min (from + 8 * length bytes - logical) (origin + bits - physical)) n = omega arith in
     let to = physical + first - origin in
     let at = logical + first - from in
-    let told = λ (k : ℕ). brought_by allowed from bytes (origin + k) (run_unmapped logical physical n (origin + k)) in
-    let same : (k : ℕ) → k < bits → told k ≡ run_written allowed (physical + first) bytes at to (end - first) k
+    let update = λ (k : ℕ). brought_by allowed from bytes (origin + k) (run_unmapped logical physical n (origin + k)) in
+    let same : (k : ℕ) → k < bits → update k ≡ run_written allowed (physical + first) bytes at to (end - first) k
     = λ k l. run_brings allowed from bytes origin bits k logical physical n first end l a b in
     let here : c.from-3.result ≡ origin = c.from-3.ensures in
     c.write_run.ensures.any
     ∙ (ap (λ (m : ℕ). any_below bits (λ k. is_some (run_written allowed (physical + first) bytes at (physical + first - m) (end - first) k))) here
-    ∙ any_below-alike bits (λ k. is_some (run_written allowed (physical + first) bytes at to (end - first) k)) (λ k. is_some (told k))
+    ∙ any_below-alike bits (λ k. is_some (run_written allowed (physical + first) bytes at to (end - first) k)) (λ k. is_some (update k))
     (λ k l. ap is_some (sym (same k l))))
 
 pub returns-clause-bits : goal.returns-clause-bits
@@ -97,11 +97,11 @@ returns-clause-bits g c =
     let b : end ≡ min (min (from + 8 * length bytes - logical) (origin + bits - physical)) n = omega arith in
     let to = physical + first - origin in
     let at = logical + first - from in
-    let told = λ (k : ℕ). brought_by allowed from bytes (origin + k) (run_unmapped logical physical n (origin + k)) in
-    let same : (k : ℕ) → k < bits → told k ≡ run_written allowed (physical + first) bytes at to (end - first) k
+    let update = λ (k : ℕ). brought_by allowed from bytes (origin + k) (run_unmapped logical physical n (origin + k)) in
+    let same : (k : ℕ) → k < bits → update k ≡ run_written allowed (physical + first) bytes at to (end - first) k
     = λ k l. run_brings allowed from bytes origin bits k logical physical n first end l a b in
     let here : c.from-3.result ≡ origin = c.from-3.ensures in
     c.write_run.ensures.bits
     ∙ (ap (λ (m : ℕ). overlay xs (run_written allowed (physical + first) bytes at (physical + first - m) (end - first))) here
-    ∙ overlay_alike xs (run_written allowed (physical + first) bytes at to (end - first)) told
+    ∙ overlay_alike xs (run_written allowed (physical + first) bytes at to (end - first)) update
     (λ k l. ap (λ (o : Option Bool). unwrap_or o (bit xs k)) (sym (same k l))))

@@ -3,7 +3,7 @@ use Rattle.std.proofs.lemmas.Bool.{cases_lt}
 use Rattle.ec_bits.specs.Bits.{bit, within, overlay, any_below}
 use Rattle.ec_bits.proofs.AnyLaws.{if_false, within_true, within_below, within_above, any_below-alike}
 use Rattle.ec_bits.proofs.BitLaws.{overlay_alike}
-use Rattle.ec_bits.proofs.Overlays.{Telling, telling_none, telling_overlay, telling_fewer, telling_end, counted_none, counted_part, counted_fewer, counted_end}
+use Rattle.ec_bits.proofs.Overlays.{Overlaying, overlaying_none, overlaying_overlay, overlaying_fewer, overlaying_end, counted_none, counted_part, counted_fewer, counted_end}
 use Rattle.ec_fmmu.specs.Alone.{run_written}
 use Rattle.ec_fmmu.proofs.AloneWriting.{written_part}
 use Rattle.ec_fmmu.proofs.writing.write_run.Goals as goal
@@ -15,7 +15,7 @@ loop-done-init g c =
     let nothing : (i : ℕ) → i < to + 0 → f i ≡ None = λ i d. if_false _ _ _ (within_below to c.args.count i (omega arith)) in
     record {
       inside = omega arith;
-      bits = telling_none c.args.window.now f _ nothing;
+      bits = overlaying_none c.args.window.now f _ nothing;
       any = counted_none f _ _ nothing;
     }
 
@@ -50,9 +50,9 @@ loop-done-preserved g c =
     ∙ any_below-alike (8 * length c.args.window.now) (λ i. is_some (run_written allowed (q + done) bytes (at + done) (to + done) m i)) (λ i. is_some (if p i then f i else None)) (λ i l. ap is_some (part i))) in
     record {
       inside = fits;
-      bits = subst (λ (xs : List ℕ). Telling c.args.window.now f after xs) (sym bits)
-          (telling_fewer c.args.window.now f (λ i. (p i ≡ true) ⊎ before i) after _
-          (telling_overlay c.args.window.now f before c.loop-done.window p c.loop-done.invariant.bits)
+      bits = subst (λ (xs : List ℕ). Overlaying c.args.window.now f after xs) (sym bits)
+          (overlaying_fewer c.args.window.now f (λ i. (p i ≡ true) ⊎ before i) after _
+          (overlaying_overlay c.args.window.now f before c.loop-done.window p c.loop-done.invariant.bits)
           (λ i l d. more i d));
       any = counted_fewer f (8 * length c.args.window.now) (λ i. (p i ≡ true) ⊎ before i) after (c.loop-done.any || c.write_alike-any.result)
           (counted_part f (8 * length c.args.window.now) before p c.loop-done.any c.write_alike-any.result c.loop-done.invariant.any any) more;
@@ -63,7 +63,7 @@ returns-clause-bits g c =
     let to = c.args.to in
     let f = run_written (g.A.WritableBytes.allowed c.args.rights.now) c.args.physical c.args.bytes.now c.args.at to c.args.count in
     let test = c.loop-done-test.false in
-    telling_end c.args.window.now f (λ i. i < to + c.loop-done.done) c.loop-done.window c.loop-done.invariant.bits
+    overlaying_end c.args.window.now f (λ i. i < to + c.loop-done.done) c.loop-done.window c.loop-done.invariant.bits
     (λ i l. elim (cases_lt i (to + c.loop-done.done)) [
       | inl h ↦ inr h
       | inr h ↦ inl (if_false _ _ _ (within_above to c.args.count i (omega (arith, test))))

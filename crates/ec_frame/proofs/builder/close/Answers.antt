@@ -1,6 +1,6 @@
 use Rattle.std.proofs.Common.{arith}
 use Rattle.ec_frame.specs.Built.{built_datagrams}
-use Rattle.ec_frame.proofs.Builds.{last_byte, in_bounds, high_read, closed}
+use Rattle.ec_frame.proofs.BuilderCalls.{last_byte, in_bounds, high_read, closed}
 use Rattle.ec_frame.proofs.builder.close.Goals as goal
 
 pub overflow_add-bytes : goal.overflow_add-bytes

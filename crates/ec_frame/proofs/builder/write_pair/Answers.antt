@@ -2,7 +2,7 @@ use Rattle.std.proofs.Common.{arith, length, List, ap, subst}
 use Rattle.ec_frame.specs.Building.{bare_payload}
 use Rattle.ec_frame.specs.Datagram.{Datagram}
 use Rattle.ec_frame.specs.Frame.{IsFrame}
-use Rattle.ec_frame.proofs.Builds.{added_built, added_view, pair_built}
+use Rattle.ec_frame.proofs.BuilderCalls.{added_built, added_view, pair_built}
 use Rattle.ec_frame.proofs.builder.write_pair.Goals as goal
 
 pub close-requires : goal.close-requires

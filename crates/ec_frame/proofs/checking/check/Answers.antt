@@ -1,4 +1,4 @@
-use Rattle.ec_frame.proofs.Verdict.{verdict_accepts, verdict_refuses}
+use Rattle.ec_frame.proofs.FrameOrFault.{verdict_accepts, verdict_refuses}
 use Rattle.ec_frame.proofs.checking.check.Goals as goal
 
 pub returns-clause-accepts : goal.returns-clause-accepts

@@ -1,5 +1,5 @@
 use Rattle.std.proofs.Common.{arith}
-use Rattle.ec_frame.proofs.Walked.{walk_ends, walk_more, shape_len}
+use Rattle.ec_frame.proofs.WalkSteps.{walk_ends, walk_more, shape_len}
 use Rattle.ec_frame.proofs.checking.count_datagrams.Goals as goal
 
 pub returns-then-shape : goal.returns-then-shape

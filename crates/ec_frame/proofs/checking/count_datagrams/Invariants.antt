@@ -1,5 +1,5 @@
 use Rattle.std.proofs.Common.{◌<◌, ◌≤◌, ◌+◌, length}
-use Rattle.ec_frame.proofs.Walked.{Walked}
+use Rattle.ec_frame.proofs.WalkSteps.{Walked}
 use Rattle.ec_frame.proofs.checking.count_datagrams.Given as goal
 
 abbrev pub invariant-loop-shape : goal.invariant-loop-shape

@@ -1,7 +1,7 @@
 use Rattle.std.proofs.Common.{◌≡◌, ℕ, ◌+◌, ◌-◌, ◌/◌, take, drop, sym, ap, subst, ◌∙◌, arith, rules}
 use Rattle.ec_frame.specs.Reading.{GivesCount}
 use Rattle.ec_frame.specs.Frame.{length_field}
-use Rattle.ec_frame.proofs.Verdict.{verdict_of}
+use Rattle.ec_frame.proofs.FrameOrFault.{verdict_of}
 use Rattle.ec_frame.proofs.checking.read_frame.Goals as goal
 
 pub returns : goal.returns

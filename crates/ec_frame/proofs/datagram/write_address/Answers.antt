@@ -1,5 +1,5 @@
 use Rattle.ec_frame.specs.Fields.{with_address}
-use Rattle.ec_frame.specs.Kept.{IsDatagram-with_address}
+use Rattle.ec_frame.specs.FieldChanges.{IsDatagram-with_address}
 use Rattle.ec_frame.proofs.Writes.{address_written}
 use Rattle.ec_frame.proofs.datagram.write_address.Goals as goal
 

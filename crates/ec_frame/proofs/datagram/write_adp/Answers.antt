@@ -1,5 +1,5 @@
 use Rattle.ec_frame.specs.Fields.{with_adp}
-use Rattle.ec_frame.specs.Kept.{IsDatagram-with_adp}
+use Rattle.ec_frame.specs.FieldChanges.{IsDatagram-with_adp}
 use Rattle.ec_frame.proofs.Writes.{adp_written}
 use Rattle.ec_frame.proofs.datagram.write_adp.Goals as goal
 

@@ -1,6 +1,6 @@
 use Rattle.std.proofs.Common.{refl}
 use Rattle.ec_frame.specs.Fields.{with_counter}
-use Rattle.ec_frame.specs.Kept.{IsDatagram-with_counter}
+use Rattle.ec_frame.specs.FieldChanges.{IsDatagram-with_counter}
 use Rattle.ec_frame.proofs.Writes.{counter_written}
 use Rattle.ec_frame.proofs.datagram.write_counter.Goals as goal
 

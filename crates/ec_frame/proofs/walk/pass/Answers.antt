@@ -1,7 +1,7 @@
 use Rattle.std.proofs.Common.{ℕ, ◌+◌, ap, ◌∙◌, arith}
 use Rattle.ec_frame.specs.Datagram.{is_followed}
 use Rattle.ec_frame.proofs.Numbers.{all_bytes, bytes_of_all}
-use Rattle.ec_frame.proofs.Verdict.{area_is}
+use Rattle.ec_frame.proofs.FrameOrFault.{area_is}
 use Rattle.ec_frame.proofs.Steps.{starts, ahead, turn, part_spells, turn_on, turn_smaller, all_done}
 use Rattle.ec_frame.proofs.walk.pass.Goals as goal
 

@@ -26,7 +26,7 @@ loop-text-preserved g c = record {
   lines = lines_more (bytes_left g.R.Read.remaining c.args.input.now) (bytes_left g.R.Read.remaining c.loop-text.input) (bytes_left g.R.Read.remaining c.take_bytes.new.input) c.loop-text.text.items c.in_ok-line.line.items c.add_line.new.text.items c.is_last.result c.loop-text.invariant.lines c.in_ok-line.ensures.taken
       (subst (λ (l : List ℕ). c.is_last.result ≡ is_last l) c.deref.ensures.value c.is_last.ensures) c.if-is_last.false
       (subst (λ (l : List ℕ). c.add_line.new.text.items ≡ c.loop-text.text.items ++ l) c.deref-in-loop-text.ensures.value c.in_ok-add_line.ensures.added) c.in_ok-add_line.ensures.short;
-  kept = c.in_ok-line.ensures.kept ∙ c.loop-text.invariant.kept;
+  kept = c.in_ok-line.ensures.unchanged ∙ c.loop-text.invariant.kept;
   short = c.in_ok-add_line.ensures.short;
 }
 

@@ -3,8 +3,8 @@ use Rattle.ec_link.specs.Plan.{PlanState}
 use Rattle.ec_link.specs.Sound.{IsSound, IsLaidOut}
 use Rattle.ec_link.specs.Usable.{IsUsable}
 use Rattle.ec_link.specs.Variables.{AreApart}
-use Rattle.ec_link.proofs.Compiles.{of_the_plan}
-use Rattle.ec_link.proofs.InputsBack.{links_are_the_tables}
+use Rattle.ec_link.proofs.CompileParts.{of_the_plan}
+use Rattle.ec_link.proofs.PlansHaveTheLinks.{links_are_the_tables}
 use Rattle.ec_link.proofs.Soundness.{plan_sound, plan_laid_out}
 use Rattle.ec_link.proofs.UsableLaws.{plan_usable}
 use Rattle.ec_link.proofs.VariablesApart.{bits_are_apart}

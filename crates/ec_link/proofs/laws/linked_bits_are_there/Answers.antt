@@ -1,5 +1,5 @@
 use Rattle.ec_link.proofs.laws.linked_bits_are_there.Goals as goal
-use Rattle.ec_link.proofs.Placed.{linked_bits_are_there}
+use Rattle.ec_link.proofs.VariablesArePlaced.{linked_bits_are_there}
 
 pub returns : goal.returns
 returns c = linked_bits_are_there

@@ -1,8 +1,8 @@
 use Rattle.std.proofs.Common.{◌∙◌, ap}
 use Rattle.ec_link.specs.Layout.{LayoutState, some_part, units_seated, layout}
-use Rattle.ec_link.proofs.Seating.{units_none, units_all}
+use Rattle.ec_link.proofs.Seats.{units_none, units_all}
 use Rattle.std.proofs.Common.{refl}
-use Rattle.ec_link.proofs.Seating.{units_more}
+use Rattle.ec_link.proofs.Seats.{units_more}
 use Rattle.ec_link.proofs.layout.lay_out.Goals as goal
 
 pub loop-unit-preserved : goal.loop-unit-preserved

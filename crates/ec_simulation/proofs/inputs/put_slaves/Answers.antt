@@ -1,13 +1,13 @@
 use Rattle.std.proofs.Common.{◌≡◌, ◌∙◌, ◌<◌, ℕ, length, sym, ap, subst, arith}
 use Rattle.ec_link.specs.Plan.{PlanState}
 use Rattle.ec_simulation.proofs.InputPuts.{all_written, next_written, none_written, written_stopped}
-use Rattle.ec_simulation.proofs.Seeing.{sees_none, sees_then}
+use Rattle.ec_simulation.proofs.Seeing.{observes_none, observes_then}
 use Rattle.ec_simulation.proofs.inputs.put_slaves.Goals as goal
 
 pub loop-slave-init : goal.loop-slave-init
 loop-slave-init g c = record {
   written = none_written c.args.variable c.args.value c.args.world.now;
-  seen = sees_none g.S.Watcher.saw c.args.watcher.now c.args.world.now;
+  seen = observes_none g.S.Watcher.observed c.args.watcher.now c.args.world.now;
 }
 
 pub returns-then-not-is_done-clause-made : goal.returns-then-not-is_done-clause-made
@@ -20,7 +20,7 @@ pub loop-slave-preserved : goal.loop-slave-preserved
 loop-slave-preserved g c = record {
   written = next_written c.args.variable c.args.value c.args.world.now c.loop-slave.slave c.loop-slave.world c.put_slave-said.new.world c.put_slave-said.result
       c.loop-slave.invariant.written c.put_slave-said.ensures.made (sym c.is_done.ensures ∙ c.if-not-is_done.false);
-  seen = sees_then g.S.Watcher.saw c.args.watcher.now c.loop-slave.watcher c.put_slave-said.new.watcher c.args.world.now c.loop-slave.world c.put_slave-said.new.world c.loop-slave.invariant.seen c.put_slave-said.ensures.seen;
+  seen = observes_then g.S.Watcher.observed c.args.watcher.now c.loop-slave.watcher c.put_slave-said.new.watcher c.args.world.now c.loop-slave.world c.put_slave-said.new.world c.loop-slave.invariant.seen c.put_slave-said.ensures.observed;
 }
 
 pub returns-clause-made : goal.returns-clause-made

@@ -5,7 +5,7 @@ use Rattle.std.proofs.Common.{rules}
 
 pub returns : goal.returns
 returns c =
-    read_all c.args.world.now c.args.slave c.args.start (length c.args.bytes.now) c.loop-place.bytes c.loop-place.auto.bytes (λ k lt. c.loop-place.invariant k (omega arith))
+    read_all c.args.world.now c.args.slave c.args.start (length c.args.bytes.now) c.loop-offset.bytes c.loop-offset.auto.bytes (λ k lt. c.loop-offset.invariant k (omega arith))
 
-pub loop-place-preserved : goal.loop-place-preserved
-loop-place-preserved c = search rules
+pub loop-offset-preserved : goal.loop-offset-preserved
+loop-offset-preserved c = search rules

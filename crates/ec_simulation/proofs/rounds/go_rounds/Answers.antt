@@ -2,8 +2,8 @@ use Rattle.std.proofs.Common.{◌∙◌, ◌+◌, ◌<◌, ◌≤◌, length, sy
 use Rattle.ec_simulation.specs.Rounds.{greatest, rounds, slots_with}
 use Rattle.ec_simulation.specs.Work.{MakesAll}
 use Rattle.ec_simulation.proofs.Going.{AreGone, all_gone, gone_on, gone_wrong, passed_over}
-use Rattle.ec_simulation.specs.Seeing.{Sees}
-use Rattle.ec_simulation.proofs.Seeing.{sees_same, sees_then}
+use Rattle.ec_simulation.specs.Observing.{Observes}
+use Rattle.ec_simulation.proofs.Seeing.{observes_same, observes_then}
 use Rattle.ec_simulation.proofs.rounds.go_rounds.Goals as goal
 use Rattle.ec_simulation.proofs.rounds.go_rounds.Goals.{then-holds+else-not-is_done, else-holds}
 
@@ -35,11 +35,11 @@ loop-slot-preserved g c =
           subst (λ v. AreGone n c.args.serving number old (i + 1) v c.if-holds.said) (sym w.world-is)
           (subst (λ s. AreGone n c.args.serving number old (i + 1) c.loop-slot.world s) (sym w.said-is) over)
     ] in
-    let saw = g.S.Watcher.saw in
-    let seen : Sees saw c.args.watcher.now old c.if-holds.world c.if-holds.watcher = elim c.if-holds.branch [
-      | then-holds+else-not-is_done w ↦ sees_same saw c.args.watcher.now w.go_round-said.new.watcher c.if-holds.watcher old w.go_round-said.new.world c.if-holds.world w.watcher-is w.world-is
-          (sees_then saw c.args.watcher.now c.loop-slot.watcher w.go_round-said.new.watcher old c.loop-slot.world w.go_round-said.new.world c.loop-slot.invariant.seen w.go_round-said.ensures.seen)
-      | else-holds w ↦ sees_same saw c.args.watcher.now c.loop-slot.watcher c.if-holds.watcher old c.loop-slot.world c.if-holds.world w.watcher-is w.world-is c.loop-slot.invariant.seen
+    let observed = g.S.Watcher.observed in
+    let seen : Observes observed c.args.watcher.now old c.if-holds.world c.if-holds.watcher = elim c.if-holds.branch [
+      | then-holds+else-not-is_done w ↦ observes_same observed c.args.watcher.now w.go_round-said.new.watcher c.if-holds.watcher old w.go_round-said.new.world c.if-holds.world w.watcher-is w.world-is
+          (observes_then observed c.args.watcher.now c.loop-slot.watcher w.go_round-said.new.watcher old c.loop-slot.world w.go_round-said.new.world c.loop-slot.invariant.seen w.go_round-said.ensures.observed)
+      | else-holds w ↦ observes_same observed c.args.watcher.now c.loop-slot.watcher c.if-holds.watcher old c.loop-slot.world c.if-holds.world w.watcher-is w.world-is c.loop-slot.invariant.seen
     ] in
     record { gone = gone; seen = seen }
 

@@ -2,7 +2,7 @@ use Rattle.std.proofs.Common.{◌∙◌, ◌-◌, ◌+◌, is_some, sym, ap, sub
 use Rattle.ec_script.specs.declared.output.LineOutput.TheVariants.{Nothing}
 use Rattle.ec_simulation.specs.Work.{Starts, last_turn}
 use Rattle.ec_simulation.proofs.Turning.{ended_turn, no_turn, none_left, one_less, stopped_turn, turned}
-use Rattle.ec_simulation.proofs.Seeing.{sees_then}
+use Rattle.ec_simulation.proofs.Seeing.{observes_then}
 use Rattle.ec_simulation.proofs.rounds.start_up.Goals as goal
 
 pub returns-then-not-is_done-clause-made : goal.returns-then-not-is_done-clause-made
@@ -25,7 +25,7 @@ loop-preserved g c = record {
       let turn = turned (last_turn - (c.loop.counter + 1)) c.loop.world c.take_turn-said.new.world new c.take_turn-said.result word c.take_turn-said.ensures.made
       (sym c.is_done.ensures ∙ c.if-not-is_done.false) going ahead in
       c.loop.invariant.ahead new word (subst (λ n. Starts n c.loop.world new word) (sym (one_less last_turn c.loop.counter c.loop-test.true)) turn);
-  seen = sees_then g.S.Watcher.saw c.args.watcher.now c.loop.watcher c.take_turn-said.new.watcher c.args.world.now c.loop.world c.take_turn-said.new.world c.loop.invariant.seen c.take_turn-said.ensures.seen;
+  seen = observes_then g.S.Watcher.observed c.args.watcher.now c.loop.watcher c.take_turn-said.new.watcher c.args.world.now c.loop.world c.take_turn-said.new.world c.loop.invariant.seen c.take_turn-said.ensures.observed;
 }
 
 pub returns-clause-made : goal.returns-clause-made

@@ -8,7 +8,7 @@ use Rattle.ec_frame.specs.Fields.{with_address, with_data}
 use Rattle.ec_slave.specs.State.{SlaveState}
 use Rattle.ec_slave.specs.Column.{datagram_past, slaves_met}
 use Rattle.ec_slave.specs.Carried.{carrying}
-use Rattle.ec_slave.proofs.Columns.{bare, bare-is, slaves-bare, past-bare, past-is, put-good, addressed-good, slaves-nop, past-nop}
+use Rattle.ec_slave.proofs.Commands.Columns.{bare, bare-is, slaves-bare, past-bare, past-is, put-good, addressed-good, slaves-nop, past-nop}
 use Rattle.ec_slave.proofs.column.pass_each.Goals as goal
 
 pub returns-then-eq : goal.returns-then-eq

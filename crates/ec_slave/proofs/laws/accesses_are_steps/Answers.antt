@@ -1,4 +1,4 @@
-use Rattle.ec_slave.proofs.Steps.{accesses_are_steps}
+use Rattle.ec_slave.proofs.Always.ManagersGoByRuns.{accesses_are_steps}
 use Rattle.ec_slave.proofs.laws.accesses_are_steps.Goals as goal
 
 pub returns : goal.returns

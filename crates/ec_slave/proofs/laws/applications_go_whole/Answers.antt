@@ -1,4 +1,4 @@
-use Rattle.ec_slave.proofs.Wholes.{go_whole, few_inputs}
+use Rattle.ec_slave.proofs.AppAccess.ApplicationsGoWhole.{go_whole, few_inputs}
 use Rattle.ec_slave.proofs.laws.applications_go_whole.Goals as goal
 
 pub returns-clause-whole : goal.returns-clause-whole

@@ -1,4 +1,4 @@
-use Rattle.ec_slave.proofs.Assigned.{power_on_assigns, assignments_stay}
+use Rattle.ec_slave.proofs.FirmwareRuns.AssignmentsStay.{power_on_assigns, assignments_stay}
 use Rattle.ec_slave.proofs.laws.assignments_are_proper.Goals as goal
 
 pub returns-clause-power_on : goal.returns-clause-power_on

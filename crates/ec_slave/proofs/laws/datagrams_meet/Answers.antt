@@ -1,4 +1,4 @@
-use Rattle.ec_slave.proofs.Meetings.{goes_on, datagrams_stay, datagrams_stay_past, writes_meet, reads_meet, logical_meet}
+use Rattle.ec_slave.proofs.Commands.CommandLaws.{goes_on, datagrams_stay, datagrams_stay_past, writes_meet, reads_meet, logical_meet}
 use Rattle.ec_slave.proofs.laws.datagrams_meet.Goals as goal
 
 pub returns-clause-on : goal.returns-clause-on

@@ -1,4 +1,4 @@
-use Rattle.ec_slave.proofs.Meetings.{faults, by_bytes}
+use Rattle.ec_slave.proofs.Commands.CommandLaws.{faults, by_bytes}
 use Rattle.ec_slave.proofs.laws.faults_are_in_op.Goals as goal
 
 pub returns-clause-faults : goal.returns-clause-faults

@@ -1,4 +1,4 @@
-use Rattle.ec_slave.proofs.Registers.{logical_bit_by_bit, value_bit_by_bit}
+use Rattle.ec_slave.proofs.Memory.RegistersAfterWrite.{logical_bit_by_bit, value_bit_by_bit}
 use Rattle.ec_slave.proofs.laws.logical_bit_by_bit.Goals as goal
 
 pub returns-clause-bits : goal.returns-clause-bits

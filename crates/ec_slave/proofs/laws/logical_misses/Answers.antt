@@ -1,4 +1,4 @@
-use Rattle.ec_slave.proofs.Misses.{misses}
+use Rattle.ec_slave.proofs.LogicalAccess.MissesLaw.{misses}
 use Rattle.ec_slave.proofs.laws.logical_misses.Goals as goal
 
 pub returns : goal.returns

@@ -1,4 +1,4 @@
-use Rattle.ec_slave.proofs.FirmwareSteps.{messages_keep, messages_rest, requests_answered}
+use Rattle.ec_slave.proofs.FirmwareRuns.StepLaws.{messages_keep, messages_rest, requests_answered}
 use Rattle.ec_slave.proofs.laws.messages_are_answered.Goals as goal
 
 pub returns-clause-keep : goal.returns-clause-keep

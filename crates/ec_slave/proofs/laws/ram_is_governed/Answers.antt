@@ -1,4 +1,4 @@
-use Rattle.ec_slave.proofs.RegisterAccess.{ram_governed, managers_accessed, accesses_leave, whole_values}
+use Rattle.ec_slave.proofs.Memory.RegisterLaws.{ram_governed, managers_accessed, accesses_leave, whole_values}
 use Rattle.ec_slave.proofs.laws.ram_is_governed.Goals as goal
 
 pub returns-clause-governed : goal.returns-clause-governed

@@ -1,4 +1,4 @@
-use Rattle.ec_slave.proofs.Showing.{reads_show_the_run}
+use Rattle.ec_slave.proofs.Always.ReadsShowTheRun.{reads_show_the_run}
 use Rattle.ec_slave.proofs.laws.reads_show_the_run.Goals as goal
 
 pub returns : goal.returns

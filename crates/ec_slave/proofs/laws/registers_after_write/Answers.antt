@@ -1,4 +1,4 @@
-use Rattle.ec_slave.proofs.Registers.{registers_after_write, managers_after_write}
+use Rattle.ec_slave.proofs.Memory.RegistersAfterWrite.{registers_after_write, managers_after_write}
 use Rattle.ec_slave.proofs.laws.registers_after_write.Goals as goal
 
 pub returns-clause-registers : goal.returns-clause-registers

@@ -1,4 +1,4 @@
-use Rattle.ec_slave.proofs.RegisterAccess.{registers_written, registers_read, managers_aside, registers_open}
+use Rattle.ec_slave.proofs.Memory.RegisterLaws.{registers_written, registers_read, managers_aside, registers_open}
 use Rattle.ec_slave.proofs.laws.registers_are_written.Goals as goal
 
 pub returns-clause-written : goal.returns-clause-written

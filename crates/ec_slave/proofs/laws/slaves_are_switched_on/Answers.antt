@@ -1,4 +1,4 @@
-use Rattle.ec_slave.proofs.SwitchedOn.{switched_on, on_whole}
+use Rattle.ec_slave.proofs.Always.SlavesAreSwitchedOn.{switched_on, on_whole}
 use Rattle.ec_slave.proofs.laws.slaves_are_switched_on.Goals as goal
 
 pub returns-clause-known : goal.returns-clause-known

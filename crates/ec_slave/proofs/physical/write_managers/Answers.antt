@@ -1,6 +1,6 @@
 use Rattle.std.proofs.Common.{◌≤◌, ◌+◌, length, sym, arith}
 use Rattle.ec_slave.specs.Physical.{Window}
-use Rattle.ec_slave.proofs.Broadcast.{managers-write}
+use Rattle.ec_slave.proofs.Memory.BroadcastLaw.{managers-write}
 use Rattle.ec_slave.proofs.physical.write_managers.Goals as goal
 
 pub returns-else-from-bytes-gt-SYNC_MANAGERS : goal.returns-else-from-bytes-gt-SYNC_MANAGERS

@@ -2,7 +2,7 @@ use Rattle.std.proofs.Common.{ℕ, ◌≡◌, ◌≤◌, ◌+◌, ◌⊎◌, ap,
 use Rattle.ec_sync.specs.Bounds.{span_end_of}
 use Rattle.ec_sync.specs.declared.bounds.Bounds.{Bounds}
 use Rattle.ec_sync.specs.SyncManager.{SyncManager}
-use Rattle.ec_slave.proofs.AlikeBytes.{governs_cut, front_cut}
+use Rattle.ec_slave.proofs.Memory.GovernorRuns.{governs_cut, front_cut}
 use Rattle.ec_slave.proofs.runs.cut_at_borders.Goals as goal
 
 -- a border that a longer run lies on one side of

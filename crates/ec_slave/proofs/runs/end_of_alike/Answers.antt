@@ -1,6 +1,6 @@
 use Rattle.std.proofs.Common.{arith}
-use Rattle.ec_slave.proofs.AlikeBytes.{governor_alike}
-use Rattle.ec_slave.proofs.Sights.{governor-below, governor-has}
+use Rattle.ec_slave.proofs.Memory.GovernorRuns.{governor_alike}
+use Rattle.ec_slave.proofs.LogicalAccess.ReadViews.{governor-below, governor-has}
 use Rattle.ec_slave.proofs.runs.end_of_alike.Goals as goal
 
 pub returns-clause-governor : goal.returns-clause-governor

@@ -16,7 +16,7 @@ returns-then-not-is_numbered c = λ p f h.
     let pair = is_pair c.args.payload.now c.in_ok-name.name c.in_ok-answer.answer c.new-places.result c.next.new.self a.0 a.1 a.2 (c.new-places.ensures.ahead a.0 a.1)
     c.in_ok-name.ensures.first c.in_ok-name.ensures.others c.in_ok-answer.ensures.first in
     let o = of_answer c.args.payload.now c.args.action.now c.args.number c.in_ok-name.name c.in_ok-answer.answer c.command-command.result c.data_length-bytes.result pair p c.command-command.ensures c.data_length-bytes.ensures.value f h in
-    no_truth _ c.if-not-is_numbered.true ((c.tells-is_numbered.ensures true pair.first pair.good_first pair.there_first).1 o.told)
+    no_truth _ c.if-not-is_numbered.true ((c.begins_with-is_numbered.ensures true pair.first pair.good_first pair.there_first).1 o.told)
 
 pub returns-then-not-is_answer : goal.returns-then-not-is_answer
 returns-then-not-is_answer c = λ p f h.
@@ -33,5 +33,5 @@ returns c =
     c.in_ok-name.ensures.first c.in_ok-name.ensures.others c.in_ok-answer.ensures.first in
     answer_at c.args.payload.now c.args.action.now c.args.number c.in_ok-name.name c.in_ok-answer.answer c.command-command.result c.data_length-bytes.result pair c.command-command.ensures c.data_length-bytes.ensures.value
     ((c.has_shape-is_named.ensures true pair.first pair.good_first pair.there_first).0 c.if-not-is_named.false)
-    ((c.tells-is_numbered.ensures true pair.first pair.good_first pair.there_first).0 c.if-not-is_numbered.false)
+    ((c.begins_with-is_numbered.ensures true pair.first pair.good_first pair.there_first).0 c.if-not-is_numbered.false)
     ((c.has_shape-is_answer.ensures false pair.datagram pair.good pair.there).0 c.if-not-is_answer.false) c.in_ok-answer.ensures.within

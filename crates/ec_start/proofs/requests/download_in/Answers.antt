@@ -1,4 +1,4 @@
-use Rattle.ec_start.proofs.Seeks.{first_download, second_download}
+use Rattle.ec_start.proofs.RequestRuns.{first_download, second_download}
 use Rattle.ec_start.proofs.requests.download_in.Goals as goal
 
 pub returns-in-Found : goal.returns-in-Found

@@ -1,7 +1,7 @@
 use Rattle.std.proofs.Common.{◌∙◌, ap, sym, arith}
 use Rattle.ec_start.specs.declared.requests.Seek.TheVariants.{Found}
 use Rattle.ec_start.specs.Scripts.{downloads}
-use Rattle.ec_start.proofs.Seeks.{seek_slot, seek_count, seek_past_assignment}
+use Rattle.ec_start.proofs.RequestRuns.{seek_slot, seek_count, seek_past_assignment}
 use Rattle.ec_start.proofs.requests.downloads_at.Goals as goal
 
 pub returns-then-place-count : goal.returns-then-place-count

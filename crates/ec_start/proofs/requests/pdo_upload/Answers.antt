@@ -2,7 +2,7 @@ use Rattle.std.proofs.Common.{◌-◌, ◌∙◌, ap, sym, arith, length}
 use Rattle.ec_coe.specs.Objects.{long_value}
 use Rattle.ec_start.specs.declared.requests.Seek.TheVariants.{Found, Past}
 use Rattle.ec_start.specs.Scripts.{uploads}
-use Rattle.ec_start.proofs.Seeks.{seek_entry, seek_past_pdo}
+use Rattle.ec_start.proofs.RequestRuns.{seek_entry, seek_past_pdo}
 use Rattle.ec_start.proofs.requests.pdo_upload.Goals as goal
 
 pub returns-then-place-entries : goal.returns-then-place-entries

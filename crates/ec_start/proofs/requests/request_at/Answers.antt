@@ -1,5 +1,5 @@
 use Rattle.ec_start.specs.declared.requests.Seek.TheVariants.{Found, Past}
-use Rattle.ec_start.proofs.Seeks.{first_request, second_request}
+use Rattle.ec_start.proofs.RequestRuns.{first_request, second_request}
 use Rattle.ec_start.proofs.requests.request_at.Goals as goal
 
 pub returns-in-Found : goal.returns-in-Found

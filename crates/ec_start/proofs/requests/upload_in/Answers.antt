@@ -1,6 +1,6 @@
 use Rattle.ec_device.specs.Types.{first_output_index, first_input_index}
 use Rattle.ec_device.proofs.Limits.{few_bits}
-use Rattle.ec_start.proofs.Seeks.{first_upload, second_upload}
+use Rattle.ec_start.proofs.RequestRuns.{first_upload, second_upload}
 use Rattle.ec_start.proofs.requests.upload_in.Goals as goal
 
 pub uploads_at-requires : goal.uploads_at-requires

@@ -1,7 +1,7 @@
 use Rattle.std.proofs.Common.{arith}
 use Rattle.ec_device.specs.Objects.{pdo_at}
 use Rattle.ec_start.specs.Scripts.{pdo_read}
-use Rattle.ec_start.proofs.Seeks.{seek_here, seek_more}
+use Rattle.ec_start.proofs.RequestRuns.{seek_here, seek_more}
 use Rattle.ec_start.proofs.requests.uploads_at.Goals as goal
 
 pub returns-in-Found : goal.returns-in-Found

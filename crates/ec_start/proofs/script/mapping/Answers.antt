@@ -1,6 +1,6 @@
 use Rattle.std.proofs.Common.{◌+◌, ◌∙◌, ap, drop, slice_get}
 use Rattle.ec_start.specs.Ahead.{choices, somes}
-use Rattle.ec_start.proofs.Aheads.{choice_none, choice_past}
+use Rattle.ec_start.proofs.CursorActions.{choice_none, choice_past}
 use Rattle.ec_start.proofs.script.mapping.Goals as goal
 use Rattle.ec_start.proofs.script.mapping.Goals.{in-Some+else-left-eq0, in_default}
 

@@ -1,5 +1,5 @@
 use Rattle.std.proofs.Common.{◌∙◌}
-use Rattle.ec_start.proofs.Aheads.{talked_none, talked_sent, talked_awaited}
+use Rattle.ec_start.proofs.CursorActions.{talked_none, talked_sent, talked_awaited}
 use Rattle.ec_start.proofs.script.talking.Goals as goal
 
 pub returns-in_err-request-clause-value : goal.returns-in_err-request-clause-value

@@ -2,7 +2,7 @@ use Rattle.std.proofs.Common.{List, length, ap, subst, arith}
 use Rattle.ec_frame.specs.Building.{bare_payload}
 use Rattle.ec_frame.specs.Datagram.{Datagram}
 use Rattle.ec_frame.specs.Frame.{IsFrame}
-use Rattle.ec_start.proofs.Shaping.{framed}
+use Rattle.ec_start.proofs.ActionFrames.{framed}
 use Rattle.ec_start.proofs.startup.write_through.Goals as goal
 
 pub write_pair-requires : goal.write_pair-requires

@@ -6,4 +6,4 @@ use Rattle.ec_table.proofs.fields.numbers_of.Given as goal
 
 abbrev pub invariant-loop-value : goal.invariant-loop-value
 invariant-loop-value l =
-    rows_after (number_row l.place l.low l.high) l.found l.value-index (items_view (drop l.value-index l.elements)) ≡ rows_after (number_row l.place l.low l.high) [] 0 (items_view l.elements)
+    rows_after (number_row l.position l.low l.high) l.found l.value-index (items_view (drop l.value-index l.elements)) ≡ rows_after (number_row l.position l.low l.high) [] 0 (items_view l.elements)

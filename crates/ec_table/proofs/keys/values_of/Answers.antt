@@ -6,7 +6,7 @@ use Rattle.std.specs.Option.{option_or}
 use Rattle.std.specs.Str.{bytes_eq}
 use Rattle.toml.specs.View.{view, members_view}
 use Rattle.toml.proofs.Views.{Entry}
-use Rattle.ec_table.specs.Fields.{is_key, seen}
+use Rattle.ec_table.specs.Fields.{is_key, viewed}
 use Rattle.ec_table.specs.Values.{keys_of}
 use Rattle.ec_table.proofs.KeyPlaces.{has_key, keys_at_end, one_more, place_inside, values_at_end}
 use Rattle.ec_table.proofs.keys.values_of.Goals as goal
@@ -20,7 +20,7 @@ loop-key-preserved c =
     let at : position (bytes_eq (string_bytes e.0)) ks ≡ Some c.in_ok-place.place = sym (rw c.as_str.ensures.value at c.in_ok-place.ensures) in
     let good : is_key c.args.shape c.args.version (string_bytes e.0) ≡ true = sym (has_key c.args.shape c.args.version (string_bytes e.0)) ∙ ap is_some at in
     let inside = place_inside c.args.shape c.args.version (string_bytes e.0) c.in_ok-place.place at in
-    let put : seen c.first.result ≡ option_or (seen (get_or c.loop-key.found c.in_ok-place.place None)) (Some (view e.1)) = rw (get_or_default c.loop-key.found c.in_ok-place.place None c.index-found-place.result (omega (arith, inside.1, long))) c.first.ensures in (
+    let put : viewed c.first.result ≡ option_or (viewed (get_or c.loop-key.found c.in_ok-place.place None)) (Some (view e.1)) = rw (get_or_default c.loop-key.found c.in_ok-place.place None c.index-found-place.result (omega (arith, inside.1, long))) c.first.ensures in (
       sym (rw (iter, good) refl) ∙ keys,
       length-set c.loop-key.found c.in_ok-place.place c.first.result ∙ long,
       one_more c.loop-key.found ks (string_bytes e.0) (view e.1) c.in_ok-place.place c.first.result at (omega (arith, inside.1, long)) put (members_view c.next.new.self) (members_view c.args.members.now.entries) (rw iter at finds),

@@ -1,5 +1,5 @@
 use Rattle.ec_table.specs.Reading.{link_element}
-use Rattle.ec_table.proofs.InOrder.{row_told}
+use Rattle.ec_table.proofs.SectionRows.{row_told}
 use Rattle.ec_table.proofs.links.links_of.Goals as goal
 
 pub returns-in_err-row : goal.returns-in_err-row

@@ -6,4 +6,4 @@ use Rattle.ec_table.proofs.pdos.entries_of.Given as goal
 
 abbrev pub invariant-loop-value : goal.invariant-loop-value
 invariant-loop-value l =
-    rows_after (entry_row l.place) l.found l.value-index (items_view (drop l.value-index l.elements)) ≡ rows_after (entry_row l.place) [] 0 (items_view l.elements)
+    rows_after (entry_row l.position) l.found l.value-index (items_view (drop l.value-index l.elements)) ≡ rows_after (entry_row l.position) [] 0 (items_view l.elements)

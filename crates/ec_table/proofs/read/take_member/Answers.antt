@@ -2,7 +2,7 @@ use Rattle.std.proofs.Common.{ap, ◌∙◌, option_map}
 use Rattle.toml.specs.Data.{get_member}
 use Rattle.toml.specs.View.{members_view, view}
 use Rattle.toml.proofs.Views.{view-lookup}
-use Rattle.ec_table.proofs.Taken.{others_stay}
+use Rattle.ec_table.proofs.KeysTaken.{others_stay}
 use Rattle.ec_table.proofs.read.take_member.Goals as goal
 
 pub returns-clause-value : goal.returns-clause-value

@@ -1,5 +1,5 @@
 use Rattle.std.proofs.Common.{◌∙◌, List, ℕ, ap, take}
-use Rattle.ec_wire.proofs.Applying.{seen}
+use Rattle.ec_wire.proofs.ApplicationBytes.{seen}
 use Rattle.ec_wire.proofs.application.outputs_of.Goals as goal
 
 pub returns : goal.returns

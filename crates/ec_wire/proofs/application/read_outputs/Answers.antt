@@ -1,5 +1,5 @@
 use Rattle.std.proofs.Common.{◌∙◌}
-use Rattle.ec_wire.proofs.Applying.{all_read}
+use Rattle.ec_wire.proofs.ApplicationBytes.{all_read}
 use Rattle.ec_wire.proofs.application.read_outputs.Goals as goal
 
 pub returns : goal.returns

@@ -1,6 +1,6 @@
 use Rattle.std.proofs.Common.{◌∙◌, arith, sym}
 use Rattle.std.proofs.lemmas.List.{length-take-le}
-use Rattle.ec_slave.proofs.Wholes.{few_inputs}
+use Rattle.ec_slave.proofs.AppAccess.ApplicationsGoWhole.{few_inputs}
 use Rattle.ec_wire.proofs.application.serve_slave.Goals as goal
 
 -- there is room for all bytes

@@ -1,5 +1,5 @@
 use Rattle.std.proofs.Common.{◌∙◌}
-use Rattle.ec_wire.proofs.Applying.{all_written}
+use Rattle.ec_wire.proofs.ApplicationBytes.{all_written}
 use Rattle.ec_wire.proofs.application.write_inputs.Goals as goal
 
 pub returns : goal.returns

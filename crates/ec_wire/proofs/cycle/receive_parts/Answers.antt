@@ -1,8 +1,8 @@
 use Rattle.std.proofs.Common.{◌≡◌, ◌∙◌, ◌<◌, ◌++◌, ◌∷◌, [], false, take, arith, length-append}
 use Rattle.ec_cycle.specs.Master.{missing_of}
 use Rattle.ec_wire.specs.Wires.{is_fault}
-use Rattle.ec_wire.proofs.Carrying.{carries-then, fine-same, no_fault}
-use Rattle.ec_wire.proofs.Taking.{taken-push}
+use Rattle.ec_wire.proofs.WireCalls.{carries-then, fine-same, no_fault}
+use Rattle.ec_wire.proofs.TakenPayloads.{taken-push}
 use Rattle.ec_wire.proofs.cycle.receive_parts.Goals as goal
 
 -- the payload that came is the last of those that were taken

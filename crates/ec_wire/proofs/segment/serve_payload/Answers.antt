@@ -1,6 +1,6 @@
 use Rattle.std.proofs.Common.{◌∙◌, ◌∷◌, [], take, refl, sym, inl, arith}
-use Rattle.ec_wire.proofs.Carrying.{carries-then, fault-from, one_fault}
-use Rattle.ec_wire.proofs.Serving.{one_treated}
+use Rattle.ec_wire.proofs.WireCalls.{carries-then, fault-from, one_fault}
+use Rattle.ec_wire.proofs.ServedSlaves.{one_treated}
 use Rattle.ec_wire.proofs.segment.serve_payload.Goals as goal
 
 -- a frame is answered
@@ -12,7 +12,7 @@ returns-then-send_on-clause-done g c =
       a ∷ [],
       carries-then (g.W.Wire.state c.args.wire.now) (g.W.Wire.state c.receive_on.new.wire) (g.W.Wire.state c.send_on.new.wire) [] (p ∷ []) (a ∷ []) []
           c.in_ok-count.ensures.done (c.send_on.ensures.done c.if-send_on.true),
-      one_treated (g.A.App.shows c.args.app.now) c.args.ring.now c.answer.new.ring p (a ∷ []) (inl (a, refl, c.answer.ensures.answered c.if-not-answer.false)),
+      one_treated (g.A.App.may_produce c.args.app.now) c.args.ring.now c.answer.new.ring p (a ∷ []) (inl (a, refl, c.answer.ensures.answered c.if-not-answer.false)),
       refl,
     )
 
@@ -27,7 +27,7 @@ returns-else-send_on-clause-cut g c =
       lost = a ∷ [];
       carried = carries-then (g.W.Wire.state c.args.wire.now) (g.W.Wire.state c.receive_on.new.wire) (g.W.Wire.state c.send_on.new.wire) [] (p ∷ []) [] []
           c.in_ok-count.ensures.done (c.send_on.ensures.lost c.if-send_on.false);
-      treated = one_treated (g.A.App.shows c.args.app.now) c.args.ring.now c.answer.new.ring p (a ∷ []) (inl (a, refl, c.answer.ensures.answered c.if-not-answer.false));
+      treated = one_treated (g.A.App.may_produce c.args.app.now) c.args.ring.now c.answer.new.ring p (a ∷ []) (inl (a, refl, c.answer.ensures.answered c.if-not-answer.false));
       one_lost = omega arith;
       few = omega arith;
       answers = refl;

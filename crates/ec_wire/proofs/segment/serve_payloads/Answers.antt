@@ -1,6 +1,6 @@
 use Rattle.std.proofs.Common.{◌∙◌, ◌++◌, ◌∷◌, [], refl, arith, length-append}
-use Rattle.ec_wire.proofs.Carrying.{carries-none}
-use Rattle.ec_wire.proofs.Serving.{cut_then, treat_next}
+use Rattle.ec_wire.proofs.WireCalls.{carries-none}
+use Rattle.ec_wire.proofs.ServedSlaves.{cut_then, treat_next}
 use Rattle.ec_wire.proofs.segment.serve_payloads.Goals as goal
 
 pub loop-init : goal.loop-init
@@ -9,7 +9,7 @@ loop-init g c = record { came = ([], [], carries-none _, (refl, refl), refl, ref
 pub returns-in_default-clause-cut : goal.returns-in_default-clause-cut
 returns-in_default-clause-cut g c =
     let b = c.loop.invariant in
-    cut_then (g.A.App.shows c.args.app.now) (g.A.App.shows c.loop.app) c.args.ring.now c.loop.ring c.serve_payload.new.ring
+    cut_then (g.A.App.may_produce c.args.app.now) (g.A.App.may_produce c.loop.app) c.args.ring.now c.loop.ring c.serve_payload.new.ring
     (g.W.Wire.state c.args.wire.now) (g.W.Wire.state c.loop.wire) (g.W.Wire.state c.serve_payload.new.wire) b.came.0 b.came.1 c.loop.counter c.args.frames c.loop.served.answered c.loop.served.refused
     b.later b.came.2 b.came.3 b.came.4 b.came.5 b.counts c.loop-test.true b.same c.in_default.ensures.cut
 
@@ -17,7 +17,7 @@ pub loop-preserved : goal.loop-preserved
 loop-preserved g c =
     let b = c.loop.invariant in
     let d = c.in-Some.ensures.done in
-    let k = treat_next (g.A.App.shows c.args.app.now) (g.A.App.shows c.loop.app) c.args.ring.now c.loop.ring c.serve_payload.new.ring
+    let k = treat_next (g.A.App.may_produce c.args.app.now) (g.A.App.may_produce c.loop.app) c.args.ring.now c.loop.ring c.serve_payload.new.ring
     (g.W.Wire.state c.args.wire.now) (g.W.Wire.state c.loop.wire) (g.W.Wire.state c.serve_payload.new.wire) b.came.0 (d.0 ∷ []) b.came.1 d.1
     b.later b.came.2 b.came.3 d.2 d.3 in
     let was = b.came.4 in

@@ -1,6 +1,6 @@
 use Rattle.std.proofs.Common.{◌≡◌, arith}
 use Rattle.ec_start.specs.Running.{last_number}
-use Rattle.ec_wire.proofs.Bringing.{brought_ended, brought_plan, last_turn, one_turn}
+use Rattle.ec_wire.proofs.StartUpTurns.{brought_ended, brought_plan, last_turn, one_turn}
 use Rattle.ec_wire.proofs.ComingUp.{comes_up_over}
 use Rattle.ec_wire.proofs.startup.bring_up_wire.Goals as goal
 

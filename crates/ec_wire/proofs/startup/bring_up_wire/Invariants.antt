@@ -1,4 +1,4 @@
-use Rattle.ec_wire.proofs.Bringing.{AreTurns}
+use Rattle.ec_wire.proofs.StartUpTurns.{AreTurns}
 use Rattle.ec_wire.proofs.startup.bring_up_wire.Given as goal
 
 abbrev pub invariant-loop : goal.invariant-loop

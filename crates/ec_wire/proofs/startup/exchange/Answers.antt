@@ -1,7 +1,7 @@
 use Rattle.std.proofs.Common.{◌∙◌, ◌∷◌, ◌++◌, [], inl, inr, take, length-append, refl, sym, ap, arith}
-use Rattle.ec_start.specs.Running.{is_kept}
-use Rattle.ec_wire.proofs.Bringing.{foreign_none, foreign_push, kept_as}
-use Rattle.ec_wire.proofs.Carrying.{carries-lost, carries-none, carries-then, fault-from, no_fault, one_fault}
+use Rattle.ec_start.specs.Running.{is_accepted}
+use Rattle.ec_wire.proofs.StartUpTurns.{foreign_none, foreign_push, kept_as}
+use Rattle.ec_wire.proofs.WireCalls.{carries-lost, carries-none, carries-then, fault-from, no_fault, one_fault}
 use Rattle.ec_wire.proofs.startup.exchange.Goals as goal
 
 pub loop-init : goal.loop-init
@@ -30,8 +30,8 @@ returns-in_default-clause-unanswered g c = λ _.
     }
 
 -- the payload is the answer
-pub returns-in-Kept-clause-answered : goal.returns-in-Kept-clause-answered
-returns-in-Kept-clause-answered g c = λ _.
+pub returns-in-Accepted-clause-answered : goal.returns-in-Accepted-clause-answered
+returns-in-Accepted-clause-answered g c = λ _.
     let b = c.loop.invariant in
     let first = g.W.Wire.state c.args.wire.now in
     let sent = g.W.Wire.state c.send_on.new.wire in
@@ -48,7 +48,7 @@ returns-in-Kept-clause-answered g c = λ _.
       carried = carries-then first here next (f ∷ []) b.came.0 [] (p ∷ []) (carries-then first sent here (f ∷ []) [] [] b.came.0 (c.send_on.ensures.done c.if-not-send_on.false) b.came.1) c.in-Some.ensures.done;
       few = omega (arith, count, below);
       strange = b.came.2;
-      kept = kept_as c.args.startup.now c.loop.startup c.take.new.self p (is_kept c.take.result) b.kept (ap is_kept c.in-Kept.is) c.take.ensures;
+      kept = kept_as c.args.startup.now c.loop.startup c.take.new.self p (is_accepted c.take.result) b.kept (ap is_accepted c.in-Accepted.is) c.take.ensures;
       fine = sym (fault-from first here next same) ∙ no_fault _ c.in-Some.ensures.fault;
     }
 
@@ -61,12 +61,12 @@ loop-preserved g c =
     let next = g.W.Wire.state c.receive_on.new.wire in
     let p = take c.in-Some.count c.receive_on.new.buffer in
     let count = b.came.3 in
-    let foreign = ap is_kept c.in-Foreign.is in
+    let foreign = ap is_accepted c.in-Foreign.is in
     record {
       came = (
         b.came.0 ++ p ∷ [],
         carries-then sent here next [] b.came.0 [] (p ∷ []) b.came.1 c.in-Some.ensures.done,
-        foreign_push c.args.startup.now c.loop.startup c.take.new.self b.came.0 p (is_kept c.take.result) b.came.2 b.kept foreign c.take.ensures,
+        foreign_push c.args.startup.now c.loop.startup c.take.new.self b.came.0 p (is_accepted c.take.result) b.came.2 b.kept foreign c.take.ensures,
         let l = length-append b.came.0 (p ∷ []) in omega (arith, l, count),
       );
       same = c.in-Some.ensures.same ∙ b.same;

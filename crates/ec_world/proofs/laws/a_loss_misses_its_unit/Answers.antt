@@ -1,4 +1,4 @@
-use Rattle.ec_world.proofs.Spoiled.{loss_law}
+use Rattle.ec_world.proofs.Cycles.MissedLaws.{loss_law}
 use Rattle.ec_world.proofs.laws.a_loss_misses_its_unit.Goals as goal
 
 pub returns : goal.returns

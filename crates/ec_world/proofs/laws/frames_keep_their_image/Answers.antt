@@ -1,4 +1,4 @@
-use Rattle.ec_world.proofs.Histories.{snapshots_law}
+use Rattle.ec_world.proofs.Runs.SnapshotsLaw.{snapshots_law}
 use Rattle.ec_world.proofs.laws.frames_keep_their_image.Goals as goal
 
 pub returns : goal.returns

@@ -1,4 +1,4 @@
-use Rattle.ec_world.proofs.Once.{passed_once}
+use Rattle.ec_world.proofs.Runs.OnceLaws.{passed_once}
 use Rattle.ec_world.proofs.laws.frames_pass_once.Goals as goal
 
 pub returns : goal.returns

@@ -1,4 +1,4 @@
-use Rattle.ec_world.proofs.ComingUp.{new_law, machine_law}
+use Rattle.ec_world.proofs.StartUp.NewLaw.{new_law, machine_law}
 use Rattle.ec_world.proofs.laws.new_worlds_may_start.Goals as goal
 
 pub returns-clause-devices : goal.returns-clause-devices

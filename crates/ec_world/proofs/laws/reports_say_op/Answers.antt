@@ -1,4 +1,4 @@
-use Rattle.ec_world.proofs.Heard.{op_word_law}
+use Rattle.ec_world.proofs.Runs.WordLaw.{op_word_law}
 use Rattle.ec_world.proofs.laws.reports_say_op.Goals as goal
 
 pub returns : goal.returns

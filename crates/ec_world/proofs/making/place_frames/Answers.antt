@@ -1,5 +1,5 @@
 use Rattle.ec_world.proofs.Words.{ℕ, ◌<◌, ◌≤◌, ◌∙◌, List, arith, length, subst, sym, Payload, IsFrame, cycle_frames}
-use Rattle.ec_world.proofs.Filling.{frame-in, placed, all-placed}
+use Rattle.ec_world.proofs.SlotLaws.Filled.{frame-in, placed, all-placed}
 use Rattle.ec_world.proofs.making.place_frames.Goals as goal
 
 pub fill-requires-clause-frame : goal.fill-requires-clause-frame

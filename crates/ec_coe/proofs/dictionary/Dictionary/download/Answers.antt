@@ -2,7 +2,7 @@ use Rattle.std.proofs.Common.{◌∙◌, ap, sym, length, arith}
 use Rattle.ec_device.specs.Types.{first_output_index, first_input_index}
 use Rattle.ec_device.proofs.Limits.{few_bits}
 use Rattle.ec_coe.specs.Objects.{Dictionary}
-use Rattle.ec_coe.proofs.Written.{StandsThere, outs-stand, ins-stand, short-number}
+use Rattle.ec_coe.proofs.AssignmentWrites.{StandsThere, outs-stand, ins-stand, short-number}
 use Rattle.ec_coe.proofs.dictionary.Dictionary.download.Goals as goal
 
 pub write-requires-clause-small : goal.write-requires-clause-small

@@ -1,7 +1,7 @@
 use Rattle.std.proofs.Common.{ℕ, ◌+◌, ◌<◌, ◌≡◌, List, [], Some, Option, ap, arith, get_or, length, subst, sym, rules}
 use Rattle.std.specs.Vec.{with_items}
 use Rattle.std.proofs.lemmas.List.{with_items_is}
-use Rattle.ec_cycle.specs.Closing.{KeptPart}
+use Rattle.ec_cycle.specs.Closing.{ReturnedPart}
 use Rattle.ec_frame.specs.Building.{bare_payload}
 use Rattle.ec_frame.specs.Frame.{IsFrame}
 use Rattle.ec_link.specs.Plan.{PlanState}
@@ -34,7 +34,7 @@ returns-clause-begun c =
       cycle_of fs ks i.next,
       subst (λ (m : MasterState). Begun m (state_of p i.is_ready (i.next + 1) i.outputs.items i.inputs.items frames kept (Some i.next)) (cycle_of fs ks i.next)) c.self.view_is
           (subst (λ (z : List (List ℕ)). Begun (state_of p i.is_ready i.next i.outputs.items i.inputs.items i.frames.items i.kept.items i.number) (state_of p i.is_ready (i.next + 1) i.outputs.items i.inputs.items z kept (Some i.next)) (cycle_of fs ks i.next)) (sym e1)
-          (subst (λ (z : List (Option KeptPart)). Begun (state_of p i.is_ready i.next i.outputs.items i.inputs.items i.frames.items i.kept.items i.number) (state_of p i.is_ready (i.next + 1) i.outputs.items i.inputs.items fs z (Some i.next)) (cycle_of fs ks i.next)) (sym e2)
+          (subst (λ (z : List (Option ReturnedPart)). Begun (state_of p i.is_ready i.next i.outputs.items i.inputs.items i.frames.items i.kept.items i.number) (state_of p i.is_ready (i.next + 1) i.outputs.items i.inputs.items fs z (Some i.next)) (cycle_of fs ks i.next)) (sym e2)
           (begun_state p i.is_ready i.next i.outputs.items i.inputs.items i.frames.items fs i.kept.items ks i.number count kept_count c.forget.ensures
           (λ k l. subst (λ (o : List ℕ). IsFrame (get_or fs k []) (bare_payload (sent_datagrams p i.next k o))) c.deref.ensures.value (spelled k l))))),
     )

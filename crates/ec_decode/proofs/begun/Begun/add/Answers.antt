@@ -2,7 +2,7 @@ use Rattle.std.proofs.Common.{◌+◌, ◌++◌, List, ℕ, length, refl, ap, �
 use Rattle.ec_frame.specs.Datagram.{Datagram}
 use Rattle.ec_decode.specs.Holding.{datagrams_held}
 use Rattle.ec_decode.specs.Stating.{datagram_of, heading_of}
-use Rattle.ec_decode.proofs.Holdings.{held_push, opened_long, short_data}
+use Rattle.ec_decode.proofs.ReaderFields.{held_push, opened_long, short_data}
 use Rattle.ec_decode.proofs.begun.Begun.add.Goals as goal
 
 pub overflow_add-self : goal.overflow_add-self

@@ -1,7 +1,7 @@
 use Rattle.std.proofs.Common.{◌∙◌, sym}
 use Rattle.ec_decode.specs.Holding.{datagrams_held}
 use Rattle.ec_decode.specs.Stating.{datagram_of}
-use Rattle.ec_decode.proofs.Holdings.{finish_all, short_data}
+use Rattle.ec_decode.proofs.ReaderFields.{finish_all, short_data}
 use Rattle.ec_decode.proofs.begun.Begun.finish.Goals as goal
 
 pub returns : goal.returns

@@ -1,5 +1,5 @@
 use Rattle.std.proofs.Common.{ℕ, ◌+◌, ◌-◌, ◌*◌, sym, arith, max}
-use Rattle.ec_fmmu.proofs.WayLaws.{run_touched, run_untouched}
+use Rattle.ec_fmmu.proofs.ModeLaws.{run_touched, run_untouched}
 use Rattle.ec_fmmu.proofs.run.Run.touches.Goals as goal
 
 pub returns-then-end-first : goal.returns-then-end-first

@@ -3,8 +3,8 @@ use Rattle.std.proofs.lemmas.Bool.{cases_lt}
 use Rattle.std.proofs.lemmas.List.{get_or_past}
 use Rattle.ec_regs.specs.declared.fmmu.FmmuSettings.{FmmuSettings}
 use Rattle.ec_regs.specs.Fmmus.{no_fmmu}
-use Rattle.ec_fmmu.specs.declared.ways.Way.TheVariants.{Closed}
-use Rattle.ec_fmmu.proofs.WayLaws.{closed_writes}
+use Rattle.ec_fmmu.specs.declared.modes.Mode.TheVariants.{Closed}
+use Rattle.ec_fmmu.proofs.ModeLaws.{closed_writes}
 use Rattle.ec_fmmu.proofs.table.FmmuTable.write_end.Goals as goal
 
 pub returns-clause-behind : goal.returns-clause-behind

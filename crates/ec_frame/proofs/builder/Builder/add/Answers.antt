@@ -1,6 +1,6 @@
 use Rattle.std.proofs.Common.{arith}
 use Rattle.ec_frame.proofs.Numbers.{all_bytes}
-use Rattle.ec_frame.proofs.Builds.{added, added_built, added_view, built_length, seen_built}
+use Rattle.ec_frame.proofs.BuilderCalls.{added, added_built, added_view, built_length, seen_built}
 use Rattle.ec_frame.proofs.builder.Builder.add.Goals as goal
 use Rattle.ec_frame.proofs.builder.Builder.add.Goals.{then-room-lt-OVERHEAD-via-then-room-lt-OVERHEAD, then-room-lt-OVERHEAD-via-else-room-lt-OVERHEAD+then-room-content}
 

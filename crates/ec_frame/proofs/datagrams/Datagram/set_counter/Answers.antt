@@ -1,7 +1,7 @@
 use Rattle.std.proofs.Common.{refl}
 use Rattle.ec_frame.specs.Datagram.{is_followed}
 use Rattle.ec_frame.specs.Fields.{with_counter}
-use Rattle.ec_frame.specs.Kept.{IsDatagram-with_counter}
+use Rattle.ec_frame.specs.FieldChanges.{IsDatagram-with_counter}
 use Rattle.ec_frame.specs.Lending.{written_as}
 use Rattle.ec_frame.proofs.Lending.{good, counter_over}
 use Rattle.ec_frame.proofs.datagrams.Datagram.set_counter.Goals as goal

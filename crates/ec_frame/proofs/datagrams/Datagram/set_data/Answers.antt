@@ -1,7 +1,7 @@
 use Rattle.std.proofs.Common.{◌≡◌, length, arith}
 use Rattle.ec_frame.specs.Datagram.{is_followed}
 use Rattle.ec_frame.specs.Fields.{with_data}
-use Rattle.ec_frame.specs.Kept.{IsDatagram-with_data}
+use Rattle.ec_frame.specs.FieldChanges.{IsDatagram-with_data}
 use Rattle.ec_frame.specs.Lending.{written_as}
 use Rattle.ec_frame.proofs.Lending.{good, data_over}
 use Rattle.ec_frame.proofs.datagrams.Datagram.set_data.Goals as goal

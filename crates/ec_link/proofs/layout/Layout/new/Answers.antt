@@ -4,7 +4,7 @@ use Rattle.ec_link.specs.declared.layout.Part.{Part}
 use Rattle.ec_link.specs.declared.layout.Seat.{Seat}
 use Rattle.ec_link.specs.declared.sizes.SlaveSize.{SlaveSize}
 use Rattle.ec_link.specs.Layout.{LayoutState, no_seat}
-use Rattle.ec_link.proofs.Seating.{fresh_more}
+use Rattle.ec_link.proofs.Seats.{fresh_more}
 use Rattle.ec_link.proofs.layout.Layout.new.Goals as goal
 
 pub loop-size-preserved : goal.loop-size-preserved

@@ -1,14 +1,14 @@
 use Rattle.std.proofs.Common.{ℕ, ◌+◌, ◌*◌, ◌≡◌, ◌∙◌, ◌&&◌, Bool, true, false, List, set, nat_lt, if◌then◌else◌, get_or, get_or-set_other, refl, sym, ap, arith}
 use Rattle.std.proofs.lemmas.List.{set-get_or}
 use Rattle.std.specs.Int.{from_bool}
-use Rattle.ec_fmmu.specs.Applied.{Place}
+use Rattle.ec_fmmu.specs.Applied.{LogicalSpan}
 use Rattle.ec_fmmu.specs.Areas.{Area, area}
 use Rattle.ec_sync.specs.SyncManager.{SyncManager, may_read, may_write, no_manager}
 use Rattle.ec_slave.specs.State.{manager_at}
 use Rattle.ec_slave.specs.Roles.{is_reading, is_writing}
 use Rattle.ec_slave.specs.Mapped.{at_bits, weight}
 use Rattle.ec_slave.specs.Exchange.{inputs_into, outputs_from, with_published}
-use Rattle.ec_slave.proofs.Applications.{indexed}
+use Rattle.ec_slave.proofs.AppAccess.Bytes.{indexed}
 use Rattle.ec_slave.proofs.logical.exchange.exchange_values.Goals as goal
 use Rattle.ec_slave.proofs.logical.exchange.exchange_values.Goals.{then-writes, else-writes, then-reads, else-reads}
 
@@ -26,7 +26,7 @@ pub returns-clause-managers : goal.returns-clause-managers
 returns-clause-managers c =
     let ms : List SyncManager = c.args.managers.now in
     let a : Area = area c.args.mapped.now in
-    let p : Place = at_bits c.args.from c.args.bytes.now in
+    let p : LogicalSpan = at_bits c.args.from c.args.bytes.now in
     let role = c.args.role in
     let m : SyncManager = manager_at ms 2 in
     let out : List ℕ = outputs_from a p c.args.bytes.now in
@@ -51,7 +51,7 @@ returns-clause-bytes c =
     let now : List SyncManager = c.if-writes.managers in
     let a : Area = area c.args.mapped.now in
     let bytes : List ℕ = c.args.bytes.now in
-    let p : Place = at_bits c.args.from bytes in
+    let p : LogicalSpan = at_bits c.args.from bytes in
     let role = c.args.role in
     let m : SyncManager = manager_at ms 3 in
     let four = c.requires.four in

@@ -1,16 +1,16 @@
 use Rattle.std.proofs.Common.{◌*◌, length, sym, ◌∙◌}
 use Rattle.std.proofs.lemmas.Bool.{and_left, and_right}
 use Rattle.ec_bits.proofs.AnyLaws.{if_false}
-use Rattle.ec_fmmu.specs.Applied.{Place, touched_by_reading, touched_by_writing}
+use Rattle.ec_fmmu.specs.Applied.{LogicalSpan, touched_by_reading, touched_by_writing}
 use Rattle.ec_slave.specs.Managers.{is_ungoverned}
 use Rattle.ec_slave.specs.Logical.{logical_value}
-use Rattle.ec_slave.proofs.Reached.{manager-read}
+use Rattle.ec_slave.proofs.LogicalAccess.ManagerRead.{manager-read}
 use Rattle.ec_slave.proofs.logical.managers.access_manager.Goals as goal
 use Rattle.ec_slave.proofs.logical.managers.access_manager.Goals.{else-writing-via-then-writing+else-write_bits, else-writing-via-else-writing}
 
 pub returns-then-reading-clause-after : goal.returns-then-reading-clause-after
 returns-then-reading-clause-after c =
-    let p : Place = record { from = c.args.from; bits = 8 * length c.args.bytes.now } in
+    let p : LogicalSpan = record { from = c.args.from; bits = 8 * length c.args.bytes.now } in
     let rt = touched_by_reading c.args.fmmus.now p in
     let wt = touched_by_writing c.args.fmmus.now p in
     let value = logical_value c.args.lower.now c.args.fmmus.now p c.args.bytes.now in

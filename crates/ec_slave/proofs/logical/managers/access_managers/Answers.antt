@@ -1,9 +1,9 @@
 use Rattle.std.proofs.Common.{ℕ, ◌≡◌, ◌+◌, ◌-◌, ◌*◌, ◌&&◌, List, ◌++◌, length, take, drop, get_or, set, ◌∙◌, ap, arith}
 use Rattle.ec_sync.specs.SyncManager.{SyncManager}
-use Rattle.ec_fmmu.specs.Applied.{Place, touched_by_writing}
+use Rattle.ec_fmmu.specs.Applied.{LogicalSpan, touched_by_writing}
 use Rattle.ec_slave.specs.Managers.{is_ungoverned, is_written_by}
-use Rattle.ec_slave.proofs.Exchanges.{one_exchanged, exchanged_from, exchanged_from-step, exchanged_from-end, written_from}
-use Rattle.ec_slave.proofs.Wholly.{written_from-step, written_from-end}
+use Rattle.ec_slave.proofs.LogicalAccess.ExchangedFrom.{one_exchanged, exchanged_from, exchanged_from-step, exchanged_from-end, written_from}
+use Rattle.ec_slave.proofs.LogicalAccess.WrittenFrom.{written_from-step, written_from-end}
 use Rattle.ec_slave.proofs.logical.managers.access_managers.Goals as goal
 
 pub loop-k-preserved : goal.loop-k-preserved
@@ -12,7 +12,7 @@ loop-k-preserved c =
     let before : List SyncManager = c.loop-k.managers in
     let fs = c.args.fmmus.now in
     let bytes = c.args.bytes.now in
-    let p : Place = record { from = c.args.from; bits = 8 * length bytes } in
+    let p : LogicalSpan = record { from = c.args.from; bits = 8 * length bytes } in
     let n : ℕ = 3 - c.loop-k.k in
     let d : SyncManager = c.index-rest-0.result in
     let x : SyncManager = c.access_manager-is_written.new.manager in
@@ -44,7 +44,7 @@ loop-k-preserved c =
 
 pub loop-k-init : goal.loop-k-init
 loop-k-init c =
-    let p : Place = record { from = c.args.from; bits = 8 * length c.args.bytes.now } in (
+    let p : LogicalSpan = record { from = c.args.from; bits = 8 * length c.args.bytes.now } in (
       exchanged_from-end c.args.managers.now c.args.reading c.args.writing c.args.fmmus.now p c.args.bytes.now c.requires.four,
       written_from-end c.args.managers.now c.args.writing c.args.fmmus.now p c.args.bytes.now c.requires.four,
     )

@@ -3,10 +3,10 @@ use Rattle.ec_bits.specs.Bits.{bit}
 use Rattle.ec_bits.proofs.AnyLaws.{if_true}
 use Rattle.ec_regs.specs.declared.manager.SyncManagerSettings.{SyncManagerSettings}
 use Rattle.ec_sync.specs.SyncManager.{SyncManager, ring_written}
-use Rattle.ec_fmmu.specs.Applied.{Place, touched_by_writing}
+use Rattle.ec_fmmu.specs.Applied.{LogicalSpan, touched_by_writing}
 use Rattle.ec_slave.specs.Managers.{is_ungoverned, is_written_by}
 use Rattle.ec_slave.specs.Logical.{plain_bit}
-use Rattle.ec_slave.proofs.Wholly.{wholly-written, wholly-copied}
+use Rattle.ec_slave.proofs.LogicalAccess.WrittenFrom.{wholly-written, wholly-copied}
 use Rattle.ec_slave.proofs.logical.managers.write_bits.Goals as goal
 
 pub returns-in-Some : goal.returns-in-Some
@@ -15,7 +15,7 @@ returns-in-Some c =
     let lower = access.lower.now in
     let fs = access.fmmus.now in
     let bytes : List ℕ = access.bytes.now in
-    let p : Place = record { from = access.from; bits = 8 * length bytes } in
+    let p : LogicalSpan = record { from = access.from; bits = 8 * length bytes } in
     let m : SyncManager = c.args.manager.now in
     let at : ℕ = c.in-Some.at in
     let all = λ (a b : SyncManagerSettings). (k : ℕ) → k < 8 * b.length → plain_bit lower fs p bytes (8 * a.start + k) ≡ Some (bit bytes (at + k)) in

@@ -1,7 +1,7 @@
 use Rattle.std.proofs.Common.{ℕ, ◌≡◌, ◌<◌, ◌≤◌, ◌⊎◌, ◌∙◌, nat_lt, sym, inl, inr, arith}
 use Rattle.std.proofs.lemmas.Bool.{lt-ltb, le-ltb}
 use Rattle.ec_regs.specs.Memory.{ram_start, ram_end}
-use Rattle.ec_slave.proofs.Windows.{read-alike, read-register}
+use Rattle.ec_slave.proofs.Memory.WindowBytes.{read-alike, read-register}
 use Rattle.ec_slave.proofs.physical.bytes.end_of_part.Goals as goal
 use Rattle.ec_slave.proofs.physical.bytes.end_of_part.Goals.{then-start-ge-RAM_END, else-start-ge-RAM_END}
 

@@ -1,8 +1,8 @@
 use Rattle.std.proofs.Common.{ℕ, ◌≡◌, ◌<◌, ◌≤◌, ◌⊎◌, ◌∙◌, nat_lt, ap, sym, inl, inr, arith}
 use Rattle.std.proofs.lemmas.Bool.{lt-ltb, le-ltb}
 use Rattle.ec_regs.specs.Memory.{ram_end}
-use Rattle.ec_slave.specs.Physical.{is_kept, may_write_byte}
-use Rattle.ec_slave.proofs.Windows.{write-alike, kept-alike}
+use Rattle.ec_slave.specs.Physical.{is_stored_at, may_write_byte}
+use Rattle.ec_slave.proofs.Memory.WindowBytes.{write-alike, kept-alike}
 use Rattle.ec_slave.proofs.physical.bytes.end_of_written.Goals as goal
 
 -- both behind the end of the memory, or both before it
@@ -24,10 +24,10 @@ returns-then-start-lt-RAM_START-clause-writes c = λ busy touched a lo hi.
     let e : a ≡ c.args.start = omega (arith, lo, hi) in
     ap (may_write_byte c.args.managers.now busy touched) e
 
-pub returns-then-start-lt-RAM_START-clause-kept : goal.returns-then-start-lt-RAM_START-clause-kept
-returns-then-start-lt-RAM_START-clause-kept c = λ a lo hi.
+pub returns-then-start-lt-RAM_START-clause-alike : goal.returns-then-start-lt-RAM_START-clause-alike
+returns-then-start-lt-RAM_START-clause-alike c = λ a lo hi.
     let e : a ≡ c.args.start = omega (arith, lo, hi) in
-    ap (is_kept c.args.managers.now) e
+    ap (is_stored_at c.args.managers.now) e
 
 pub returns-clause-aside : goal.returns-clause-aside
 returns-clause-aside c = λ below.
@@ -44,8 +44,8 @@ returns-clause-writes c = λ busy touched a lo hi.
     (side a c.args.start c.cut-stop.result c.end_of_alike.result lo hi c.end_of_alike.ensures.inside.1 c.cut-stop.ensures.aside)
     (c.end_of_alike.ensures.governor a lo hi) (λ n l. c.end_of_alike.ensures.front n a l lo hi)
 
-pub returns-clause-kept : goal.returns-clause-kept
-returns-clause-kept c = λ a lo hi.
+pub returns-clause-alike : goal.returns-clause-alike
+returns-clause-alike c = λ a lo hi.
     let ram = c.if-start-lt-RAM_START.false in
     kept-alike c.args.managers.now a c.args.start (omega (arith, ram, lo)) ram
     (side a c.args.start c.cut-stop.result c.end_of_alike.result lo hi c.end_of_alike.ensures.inside.1 c.cut-stop.ensures.aside)

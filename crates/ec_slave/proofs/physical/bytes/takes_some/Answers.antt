@@ -4,7 +4,7 @@ use Rattle.ec_bits.proofs.AnyLaws.{any_below_from, any_below_none}
 use Rattle.ec_fmmu.proofs.TouchLaws.{one_more_false}
 use Rattle.ec_regs.specs.Memory.{ram_start}
 use Rattle.ec_slave.specs.Physical.{may_write_byte}
-use Rattle.ec_slave.proofs.Windows.{write-register}
+use Rattle.ec_slave.proofs.Memory.WindowBytes.{write-register}
 use Rattle.ec_slave.proofs.physical.bytes.takes_some.Goals as goal
 
 pub loop-i-init : goal.loop-i-init

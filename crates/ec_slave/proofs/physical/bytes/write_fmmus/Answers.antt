@@ -1,10 +1,10 @@
 use Rattle.std.proofs.Common.{◌+◌, ◌≤◌, ◌<◌, length, not, ◌∙◌, ap, arith}
 use Rattle.ec_regs.specs.Memory.{is_stored}
 use Rattle.ec_slave.specs.Physical.{Window, may_write_byte, touches}
-use Rattle.ec_slave.proofs.Choices.{any-all}
+use Rattle.ec_slave.proofs.Memory.AnyBelow.{any-all}
 use Rattle.std.proofs.lemmas.Bool.{or_left}
-use Rattle.ec_slave.proofs.Windows.{write-register, all-kept}
-use Rattle.ec_slave.proofs.Registers.{fmmu-stored, fmmu-kept}
+use Rattle.ec_slave.proofs.Memory.WindowBytes.{write-register, all-kept}
+use Rattle.ec_slave.proofs.Memory.RegistersAfterWrite.{fmmu-stored, fmmu-kept}
 use Rattle.ec_slave.proofs.physical.bytes.write_fmmus.Goals as goal
 
 pub returns-clause-memory : goal.returns-clause-memory

@@ -4,19 +4,19 @@ use Rattle.ec_bits.specs.Bits.{within}
 use Rattle.ec_sync.specs.SyncManager.{SyncManager, may_write}
 use Rattle.ec_sync.specs.Governing.{covers, in_first_buffer}
 use Rattle.ec_slave.specs.State.{manager_at}
-use Rattle.ec_slave.proofs.Applications.{indexed}
-use Rattle.ec_slave.proofs.Windows.{write-governed}
+use Rattle.ec_slave.proofs.AppAccess.Bytes.{indexed}
+use Rattle.ec_slave.proofs.Memory.WindowBytes.{write-governed}
 use Rattle.ec_slave.proofs.physical.bytes.writes_byte.Goals as goal
 
 pub returns-in-Some : goal.returns-in-Some
 returns-in-Some c =
     let ms : List SyncManager = c.args.managers.now in
     let a : ℕ = c.args.address in
-    let n : ℕ = c.in-Some.place in
+    let n : ℕ = c.in-Some.index in
     let t : ℕ → Bool = within c.args.from c.args.len in
-    let x : SyncManager = c.index-managers-place.result in
+    let x : SyncManager = c.index-managers-index.result in
     let there : n < length ms = subst (λ (o : Option ℕ). IfSome o (λ k. k < length ms)) c.in-Some.is c.requires.within in
-    let own : x ≡ manager_at ms n = indexed ms ms n x there c.index-managers-place.is refl in
+    let own : x ≡ manager_at ms n = indexed ms ms n x there c.index-managers-index.is refl in
     ap (λ (b : Bool). b && (c.is_covered.result && c.may_write.result)) c.in_first_buffer.ensures
     ∙ (ap (λ (b : Bool). in_first_buffer x a && (b && c.may_write.result)) c.is_covered.ensures
     ∙ (ap (λ (b : Bool). in_first_buffer x a && (covers t x && b)) c.may_write.ensures.value

@@ -1,7 +1,7 @@
 use Rattle.std.proofs.Common.{ℕ, ◌≡◌, ◌+◌, ◌-◌, ◌++◌, ◌∙◌, List, take, get_or, set, ap, arith}
 use Rattle.ec_sync.specs.SyncManager.{SyncManager}
 use Rattle.ec_slave.specs.Physical.{Window, physical_manager}
-use Rattle.ec_slave.proofs.Meets.{met_from, met_from-step}
+use Rattle.ec_slave.proofs.Memory.MetFrom.{met_from, met_from-step}
 use Rattle.ec_slave.proofs.physical.managers.access_managers.Goals as goal
 
 pub loop-k-preserved : goal.loop-k-preserved

@@ -1,5 +1,5 @@
 use Rattle.std.proofs.Common.{◌≡◌, ◌-◌}
-use Rattle.ec_slave.proofs.Meets.{met_from}
+use Rattle.ec_slave.proofs.Memory.MetFrom.{met_from}
 use Rattle.ec_slave.proofs.physical.managers.access_managers.Given as goal
 
 abbrev pub invariant-loop-k : goal.invariant-loop-k

@@ -2,8 +2,8 @@ use Rattle.std.proofs.Common.{ℕ, Bool, is_some, ◌+◌, ◌*◌, ◌≤◌, �
 use Rattle.ec_bits.specs.Bits.{any_below}
 use Rattle.ec_bits.proofs.AnyLaws.{any_below_none, if_none}
 use Rattle.ec_slave.specs.Physical.{Window, setting_for}
-use Rattle.ec_slave.proofs.Choices.{any-none, any-or}
-use Rattle.ec_slave.proofs.Windows.{from-outside}
+use Rattle.ec_slave.proofs.Memory.AnyBelow.{any-none, any-or}
+use Rattle.ec_slave.proofs.Memory.WindowBytes.{from-outside}
 use Rattle.ec_slave.proofs.physical.managers.is_configured.Goals as goal
 use Rattle.ec_slave.proofs.physical.managers.is_configured.Goals.{then-first-from-via-then-first-from, then-first-from-via-else-first-from+then-saturating_add-first}
 

@@ -5,7 +5,7 @@ use Rattle.ec_fmmu.specs.Areas.{IsMappedBy}
 use Rattle.ec_sync.specs.SyncManager.{SyncManager}
 use Rattle.ec_slave.specs.State.{SlaveState, fmmus, fmmus_of}
 use Rattle.ec_slave.specs.Usual.{LiesIn}
-use Rattle.ec_slave.proofs.Usual.{is_mapped}
+use Rattle.ec_slave.proofs.LogicalAccess.SlaveExchanged.{is_mapped}
 use Rattle.ec_slave.proofs.slave.Slave.access_bits.Goals as goal
 
 pub exchange_area-requires : goal.exchange_area-requires

@@ -2,9 +2,9 @@ use Rattle.std.proofs.Common.{[], ◌≡◌, ◌≤◌, ◌+◌, ◌++◌, ◌�
 use Rattle.ec_sync.specs.SyncManager.{SyncManager}
 use Rattle.ec_slave.specs.State.{SlaveState}
 use Rattle.ec_slave.specs.Physical.{Window, physical_managers}
-use Rattle.ec_slave.proofs.Exchanges.{take_front}
-use Rattle.ec_slave.proofs.Moves.{physically_read}
-use Rattle.ec_slave.proofs.Broadcast.{registers-idle}
+use Rattle.ec_slave.proofs.LogicalAccess.ExchangedFrom.{take_front}
+use Rattle.ec_slave.proofs.LogicalAccess.SlaveWritten.{physically_read}
+use Rattle.ec_slave.proofs.Memory.BroadcastLaw.{registers-idle}
 use Rattle.ec_slave.proofs.slave.Slave.after_read.Goals as goal
 
 pub returns-else-from-bytes-gt-RAM_START : goal.returns-else-from-bytes-gt-RAM_START

@@ -3,8 +3,8 @@ use Rattle.std.proofs.lemmas.List.{length-set}
 use Rattle.ec_sync.specs.SyncManager.{SyncManager}
 use Rattle.ec_slave.specs.State.{SlaveState, manager_at}
 use Rattle.ec_slave.specs.Application.{get_size, with_manager}
-use Rattle.ec_slave.proofs.Applications.{indexed}
-use Rattle.ec_slave.proofs.WholeOutputs.{all_taken, none_taken, with_view}
+use Rattle.ec_slave.proofs.AppAccess.Bytes.{indexed}
+use Rattle.ec_slave.proofs.AppAccess.WholeOutputs.{all_taken, none_taken, with_view}
 use Rattle.ec_slave.proofs.slave.Slave.app_get_all.Goals as goal
 
 pub returns-then-output_count-gt0 : goal.returns-then-output_count-gt0

@@ -3,8 +3,8 @@ use Rattle.std.proofs.lemmas.List.{length-set}
 use Rattle.ec_sync.specs.SyncManager.{SyncManager, may_app_put}
 use Rattle.ec_slave.specs.State.{SlaveState, manager_at}
 use Rattle.ec_slave.specs.Application.{with_manager}
-use Rattle.ec_slave.proofs.Applications.{indexed}
-use Rattle.ec_slave.proofs.WholeInputs.{all_put, allowed_put, empty, none_put, not_empty, whole_put, with_published}
+use Rattle.ec_slave.proofs.AppAccess.Bytes.{indexed}
+use Rattle.ec_slave.proofs.AppAccess.WholeInputs.{all_put, allowed_put, empty, none_put, not_empty, whole_put, with_published}
 use Rattle.ec_slave.proofs.slave.Slave.app_put_all.Goals as goal
 
 pub app_put_all-requires-clause-allowed : goal.app_put_all-requires-clause-allowed

@@ -2,10 +2,10 @@ use Rattle.std.proofs.Common.{ℕ, ◌≡◌, ◌<◌, ◌∙◌, Option, length
 use Rattle.std.specs.Option.{IfSome}
 use Rattle.std.proofs.lemmas.List.{get_or_default}
 use Rattle.ec_sync.specs.SyncManager.{SyncManager}
-use Rattle.ec_sync.specs.Governing.{shown_byte}
+use Rattle.ec_sync.specs.Governing.{visible_byte}
 use Rattle.ec_slave.specs.State.{SlaveState, manager_at}
-use Rattle.ec_slave.proofs.Applications.{indexed}
-use Rattle.ec_slave.proofs.Windows.{plain-byte, governed-byte}
+use Rattle.ec_slave.proofs.AppAccess.Bytes.{indexed}
+use Rattle.ec_slave.proofs.Memory.WindowBytes.{plain-byte, governed-byte}
 use Rattle.ec_slave.proofs.slave.Slave.byte_under.Goals as goal
 
 pub returns-in-None : goal.returns-in-None
@@ -29,4 +29,4 @@ returns-in-Some c =
     let there : n < length s.managers = subst (λ (o : Option ℕ). IfSome o (λ k. k < length s.managers)) c.in-Some.is c.requires.within in
     let own : c.index-in-Some.result.now ≡ manager_at s.managers n
     = indexed c.self.inside.managers.items s.managers n c.index-in-Some.result.now (omega (arith, there, ap length managers)) c.index-in-Some.ensures managers in
-    c.shown_byte.ensures ∙ (ap (λ (m : SyncManager). shown_byte m a) own ∙ sym (governed-byte s a n ram (sym (c.requires.owner ram) ∙ c.in-Some.is)))
+    c.visible_byte.ensures ∙ (ap (λ (m : SyncManager). visible_byte m a) own ∙ sym (governed-byte s a n ram (sym (c.requires.owner ram) ∙ c.in-Some.is)))

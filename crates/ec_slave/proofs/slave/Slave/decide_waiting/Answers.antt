@@ -6,8 +6,8 @@ use Rattle.ec_al.specs.Al.{Al, stepped}
 use Rattle.ec_slave.specs.State.{SlaveState}
 use Rattle.ec_slave.specs.Checking.{control_word, checks_of}
 use Rattle.ec_slave.specs.Serving.{managers_entered, replies_entered}
-use Rattle.ec_slave.proofs.Exchanges.{take_front}
-use Rattle.ec_slave.proofs.Stepping.{decided-by}
+use Rattle.ec_slave.proofs.LogicalAccess.ExchangedFrom.{take_front}
+use Rattle.ec_slave.proofs.FirmwareRuns.StepParts.{decided-by}
 use Rattle.ec_slave.proofs.slave.Slave.decide_waiting.Goals as goal
 
 pub returns : goal.returns

@@ -1,16 +1,16 @@
 use Rattle.std.proofs.Common.{ℕ, ◌≡◌, ◌+◌, ◌*◌, ◌∙◌, ◌&&◌, ◌++◌, List, length, take, drop, set, nat_lt, if◌then◌else◌, sym, ap, subst, arith}
 use Rattle.std.specs.Int.{from_bool}
 use Rattle.ec_bits.specs.Bits.{bytes_of_bits}
-use Rattle.ec_fmmu.specs.Applied.{Place}
+use Rattle.ec_fmmu.specs.Applied.{LogicalSpan}
 use Rattle.ec_fmmu.specs.Areas.{Area, area}
 use Rattle.ec_sync.specs.SyncManager.{SyncManager, may_read, may_write}
 use Rattle.ec_slave.specs.State.{SlaveState, MetBytes, manager_at, with_memory}
 use Rattle.ec_slave.specs.Roles.{is_reading, is_writing}
 use Rattle.ec_slave.specs.Mapped.{at_bits, weight}
 use Rattle.ec_slave.specs.Exchange.{IsBufferAt, inputs_into, outputs_from, takes, with_published}
-use Rattle.ec_slave.proofs.ExchangeLaw.{exchange_placed}
-use Rattle.ec_slave.proofs.Exchanges.{take_front}
-use Rattle.ec_slave.proofs.Usual.{slave_exchanged}
+use Rattle.ec_slave.proofs.LogicalAccess.ExchangeLaw.{exchange_placed}
+use Rattle.ec_slave.proofs.LogicalAccess.ExchangedFrom.{take_front}
+use Rattle.ec_slave.proofs.LogicalAccess.SlaveExchanged.{slave_exchanged}
 use Rattle.ec_slave.proofs.slave.Slave.exchange_area.Goals as goal
 
 pub returns-clause-slave : goal.returns-clause-slave
@@ -18,7 +18,7 @@ returns-clause-slave c =
     let s : SlaveState = c.args.self.now in
     let a : Area = area c.args.mapped.now in
     let bytes : List ℕ = c.args.bytes.now in
-    let p : Place = at_bits c.args.from bytes in
+    let p : LogicalSpan = at_bits c.args.from bytes in
     let role = c.args.role in
     let out : List ℕ = outputs_from a p bytes in
     let met : List SyncManager = c.exchange_values.new.managers in
@@ -39,7 +39,7 @@ returns-clause-bytes c =
     let s : SlaveState = c.args.self.now in
     let a : Area = area c.args.mapped.now in
     let bytes : List ℕ = c.args.bytes.now in
-    let p : Place = at_bits c.args.from bytes in
+    let p : LogicalSpan = at_bits c.args.from bytes in
     let role = c.args.role in
     let managers = c.deref_mut.ensures.value ∙ ap (λ (x : SlaveState). x.managers) c.self.view_is in
     c.exchange_values.ensures.bytes
@@ -51,7 +51,7 @@ returns-clause-added c =
     let s : SlaveState = c.args.self.now in
     let a : Area = area c.args.mapped.now in
     let bytes : List ℕ = c.args.bytes.now in
-    let p : Place = at_bits c.args.from bytes in
+    let p : LogicalSpan = at_bits c.args.from bytes in
     let role = c.args.role in
     let managers = c.deref_mut.ensures.value ∙ ap (λ (x : SlaveState). x.managers) c.self.view_is in
     c.exchange_values.ensures.added

@@ -1,24 +1,24 @@
 use Rattle.std.proofs.Common.{ℕ, ◌≡◌, ◌-◌, ◌*◌, ◌++◌, ◌∙◌, Bool, true, false, List, length, take, drop, if◌then◌else◌, refl, sym, ap, arith}
 use Rattle.ec_bits.specs.Bits.{copied}
-use Rattle.ec_fmmu.specs.Applied.{Place}
+use Rattle.ec_fmmu.specs.Applied.{LogicalSpan}
 use Rattle.ec_fmmu.specs.Areas.{Area, Spans, area}
 use Rattle.ec_slave.specs.State.{SlaveState, MetBytes, fmmus, fmmus_of, with_memory}
 use Rattle.ec_slave.specs.Roles.{is_reading, is_writing}
 use Rattle.ec_slave.specs.Mapped.{at_bits, weight}
 use Rattle.ec_slave.specs.Usual.{IsPlain}
-use Rattle.ec_slave.proofs.Exchanges.{take_front}
-use Rattle.ec_slave.proofs.Moves.{decoded-mapped}
-use Rattle.ec_slave.proofs.Plain.{memory_put, plain_placed, read_after}
+use Rattle.ec_slave.proofs.LogicalAccess.ExchangedFrom.{take_front}
+use Rattle.ec_slave.proofs.LogicalAccess.SlaveWritten.{decoded-mapped}
+use Rattle.ec_slave.proofs.LogicalAccess.PlainArea.{memory_put, plain_placed, read_after}
 use Rattle.ec_slave.proofs.slave.Slave.exchange_plain.Goals as goal
 
-abbrev put_if : Bool → SlaveState → Area → Place → List ℕ → List ℕ → List ℕ
+abbrev put_if : Bool → SlaveState → Area → LogicalSpan → List ℕ → List ℕ → List ℕ
 put_if b s a p bytes memory = if b then copied memory (8 * a.out_start) bytes (a.out_at - p.from) a.outs else memory
 
-still_decoded : (b : Bool) (s : SlaveState) (a : Area) (p : Place) (bytes : List ℕ) → IsPlain s a → Spans p a → fmmus_of s.memory ≡ fmmus_of (put_if b s a p bytes s.memory)
+still_decoded : (b : Bool) (s : SlaveState) (a : Area) (p : LogicalSpan) (bytes : List ℕ) → IsPlain s a → Spans p a → fmmus_of s.memory ≡ fmmus_of (put_if b s a p bytes s.memory)
 still_decoded true s a p bytes h c = decoded-mapped s.managers (fmmus s) p bytes s.memory ∙ ap fmmus_of (memory_put s a p bytes h c)
 still_decoded false s a p bytes h c = refl
 
-gotten : (b : Bool) (s : SlaveState) (a : Area) (p : Place) (bytes : List ℕ) → IsPlain s a
+gotten : (b : Bool) (s : SlaveState) (a : Area) (p : LogicalSpan) (bytes : List ℕ) → IsPlain s a
     → copied bytes (a.in_at - p.from) (put_if b s a p bytes s.memory) (8 * a.in_start) a.ins ≡ copied bytes (a.in_at - p.from) s.memory (8 * a.in_start) a.ins
 gotten true s a p bytes h = read_after s a bytes bytes (a.out_at - p.from) (a.in_at - p.from) h
 gotten false s a p bytes h = refl
@@ -28,7 +28,7 @@ invariant_of-self c =
     let s : SlaveState = c.args.self.now in
     let a : Area = area c.args.mapped.now in
     let bytes : List ℕ = c.args.bytes.now in
-    let p : Place = at_bits c.args.from bytes in
+    let p : LogicalSpan = at_bits c.args.from bytes in
     let new : List ℕ = c.exchange_memory.new.memory in
     let own = c.deref_mut.ensures.value in
     let ok = c.self.inside.memory.ok in
@@ -51,7 +51,7 @@ returns-clause-slave c =
     let s : SlaveState = c.args.self.now in
     let a : Area = area c.args.mapped.now in
     let bytes : List ℕ = c.args.bytes.now in
-    let p : Place = at_bits c.args.from bytes in
+    let p : LogicalSpan = at_bits c.args.from bytes in
     let role = c.args.role in
     let new : List ℕ = c.exchange_memory.new.memory in
     let own = c.deref_mut.ensures.value in
@@ -69,7 +69,7 @@ returns-clause-bytes c =
     let s : SlaveState = c.args.self.now in
     let a : Area = area c.args.mapped.now in
     let bytes : List ℕ = c.args.bytes.now in
-    let p : Place = at_bits c.args.from bytes in
+    let p : LogicalSpan = at_bits c.args.from bytes in
     let role = c.args.role in
     let memory = c.deref_mut.ensures.value ∙ ap (λ (x : SlaveState). x.memory) c.self.view_is in
     let put = c.exchange_memory.ensures.memory ∙ ap (put_if (is_writing role) s a p bytes) memory in

@@ -4,8 +4,8 @@ use Rattle.ec_al.specs.Al as al
 use Rattle.ec_slave.specs.State.{SlaveState, manager_at}
 use Rattle.ec_slave.specs.Application.{with_manager}
 use Rattle.ec_slave.specs.Faulting.{locked_empty}
-use Rattle.ec_slave.proofs.Applications.{indexed}
-use Rattle.ec_slave.proofs.Stepping.{faulted-by}
+use Rattle.ec_slave.proofs.AppAccess.Bytes.{indexed}
+use Rattle.ec_slave.proofs.FirmwareRuns.StepParts.{faulted-by}
 use Rattle.ec_slave.proofs.slave.Slave.fault.Goals as goal
 
 pub returns-clause-after : goal.returns-clause-after

@@ -1,6 +1,6 @@
 use Rattle.std.proofs.Common.{subst}
 use Rattle.ec_slave.specs.Sound.{IsSlave}
-use Rattle.ec_slave.proofs.Lasting.{four-sound}
+use Rattle.ec_slave.proofs.Always.MetIsSlave.{four-sound}
 use Rattle.ec_slave.proofs.slave.Slave.is_sound.Goals as goal
 
 pub returns : goal.returns

@@ -3,7 +3,7 @@ use Rattle.ec_slave.specs.State.{Met, SlaveState}
 use Rattle.ec_slave.specs.LogicalLaws.{Misses}
 use Rattle.ec_slave.specs.Meeting.{meets}
 use Rattle.ec_slave.specs.Carried.{carrying}
-use Rattle.ec_slave.proofs.Columns.{missed}
+use Rattle.ec_slave.proofs.Commands.Columns.{missed}
 use Rattle.ec_slave.proofs.slave.Slave.meet.Goals as goal
 
 pub returns-then-misses : goal.returns-then-misses

@@ -4,7 +4,7 @@ use Rattle.ec_slave.specs.State.{Met, MetBytes, SlaveState, with_answer}
 use Rattle.ec_slave.specs.Physical.{Window, physical_met}
 use Rattle.ec_slave.specs.Mapped.{mapped_met}
 use Rattle.ec_slave.specs.Carried.{carrying}
-use Rattle.ec_slave.proofs.Answered.{meets-is, meets_mapped-is}
+use Rattle.ec_slave.proofs.Commands.Encounter.{meets-is, meets_mapped-is}
 use Rattle.ec_slave.proofs.slave.Slave.meet_by_command.Goals as goal
 
 pub returns-in-Passing-clause-slave : goal.returns-in-Passing-clause-slave

@@ -2,7 +2,7 @@ use Rattle.std.proofs.Common.{ℕ, ◌≡◌, ◌<◌, ◌+◌, None, List, ap, 
 use Rattle.std.proofs.lemmas.Bool.{OnTrue_at, OnTrue_from}
 use Rattle.ec_regs.specs.declared.fmmu.FmmuSettings.{FmmuSettings}
 use Rattle.ec_fmmu.specs.Sets.{target, readers}
-use Rattle.ec_fmmu.specs.Applied.{Place, data_bit_for}
+use Rattle.ec_fmmu.specs.Applied.{LogicalSpan, data_bit_for}
 use Rattle.ec_slave.specs.State.{SlaveState, fmmus, fmmus_of}
 use Rattle.ec_slave.specs.LogicalLaws.{Misses}
 use Rattle.ec_slave.proofs.slave.Slave.misses.Goals as goal
@@ -10,7 +10,7 @@ use Rattle.ec_slave.proofs.slave.Slave.misses.Goals as goal
 pub returns : goal.returns
 returns c =
     let s : SlaveState = c.args.self.now in
-    let p : Place = record { from = c.args.from; bits = c.args.bits } in
+    let p : LogicalSpan = record { from = c.args.from; bits = c.args.bits } in
     let fs : List FmmuSettings = c.self.inside.fmmus in
     let memory = ap (λ (x : SlaveState). x.memory) c.self.view_is in
     let same : fs ≡ fmmus s = c.self.invariant.decoded ∙ ap fmmus_of memory in

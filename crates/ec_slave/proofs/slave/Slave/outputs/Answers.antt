@@ -5,7 +5,7 @@ use Rattle.ec_bits.proofs.AnyLaws.{if_true, if_false}
 use Rattle.ec_regs.specs.Managers.{is_buffered, is_set}
 use Rattle.ec_sync.specs.SyncManager.{SyncManager, buffer_length}
 use Rattle.ec_slave.specs.State.{SlaveState, manager_at}
-use Rattle.ec_slave.proofs.Applications.{indexed}
+use Rattle.ec_slave.proofs.AppAccess.Bytes.{indexed}
 use Rattle.ec_slave.proofs.slave.Slave.outputs.Goals as goal
 
 published_if : (m : SyncManager) → length m.buffer.published ≡ buffer_length m.settings

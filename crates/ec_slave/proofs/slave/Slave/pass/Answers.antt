@@ -4,7 +4,7 @@ use Rattle.ec_frame.specs.Frame.{IsFrame, with_datagrams}
 use Rattle.ec_frame.specs.Walk.{handled_all, after_all}
 use Rattle.ec_slave.specs.State.{SlaveState}
 use Rattle.ec_slave.specs.Meeting.{passes, slave_met, datagram_met}
-use Rattle.ec_slave.proofs.Bystanders.{passes-kept}
+use Rattle.ec_slave.proofs.Commands.PassedBy.{passes-kept}
 use Rattle.ec_slave.proofs.slave.Slave.pass.Goals as goal
 
 datagrams_passed : (s : SlaveState) (ds : List Datagram) → handled_all datagram_met slave_met s ds ≡ (passes s ds).datagrams

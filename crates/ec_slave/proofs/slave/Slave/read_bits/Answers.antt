@@ -2,11 +2,11 @@ use Rattle.std.proofs.Common.{[], ◌≡◌, ◌*◌, ◌++◌, length, take, dr
 use Rattle.ec_bits.proofs.BitLaws.{length-overlay}
 use Rattle.ec_regs.specs.declared.fmmu.FmmuSettings.{FmmuSettings}
 use Rattle.ec_sync.specs.SyncManager.{SyncManager}
-use Rattle.ec_fmmu.specs.Applied.{Place}
+use Rattle.ec_fmmu.specs.Applied.{LogicalSpan}
 use Rattle.ec_slave.specs.State.{SlaveState, fmmus_of, with_memory}
 use Rattle.ec_slave.specs.Logical.{logical_managers}
-use Rattle.ec_slave.proofs.Exchanges.{take_front}
-use Rattle.ec_slave.proofs.Moves.{slave_read}
+use Rattle.ec_slave.proofs.LogicalAccess.ExchangedFrom.{take_front}
+use Rattle.ec_slave.proofs.LogicalAccess.SlaveWritten.{slave_read}
 use Rattle.ec_slave.proofs.slave.Slave.read_bits.Goals as goal
 
 pub returns-clause-slave : goal.returns-clause-slave
@@ -22,8 +22,8 @@ returns-clause-slave c =
     let front : take c.self.inside.managers.len (new ++ drop (length new) c.self.inside.managers.items) ≡ new
     = take_front new _ c.self.inside.managers.len (omega (arith, ap length own, ok, long)) in
     let same : length c.read_logical-is_read.new.bytes ≡ length c.args.bytes.now = ap length c.read_logical-is_read.ensures.bits ∙ length-overlay c.args.bytes.now _ in
-    let p : Place = record { from = c.args.from; bits = 8 * length c.args.bytes.now } in
-    let q : Place = record { from = c.args.from; bits = 8 * length c.read_logical-is_read.new.bytes } in
+    let p : LogicalSpan = record { from = c.args.from; bits = 8 * length c.args.bytes.now } in
+    let q : LogicalSpan = record { from = c.args.from; bits = 8 * length c.read_logical-is_read.new.bytes } in
     let place : q ≡ p = ap (λ (n : ℕ). record { from = c.args.from; bits = 8 * n }) same in
     ap (λ (x : SlaveState). with_memory x c.self.inside.memory.items (take c.self.inside.managers.len (new ++ drop (length new) c.self.inside.managers.items))) c.self.view_is
     ∙ slave_read s _ _ fs p q c.args.bytes.now c.read_logical-is_read.new.bytes memory (c.self.invariant.decoded ∙ ap fmmus_of memory) place

@@ -1,8 +1,8 @@
 use Rattle.std.proofs.Common.{◌≡◌, ◌+◌, ℕ, List, Option, Some, length, get_or, slice_index, refl, ◌∙◌, ap, sym, arith, inr}
 use Rattle.ec_slave.specs.State.{SlaveState}
 use Rattle.ec_slave.specs.Physical.{byte_at}
-use Rattle.ec_slave.proofs.Told.{told_along, told-none, told-step0, retold-whole, get-told_outside}
-use Rattle.ec_slave.proofs.Windows.{over}
+use Rattle.ec_slave.proofs.Memory.UpdatedAlong.{updated_along, told-none, told-step0, updated-whole, get-updated_outside}
+use Rattle.ec_slave.proofs.Memory.WindowBytes.{over}
 use Rattle.ec_slave.proofs.slave.Slave.read_each.Goals as goal
 
 pub loop-k-init : goal.loop-k-init
@@ -15,13 +15,13 @@ loop-k-preserved c =
     let k : ℕ = c.loop-k.k in
     let y : ℕ = byte_at s (c.args.first + k) in
     let f : ℕ → Option ℕ = λ i. Some (over c.args.joining (slice_index xs i) (byte_at s (c.args.first + i))) in
-    let own : get_or c.loop-k.bytes k 0 ≡ get_or xs k 0 = ap (λ zs. get_or zs k 0) c.loop-k.invariant ∙ get-told_outside k 0 xs f k (inr (omega arith)) in
+    let own : get_or c.loop-k.bytes k 0 ≡ get_or xs k 0 = ap (λ zs. get_or zs k 0) c.loop-k.invariant ∙ get-updated_outside k 0 xs f k (inr (omega arith)) in
     told-step0 k xs f c.loop-k.bytes _ _ c.loop-k.invariant
-    (ap Some (sym (c.read_over.ensures ∙ (ap (over c.args.joining (slice_index c.loop-k.bytes k)) c.byte_under-shown.ensures ∙ ap (λ x. over c.args.joining x y) own)))) refl
+    (ap Some (sym (c.read_over.ensures ∙ (ap (over c.args.joining (slice_index c.loop-k.bytes k)) c.byte_under-visible.ensures ∙ ap (λ x. over c.args.joining x y) own)))) refl
 
 pub returns : goal.returns
 returns c =
     let xs : List ℕ = c.args.bytes.now in
     let f : ℕ → Option ℕ = λ i. Some (over c.args.joining (slice_index xs i) (byte_at c.args.self.now (c.args.first + i))) in
     let e : c.loop-k.k ≡ length xs = omega arith in
-    c.loop-k.invariant ∙ (ap (λ n. told_along n 0 xs f) e ∙ retold-whole xs f)
+    c.loop-k.invariant ∙ (ap (λ n. updated_along n 0 xs f) e ∙ updated-whole xs f)

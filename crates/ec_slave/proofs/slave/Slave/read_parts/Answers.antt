@@ -8,9 +8,9 @@ use Rattle.ec_sync.specs.SyncManager.{SyncManager}
 use Rattle.ec_sync.specs.Governing.{governor}
 use Rattle.ec_slave.specs.State.{SlaveState}
 use Rattle.ec_slave.specs.Physical.{Window, byte_read, may_read_byte, touches}
-use Rattle.ec_slave.proofs.Choices.{any-none, any-part}
-use Rattle.ec_slave.proofs.Told.{told_along, told-none, told-next, told-left, retold-whole, get-told_outside, length-told_along}
-use Rattle.ec_slave.proofs.Windows.{read-denied, read-inside, read-own}
+use Rattle.ec_slave.proofs.Memory.AnyBelow.{any-none, any-part}
+use Rattle.ec_slave.proofs.Memory.UpdatedAlong.{updated_along, told-none, told-next, told-left, updated-whole, get-updated_outside, length-updated_along}
+use Rattle.ec_slave.proofs.Memory.WindowBytes.{read-denied, read-inside, read-own}
 use Rattle.ec_slave.proofs.slave.Slave.read_parts.Goals as goal
 use Rattle.ec_slave.proofs.slave.Slave.read_parts.Goals.{then-reads_byte, else-reads_byte}
 
@@ -40,8 +40,8 @@ loop-done-preserved c =
       | then-reads_byte v ↦ record {
         inside = fits;
         bytes = told-next n m w.bytes f (byte_read s c.args.joining (record { from = w.from; bytes = c.loop-done.bytes })) c.loop-done.bytes _ inv.bytes
-            (λ i a b. read-own s c.args.joining w.from c.loop-done.bytes w.bytes i (ap length inv.bytes ∙ length-told_along n 0 w.bytes f)
-            (ap (λ xs. slice_index xs i) inv.bytes ∙ get-told_outside n 0 w.bytes f i (inr (omega (arith, a))))) (v.bytes-is ∙ v.read_part.ensures);
+            (λ i a b. read-own s c.args.joining w.from c.loop-done.bytes w.bytes i (ap length inv.bytes ∙ length-updated_along n 0 w.bytes f)
+            (ap (λ xs. slice_index xs i) inv.bytes ∙ get-updated_outside n 0 w.bytes f i (inr (omega (arith, a))))) (v.bytes-is ∙ v.read_part.ensures);
         some = v.is_some-is ∙ sym (any_below_from (n + m) p n (omega (arith, lo)) (sym is ∙ v.if-reads_byte.true));
       }
       | else-reads_byte v ↦ record {
@@ -83,7 +83,7 @@ returns-clause-bytes c =
     let inside = c.loop-done.invariant.inside in
     let test = c.loop-done-test.false in
     let e : c.loop-done.done ≡ length c.args.bytes.now = omega (arith, inside, test) in
-    c.loop-done.invariant.bytes ∙ (ap (λ n. told_along n 0 c.args.bytes.now (byte_read c.args.self.now c.args.joining (record { from = c.args.from; bytes = c.args.bytes.now }))) e ∙ retold-whole c.args.bytes.now _)
+    c.loop-done.invariant.bytes ∙ (ap (λ n. updated_along n 0 c.args.bytes.now (byte_read c.args.self.now c.args.joining (record { from = c.args.from; bytes = c.args.bytes.now }))) e ∙ updated-whole c.args.bytes.now _)
 
 pub returns-clause-some : goal.returns-clause-some
 returns-clause-some c =

@@ -1,6 +1,6 @@
 use Rattle.std.proofs.Common.{◌∙◌, ap}
 use Rattle.ec_sii.specs.Port.{Sii}
-use Rattle.ec_slave.proofs.Assigning.{stepped-image}
+use Rattle.ec_slave.proofs.Always.PowerOn.{stepped-image}
 use Rattle.ec_slave.proofs.slave.Slave.read_words.Goals as goal
 
 pub invariant_of-self : goal.invariant_of-self

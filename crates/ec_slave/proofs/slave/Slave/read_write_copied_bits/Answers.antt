@@ -3,7 +3,7 @@ use Rattle.std.specs.Int.{from_bool}
 use Rattle.ec_bits.specs.Bits.{overlay}
 use Rattle.ec_regs.specs.declared.fmmu.FmmuSettings.{FmmuSettings}
 use Rattle.ec_sync.specs.SyncManager.{SyncManager}
-use Rattle.ec_fmmu.specs.Applied.{Place}
+use Rattle.ec_fmmu.specs.Applied.{LogicalSpan}
 use Rattle.ec_slave.specs.State.{SlaveState, fmmus, fmmus_of}
 use Rattle.ec_slave.specs.Logical.{logical_after, read_bit, some_read, some_written}
 use Rattle.ec_slave.specs.Mapped.{at_bits}
@@ -17,7 +17,7 @@ pub returns-clause-bytes : goal.returns-clause-bytes
 returns-clause-bytes c =
     let s : SlaveState = c.args.self.now in
     let b : List ℕ = c.args.bytes.now in
-    let p : Place = at_bits c.args.from b in
+    let p : LogicalSpan = at_bits c.args.from b in
     c.read_logical-is_read.ensures.bits
     ∙ (ap (λ (xs : List ℕ). overlay b (read_bit xs c.deref-2.result.now c.self.inside.fmmus p)) (c.deref.ensures.value ∙ ap (λ (x : SlaveState). x.memory) c.self.view_is)
     ∙ (ap (λ (ms : List SyncManager). overlay b (read_bit s.memory ms c.self.inside.fmmus p)) (c.deref-2.ensures.value ∙ ap (λ (x : SlaveState). x.managers) c.self.view_is)
@@ -27,7 +27,7 @@ pub returns-clause-added : goal.returns-clause-added
 returns-clause-added c =
     let s : SlaveState = c.args.self.now in
     let b : List ℕ = c.args.bytes.now in
-    let p : Place = at_bits c.args.from b in
+    let p : LogicalSpan = at_bits c.args.from b in
     let read : c.read_logical-is_read.result ≡ some_read s.memory s.managers (fmmus s) p
     = c.read_logical-is_read.ensures.any
     ∙ (ap (λ (xs : List ℕ). some_read xs c.deref-2.result.now c.self.inside.fmmus p) (c.deref.ensures.value ∙ ap (λ (x : SlaveState). x.memory) c.self.view_is)

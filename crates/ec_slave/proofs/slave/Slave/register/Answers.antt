@@ -8,8 +8,8 @@ use Rattle.ec_sii.specs.Port.{sii_byte}
 use Rattle.ec_sync.specs.SyncManager.{SyncManager}
 use Rattle.ec_sync.specs.Governing.{manager_byte}
 use Rattle.ec_slave.specs.State.{SlaveState}
-use Rattle.ec_slave.proofs.Applications.{indexed}
-use Rattle.ec_slave.proofs.RegisterBytes.{register-read, stored-byte, status-byte, code-byte, port-byte, settings-byte, link-byte}
+use Rattle.ec_slave.proofs.AppAccess.Bytes.{indexed}
+use Rattle.ec_slave.proofs.Memory.RegisterByte.{register-read, stored-byte, status-byte, code-byte, port-byte, settings-byte, link-byte}
 use Rattle.ec_slave.proofs.slave.Slave.register.Goals as goal
 
 pub returns-then-within : goal.returns-then-within

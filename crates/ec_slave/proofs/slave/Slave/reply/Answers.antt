@@ -5,11 +5,11 @@ use Rattle.ec_regs.specs.declared.manager.SyncManagerSettings.{SyncManagerSettin
 use Rattle.ec_coe.specs.ReplyBytes.{reply_bytes}
 use Rattle.ec_coe.specs.Objects.{Dictionary}
 use Rattle.ec_coe.specs.Answers.{Answer, answered}
-use Rattle.ec_coe.proofs.Effects.{answered-slots}
+use Rattle.ec_coe.proofs.DownloadEffects.{answered-slots}
 use Rattle.ec_slave.specs.State.{SlaveState, manager_at}
 use Rattle.ec_slave.specs.Serving.{is_preop, reply_counter, dictionary_of, answer_to, bytes_to}
-use Rattle.ec_slave.proofs.Applications.{indexed}
-use Rattle.ec_slave.proofs.Stepping.{replied-by}
+use Rattle.ec_slave.proofs.AppAccess.Bytes.{indexed}
+use Rattle.ec_slave.proofs.FirmwareRuns.StepParts.{replied-by}
 use Rattle.ec_slave.proofs.slave.Slave.reply.Goals as goal
 
 pub invariant_of-self : goal.invariant_of-self

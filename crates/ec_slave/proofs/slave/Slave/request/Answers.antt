@@ -6,7 +6,7 @@ use Rattle.ec_coe.specs.Messages.{message_read, message_length}
 use Rattle.ec_sync.specs.SyncManager.{SyncManager, message_in}
 use Rattle.ec_slave.specs.State.{SlaveState, manager_at}
 use Rattle.ec_slave.specs.Serving.{is_request, request_for}
-use Rattle.ec_slave.proofs.Applications.{indexed}
+use Rattle.ec_slave.proofs.AppAccess.Bytes.{indexed}
 use Rattle.ec_slave.proofs.slave.Slave.request.Goals as goal
 use Rattle.ec_slave.proofs.slave.Slave.request.Goals.{then-eq, else-eq}
 

@@ -4,8 +4,8 @@ use Rattle.ec_dl.specs.DataLink.{new_data_link}
 use Rattle.ec_sii.specs.Port.{idle_port}
 use Rattle.ec_sync.specs.SyncManager.{SyncManager}
 use Rattle.ec_slave.specs.State.{SlaveState, power_on}
-use Rattle.ec_slave.proofs.Assigning.{reset-as-new}
-use Rattle.ec_slave.proofs.Exchanges.{take_front}
+use Rattle.ec_slave.proofs.Always.PowerOn.{reset-as-new}
+use Rattle.ec_slave.proofs.LogicalAccess.ExchangedFrom.{take_front}
 use Rattle.ec_slave.proofs.slave.Slave.reset.Goals as goal
 
 pub returns : goal.returns

@@ -2,18 +2,18 @@ use Rattle.std.proofs.Common.{[], ◌≡◌, ◌*◌, ◌++◌, length, take, dr
 use Rattle.ec_bits.specs.Bits.{overlay}
 use Rattle.ec_regs.specs.declared.fmmu.FmmuSettings.{FmmuSettings}
 use Rattle.ec_sync.specs.SyncManager.{SyncManager}
-use Rattle.ec_fmmu.specs.Applied.{Place}
+use Rattle.ec_fmmu.specs.Applied.{LogicalSpan}
 use Rattle.ec_slave.specs.State.{SlaveState, fmmus_of, with_memory}
 use Rattle.ec_slave.specs.Logical.{logical_managers, plain_bit}
-use Rattle.ec_slave.proofs.Exchanges.{take_front}
-use Rattle.ec_slave.proofs.Moves.{slave_written, decoded-mapped, some_found}
+use Rattle.ec_slave.proofs.LogicalAccess.ExchangedFrom.{take_front}
+use Rattle.ec_slave.proofs.LogicalAccess.SlaveWritten.{slave_written, decoded-mapped, some_found}
 use Rattle.ec_slave.proofs.slave.Slave.write_bits.Goals as goal
 
 pub invariant_of-self : goal.invariant_of-self
 invariant_of-self c =
     let old : List ℕ = c.deref_mut.result.now in
     let new : List ℕ = c.write_logical-in_memory.new.memory in
-    let p : Place = record { from = c.args.from; bits = 8 * length c.args.bytes.now } in
+    let p : LogicalSpan = record { from = c.args.from; bits = 8 * length c.args.bytes.now } in
     let own = c.deref_mut.ensures.value in
     let ok = c.self.inside.memory.ok in
     let long = c.write_logical-in_memory.auto.memory in
@@ -32,7 +32,7 @@ invariant_of-self c =
 pub returns-clause-slave : goal.returns-clause-slave
 returns-clause-slave c =
     let s : SlaveState = c.args.self.now in
-    let p : Place = record { from = c.args.from; bits = 8 * length c.args.bytes.now } in
+    let p : LogicalSpan = record { from = c.args.from; bits = 8 * length c.args.bytes.now } in
     let fs : List FmmuSettings = c.self.inside.fmmus in
     let memory = ap (λ (x : SlaveState). x.memory) c.self.view_is in
     let managers = ap (λ (x : SlaveState). x.managers) c.self.view_is in
@@ -60,7 +60,7 @@ returns-clause-slave c =
 pub returns-clause-some : goal.returns-clause-some
 returns-clause-some c =
     let s : SlaveState = c.args.self.now in
-    let p : Place = record { from = c.args.from; bits = 8 * length c.args.bytes.now } in
+    let p : LogicalSpan = record { from = c.args.from; bits = 8 * length c.args.bytes.now } in
     let fs : List FmmuSettings = c.self.inside.fmmus in
     let b : List ℕ = c.args.bytes.now in
     let memory = ap (λ (x : SlaveState). x.memory) c.self.view_is in

@@ -3,14 +3,14 @@ use Rattle.ec_regs.specs.declared.fmmu.FmmuSettings.{FmmuSettings}
 use Rattle.ec_sync.specs.SyncManager.{SyncManager}
 use Rattle.ec_slave.specs.State.{SlaveState, fmmus_of}
 use Rattle.ec_slave.specs.Physical.{Window, memory_written, physical_managers, some_byte_written, touches}
-use Rattle.ec_slave.proofs.Decoded.{decoded-kept}
+use Rattle.ec_slave.proofs.LogicalAccess.FmmusOf.{decoded-kept}
 use Rattle.ec_sii.specs.Port.{Sii, written}
-use Rattle.ec_slave.proofs.Assigning.{written-image}
+use Rattle.ec_slave.proofs.Always.PowerOn.{written-image}
 use Rattle.ec_regs.specs.Memory.{al_control}
 use Rattle.ec_al.specs.Al.{requesting}
 use Rattle.ec_dl.specs.DataLink.{dl_takes, dl_written}
-use Rattle.ec_slave.proofs.Moves.{physically_written}
-use Rattle.ec_slave.proofs.Exchanges.{take_front}
+use Rattle.ec_slave.proofs.LogicalAccess.SlaveWritten.{physically_written}
+use Rattle.ec_slave.proofs.LogicalAccess.ExchangedFrom.{take_front}
 use Rattle.ec_slave.proofs.slave.Slave.write_bytes.Goals as goal
 
 pub invariant_of-self : goal.invariant_of-self
@@ -57,21 +57,21 @@ returns-clause-slave c =
     let front_2 : each ≡ met = take_front met _ c.self.inside.managers.len (omega (arith, ap length own_2, ok_2, long_2)) in
     let memory = ap (λ (x : SlaveState). x.memory) c.self.view_is in
     let managers = ap (λ (x : SlaveState). x.managers) c.self.view_is in
-    ap (λ (x : SlaveState). record x { memory = all; managers = each; al = c.write_control.new.al; sii = c.write_control.new.port; link = c.write-is_kept.new.self }) c.self.view_is
+    ap (λ (x : SlaveState). record x { memory = all; managers = each; al = c.write_control.new.al; sii = c.write_control.new.port; link = c.write-is_taken.new.self }) c.self.view_is
     ∙ physically_written s c.args.reads w all each _ _ _
     (front ∙ (c.write_physical-is_some.ensures.memory ∙ (ap (λ (xs : List ℕ). memory_written c.deref.result.now w xs) (own ∙ memory)
     ∙ ap (λ (ms : List SyncManager). memory_written ms w s.memory) (c.deref.ensures.value ∙ managers))))
     (front_2 ∙ (c.write_managers.ensures ∙ ap (physical_managers [] c.args.reads true w 0) (own_2 ∙ managers)))
     (c.write_control.ensures.al ∙ ap (λ (x : SlaveState). if touches w al_control then requesting x.al else x.al) c.self.view_is)
     (c.write_control.ensures.port ∙ ap (λ (x : SlaveState). written x.sii w.from w.bytes) c.self.view_is)
-    (c.write-is_kept.ensures.after ∙ ap (λ (x : SlaveState). dl_written x.link w.from w.bytes) c.self.view_is)
+    (c.write-is_taken.ensures.after ∙ ap (λ (x : SlaveState). dl_written x.link w.from w.bytes) c.self.view_is)
 
 pub returns-clause-some : goal.returns-clause-some
 returns-clause-some c =
     let s : SlaveState = c.args.self.now in
     let w : Window = record { from = c.args.from; bytes = c.args.bytes.now } in
     let managers = ap (λ (x : SlaveState). x.managers) c.self.view_is in
-    ap (λ (b : Bool). b || c.write-is_kept.result)
+    ap (λ (b : Bool). b || c.write-is_taken.result)
     (c.write_physical-is_some.ensures.some ∙ (ap (λ (ms : List SyncManager). some_byte_written ms c.is_busy-is_busy.result w) (c.deref.ensures.value ∙ managers)
     ∙ ap (λ (b : Bool). some_byte_written s.managers b w) (c.is_busy-is_busy.ensures ∙ ap (λ (x : SlaveState). x.sii.busy) c.self.view_is)))
-    ∙ ap (λ (b : Bool). some_byte_written s.managers s.sii.busy w || b) (c.write-is_kept.ensures.some ∙ ap (λ (x : SlaveState). dl_takes x.link w.from (length w.bytes)) c.self.view_is)
+    ∙ ap (λ (b : Bool). some_byte_written s.managers s.sii.busy w || b) (c.write-is_taken.ensures.some ∙ ap (λ (x : SlaveState). dl_takes x.link w.from (length w.bytes)) c.self.view_is)

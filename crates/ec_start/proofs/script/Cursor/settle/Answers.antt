@@ -1,5 +1,5 @@
 use Rattle.std.proofs.Common.{◌∙◌, sym, arith, length}
-use Rattle.ec_start.proofs.Aheads.{ahead_behind, is_behind}
+use Rattle.ec_start.proofs.CursorActions.{ahead_behind, is_behind}
 use Rattle.ec_start.proofs.script.Cursor.settle.Goals as goal
 
 pub loop-action-preserved : goal.loop-action-preserved

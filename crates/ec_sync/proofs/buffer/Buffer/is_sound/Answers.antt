@@ -12,5 +12,5 @@ returns-clause-draft c = λ d e.
 pub returns-clause-view : goal.returns-clause-view
 returns-clause-view c = λ v e.
     let i = c.self.invariant in
-    front-length c.self.inside.len c.self.inside.is_viewing c.self.inside.seen.items c.self.inside.published.items v (omega (arith, i)) (omega (arith, i))
+    front-length c.self.inside.len c.self.inside.is_viewing c.self.inside.open_view.items c.self.inside.published.items v (omega (arith, i)) (omega (arith, i))
     (ap (λ (b : Buffer). b.view) c.self.view_is ∙ e) ∙ ap (λ (b : Buffer). length b.published) c.self.view_is

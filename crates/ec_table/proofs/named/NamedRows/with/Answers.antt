@@ -1,6 +1,6 @@
 use Rattle.std.proofs.Common.{◌≡◌, false, [], refl}
 use Rattle.ec_table.specs.Names.{is_named}
-use Rattle.ec_table.proofs.Naming.{apart_more, place_more}
+use Rattle.ec_table.proofs.NameIndex.{apart_more, place_more}
 use Rattle.ec_table.proofs.named.NamedRows.with.Goals as goal
 
 pub invariant_of-result : goal.invariant_of-result

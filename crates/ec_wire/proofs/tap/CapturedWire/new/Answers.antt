@@ -1,4 +1,4 @@
-use Rattle.ec_wire.proofs.Tapping.{tapped_new}
+use Rattle.ec_wire.proofs.NotedPayloads.{tapped_new}
 use Rattle.ec_wire.proofs.tap.CapturedWire.new.Goals as goal
 
 pub invariant_of-result : goal.invariant_of-result

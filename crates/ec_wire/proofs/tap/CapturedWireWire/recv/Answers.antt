@@ -1,5 +1,5 @@
 use Rattle.std.proofs.Common.{false, take}
-use Rattle.ec_wire.proofs.Tapping.{tapped_more}
+use Rattle.ec_wire.proofs.NotedPayloads.{tapped_more}
 use Rattle.ec_wire.proofs.tap.CapturedWireWire.recv.Goals as goal
 
 pub invariant_of-self-2 : goal.invariant_of-self-2

@@ -1,5 +1,5 @@
 use Rattle.std.proofs.Common.{true}
-use Rattle.ec_wire.proofs.Tapping.{tapped_more}
+use Rattle.ec_wire.proofs.NotedPayloads.{tapped_more}
 use Rattle.ec_wire.proofs.tap.CapturedWireWire.send.Goals as goal
 
 pub invariant_of-self : goal.invariant_of-self

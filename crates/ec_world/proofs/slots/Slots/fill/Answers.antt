@@ -1,5 +1,5 @@
 use Rattle.ec_world.proofs.Words.{ℕ, ◌∙◌, Option, is_none, List, ap, set, position, sym, Flight}
-use Rattle.ec_world.proofs.Filling.{filled_in, not_filled}
+use Rattle.ec_world.proofs.SlotLaws.Filled.{filled_in, not_filled}
 use Rattle.ec_world.proofs.slots.Slots.fill.Goals as goal
 
 abbrev flight : List ℕ → ℕ → ℕ → Flight

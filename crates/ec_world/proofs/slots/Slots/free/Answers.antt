@@ -1,5 +1,5 @@
 use Rattle.std.proofs.Common.{arith}
-use Rattle.ec_world.proofs.Turns.{free_counted}
+use Rattle.ec_world.proofs.StartUp.HasTurned.{free_counted}
 use Rattle.ec_world.proofs.slots.Slots.free.Goals as goal
 
 pub returns : goal.returns

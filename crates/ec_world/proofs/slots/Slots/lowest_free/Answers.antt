@@ -1,5 +1,5 @@
 use Rattle.std.proofs.Common.{arith}
-use Rattle.ec_world.proofs.Turns.{lowest_found, lowest_behind, none_lowest}
+use Rattle.ec_world.proofs.StartUp.HasTurned.{lowest_found, lowest_behind, none_lowest}
 use Rattle.ec_world.proofs.slots.Slots.lowest_free.Goals as goal
 
 pub returns-in-Some : goal.returns-in-Some

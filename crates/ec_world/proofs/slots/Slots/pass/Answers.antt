@@ -1,5 +1,5 @@
 use Rattle.ec_world.proofs.Words.{◌<◌, ◌≡◌, ◌∙◌, List, Option, None, get_or, length, subst, sym, Flight}
-use Rattle.ec_world.proofs.Ways.{free_stays, has_moved, same_default, way_stays}
+use Rattle.ec_world.proofs.SlotLaws.Clearance.{free_stays, has_moved, same_default, clearance_stays}
 use Rattle.ec_world.proofs.slots.Slots.pass.Goals as goal
 
 abbrev Slots : Type 0
@@ -13,6 +13,6 @@ invariant_of-self c =
     let free : get_or items c.args.slot None ≡ None → c.pass.new.self ≡ None = λ e. c.pass.ensures.free (sym before ∙ e) in
     record {
       free = free_stays items c.self.inside.used c.args.slot c.pass.new.self c.self.invariant.free free;
-      way = way_stays items c.self.inside.way.slot c.self.inside.way.until c.args.slot c.pass.new.self c.self.invariant.way
+      clearance = clearance_stays items c.self.inside.clearance.slot c.self.inside.clearance.until c.args.slot c.pass.new.self c.self.invariant.clearance
           (has_moved c.args.ring.now c.pass.new.ring (get_or items c.args.slot None) c.pass.new.self (λ f e. c.pass.ensures.passed f (sym before ∙ e)) free);
     }

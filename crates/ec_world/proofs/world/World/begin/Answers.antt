@@ -1,5 +1,5 @@
 use Rattle.std.proofs.Common.{◌∙◌, sym}
-use Rattle.ec_world.proofs.Filling.{begun_frames}
+use Rattle.ec_world.proofs.SlotLaws.Filled.{begun_frames}
 use Rattle.ec_world.proofs.world.World.begin.Goals as goal
 
 pub place_frames-requires-clause-frames : goal.place_frames-requires-clause-frames

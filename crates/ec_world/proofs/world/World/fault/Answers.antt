@@ -1,5 +1,5 @@
 use Rattle.std.proofs.Common.{arith}
-use Rattle.ec_world.proofs.Stepping.{world_of, fault-step}
+use Rattle.ec_world.proofs.Refinement.IsStep.{world_of, fault-step}
 use Rattle.ec_world.proofs.world.World.fault.Goals as goal
 
 pub returns : goal.returns

@@ -1,6 +1,6 @@
 use Rattle.ec_world.proofs.Words.{◌∙◌, ap, length, sym, List, SlavePlan, StartState, MasterState, PlanState, plan_sound}
-use Rattle.ec_world.proofs.StepLaws.{begun_plan}
-use Rattle.ec_world.proofs.Newly.{usable-of, few-of}
+use Rattle.ec_world.proofs.Refinement.StepsRefine.{begun_plan}
+use Rattle.ec_world.proofs.StartUp.IsNew.{usable-of, few-of}
 use Rattle.std.proofs.Common.{rules}
 use Rattle.ec_world.proofs.world.World.new.Goals as goal
 

@@ -1,9 +1,9 @@
 use Rattle.ec_world.proofs.Words.{ℕ, ◌≡◌, ◌≤◌, ◌+◌, ◌∷◌, ◌++◌, [], List, sym, subst, arith, take, get_or, if◌then◌else◌, Bool, true, false, take_more, take_all, Event, StartNext, IsRun}
-use Rattle.ec_world.proofs.Plans.{run_keeps}
-use Rattle.ec_world.proofs.StepLaws.{run_more, runs_show}
-use Rattle.ec_world.proofs.ComingUp.{comes_up}
-use Rattle.ec_world.proofs.Newly.{told-new}
-use Rattle.ec_world.proofs.HeadlineInputs.{each_promised}
+use Rattle.ec_world.proofs.Runs.PlanLaw.{run_keeps}
+use Rattle.ec_world.proofs.Refinement.StepsRefine.{run_more, runs_refine}
+use Rattle.ec_world.proofs.StartUp.NewLaw.{comes_up}
+use Rattle.ec_world.proofs.StartUp.IsNew.{told-new}
+use Rattle.ec_world.proofs.Headline.HeadlineLaw.{each_promised}
 use Rattle.ec_world.proofs.world.World.run.Goals as goal
 use Rattle.ec_world.proofs.world.World.run.Goals.{then-make, else-make}
 use Rattle.std.proofs.Common.{rules}
@@ -43,8 +43,8 @@ returns-clause-steps c =
 pub returns-clause-plan : goal.returns-clause-plan
 returns-clause-plan c = run_keeps c.args.self.now c.args.events.now c.loop-event.self c.loop-event.made (returns-clause-steps c)
 
-pub returns-clause-shows : goal.returns-clause-shows
-returns-clause-shows c = runs_show c.args.self.now c.args.events.now c.loop-event.self c.loop-event.made c.is_sound.ensures (returns-clause-steps c)
+pub returns-clause-refines : goal.returns-clause-refines
+returns-clause-refines c = runs_refine c.args.self.now c.args.events.now c.loop-event.self c.loop-event.made c.is_sound.ensures (returns-clause-steps c)
 
 pub returns-clause-whole : goal.returns-clause-whole
 returns-clause-whole c = λ t is new. told-new t is c.args.self.now c.args.events.now c.loop-event.self c.loop-event.made new (returns-clause-steps c)

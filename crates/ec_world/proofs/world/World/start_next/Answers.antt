@@ -1,6 +1,6 @@
 use Rattle.ec_world.proofs.Words.{◌≡◌, ◌∙◌, ◌∷◌, [], List, ℕ, ap, subst, sym, true, Payload, IsFrame, bare_payload, frame_of, StartState, action_of, filled, Flight, can_start}
-use Rattle.ec_world.proofs.StepLaws.{asked_plan, resumed_plan}
-use Rattle.ec_world.proofs.Stepping.{world_of, next-sends, start-step}
+use Rattle.ec_world.proofs.Refinement.StepsRefine.{asked_plan, resumed_plan}
+use Rattle.ec_world.proofs.Refinement.IsStep.{world_of, next-sends, start-step}
 use Rattle.ec_world.proofs.world.World.start_next.Goals as goal
 
 abbrev flight : List ℕ → ℕ → Flight

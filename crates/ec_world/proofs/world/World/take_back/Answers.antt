@@ -1,6 +1,6 @@
 use Rattle.ec_world.proofs.Words.{Bool, ℕ, ◌∙◌, ap, get_or, None, option_map, sym, PlanState, may_return, flight_progress}
-use Rattle.ec_world.proofs.StepLaws.{handed_plans}
-use Rattle.ec_world.proofs.Stepping.{world_of, return-step}
+use Rattle.ec_world.proofs.Refinement.StepsRefine.{handed_plans}
+use Rattle.ec_world.proofs.Refinement.IsStep.{world_of, return-step}
 use Rattle.ec_world.proofs.world.World.take_back.Goals as goal
 
 pub hand_in-requires : goal.hand_in-requires

@@ -2,7 +2,7 @@ use Rattle.std.proofs.Common.{ℕ, ◌≡◌, ◌+◌, ◌-◌, ◌*◌, ◌/◌
 use Rattle.std.proofs.lemmas.Option.{IfSome_then}
 use Rattle.ec_bits.specs.Bits.{bit}
 use Rattle.ec_bits.proofs.AnyLaws.{if_true}
-use Rattle.ec_fmmu.specs.Applied.{Place}
+use Rattle.ec_fmmu.specs.Applied.{LogicalSpan}
 use Rattle.ec_slave.specs.Managers.{is_ungoverned}
 use Rattle.ec_slave.specs.Logical.{brought}
 use Rattle.ec_slave.proofs.logical.managers.Bits.source.Goals as goal
@@ -13,7 +13,7 @@ returns-clause-bits c =
     let lower = me.lower.now in
     let fs = me.fmmus.now in
     let bytes = me.bytes.now in
-    let p : Place = record { from = me.from; bits = 8 * length bytes } in
+    let p : LogicalSpan = record { from = me.from; bits = 8 * length bytes } in
     let start = c.args.start in
     IfSome_then c.whole_source.result c.whole_source.ensures.pairs (λ at h k l.
     let q : ℕ = 8 * start + k in

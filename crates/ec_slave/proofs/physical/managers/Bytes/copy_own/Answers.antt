@@ -4,10 +4,10 @@ use Rattle.std.proofs.lemmas.List.{places, length-replicate}
 use Rattle.ec_bits.specs.Bits.{zeros}
 use Rattle.ec_bits.proofs.AnyLaws.{if_true, within_parts}
 use Rattle.ec_sync.specs.Governing.{governor}
-use Rattle.ec_slave.specs.Physical.{Window, byte_from, retold_from}
-use Rattle.ec_slave.specs.Keeping.{length-retold}
-use Rattle.ec_slave.proofs.Told.{get-retold0}
-use Rattle.ec_slave.proofs.Windows.{from-at}
+use Rattle.ec_slave.specs.Physical.{Window, byte_from, updated_from}
+use Rattle.ec_slave.specs.Keeping.{length-updated}
+use Rattle.ec_slave.proofs.Memory.UpdatedAlong.{get-updated0}
+use Rattle.ec_slave.proofs.Memory.WindowBytes.{from-at}
 use Rattle.ec_slave.proofs.physical.managers.Bytes.copy_own.Goals as goal
 
 pub returns : goal.returns
@@ -27,11 +27,11 @@ returns c =
     let f : ℕ → Option ℕ = λ k. if is_none (governor lower (start + k)) then byte_from w (start + k) else None in
     let long : length ys ≡ len = search rules in
     let zero_long : length (zeros len) ≡ len = length-replicate len 0 in
-    same_number_lists ys (retold_from 0 (zeros len) f) (long ∙ sym (length-retold 0 (zeros len) f ∙ zero_long)) (λ i l.
+    same_number_lists ys (updated_from 0 (zeros len) f) (long ∙ sym (length-updated 0 (zeros len) f ∙ zero_long)) (λ i l.
     let l2 : i < len = omega (arith, l, long) in
     let own : get_or ys i 0 ≡ get_or xs (n + i) 0 = search (rules, places) in
     let at : n + i ≡ start + i - w.from = omega (arith, low) in
     let told : f i ≡ Some (slice_index xs (start + i - w.from))
     = if_true (is_none (governor lower (start + i))) (byte_from w (start + i)) None (c.requires.own (start + i) (omega arith) (omega arith))
     ∙ from-at w (start + i) (omega (arith, low)) (omega (arith, l2, high)) in
-    own ∙ (ap (λ k. get_or xs k 0) at ∙ (ap (λ o. unwrap_or o (get_or (zeros len) i 0)) (sym told) ∙ sym (get-retold0 (zeros len) f i (omega (arith, l2, zero_long))))))
+    own ∙ (ap (λ k. get_or xs k 0) at ∙ (ap (λ o. unwrap_or o (get_or (zeros len) i 0)) (sym told) ∙ sym (get-updated0 (zeros len) f i (omega (arith, l2, zero_long))))))

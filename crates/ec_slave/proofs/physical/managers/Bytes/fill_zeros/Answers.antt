@@ -3,10 +3,10 @@ use Rattle.std.proofs.lemmas.List.{set-get_or}
 use Rattle.ec_bits.proofs.AnyLaws.{if_true, if_false, within_parts}
 use Rattle.ec_sync.specs.SyncManager.{SyncManager}
 use Rattle.ec_sync.specs.Governing.{governor}
-use Rattle.ec_slave.specs.Physical.{Window, byte_from, retold}
-use Rattle.ec_slave.proofs.Choices.{none-from}
-use Rattle.ec_slave.proofs.Told.{told_along, told-none, told-step0, retold-whole}
-use Rattle.ec_slave.proofs.Windows.{from-at}
+use Rattle.ec_slave.specs.Physical.{Window, byte_from, updated}
+use Rattle.ec_slave.proofs.Memory.AnyBelow.{none-from}
+use Rattle.ec_slave.proofs.Memory.UpdatedAlong.{updated_along, told-none, told-step0, updated-whole}
+use Rattle.ec_slave.proofs.Memory.WindowBytes.{from-at}
 use Rattle.ec_slave.proofs.physical.managers.Bytes.fill_zeros.Goals as goal
 use Rattle.ec_slave.proofs.physical.managers.Bytes.fill_zeros.Goals.{then-is_none, else-is_none}
 
@@ -38,4 +38,4 @@ returns c =
     let w : Window = record { from = c.args.self.now.from; bytes = c.args.self.now.bytes.now } in
     let f : ℕ → Option ℕ = byte_under c.args.self.now.lower.now w c.args.start in
     let e : c.loop-k.k ≡ length c.args.value.now = omega arith in
-    c.loop-k.invariant ∙ (ap (λ n. told_along n 0 c.args.value.now f) e ∙ (retold-whole c.args.value.now f ∙ ap (λ xs. retold xs f) c.requires.zeroed))
+    c.loop-k.invariant ∙ (ap (λ n. updated_along n 0 c.args.value.now f) e ∙ (updated-whole c.args.value.now f ∙ ap (λ xs. updated xs f) c.requires.zeroed))

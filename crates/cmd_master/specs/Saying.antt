@@ -1,0 +1,36 @@
+-- What a line of `ecat master` prints, done once (this project's profile). `ec_script` defines the text of an output.
+use Rattle.std.specs.Prelude.{◌≡◌, ◌++◌, ℕ, List, Bool, true, false, None}
+use Rattle.ec_start.specs.Running.{outcome_of}
+use Rattle.ec_session.specs.Sessions.{SessionState}
+use Rattle.ec_script.specs.declared.line.Line.{Line}
+use Rattle.ec_script.specs.declared.output.LineOutput.{LineOutput}
+use Rattle.ec_script.specs.declared.output.LineOutput.TheVariants.{No, Ended}
+use Rattle.ec_script.specs.Expecting.{is_failed}
+use Rattle.ec_script.specs.Outputs.{is_unmet}
+use Rattle.ec_script.specs.Texts.{output_text}
+use Rattle.ec_console.specs.declared.wanted.Reasons.{Reasons}
+use Rattle.ec_console.specs.declared.wanted.Reasons.TheVariants.{Added}
+use Rattle.ec_console.specs.Reasons.{ReasonIf}
+use Rattle.ec_console.specs.Unmet.{unmet_of}
+use Rattle.cmd_master.specs.State.{MasteredState}
+use Rattle.cmd_master.specs.Doing.{Does, view_of}
+
+-- the outputs that a reason follows, if reasons are wanted: that a line can't be done, and that a start-up has failed
+abbrev pub is_reasoned : Reasons → SessionState → LineOutput → Bool
+is_reasoned Added s No = true
+is_reasoned Added s Ended = is_failed None (outcome_of s.startup.phase)
+is_reasoned _ s _ = false
+
+-- what line n prints for an output, by the session behind it
+abbrev pub plain_text : SessionState → ℕ → LineOutput → List ℕ
+plain_text s n said = output_text s.table n (view_of s) said
+
+-- A line is done once, the same with and without reasons. It prints the text of its output. Why it can't be done or has failed stands
+-- behind that, if reasons are wanted.
+pub record SaysLine (s : MasteredState) (line : Line) (t : MasteredState) (printed : List ℕ) (unmet : ℕ) : Type 0 where
+  pub said : LineOutput
+  pub does : Does line.action s t said
+  pub why : List ℕ
+  pub reason : ReasonIf (is_reasoned t.reasons t.session said) why
+  pub text : printed ≡ plain_text t.session line.number said ++ why
+  pub count : unmet ≡ unmet_of (is_unmet said)

@@ -1,0 +1,28 @@
+-- What private code returns. You don't need it to read what is printed.
+use Rattle.std.specs.Prelude.{◌≡◌, ◌++◌, ℕ, List, Result}
+use Rattle.ec_diagnostic.specs.Reason.{IsReason}
+use Rattle.ec_session.specs.Sessions.{SessionState}
+use Rattle.ec_script.specs.declared.line.Line.{Line}
+use Rattle.ec_script.specs.declared.output.LineOutput.{LineOutput}
+use Rattle.ec_script.specs.declared.read.Reading.{Reading}
+use Rattle.ec_console.specs.declared.refusal.Refusal.{Refusal}
+use Rattle.ec_console.specs.declared.wanted.Reasons.{Reasons}
+use Rattle.ec_console.specs.Coming.{ComesOut, ComesPart}
+use Rattle.ec_console.specs.Given.{Given}
+use Rattle.ec_console.specs.Printing.{OutputState}
+use Rattle.ec_console.specs.Reasons.{ReasonIf}
+use Rattle.ec_console.specs.Saying.{EndsRun}
+use Rattle.cmd_master.specs.Saying.{is_reasoned, plain_text}
+
+-- the text of line n, with a reason behind it
+abbrev pub IsReasonedText : SessionState → ℕ → LineOutput → List ℕ → Type 0
+IsReasonedText s n said text = (why : List ℕ) × IsReason why × (text ≡ plain_text s n said ++ why)
+
+-- the text of line n, with the reason behind it that it may have
+abbrev pub IsLineText : Reasons → SessionState → ℕ → LineOutput → List ℕ → Type 0
+IsLineText reasons s n said text = (why : List ℕ) × ReasonIf (is_reasoned reasons s said) why × (text ≡ plain_text s n said ++ why)
+
+-- the lines of an input lead a target to another state, or some of them do
+abbrev pub RunsTarget : {S : Type 0} → (S → Line → S → List ℕ → ℕ → Type 0) → (read : ℕ → List ℕ → Reading) → (begun last : S) → (input : Given) → (old new : OutputState) → Result Unit Refusal → Type 0
+RunsTarget {S} one read begun last input old new ended =
+    EndsRun (λ unmet. ComesOut one read begun input.bytes last unmet old new) (ComesPart one read begun input.bytes last old new) input.is_refused old new ended

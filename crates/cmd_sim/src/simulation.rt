@@ -1,0 +1,142 @@
+//! A simulated segment that lines act on.
+ghost use Rattle.std.specs.Prelude.{◌≡◌, IfOk, string_bytes};
+ghost use Rattle.cmd_sim.specs.Simulating.{is_reasoned};
+ghost use Rattle.cmd_sim.specs.Stages.{IsLineText};
+
+use crate::reasons::{has_cycle, reason_text};
+use crate::scene::Scene;
+use ec_console::{Reasons, Said, Target};
+use ec_link::Machine;
+use ec_script::{Line, LineAction, LineOutput, is_simulated, output_text};
+use ec_simulation::{view_of, watch_action};
+use ec_table::Table;
+use ec_world::{Watcher, World};
+use std::alloc::{AllocError, Global};
+use std::marker::Model;
+
+/// A simulated segment that lines act on, and what watches its events. With reasons, it also says why a line can't be done.
+#[derive(Drop)]
+pub struct Simulation<'m, S: Watcher + Drop> {
+    world: World<'m>,
+    watcher: S,
+    table: &'m Table,
+    reasons: Reasons,
+}
+
+impl<'m, S: Watcher + Drop> Model for Simulation<'m, S> {
+    ghost use Rattle.cmd_sim.specs.Simulating.{Simulated};
+
+    ghost Value = { Simulated S };
+
+    ghost view = { λ s. record { world = s.world; watcher = s.watcher; table = s.table.now; reasons = s.reasons } };
+}
+
+impl<'m, S: Watcher + Drop> Simulation<'m, S> {
+    /// A world of a machine that lines act on, with a watcher.
+    pub fn new(
+        world: World<'m>,
+        machine: &'m Machine,
+        reasons: Reasons,
+        watcher: S,
+    ) -> Simulation<'m, S>
+        ensures { result ≡ record { world = world.entry; watcher = watcher; table = machine.now; reasons = reasons } }
+    {
+        Simulation {
+            world,
+            watcher,
+            table: machine.table(),
+            reasons,
+        }
+    }
+
+    /// The same segment with another watcher.
+    pub fn watched_by<V: Watcher + Drop>(self, watcher: V) -> Simulation<'m, V>
+        ensures { result ≡ record { world = self.entry.world; watcher = watcher; table = self.entry.table; reasons = self.entry.reasons } }
+    {
+        let Simulation {
+            world,
+            watcher: _,
+            table,
+            reasons,
+        } = self;
+        Simulation {
+            world,
+            watcher,
+            table,
+            reasons,
+        }
+    }
+
+    /// The watcher, with what it kept.
+    pub fn into_watcher(self) -> S
+        ensures { result ≡ self.entry.watcher }
+    {
+        self.watcher
+    }
+}
+
+impl<'m, S: Watcher + Drop> Target for Simulation<'m, S> {
+    ghost use Rattle.cmd_sim.specs.Simulating.{Simulates, takes_action};
+
+    ghost table = { λ s. s.table };
+
+    ghost takes = { takes_action };
+
+    ghost says = { Simulates S.observed };
+
+    fn table(&self) -> &Table {
+        self.table
+    }
+
+    fn takes(&self, action: LineAction) -> bool {
+        is_simulated(action)
+    }
+
+    fn obey(&mut self, alloc: Global, line: &Line) -> Result<Said, AllocError> {
+        let had_cycle = has_cycle(&self.world);
+        let output = watch_action(&mut self.world, &mut self.watcher, line.action);
+        let scene = Scene {
+            table: self.table,
+            world: &self.world,
+        };
+        let text = line_text(alloc, scene, self.reasons, line, output, had_cycle)?;
+        Ok(Said {
+            text,
+            is_unmet: output.is_unmet(),
+        })
+    }
+}
+
+/// The text of a line, by the world that it left. If it says `no` and reasons are wanted, a line that says why stands behind it.
+/// `had_cycle` is whether a cycle was open before the line.
+#[tactic(auto, using(crate::proofs::SimLemmas::line_alone, crate::proofs::SimLemmas::line_reasoned))]
+fn line_text(
+    alloc: Global,
+    scene: Scene<'_, '_>,
+    reasons: Reasons,
+    line: &Line,
+    output: LineOutput,
+    had_cycle: bool,
+) -> Result<String, AllocError>
+    ensures { IfOk result (λ text.
+        IsLineText reasons scene.entry.table.now line.now.number scene.entry.world.now output (string_bytes text)) }
+{
+    let view = view_of(scene.world);
+    let mut text = output_text(alloc, scene.table, line.number, output, &view)?;
+    if !is_reasoned(reasons, output) {
+        return Ok(text);
+    }
+    let reason = reason_text(alloc, scene, line.action, had_cycle)?;
+    text.push_str(reason.as_str())?;
+    Ok(text)
+}
+
+/// Whether a reason stands behind the text of a line.
+fn is_reasoned(reasons: Reasons, output: LineOutput) -> bool
+    ensures { result ≡ is_reasoned reasons output }
+{
+    match (reasons, output) {
+        (Reasons::Added, LineOutput::No) => true,
+        _ => false,
+    }
+}

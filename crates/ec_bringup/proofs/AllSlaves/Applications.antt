@@ -1,0 +1,73 @@
+-- Applications that step between the frames of a start-up change nothing of what its next frame relies on.
+use Rattle.ec_bringup.proofs.Words.{ℕ, zero, suc, ◌+◌, ◌<◌, ◌≡◌, ◌≢◌, true, false, refl, sym, ◌∙◌, ap, arith, List, [], ◌∷◌, length, get_or-set_other, SlaveKind, Buffer, SyncManager, no_manager, SlaveState, manager_at, is_running, with_manager, Action, AwaitInit, AskWord, AwaitWord, AwaitState, AwaitReply, Stage, unviewed, Stands, IsSpelled, Rising, turned, turns, rising, Applied, Rests, Reads, Writes, AreApplied, TurnsTo, AppliedStays as Stays, Turns}
+use Rattle.ec_bringup.proofs.OneSlave.Fault.{Changed, buffered-stands}
+use Rattle.ec_bringup.proofs.AllSlaves.NextAction.{Sure}
+use Rattle.ec_bringup.proofs.AllSlaves.FramePasses.{Each}
+
+-- what each slave shows before an action
+pub record Stood (kind : SlaveKind) (i : ℕ) (st : Stage) (a : Action) (s : SlaveState) : Type 0 where
+  pub stands : Stands kind i st false s
+  pub spelled : IsSpelled kind.device s
+  pub sure : Sure kind i a s
+
+-- another buffer of a manager of process data
+abbrev with_buffer : SlaveState → ℕ → Buffer → SlaveState
+with_buffer s n b = with_manager s n (record (manager_at s.managers n) { buffer = b })
+
+sure-buffered : (kind : SlaveKind) (i : ℕ) (a : Action) (s : SlaveState) (n : ℕ) (b : Buffer) → n ≢ 1 → Sure kind i a s → Sure kind i a (with_buffer s n b)
+sure-buffered kind i AwaitInit s n b ne h = record { state_is = h.state_is; no_error = h.no_error }
+sure-buffered kind i (AskWord t which) s n b ne h = h
+sure-buffered kind i (AwaitWord t which) s n b ne h = h
+sure-buffered kind i (AwaitState t to) s n b ne h = λ q. let g = h q in record { state_is = g.state_is; no_error = g.no_error }
+sure-buffered kind i (AwaitReply t x r) s n b ne h = λ q.
+    let g = h q in
+    record {
+      raw = g.raw;
+      long = g.long;
+      mail = ap (λ (m : SyncManager). m.mail) (get_or-set_other s.managers n 1 (record (manager_at s.managers n) { buffer = b }) no_manager (λ e. ne (sym e))) ∙ g.mail;
+      fits = g.fits;
+    }
+sure-buffered kind i _ s n b ne h = tt
+
+stood-buffered : (kind : SlaveKind) (i : ℕ) (st : Stage) (a : Action) (s : SlaveState) (n : ℕ) (b : Buffer) → n < 4 → n ≢ 1 → is_running s.al.state ≡ true → (n ≡ 2 → unviewed b ≡ unviewed (manager_at s.managers n).buffer)
+    → Stood kind i st a s → Stood kind i st a (with_buffer s n b)
+stood-buffered kind i st a s n b l ne run same h = record {
+  stands = buffered-stands kind i st false s (with_buffer s n b) n l (Changed b run same refl) h.stands;
+  spelled = record { vendor = h.spelled.vendor; product = h.spelled.product; revision = h.spelled.revision };
+  sure = sure-buffered kind i a s n b ne h.sure;
+}
+
+pub stood-applied : (kind : SlaveKind) (i : ℕ) (st : Stage) (a : Action) (s t : SlaveState) → Applied s t → Stood kind i st a s → Stood kind i st a t
+stood-applied kind i st a s t (Rests _) h = h
+stood-applied kind i st a s t (Reads _ _ view run on) h =
+    stood-applied kind i st a _ t on (stood-buffered kind i st a s 2 (record (manager_at s.managers 2).buffer { view = view }) (omega arith) (λ e. omega (arith, e)) run (λ e. refl) h)
+stood-applied kind i st a s t (Writes _ _ inputs run on) h =
+    stood-applied kind i st a _ t on (stood-buffered kind i st a s 3 inputs (omega arith) (λ e. omega (arith, e)) run (λ e. absurd (omega (arith, e))) h)
+
+-- ---- all slaves
+
+pub each-applied : (P : ℕ → SlaveState → Type 0) (j : ℕ) (ss ts : List SlaveState) → ((i : ℕ) (s t : SlaveState) → Applied s t → P i s → P i t) → AreApplied ss ts → Each P j ss → Each P j ts
+each-applied P j [] [] keep app h = tt
+each-applied P j (s ∷ ss) (t ∷ ts) keep app h = (keep j s t app.0 h.0, each-applied P (j + 1) ss ts keep app.1 h.1)
+each-applied P j _ _ keep app h = absurd app
+
+pub applied-length : (ss ts : List SlaveState) → AreApplied ss ts → length ts ≡ length ss
+applied-length [] [] app = refl
+applied-length (s ∷ ss) (t ∷ ts) app = ap (λ (n : ℕ). suc n) (applied-length ss ts app.1)
+applied-length _ _ app = absurd app
+
+-- ---- turns
+
+all-rest : (ss : List SlaveState) → AreApplied ss ss
+all-rest [] = tt
+all-rest (s ∷ ss) = (Rests s, all-rest ss)
+
+-- no application steps
+pub turns-to : (k : ℕ) (r : Rising) → TurnsTo k r (turns k r)
+turns-to zero r = Stays r
+turns-to (suc k) r = Turns k r (turns k (turned r)) (turned r).slaves (all-rest (turned r).slaves) (turns-to k (turned r))
+
+-- one turn more
+pub turns-on : (k : ℕ) (r e : Rising) (ss : List SlaveState) → TurnsTo k r e → AreApplied (turned e).slaves ss → TurnsTo (suc k) r (rising (turned e).start ss)
+turns-on zero r e ss (Stays _) app = Turns 0 r (rising (turned r).start ss) ss app (Stays (rising (turned r).start ss))
+turns-on (suc k) r e ss (Turns _ _ _ ts first more) app = Turns (suc k) r (rising (turned e).start ss) ts first (turns-on k (rising (turned r).start ts) e ss more app)

@@ -1,0 +1,263 @@
+-- A frame of a start-up past all slaves: where each stands, and what comes back.
+use Rattle.ec_bringup.proofs.Words.{ℕ, suc, ◌+◌, ◌-◌, ◌*◌, ◌/◌, ◌%◌, ◌<◌, ◌≤◌, ◌≡◌, ◌≢◌, Bool, true, false, refl, ◌∙◌, ap, subst, inl, inr, arith, List, [], ◌∷◌, length, slice_index, ◌^◌, ◌==◌, Option, sym, if◌then◌else◌, bit_or, from_bool, cases_eq, or_left, eq-eqb, zeros, Device, SlaveKind, ram_start, is_stored, Apwr, Bwr, Datagram, IsDatagram, adp_of, State, Init, state_number, SiiImage, SlaveState, Meeting, Window, byte_at, window_of, meets, slave_met, datagram_met, meets-keeps, other_position_passes, Action, CountSlaves, AskInit, AwaitInit, ClearFmmus, ClearManagers, ClearStations, NameSlave, AskWord, AwaitWord, SetManager, SetFmmu, AskState, AwaitState, SendRequest, AwaitReply, station, datagram_of, Stage, after, Up, Config, Talk, Stands, IsUpAt, Talks, Arrives, Met, IsBroadcast, IsWriting, IsSpelled, all_passed, all_met, served, inside_kept, shows_itself, if_true, Verdict, Next, Word, verdict, CanAct, sent, word_at}
+use Rattle.ec_bringup.proofs.OneFrame.OtherSlaves.{IsOne, one-passes, ForAskState, ForAskWord, ForAwaitReply, ForAwaitState, ForAwaitWord, ForSend, ForSetFmmu, ForSetManager, IsFor, as_one}
+use Rattle.ec_bringup.proofs.OneFrame.FrameLaw.{pass-law, later-law, look, look-byte}
+use Rattle.ec_bringup.proofs.OneFrame.RegisterPolls.{write-counts, register-writes}
+use Rattle.ec_bringup.proofs.OneFrame.BroadcastWrites.{window-is, broadcast-writes}
+use Rattle.ec_bringup.proofs.OneFrame.NameSlave.{naming, position-writes}
+use Rattle.ec_bringup.proofs.OneFrame.RegisterWrites.{window-sent}
+use Rattle.ec_bringup.proofs.OneFrame.Commands.{IsThere, word_of, HasFound, ask-state-goes, ask-word-goes, set-fmmu-goes, set-manager-goes}
+use Rattle.ec_bringup.proofs.AllSlaves.NextAction.{Prior, Prompted, Sure, next-sure, up-of}
+use Rattle.ec_bringup.proofs.Mailbox.AwaitReply.{boxes-of}
+use Rattle.ec_bringup.proofs.OneFrame.Awaits.{Tells, await-state-ends, await-word-ends, await-reply-ends}
+use Rattle.ec_bringup.proofs.OneSlave.MailboxServed.{request-goes}
+
+-- a property of each slave by its place
+abbrev pub Each : (ℕ → SlaveState → Type 0) → ℕ → List SlaveState → Type 0
+Each P j [] = Unit {0}
+Each P j (s ∷ ss) = P j s × Each P (j + 1) ss
+
+-- ---- the image of the SII stays
+
+pub spelled-on : (t : Device) (s r : SlaveState) → r.sii.image ≡ s.sii.image → IsSpelled t s → IsSpelled t r
+spelled-on t s r e h = record {
+  vendor = ap (λ (i : SiiImage). i.identity.vendor) e ∙ h.vendor;
+  product = ap (λ (i : SiiImage). i.identity.product) e ∙ h.product;
+  revision = ap (λ (i : SiiImage). i.identity.revision) e ∙ h.revision;
+}
+
+-- ---- where each slave stands
+
+-- a slave that the whole frame has passed
+pub record After (kind : SlaveKind) (i : ℕ) (st : Stage) (a b : Action) (end : Datagram) (t : SlaveState) : Type 0 where
+  pub met : Met kind i st false a end t
+  pub spelled : IsSpelled kind.device t
+  pub sure : Stands kind i (after i st a) false t → Sure kind i b (served t)
+
+-- a datagram of an action as it comes to slave j, and the slaves from there on
+pub record Ahead (kinds : ℕ → SlaveKind) (stages : ℕ → Stage) (number : ℕ) (a : Action) (j : ℕ) (ss : List SlaveState) (d : Datagram) : Type 0 where
+  pub few : j + length ss ≤ 64
+  pub good : IsDatagram d
+  pub arrives : Arrives a number j d
+  pub priors : Each (λ i s. Prior (kinds i) i (stages i) a s) j ss
+
+look-step : (s : SlaveState) (d : Datagram) (number : ℕ) → IsBroadcast (datagram_of AwaitInit number) d → (datagram_met s d).counter ≡ (d.counter + 1) % 65536
+look-step s d number h = ap (λ (m : Meeting). m.datagram.counter) (look s d number h)
+
+status-init : (s : SlaveState) → IsThere Init s → byte_at s 0x0130 ≡ 1
+status-init s h = (shows_itself s).status ∙ (ap (λ (x : State). state_number x + 16 * from_bool s.al.error) h.state_is ∙ ap (λ (x : Bool). 1 + 16 * from_bool x) h.no_error)
+
+or-one : (x : ℕ) → x ≤ 1 → bit_or x 1 ≡ 1
+or-one (suc (suc x)) l = absurd (omega (arith, l))
+or-one _ l = refl
+
+-- the data after a slave in INIT
+init-data : (s : SlaveState) (d : Datagram) (number : ℕ) → IsBroadcast (datagram_of AwaitInit number) d → IsThere Init s → slice_index d.data_bytes 0 ≤ 1 → slice_index d.data_bytes 1 ≡ 0
+    → (slice_index (datagram_met s d).data_bytes 0 ≡ 1) × (slice_index (datagram_met s d).data_bytes 1 ≡ 0)
+init-data s d number h there low high = (
+  look-byte s d number 0 h (omega arith) ∙ (ap (bit_or (slice_index d.data_bytes 0)) (status-init s there) ∙ or-one (slice_index d.data_bytes 0) low),
+  look-byte s d number 1 h (omega arith) ∙ (ap (λ (x : ℕ). bit_or x (byte_at s 0x0131)) high ∙ ap (bit_or 0) (shows_itself s).status_high),
+)
+
+-- the slave that an action is for has its station address, and can be set
+own-prior : (kind : SlaveKind) (t number : ℕ) (a : Action) (st : Stage) (s : SlaveState) (P : Type 0) → IsOne a t number
+    → ((c : Config) → t < 64 → Prior kind t (Up c) a s → IsUpAt t c s → CanAct c a → P) → Prior kind t st a s → P
+own-prior kind t number a (Up c) s P one own h = let f = one.fits t (Up c) h.fits in own c f.0 h (up-of kind t c s h.stands) (f.2 refl)
+own-prior kind t number a st s P one own h = absurd (one.fits t st h.fits).1
+
+module _ (kinds : ℕ → SlaveKind) (stages : ℕ → Stage) (number : ℕ) where
+  onward : (a : Action) (j : ℕ) (s : SlaveState) (ss : List SlaveState) (d : Datagram) → Ahead kinds stages number a j (s ∷ ss) d
+      → Met (kinds j) j (stages j) false a (datagram_met s d) (slave_met s d) × Ahead kinds stages number a (j + 1) ss (datagram_met s d)
+  onward a j s ss d h =
+      let p = h.priors.0 in
+      let m = pass-law (kinds j) j (stages j) false a number d s (omega (arith, h.few)) h.good p.fits h.arrives p.stands in
+      (m.0, record { few = omega (arith, h.few); good = (meets-keeps s d h.good).0; arrives = m.1; priors = h.priors.1 })
+
+  later-all : (a : Action) (i k : ℕ) (ss : List SlaveState) (d : Datagram) (t : SlaveState) → i < k → Ahead kinds stages number a k ss d
+      → Met (kinds i) i (stages i) false a d t → Met (kinds i) i (stages i) false a (all_passed ss d) t
+  later-all a i k [] d t l h m = m
+  later-all a i k (s ∷ ss) d t l h m =
+      later-all a i (k + 1) ss (datagram_met s d) t (omega (arith, l)) (onward a k s ss d h).1
+      (later-law (kinds i) i (stages i) false (kinds k) k (stages k) false a number d t s l (omega (arith, h.few)) h.priors.0.fits h.good h.arrives h.priors.0.stands m)
+
+  pub pass-all : (a b : Action) (j : ℕ) (ss : List SlaveState) (d : Datagram) → Prompted a b → Ahead kinds stages number a j ss d
+      → Each (λ i t. After (kinds i) i (stages i) a b (all_passed ss d) t) j (all_met ss d)
+  pass-all a b j [] d p h = tt
+  pass-all a b j (s ∷ ss) d p h =
+      let here = onward a j s ss d h in (
+        record {
+          met = later-all a j (j + 1) ss (datagram_met s d) (slave_met s d) (omega arith) here.1 here.0;
+          spelled = spelled-on (kinds j).device s (slave_met s d) (inside_kept s d).image h.priors.0.spelled;
+          sure = next-sure (kinds j) j (stages j) number d s (slave_met s d) a b (omega (arith, h.few)) refl p h.priors.0 h.arrives;
+        },
+        pass-all a b (j + 1) ss (datagram_met s d) p here.1,
+      )
+
+  -- ---- a broadcast counts each slave
+
+  counter-all : (a : Action) (j : ℕ) (ss : List SlaveState) (d : Datagram) → ((i : ℕ) (s : SlaveState) (x : Datagram) → Arrives a number i x → (datagram_met s x).counter ≡ (x.counter + 1) % 65536)
+      → d.counter + length ss < 65536 → Ahead kinds stages number a j ss d → (all_passed ss d).counter ≡ d.counter + length ss
+  counter-all a j [] d each few h = let e : d.counter ≡ d.counter + 0 = omega arith in e
+  counter-all a j (s ∷ ss) d each few h =
+      let c : (datagram_met s d).counter ≡ d.counter + 1 = let x = each j s d h.arrives in omega (arith, x, few) in
+      let k = counter-all a (j + 1) ss (datagram_met s d) each (omega (arith, c, few)) (onward a j s ss d h).1 in
+      omega (arith, c, k)
+
+  all-count : (a : Action) (ss : List SlaveState) → (datagram_of a number).counter ≡ 0 → ((i : ℕ) (s : SlaveState) (x : Datagram) → Arrives a number i x → (datagram_met s x).counter ≡ (x.counter + 1) % 65536)
+      → Ahead kinds stages number a 0 ss (datagram_of a number) → (all_passed ss (datagram_of a number)).counter ≡ length ss
+  all-count a ss z each h = let k = counter-all a 0 ss (datagram_of a number) each (omega (arith, h.few, z)) h in omega (arith, k, z)
+
+  -- a write of registers that are stored
+  write-count : (a : Action) (ado : ℕ) (bytes : List ℕ) (ss : List SlaveState) → datagram_of a number ≡ sent Bwr 0 ado bytes number → ((i : ℕ) (x : Datagram) → Arrives a number i x → IsWriting (datagram_of a number) x (i % 65536))
+      → 0 < length bytes → ado + 0 < ram_start → is_stored (ado + 0) ≡ true → Ahead kinds stages number a 0 ss (datagram_of a number) → (all_passed ss (datagram_of a number)).counter ≡ length ss
+  write-count a ado bytes ss e is some low stored h =
+      let w : Window = record { from = ado; bytes = bytes } in
+      all-count a ss (ap (λ (x : Datagram). x.counter) e)
+      (λ i s x q. write-counts s x w 0 (broadcast-writes s x ((is i x q).command ∙ ap (λ (y : Datagram). y.command) e))
+      (window-is (datagram_of a number) x (i % 65536) w (is i x q) (ap window_of e ∙ window-sent Bwr 0 ado bytes number)) some (register-writes s w 0 low (or_left _ _ stored))) h
+
+  -- all show INIT, where one slave at least does
+  init-all : (j : ℕ) (s : SlaveState) (ss : List SlaveState) (d : Datagram) → slice_index d.data_bytes 0 ≤ 1 → slice_index d.data_bytes 1 ≡ 0 → Ahead kinds stages number AwaitInit j (s ∷ ss) d
+      → (slice_index (all_passed (s ∷ ss) d).data_bytes 0 ≡ 1) × (slice_index (all_passed (s ∷ ss) d).data_bytes 1 ≡ 0)
+  init-all j s [] d low high h = init-data s d number h.arrives h.priors.0.sure low high
+  init-all j s (t ∷ ss) d low high h =
+      let x = init-data s d number h.arrives h.priors.0.sure low high in
+      init-all (j + 1) t ss (datagram_met s d) (omega (arith, x.0)) x.1 (onward AwaitInit j s (t ∷ ss) d h).1
+
+  -- ---- an action for one slave: what that one makes of the datagram
+
+  one-beyond : (a : Action) (t j : ℕ) (ss : List SlaveState) (d : Datagram) → IsOne a t number → t < j → Ahead kinds stages number a j ss d → all_passed ss d ≡ d
+  one-beyond a t j [] d one l h = refl
+  one-beyond a t j (s ∷ ss) d one l h =
+      let f = one.fits j (stages j) h.priors.0.fits in
+      let m : meets s d ≡ record { slave = s; datagram = d }
+      = one-passes (kinds j) j t (stages j) false s one.e d one.ado (omega (arith, h.few)) f.0 (λ q. omega (arith, q, l)) f.1 h.priors.0.stands h.good one.command one.address (one.arrives j d h.arrives).gone_by in
+      let q : datagram_met s d ≡ d = ap (λ (x : Meeting). x.datagram) m in
+      ap (all_passed ss) q ∙ one-beyond a t (j + 1) ss d one (omega (arith, l)) (subst (λ (x : Datagram). Ahead kinds stages number a (j + 1) ss x) q (onward a j s ss d h).1)
+
+  one-reach : (a : Action) (t j : ℕ) (ss : List SlaveState) (d : Datagram) (P : Datagram → Type 0) (one : IsOne a t number) → ((s : SlaveState) → Prior (kinds t) t (stages t) a s → P (datagram_met s one.e))
+      → j ≤ t → t < j + length ss → Ahead kinds stages number a j ss d → P (all_passed ss d)
+  one-reach a t j [] d P one own l m h = absurd (omega (arith, l, m))
+  one-reach a t j (s ∷ ss) d P one own l m h = elim (cases_eq j t) [
+    | inl e ↦
+        subst P (sym (one-beyond a t (j + 1) ss (datagram_met s d) one (omega (arith, e)) (onward a j s ss d h).1 ∙ ap (datagram_met s) ((one.arrives j d h.arrives).to_come l)))
+        (own s (subst (λ (x : ℕ). Prior (kinds x) x (stages x) a s) e h.priors.0))
+    | inr ne ↦ one-reach a t (j + 1) ss (datagram_met s d) P one own (omega (arith, l, ne)) (omega (arith, m)) (onward a j s ss d h).1
+  ]
+
+  -- ---- a station address
+
+  name-beyond : (t j : ℕ) (ss : List SlaveState) (d : Datagram) → t < 64 → t < j → Ahead kinds stages number (NameSlave t) j ss d → (all_passed ss d).counter ≡ d.counter
+  name-beyond t j [] d lt l h = refl
+  name-beyond t j (s ∷ ss) d lt l h =
+      let adp : adp_of d ≢ 0 = λ z. omega (arith, h.arrives.adp_is, l, h.few, lt, z) in
+      let m = other_position_passes s d h.good (inr (inl h.arrives.command)) adp in
+      name-beyond t (j + 1) ss (datagram_met s d) lt (omega (arith, l)) (onward (NameSlave t) j s ss d h).1 ∙ ap (λ (x : Meeting). x.datagram.counter) m
+
+  name-reach : (t j : ℕ) (ss : List SlaveState) (d : Datagram) → t < 64 → j ≤ t → t < j + length ss → d.counter ≡ 0 → Ahead kinds stages number (NameSlave t) j ss d → (all_passed ss d).counter ≡ 1
+  name-reach t j [] d lt l m z h = absurd (omega (arith, l, m))
+  name-reach t j (s ∷ ss) d lt l m z h = elim (cases_eq t j) [
+    | inl e ↦
+        let adp : adp_of d ≡ 0 = omega (arith, h.arrives.adp_is, e, h.few) in
+        let win = window-is (datagram_of (NameSlave t) number) d _ (naming t) h.arrives (window-sent Apwr (65536 - t) 0x0010 (station t % 256 ∷ station t / 256 ∷ []) number) in
+        let c = write-counts s d (naming t) 0 (position-writes s d h.arrives.command adp) win (omega arith) (register-writes s (naming t) 0 (omega arith) refl) in
+        let k = name-beyond t (j + 1) ss (datagram_met s d) lt (omega (arith, e)) (onward (NameSlave t) j s ss d h).1 in
+        omega (arith, c, k, z)
+    | inr ne ↦
+        let p = other_position_passes s d h.good (inr (inl h.arrives.command)) (λ q. omega (arith, h.arrives.adp_is, ne, l, h.few, lt, q)) in
+        name-reach t (j + 1) ss (datagram_met s d) lt (omega (arith, l, ne)) (omega (arith, m)) (ap (λ (x : Meeting). x.datagram.counter) p ∙ z) (onward (NameSlave t) j s ss d h).1
+  ]
+
+-- ---- the verdict on a frame that passed all slaves undisturbed: the action is done, at the first frame
+
+-- what comes back where nothing disturbs
+abbrev pub wanted : (ℕ → Device) → Action → Verdict
+wanted types (AwaitWord t which) = Word (word_of (types t) which)
+wanted types _ = Next
+
+-- the slave that it is for is there
+abbrev pub IsInside : ℕ → Action → Type 0
+IsInside n (NameSlave t) = t < n
+IsInside n (AskWord t which) = (t < n) × (which < 3)
+IsInside n (AwaitWord t which) = (t < n) × (which < 3)
+IsInside n (SetManager t k m) = t < n
+IsInside n (SetFmmu t k f) = t < n
+IsInside n (AskState t to) = t < n
+IsInside n (AwaitState t to) = t < n
+IsInside n (SendRequest t counter b r) = t < n
+IsInside n (AwaitReply t b r) = t < n
+IsInside n _ = Unit {0}
+
+-- the words that were shown before are the type's
+abbrev pub Told : (ℕ → Device) → Device → Action → Type 0
+Told types seen (AskWord t which) = Tells (types t) seen which
+Told types seen (AwaitWord t which) = Tells (types t) seen which
+Told types seen _ = Unit {0}
+
+-- the frame as it is sent comes to the first slave
+pub sets-out : (a : Action) (number : ℕ) → Arrives a number 0 (datagram_of a number)
+sets-out CountSlaves number = record { command = refl; ado = refl; data_length = refl }
+sets-out AwaitInit number = record { command = refl; ado = refl; data_length = refl }
+sets-out AskInit number = record { command = refl; ado = refl; adp_is = refl; bytes = refl }
+sets-out ClearFmmus number = record { command = refl; ado = refl; adp_is = refl; bytes = refl }
+sets-out ClearManagers number = record { command = refl; ado = refl; adp_is = refl; bytes = refl }
+sets-out ClearStations number = record { command = refl; ado = refl; adp_is = refl; bytes = refl }
+sets-out (NameSlave t) number = record {
+  command = refl;
+  ado = refl;
+  bytes = refl;
+  adp_is = let e : ((65536 - t) % 65536 + 65536 * 0x0010) % 65536 ≡ (65536 - t + 0) % 65536 = omega arith in e;
+}
+sets-out a number = record { to_come = λ l. refl; gone_by = record { command = refl; address = refl } }
+
+-- a counter that is right
+right : (seen n : ℕ) (v w : Verdict) → seen ≡ n → (if seen == n then v else w) ≡ v
+right seen n v w e = if_true _ _ _ (eq-eqb seen n e)
+
+module _ (kinds : ℕ → SlaveKind) (stages : ℕ → Stage) (number step : ℕ) (seen : Device) (types : ℕ → Device) (s : SlaveState) (ss : List SlaveState) where
+  -- as the slave that it is for made it
+  one-ends : (a : Action) (t : ℕ) (is : IsFor t a) → t < length (s ∷ ss) → Ahead kinds stages number a 0 (s ∷ ss) (datagram_of a number)
+      → ((c : Config) (x : SlaveState) → t < 64 → Prior (kinds t) t (Up c) a x → IsUpAt t c x → CanAct c a → verdict (length (s ∷ ss)) step seen types a (datagram_met x (as_one number is).e) ≡ wanted types a)
+      → verdict (length (s ∷ ss)) step seen types a (all_passed (s ∷ ss) (datagram_of a number)) ≡ wanted types a
+  one-ends a t is l h own =
+      one-reach kinds stages number a t 0 (s ∷ ss) (datagram_of a number) (λ d. verdict (length (s ∷ ss)) step seen types a d ≡ wanted types a) (as_one number is)
+      (λ x k. own-prior (kinds t) t number a (stages t) x _ (as_one number is) (λ c. own c x) k) (omega arith) (omega (arith, l)) h
+
+  pub comes-back : (a : Action) → ((t : ℕ) → t < length (s ∷ ss) → types t ≡ (kinds t).device) → ((t which : ℕ) → t < length (s ∷ ss) → word_of (types t) which < 2 ^ 32)
+      → IsInside (length (s ∷ ss)) a → Told types seen a → Ahead kinds stages number a 0 (s ∷ ss) (datagram_of a number)
+      → verdict (length (s ∷ ss)) step seen types a (all_passed (s ∷ ss) (datagram_of a number)) ≡ wanted types a
+  comes-back CountSlaves same big inside told h = right _ _ _ _ (all-count kinds stages number CountSlaves (s ∷ ss) refl (λ i x d k. look-step x d number k) h)
+  comes-back AskInit same big inside told h =
+      right _ _ _ _ (write-count kinds stages number AskInit 0x0120 (0x11 ∷ 0 ∷ []) (s ∷ ss) refl (λ i x q. q) (omega arith) (omega arith) refl h)
+  comes-back AwaitInit same big inside told h =
+      let z : slice_index (datagram_of AwaitInit number).data_bytes 0 ≡ 0 = refl in
+      let x = init-all kinds stages number 0 s ss (datagram_of AwaitInit number) (omega (arith, z)) refl h in
+      let w : word_at (all_passed (s ∷ ss) (datagram_of AwaitInit number)).data_bytes 0 ≡ 1 = omega (arith, x.0, x.1) in
+      right _ _ _ _ (all-count kinds stages number AwaitInit (s ∷ ss) refl (λ i x d k. look-step x d number k) h) ∙ if_true _ _ _ (eq-eqb _ 1 w)
+  comes-back ClearFmmus same big inside told h =
+      right _ _ _ _ (write-count kinds stages number ClearFmmus 0x0600 (zeros 64) (s ∷ ss) refl (λ i x q. q) (omega arith) (omega arith) refl h)
+  comes-back ClearManagers same big inside told h =
+      right _ _ _ _ (write-count kinds stages number ClearManagers 0x0800 (zeros 32) (s ∷ ss) refl (λ i x q. q) (omega arith) (omega arith) refl h)
+  comes-back ClearStations same big inside told h =
+      right _ _ _ _ (write-count kinds stages number ClearStations 0x0010 (zeros 2) (s ∷ ss) refl (λ i x q. q) (omega arith) (omega arith) refl h)
+  comes-back (NameSlave t) same big inside told h =
+      right _ 1 _ _ (name-reach kinds stages number t 0 (s ∷ ss) (datagram_of (NameSlave t) number) (omega (arith, inside, h.few)) (omega arith) (omega (arith, inside)) refl h)
+  comes-back (AskWord t n) same big inside told h =
+      one-ends _ t (ForAskWord t n) inside.0 h (λ c x l k u can. right _ 1 _ _ (ask-word-goes x t n number u.configured.station_is l k.sure))
+  comes-back (AwaitWord t n) same big inside told h =
+      one-ends _ t (ForAwaitWord t n) inside.0 h (λ c x l k u can. await-word-ends (length (s ∷ ss)) step seen types x t n number u.configured.station_is l inside.1 (big t n inside.0) told
+      (subst (λ (y : Device). HasFound (word_of y n) x.sii) (sym (same t inside.0)) (k.sure refl)))
+  comes-back (SetManager t n m) same big inside told h =
+      one-ends _ t (ForSetManager t n m) inside h (λ c x l k u can. right _ 1 _ _ (set-manager-goes x t n m number u.configured.station_is l (omega (arith, can.1, can.2))))
+  comes-back (SetFmmu t n f) same big inside told h =
+      one-ends _ t (ForSetFmmu t n f) inside h (λ c x l k u can. right _ 1 _ _ (set-fmmu-goes x t n f number u.configured.station_is l (omega (arith, can.1, can.2))))
+  comes-back (AskState t to) same big inside told h =
+      one-ends _ t (ForAskState t to) inside h (λ c x l k u can. right _ 1 _ _ (ask-state-goes x t to number u.configured.station_is l))
+  comes-back (AwaitState t to) same big inside told h =
+      one-ends _ t (ForAwaitState t to) inside h (λ c x l k u can. await-state-ends (length (s ∷ ss)) step seen types x t to number u.configured.station_is l (k.sure refl))
+  comes-back (SendRequest t n b r) same big inside told h =
+      one-ends _ t (ForSend t n b r) inside h
+      (λ c x l k u can. right _ 1 _ _ (request-goes x t n c b r number u.configured.station_is l k.stands.slave.four can.2 u (subst (λ (o : Option Talk). Talks t c o x) can.1 u.talks).no_message))
+  comes-back (AwaitReply t b r) same big inside told h =
+      one-ends _ t (ForAwaitReply t b r) inside h
+      (λ c x l k u can. await-reply-ends (length (s ∷ ss)) step seen types x t b r number u.configured.station_is l (boxes-of t b c x k.stands.slave.four can.2 u) (k.sure refl))

@@ -1,0 +1,103 @@
+-- The polls of a start-up at a slave that has what is waited for: one poll ends the wait.
+use Rattle.ec_bringup.proofs.Words.{ℕ, zero, suc, ◌+◌, ◌*◌, ◌%◌, ◌^◌, ◌<◌, ◌≤◌, ◌≡◌, ◌==◌, ◌&&◌, not, Bool, true, false, Some, refl, sym, ◌∙◌, ap, arith, List, length, slice_index, is_some, bit_at, to_le_bytes, w32, from_bool, from_le_bytes-to_le_bytes_4, eq-eqb, and_from, length-replicate, zeros, if_true, if_false, Device, Mailbox, ram_start, Fprd, adp_of, State, Init, state_number, may_read, SlaveState, station_of, manager_at, Window, byte_at, byte_read, updated, some_byte_read, window_of, datagram_met, message_read, AwaitWord, AwaitState, AwaitReply, SdoRequest, station, sent, datagram_of, Next, Word, with_word, is_device, word_at, long_at, word_verdict, message_verdict, verdict, shows_itself}
+use Rattle.ec_bringup.proofs.OneFrame.RegisterWrites.{window-sent}
+use Rattle.ec_bringup.proofs.OneFrame.RegisterPolls.{read-byte, read-bytes, register-shows}
+use Rattle.ec_bringup.proofs.Mailbox.AwaitReply.{Boxes, asking, read-counter, some-read, raw-read}
+use Rattle.ec_bringup.proofs.OneFrame.Commands.{IsThere, HasFound, word_of}
+
+-- byte k of the data that comes back
+back : (s : SlaveState) (i ado n number k : ℕ) → station_of s ≡ station i → i < 64 → ado + n ≤ ram_start → k < n
+    → slice_index (datagram_met s (sent Fprd (station i) ado (zeros n) number)).data_bytes k ≡ byte_at s (ado + k)
+back s i ado n number k e l r b =
+    let z = length-replicate {A = ℕ} n 0 in
+    read-byte s (sent Fprd (station i) ado (zeros n) number) (record { from = ado; bytes = zeros n }) k refl
+    (let a : (station i % 65536 + 65536 * ado) % 65536 ≡ station_of s = omega (arith, e, l) in a) (window-sent Fprd (station i) ado (zeros n) number) (omega (arith, r, z)) (omega (arith, b, z))
+
+-- ---- a state
+
+good-state : (st : State) → (bit_at (state_number st) 4 == 1) ≡ false
+good-state Init = refl
+good-state _ = refl
+
+same-state : (st : State) → (state_number st % 32 == state_number st) ≡ true
+same-state Init = refl
+same-state _ = refl
+
+pub await-state-ends : (n step : ℕ) (seen : Device) (types : ℕ → Device) (s : SlaveState) (i : ℕ) (state : State) (number : ℕ) → station_of s ≡ station i → i < 64 → IsThere state s
+    → verdict n step seen types (AwaitState i state) (datagram_met s (datagram_of (AwaitState i state) number)) ≡ Next
+await-state-ends n step seen types s i state number e l h =
+    let b : slice_index (datagram_met s (datagram_of (AwaitState i state) number)).data_bytes 0 ≡ state_number state
+    = back s i 0x0130 6 number 0 e l (omega arith) (omega arith) ∙ ((shows_itself s).status ∙ (ap (λ (x : State). state_number x + 16 * from_bool s.al.error) h.state_is ∙ (ap (λ (x : Bool). state_number state + 16 * from_bool x) h.no_error ∙ more (state_number state)))) in
+    if_true _ _ _ (eq-eqb _ 1 (register-shows s i 0x0130 (zeros 6) number 0 e l (omega arith) (omega arith)))
+    ∙ (if_false _ _ _ (ap (λ (x : ℕ). bit_at x 4 == 1) b ∙ good-state state) ∙ if_true _ _ _ (ap (λ (x : ℕ). x % 32 == state_number state) b ∙ same-state state))
+  where
+    more : (n : ℕ) → n + 16 * 0 ≡ n
+    more n = omega arith
+
+-- ---- a word
+
+long-spells : (bytes : List ℕ) (n : ℕ) → n < 2 ^ 32 → ((j : ℕ) → j < 4 → slice_index bytes (6 + j) ≡ slice_index (to_le_bytes w32 n) j) → long_at bytes 6 ≡ n
+long-spells bytes n l h =
+    let a = h 0 (omega arith) in let b = h 1 (omega arith) in let c = h 2 (omega arith) in let d = h 3 (omega arith) in
+    omega (arith, a, b, c, d, from_le_bytes-to_le_bytes_4 n l)
+
+-- the words that this slave has shown before are the type's
+abbrev pub Tells : Device → Device → ℕ → Type 0
+Tells t s zero = Unit {0}
+Tells t s (suc zero) = s.vendor ≡ t.vendor
+Tells t s (suc (suc which)) = (s.vendor ≡ t.vendor) × (s.product ≡ t.product)
+
+fits : (t : Device) (s : Device) (which : ℕ) → which < 3 → Tells t s which → ((which == 2) && not (is_device t (with_word s which (word_of t which)))) ≡ false
+fits t s (suc (suc zero)) l h =
+    ap not (and_from _ _ (eq-eqb t.vendor s.vendor (sym h.0)) (and_from _ _ (eq-eqb t.product s.product (sym h.1)) (eq-eqb t.revision t.revision refl)))
+fits t s (suc (suc (suc which))) l h = absurd (omega (arith, l))
+fits t s _ l h = refl
+
+pub word-ends : (t : Device) (seen : Device) (i which : ℕ) (bytes : List ℕ) → which < 3 → Tells t seen which → word_at bytes 0 ≡ 0 → long_at bytes 6 ≡ word_of t which
+    → word_verdict t seen i which bytes ≡ Word (word_of t which)
+word-ends t seen i which bytes l h z e =
+    if_false _ _ _ (ap (λ (x : ℕ). bit_at x 13 == 1) z)
+    ∙ (if_false _ _ _ (ap (λ (x : ℕ). bit_at x 15 == 1) z)
+    ∙ (if_false _ _ _ (ap (λ (x : ℕ). (which == 2) && not (is_device t (with_word seen which x))) e ∙ fits t seen which l h)
+    ∙ ap (λ (x : ℕ). Word x) e))
+
+pub await-word-ends : (n step : ℕ) (seen : Device) (types : ℕ → Device) (s : SlaveState) (i which : ℕ) (number : ℕ) → station_of s ≡ station i → i < 64 → which < 3
+    → word_of (types i) which < 2 ^ 32 → Tells (types i) seen which → HasFound (word_of (types i) which) s.sii
+    → verdict n step seen types (AwaitWord i which) (datagram_met s (datagram_of (AwaitWord i which) number)) ≡ Word (word_of (types i) which)
+await-word-ends n step seen types s i which number e l w big told h =
+    let low : slice_index (datagram_met s (datagram_of (AwaitWord i which) number)).data_bytes 0 ≡ 0 = back s i 0x0502 10 number 0 e l (omega arith) (omega arith) ∙ (shows_itself s).sii_low in
+    let high : slice_index (datagram_met s (datagram_of (AwaitWord i which) number)).data_bytes 1 ≡ 0
+    = back s i 0x0502 10 number 1 e l (omega arith) (omega arith) ∙ ((shows_itself s).sii_high ∙ (ap (λ (x : Bool). from_bool x + 32 * from_bool s.sii.error + 128 * from_bool x) h.idle ∙ ap (λ (x : Bool). 0 + 32 * from_bool x + 128 * 0) h.no_error)) in
+    if_true _ _ _ (eq-eqb _ 1 (register-shows s i 0x0502 (zeros 10) number 0 e l (omega arith) (omega arith)))
+    ∙ word-ends (types i) seen i which (datagram_met s (datagram_of (AwaitWord i which) number)).data_bytes w told
+    (omega (arith, low, high))
+    (long-spells (datagram_met s (datagram_of (AwaitWord i which) number)).data_bytes (word_of (types i) which) big
+    (λ j b. back s i 0x0502 10 number (6 + j) e l (omega arith) (omega (arith, b)) ∙ (moved j ∙ ((shows_itself s).sii_found j b ∙ ap (λ (x : ℕ). slice_index (to_le_bytes w32 x) j) h.found_is))))
+  where
+    moved : (j : ℕ) → byte_at s (0x0502 + (6 + j)) ≡ byte_at s (0x0508 + j)
+    moved j = let q : 0x0502 + (6 + j) ≡ 0x0508 + j = omega arith in ap (byte_at s) q
+
+-- ---- a reply
+
+-- the reply that is wanted lies in manager 1
+pub record HasReply (i : ℕ) (r : SdoRequest) (size : ℕ) (s : SlaveState) : Type 0 where
+  pub raw : List ℕ
+  pub long : length raw ≡ size
+  pub mail : (manager_at s.managers 1).mail ≡ Some raw
+  pub fits : message_verdict i r (message_read raw) ≡ Next
+
+pub await-reply-ends : (n step : ℕ) (seen : Device) (types : ℕ → Device) (s : SlaveState) (i : ℕ) (b : Mailbox) (r : SdoRequest) (number : ℕ) → station_of s ≡ station i → i < 64
+    → Boxes b s → HasReply i r b.send_size s
+    → verdict n step seen types (AwaitReply i b r) (datagram_met s (datagram_of (AwaitReply i b r) number)) ≡ Next
+await-reply-ends n step seen types s i b r number e l bx h =
+    let adp : adp_of (datagram_of (AwaitReply i b r) number) ≡ station_of s = omega (arith, e, l) in
+    let w : window_of (datagram_of (AwaitReply i b r) number) ≡ asking b = window-sent Fprd (station i) b.send_start (zeros b.send_size) number in
+    let full : may_read (manager_at s.managers 1) ≡ true = and_from _ _ bx.enabled (and_from _ _ bx.read (if_true _ _ _ bx.box ∙ ap is_some h.mail)) in
+    let sum : (datagram_met s (datagram_of (AwaitReply i b r) number)).counter ≡ 1
+    = read-counter s (datagram_of (AwaitReply i b r) number) refl adp ∙ (ap (λ (x : Window). (0 + from_bool (some_byte_read s.managers x)) % 65536) w
+    ∙ ap (λ (x : Bool). (0 + from_bool x) % 65536) (some-read b s true bx full)) in
+    let bytes : (datagram_met s (datagram_of (AwaitReply i b r) number)).data_bytes ≡ h.raw
+    = read-bytes s (datagram_of (AwaitReply i b r) number) refl adp ∙ (ap (λ (x : Window). updated x.bytes (byte_read s false x)) w ∙ raw-read b s h.raw bx h.mail h.long full) in
+    if_false _ _ _ (ap (λ (x : ℕ). x == 0) sum)
+    ∙ (if_true _ _ _ (ap (λ (x : ℕ). x == 1) sum)
+    ∙ (ap (λ (x : List ℕ). message_verdict i r (message_read x)) bytes ∙ h.fits))

@@ -1,0 +1,102 @@
+-- The commands of a start-up at their slave: each counts 1, and what the firmware step after it makes of it.
+use Rattle.ec_bringup.proofs.Words.{ℕ, zero, suc, ◌+◌, ◌-◌, ◌*◌, ◌/◌, ◌%◌, ◌<◌, ◌≤◌, ◌≡◌, ◌&&◌, not, Bool, true, false, List, Option, Some, None, Ok, refl, sym, ◌∙◌, ap, subst, arith, [], ◌∷◌, length, or_left, and_left, le-leb, if_true, if_false, SyncManagerSettings, FmmuSettings, Device, device_of, is_stored, takes_writes, manager_bytes, fmmu_bytes, State, Init, PreOp, SafeOp, Op, Checks, state_number, answer, requested_by, acknowledges, Al, sii_image_word_at as word_at, size_of, Sii, written, read_command, SlaveState, station_of, datagram_met, control_word, checks_of, served, AskWord, SetManager, SetFmmu, AskState, station, datagram_of, word_address_of, IsStepUp, IsAsked, IsSpelled, settles}
+use Rattle.ec_al.specs.Al as al
+use Rattle.ec_sii.specs.Port as port
+use Rattle.ec_bringup.proofs.OneFrame.RegisterPolls.{register-goes}
+use Rattle.ec_bringup.proofs.OneFrame.SetRegisters.{fmmu-stored}
+
+-- ---- they count
+
+pub ask-state-goes : (s : SlaveState) (i : ℕ) (state : State) (number : ℕ) → station_of s ≡ station i → i < 64 → (datagram_met s (datagram_of (AskState i state) number)).counter ≡ 1
+ask-state-goes s i state number e l = register-goes s i 0x0120 (state_number state ∷ 0 ∷ []) number 0 e l (omega arith) (omega arith) refl
+
+pub ask-word-goes : (s : SlaveState) (i which number : ℕ) → station_of s ≡ station i → i < 64 → s.sii.busy ≡ false → (datagram_met s (datagram_of (AskWord i which) number)).counter ≡ 1
+ask-word-goes s i which number e l idle =
+    register-goes s i 0x0502 (read_command (word_address_of which)) number 0 e l (let n : length (read_command (word_address_of which)) ≡ 6 = refl in omega (arith, n)) (omega arith) (ap (λ (b : Bool). takes_writes b 0x0502) idle)
+
+pub set-fmmu-goes : (s : SlaveState) (i n : ℕ) (f : FmmuSettings) (number : ℕ) → station_of s ≡ station i → i < 64 → n < 4 → (datagram_met s (datagram_of (SetFmmu i n f) number)).counter ≡ 1
+set-fmmu-goes s i n f number e l b =
+    register-goes s i (0x0600 + 16 * n) (fmmu_bytes f) number 0 e l (let k : length (fmmu_bytes f) ≡ 16 = refl in omega (arith, k)) (omega (arith, b)) (or_left _ _ (fmmu-stored n 0 b (omega arith)))
+
+manager-stored : (n : ℕ) → n < 4 → is_stored (0x0800 + 8 * n + 0) ≡ true
+manager-stored (suc (suc (suc (suc n)))) l = absurd (omega (arith, l))
+manager-stored _ l = refl
+
+pub set-manager-goes : (s : SlaveState) (i n : ℕ) (m : SyncManagerSettings) (number : ℕ) → station_of s ≡ station i → i < 64 → n < 4 → (datagram_met s (datagram_of (SetManager i n m) number)).counter ≡ 1
+set-manager-goes s i n m number e l b =
+    register-goes s i (0x0800 + 8 * n) (manager_bytes m) number 0 e l (let k : length (manager_bytes m) ≡ 8 = refl in omega (arith, k)) (omega (arith, b)) (or_left _ _ (manager-stored n b))
+
+-- ---- a state that was asked for is granted, where the checks of the step pass
+
+abbrev pub Passes : Checks → State → Type 0
+Passes checks PreOp = checks.mailbox ≡ true
+Passes checks SafeOp = (checks.outputs ≡ true) × (checks.inputs ≡ true)
+Passes checks _ = Unit {0}
+
+pub answer-granted : (from to : State) (checks : Checks) → IsStepUp from to → Passes checks to → answer from (requested_by (state_number to)) checks ≡ Ok to
+answer-granted Init PreOp checks h p = if_true _ _ _ p
+answer-granted PreOp SafeOp checks h p = if_true _ _ _ p.0 ∙ if_true _ _ _ p.1
+answer-granted SafeOp Op checks h p = refl
+answer-granted _ _ checks h p = absurd h
+
+-- in the state, without an error
+pub record IsThere (state : State) (s : SlaveState) : Type 0 where
+  pub state_is : s.al.state ≡ state
+  pub no_error : s.al.error ≡ false
+
+pub granted : (s : SlaveState) (from to : State) → IsStepUp from to → IsAsked from (state_number to) s → Passes (checks_of s) to → IsThere to (served s)
+granted s from to up h p =
+    let d : al.decided s.al (control_word s) (checks_of s) ≡ al.answered s.al (Ok to)
+    = if_false (s.al.error && not (acknowledges (control_word s))) (al.ignored s.al) _ (and_left _ _ h.no_error)
+    ∙ (ap (λ (k : ℕ). al.answered s.al (answer s.al.state (requested_by k) (checks_of s))) h.control_is
+    ∙ (ap (λ (t : State). al.answered s.al (answer t (requested_by (state_number to)) (checks_of s))) h.state
+    ∙ ap (λ r. al.answered s.al r) (answer-granted from to (checks_of s) up p))) in
+    let q : (served s).al ≡ al.answered s.al (Ok to) = (settles s).al ∙ (if_true _ _ _ h.request ∙ d) in
+    record { state_is = ap (λ (x : Al). x.state) q; no_error = ap (λ (x : Al). x.error) q }
+
+-- ---- a word of the SII that was asked for is found
+
+abbrev pub word_of : Device → ℕ → ℕ
+word_of t zero = t.vendor
+word_of t (suc zero) = t.product
+word_of t (suc (suc which)) = t.revision
+
+pub record HasFound (value : ℕ) (p : Sii) : Type 0 where
+  pub idle : p.busy ≡ false
+  pub no_error : p.error ≡ false
+  pub found_is : p.found ≡ value
+
+whole : (n : ℕ) → n % 65536 + 65536 * (n / 65536) ≡ n
+whole n = omega arith
+
+-- every image has the words of the identity
+room : (o : Option (List ℕ)) → 62 ≤ 64 * size_of o - 2
+room None = omega arith
+room (Some categories) = omega arith
+
+-- a read that is under way there is finished
+finished-read : (q : Sii) → q.busy ≡ true → q.address ≤ 62 → port.stepped q ≡ record { image = q.image; address = q.address; busy = false; error = q.error; found = port.two_words q.image q.address }
+unfolding port.stepped
+finished-read q b l = if_true _ _ _ b ∙ if_true _ _ _ (le-leb q.address (port.last_address q.image) (let r = room q.image.categories in omega (arith, l, r)))
+
+found-by : (value : ℕ) (q : Sii) → q.busy ≡ true → q.error ≡ false → q.address ≤ 62 → port.two_words q.image q.address ≡ value → HasFound value (port.stepped q)
+found-by value q b e l f = subst (HasFound value) (sym (finished-read q b l)) (record { idle = refl; no_error = e; found_is = f })
+
+finds : (p : Sii) (which : ℕ) → which < 3 → p.busy ≡ false → HasFound (word_of (device_of p.image.identity) which) (port.stepped (written p 0x0502 (read_command (word_address_of which))))
+unfolding written word_at
+finds p zero l e = subst (λ (q : Sii). HasFound p.image.identity.vendor (port.stepped q)) (sym (if_false _ _ _ e)) (found-by p.image.identity.vendor _ refl refl (omega arith) (whole p.image.identity.vendor))
+finds p (suc zero) l e = subst (λ (q : Sii). HasFound p.image.identity.product (port.stepped q)) (sym (if_false _ _ _ e)) (found-by p.image.identity.product _ refl refl (omega arith) (whole p.image.identity.product))
+finds p (suc (suc zero)) l e = subst (λ (q : Sii). HasFound p.image.identity.revision (port.stepped q)) (sym (if_false _ _ _ e)) (found-by p.image.identity.revision _ refl refl (omega arith) (whole p.image.identity.revision))
+finds p (suc (suc (suc which))) l e = absurd (omega (arith, l))
+
+spelled-word : (t : Device) (s : SlaveState) (which : ℕ) → IsSpelled t s → word_of (device_of s.sii.image.identity) which ≡ word_of t which
+spelled-word t s zero h = h.vendor
+spelled-word t s (suc zero) h = h.product
+spelled-word t s (suc (suc which)) h = h.revision
+
+-- by the write alone: what the SII port became
+pub word-found : (t : Device) (s r : SlaveState) (which : ℕ) → which < 3 → s.sii.busy ≡ false → IsSpelled t s → r.sii ≡ written s.sii 0x0502 (read_command (word_address_of which))
+    → HasFound (word_of t which) (served r).sii
+word-found t s r which l e h q =
+    subst (λ (p : Sii). HasFound (word_of t which) p) (sym ((settles r).sii ∙ ap port.stepped q))
+    (subst (λ (n : ℕ). HasFound n (port.stepped (written s.sii 0x0502 (read_command (word_address_of which))))) (spelled-word t s which h) (finds s.sii which l e))

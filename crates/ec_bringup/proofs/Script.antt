@@ -1,0 +1,9 @@
+-- The script as a way up.
+-- the script brings every slave to the top
+pub mod Walks
+-- from one frame to the next, and from the first to the last
+pub mod IsPath
+-- the checks of the AL state machine pass at a slave that was set as the plan says
+pub mod ChecksGranted
+-- the plan of a table without faults is complete
+pub mod CompiledPlansLaw

@@ -1,5 +1,0 @@
-use Rattle.std.proofs.Common.{◌≡◌}
-use Rattle.ec_diagnostic.proofs.telling.remarks_of.Given as goal
-
-abbrev pub invariant-loop-saying : goal.invariant-loop-saying
-invariant-loop-saying l = l.remarks.text ≡ l.text

@@ -1,7 +1,0 @@
-use Rattle.std.proofs.Common.{◌∙◌, ℕ, List, subst}
-use Rattle.ec_console.specs.Printing.{IsTold}
-use Rattle.ec_segment.proofs.segment.tell_listening.Goals as goal
-
-pub returns : goal.returns
-returns g c =
-    subst (λ (text : List ℕ). IsTold text c.args.faults.now c.tell_text.new.self) (c.as_bytes.ensures.value ∙ (c.deref.ensures.0 ∙ c.listening-line.ensures)) c.tell_text.ensures

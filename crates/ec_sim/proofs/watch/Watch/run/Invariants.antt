@@ -1,8 +1,0 @@
-use Rattle.std.proofs.Common.{drop}
-use Rattle.ec_world.specs.World.{WorldState}
-use Rattle.ec_sim.specs.Seeing.{SeesRun, Watched}
-use Rattle.ec_sim.proofs.watch.Watch.run.Given as goal
-
--- what comes of the events ahead, comes of all
-abbrev pub invariant-loop-event : goal.invariant-loop-event
-invariant-loop-event g l = (v : WorldState) (b : Watched) → SeesRun l.self l.world (drop l.event-index l.events) v b → SeesRun l.initial.self l.initial.world l.events v b

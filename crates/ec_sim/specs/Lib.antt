@@ -1,9 +1,0 @@
--- To be believed by reading: what lines do to a simulated segment, and what `ecat sim` prints.
-pub mod Simulating
--- what is seen of the frames of a world, and what a capture holds of a run
-pub mod Seeing
-pub mod Capturing
--- Laws: what the definitions say together.
-pub mod Laws
--- Private: these serve private code and its proofs alone.
-pub mod Stages

@@ -1,0 +1,97 @@
+-- Which states a firmware step enters, and what it checks before.
+use Rattle.std.proofs.Common.{ℕ, ◌≡◌, ◌≢◌, ◌&&◌, not, Bool, true, false, Result, Ok, Err, refl, sym, ◌∙◌, ap, arith, if◌then◌else◌}
+use Rattle.ec_al.specs.States.{state_number}
+use Rattle.ec_al.specs.Transitions.{requested_number, requested_by, acknowledges, answer}
+use Rattle.ec_al.specs.Al.{Al, stepped, ignored, answered}
+use Rattle.ec_al.specs.declared.state.State.{State}
+use Rattle.ec_al.specs.declared.state.State.TheVariants.{Init, PreOp, SafeOp, Op}
+use Rattle.ec_al.specs.declared.status_code.StatusCode.{StatusCode}
+use Rattle.ec_al.specs.declared.transition.Requested.{Requested}
+use Rattle.ec_al.specs.declared.transition.Requested.TheVariants.{To, Bootstrap, Unknown}
+use Rattle.ec_al.specs.declared.transition.Checks.{Checks}
+use Rattle.ec_slave.specs.State.{SlaveState}
+use Rattle.ec_slave.specs.Checking.{checks_of, control_word}
+use Rattle.ec_slave.specs.Serving.{served, request_decided, replies_entered, reply_counter, with_al}
+use Rattle.ec_slave.specs.FirmwareLaws.{StatesAreEntered, FirstReplyIsOne}
+use Rattle.ec_slave.proofs.FirmwareRuns.RestsQuietly.{served-al, decided-al}
+
+-- another state was granted, by the request that waited
+changed-by : (b d : Bool) (al : Al) (r : Result State StatusCode) (s : State) → al.state ≢ s → (if b then (if d then ignored al else answered al r) else al).state ≡ s → (b ≡ true) × (r ≡ Ok s)
+changed-by true false al (Ok t) s other now = (refl, ap (λ (x : State). Ok x) now)
+changed-by true false al (Err code) s other now = absurd (other now)
+changed-by true true al r s other now = absurd (other now)
+changed-by false d al r s other now = absurd (other now)
+
+granted : (al : Al) (control : ℕ) (checks : Checks) (s : State) → al.state ≢ s → (stepped al control checks).state ≡ s → (al.requested ≡ true) × (answer al.state (requested_by control) checks ≡ Ok s)
+granted al control checks s other now = changed-by al.requested (al.error && not (acknowledges control)) al (answer al.state (requested_by control) checks) s other now
+
+both-passed : (a b : Bool) (x y : StatusCode) → (if a then (if b then Ok SafeOp else Err x) else Err y) ≡ Ok SafeOp → (a ≡ true) × (b ≡ true)
+both-passed true true x y e = (refl, refl)
+both-passed true false x y e = cc
+both-passed false b x y e = cc
+
+one-passed : (a : Bool) (x : StatusCode) → (if a then Ok PreOp else Err x) ≡ Ok PreOp → a ≡ true
+one-passed true x e = refl
+one-passed false x e = cc
+
+safeop-answer : (wanted : Requested) (checks : Checks) → answer PreOp wanted checks ≡ Ok SafeOp → (checks.outputs ≡ true) × (checks.inputs ≡ true)
+safeop-answer (To Init) checks e = cc
+safeop-answer (To PreOp) checks e = cc
+safeop-answer (To SafeOp) checks e = both-passed checks.outputs checks.inputs _ _ e
+safeop-answer (To Op) checks e = cc
+safeop-answer Bootstrap checks e = cc
+safeop-answer Unknown checks e = cc
+
+preop-answer : (wanted : Requested) (checks : Checks) → answer Init wanted checks ≡ Ok PreOp → checks.mailbox ≡ true
+preop-answer (To Init) checks e = cc
+preop-answer (To PreOp) checks e = one-passed checks.mailbox _ e
+preop-answer (To SafeOp) checks e = cc
+preop-answer (To Op) checks e = cc
+preop-answer Bootstrap checks e = cc
+preop-answer Unknown checks e = cc
+
+op-answer : (state : State) (wanted : Requested) (checks : Checks) → state ≢ Op → answer state wanted checks ≡ Ok Op → (state ≡ SafeOp) × (wanted ≡ To Op)
+op-answer Init (To Init) checks below entered = cc
+op-answer Init (To PreOp) checks below entered = grind arith
+op-answer Init (To SafeOp) checks below entered = cc
+op-answer Init (To Op) checks below entered = cc
+op-answer PreOp (To Init) checks below entered = cc
+op-answer PreOp (To PreOp) checks below entered = cc
+op-answer PreOp (To SafeOp) checks below entered = grind arith
+op-answer PreOp (To Op) checks below entered = cc
+op-answer SafeOp (To Init) checks below entered = cc
+op-answer SafeOp (To PreOp) checks below entered = cc
+op-answer SafeOp (To SafeOp) checks below entered = cc
+op-answer SafeOp (To Op) checks below entered = (refl, refl)
+op-answer Op wanted checks below entered = absurd (below refl)
+op-answer Init Bootstrap checks below entered = cc
+op-answer state Bootstrap checks below entered = cc
+op-answer state Unknown checks below entered = cc
+
+asked-op : (control : ℕ) → requested_by control ≡ To Op → requested_number control ≡ state_number Op
+asked-op control e = grind arith
+
+served-state : (s : SlaveState) → (served s).al.state ≡ (stepped s.al (control_word s) (checks_of s)).state
+served-state s = ap (λ (a : Al). a.state) (served-al s ∙ decided-al s)
+
+pub states_entered : StatesAreEntered
+states_entered s = (
+  λ there other.
+      let g = granted s.al (control_word s) (checks_of s) Op other (sym (served-state s) ∙ there) in
+      let w = op-answer s.al.state (requested_by (control_word s)) (checks_of s) other g.1 in
+      record { from = w.0; waits = g.0; asked = asked-op (control_word s) w.1 },
+  λ there was.
+      let g = granted s.al (control_word s) (checks_of s) SafeOp (λ e. let f : PreOp ≡ SafeOp = sym was ∙ e in cc) (sym (served-state s) ∙ there) in
+      safeop-answer (requested_by (control_word s)) (checks_of s) (sym (ap (λ (x : State). answer x (requested_by (control_word s)) (checks_of s)) was) ∙ g.1),
+  λ there was.
+      let g = granted s.al (control_word s) (checks_of s) PreOp (λ e. let f : Init ≡ PreOp = sym was ∙ e in cc) (sym (served-state s) ∙ there) in
+      preop-answer (requested_by (control_word s)) (checks_of s) (sym (ap (λ (x : State). answer x (requested_by (control_word s)) (checks_of s)) was) ∙ g.1),
+)
+
+first-by : (b : Bool) (s : SlaveState) (a : Al) → s.al.state ≡ Init → (if b then with_al s a else s).al.state ≡ PreOp → reply_counter (if b then with_al s a else s).replies ≡ 1
+first-by true s a was now = ap (λ (x : State). reply_counter (replies_entered x a.state s.replies)) was ∙ ap (λ (x : State). reply_counter (replies_entered Init x s.replies)) now
+first-by false s a was now = let f : Init ≡ PreOp = sym was ∙ now in cc
+
+pub first_is_one : FirstReplyIsOne
+unfolding request_decided
+first_is_one s was now = first-by s.al.requested s _ was now

@@ -1,8 +1,0 @@
-use Rattle.std.proofs.Common.{◌≡◌, List}
-use Rattle.ec_sync.specs.SyncManager.{SyncManager}
-use Rattle.ec_slave.proofs.Told.{told_along}
-use Rattle.ec_slave.proofs.Windows.{kept_byte}
-use Rattle.ec_slave.proofs.physical.bytes.keep_each.Given as goal
-
-abbrev pub invariant-loop-i : goal.invariant-loop-i
-invariant-loop-i l = (ms : List SyncManager) → l.memory ≡ told_along l.i l.from l.initial.memory (kept_byte ms (record { from = l.from; bytes = l.bytes }))

@@ -1,3 +1,0 @@
-//! Refusals as people meet them, and what is told of each.
-mod machine;
-mod started;

@@ -1,0 +1,183 @@
+//! Cycles, start-ups and segments over wires of memory and sockets. What isn't as it must be ends a test at once, so nothing
+//! here has another way out, on which machines and wires would go away.
+mod calls;
+mod cycles;
+mod fakes;
+mod machines;
+mod rounds;
+mod sizes;
+mod startups;
+mod tables;
+mod tap;
+mod trials;
+
+use self::calls::{expect_calls, expect_memory};
+use self::machines::assert_same;
+use self::sizes::expect_size;
+use self::tables::{FULL_TABLE, THREE_SLAVES};
+use self::trials::expect_trials;
+use ec_cycle::CycleError;
+use ec_wire::{RunError, SocketFault};
+use std::fmt::Display;
+use std::process::Abort;
+
+// Start-ups that come up or are lost, over memory and over strange payloads; the frame of a cycle; cycles over memory, of which
+// each call is a fault in turn; refusals, which come before the wire; and a loop over sockets.
+#[test]
+fn three_slaves(rt: HostRuntime) {
+    expect_trials(
+        &rt,
+        THREE_SLAVES,
+        "start-ups, frames, faults, refusal, spent wire, loop",
+    );
+}
+
+#[test]
+fn many_slaves(rt: HostRuntime) {
+    expect_trials(&rt, FULL_TABLE, "faults of many");
+}
+
+// There is memory for a wire to each number of slaves, with room for one payload and for thousands.
+#[test]
+fn wires_of_all_sizes(rt: HostRuntime) {
+    for slaves in 1..=64 {
+        expect_size(&rt, slaves, 1);
+        expect_size(&rt, slaves, usize::from(slaves) * 100);
+    }
+}
+
+// A payload past the room is a fault, and so is a receive where nothing is on its way. The wire has room for one payload, and no
+// call is a fault by its number.
+#[test]
+fn payloads_past_the_room(rt: HostRuntime) {
+    expect_memory(
+        &rt,
+        &[
+            ("receive", (0, 1, 0)),
+            ("send", (0, 1, 0)),
+            ("send", (0, 2, 0)),
+            ("receive", (16, 2, 1)),
+            ("receive", (0, 3, 1)),
+            ("send", (0, 4, 1)),
+        ],
+    );
+}
+
+// A frame is answered to whoever sent it, and another payload is counted. Nobody is there any more to whom the answers to a
+// client are sent that is gone; one that never reads has its answer too.
+#[test]
+fn segments_answer_frames(rt: HostRuntime) {
+    expect_calls(
+        &rt,
+        "connected",
+        &[
+            ("client sends", 3, (0, 0, 0, 0)),
+            ("client asks", 0, (0, 0, 0, 0)),
+            ("serve", 2, (1, 1, 0, 0)),
+            ("client hears", 0, (16, 0, 0, 0)),
+        ],
+    );
+    expect_calls(
+        &rt,
+        "connected",
+        &[
+            ("gone asks", 0, (0, 0, 0, 0)),
+            ("gone asks", 0, (0, 0, 0, 0)),
+            ("gone asks", 0, (0, 0, 0, 0)),
+            ("serve", 3, (3, 0, 0, 0)),
+        ],
+    );
+    expect_calls(
+        &rt,
+        "connected",
+        &[
+            ("stranger asks", 0, (0, 0, 0, 0)),
+            ("stranger asks", 0, (0, 0, 0, 0)),
+            ("stranger asks", 0, (0, 0, 0, 0)),
+            ("serve", 3, (3, 0, 0, 0)),
+            ("client asks", 0, (0, 0, 0, 0)),
+            ("serve", 1, (1, 0, 0, 0)),
+            ("client hears", 0, (16, 0, 0, 0)),
+            ("stranger hears", 0, (16, 0, 0, 0)),
+        ],
+    );
+}
+
+// What is too long to send is a fault, and so is a send to nobody and a receive that waits too long. A master receives
+// what its segment sends, and nothing else.
+#[test]
+fn calls_of_sockets(rt: HostRuntime) {
+    expect_calls(
+        &rt,
+        "connected",
+        &[
+            ("segment sends", 1, (0, 0, 0, 1)),
+            ("master sends", 1473, (0, 0, 1, 1)),
+            ("master receives", 0, (0, 0, 2, 1)),
+            ("master sends", 1472, (0, 0, 2, 1)),
+            ("segment receives", 0, (1472, 1472, 2, 1)),
+            ("stranger disturbs", 5, (0, 0, 2, 1)),
+            ("segment sends", 0, (0, 0, 2, 1)),
+            ("segment sends", 3, (0, 0, 2, 1)),
+            ("master receives", 0, (0, 0, 2, 1)),
+            ("master receives", 0, (3, 3, 2, 1)),
+        ],
+    );
+}
+
+// A master that is connected by an address waits as long as it is set to; it sends and receives as one on a port of its own
+// machine does. A patience of nothing is no socket, and neither is a port in use.
+#[test]
+fn masters_with_a_patience(rt: HostRuntime) {
+    expect_calls(
+        &rt,
+        "patient",
+        &[
+            ("master receives", 0, (0, 0, 1, 0)),
+            ("master sends", 7, (0, 0, 1, 0)),
+            ("segment receives", 0, (7, 7, 1, 0)),
+            ("stranger disturbs", 5, (0, 0, 1, 0)),
+            ("segment sends", 3, (0, 0, 1, 0)),
+            ("master receives", 0, (3, 3, 1, 0)),
+            ("no patience", 0, (0, 0, 1, 0)),
+            ("port in use", 0, (0, 0, 1, 0)),
+        ],
+    );
+}
+
+// A segment waits as long as it is set to, and then the receive is a fault. What is sent to its port on another address doesn't
+// reach it. Of a payload that is too long the rest is dropped.
+#[test]
+fn waits_a_second(rt: HostRuntime) {
+    expect_calls(
+        &rt,
+        "idle",
+        &[
+            ("client misses", 5, (0, 0, 0, 0)),
+            ("segment receives", 0, (0, 0, 0, 1)),
+            ("nearby", 0, (1, 0, 0, 1)),
+            ("client sends", 1550, (0, 0, 0, 1)),
+            ("segment receives", 0, (1472, 1472, 0, 1)),
+        ],
+    );
+}
+
+/// What is said of an error.
+fn said<T: Display>(rt: &(impl AllocGlobal + Abort), error: &T) -> String {
+    format!(in rt.alloc(); "{error}").expect(rt, "memory")
+}
+
+fn expect_said<T: Display>(rt: &(impl AllocGlobal + Abort), error: &T, text: &str) {
+    assert_same(rt, &said(rt, error).as_str(), &text);
+}
+
+// Of a refusal what the master says of it.
+#[test]
+fn texts_of_errors(rt: HostRuntime) {
+    let refusal = RunError::Refused(CycleError::NotReady);
+    expect_said(&rt, &refusal, "no start-up has ended ready");
+    expect_said(&rt, &RunError::Wire, "a fault of the wire");
+    expect_said(&rt, &SocketFault, "a fault of a socket");
+    let met = (SocketFault.number(), SocketFault.name());
+    assert_same(&rt, &met, &(43, "Socket"));
+}

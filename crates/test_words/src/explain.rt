@@ -1,0 +1,3 @@
+//! Refusals, and the explanation of each.
+mod machine;
+mod started;
