@@ -2,14 +2,13 @@
 //!
 //!     ecat_follow ADDRESS:PORT CYCLES < TABLE
 //!
-//! The table has outputs `lamp` and `valves` and an input `switches`, as examples/small_machine.toml has. A segment of it answers
-//! at the address, such as `ecat segment`. The program brings the slaves up, lights the lamp, and runs CYCLES cycles. After each it
-//! sets the two valves as the first two switches are. At the end it prints how many cycles were taken, and both variables. The
-//! status is 1 if the slaves don't come up, which it says on standard error, or if a cycle isn't taken.
+//! TABLE has outputs `lamp` and `valves` and an input `switches`, as examples/small_machine.toml has. Its slaves answer at the
+//! address, as `ecat segment` does. The program prints how many of CYCLES cycles were taken, and both variables. The status is 1 if one
+//! isn't taken, or if the slaves don't come up, which it says on standard error.
 #![tactic(auto)]
 
 use ec_session::Session;
-use ec_wire::UdpWire;
+use ec_wire::{UdpWire, Wire};
 use std::io::Read;
 use std::net::{Net, SocketAddrV4};
 use std::process::ExitCode;
@@ -21,41 +20,50 @@ const PATIENCE: u16 = 500;
 /// The first two switches, which the valves follow.
 const FOLLOWED: u64 = 3;
 
-/// Runs the machine of a table, whose slaves answer at an address. Returns how many cycles were taken, and the values of the switches
-/// and the valves then. The error says why no cycle was run.
-fn follow<H: AllocGlobal + Net>(
-    rt: &H,
-    table: &str,
-    peer: SocketAddrV4,
-    cycles: u32,
-) -> Result<(u32, u64, u64), &'static str> {
-    let mut session = Session::open(rt.alloc(), table).map_err(|_| "the input states no machine")?;
+/// Runs a cycle, and sets the valves as the switches are. Returns whether it was taken.
+fn step<W: Wire>(session: &mut Session, wire: &mut W, switches: usize, valves: usize) -> bool {
+    if session.run_cycle(wire).is_err() {
+        return false;
+    }
+    let shown = session.get(switches).unwrap_or(0);
+    session.set(valves, shown & FOLLOWED);
+    session.report().is_some_and(|report| report.is_taken())
+}
+
+/// How many cycles were taken, and the values of the switches and the valves then; or why no cycle was run.
+type Ended = Result<(u32, u64, u64), &'static str>;
+
+/// Brings the slaves up, lights the lamp, and runs cycles up to the first that isn't taken.
+fn follow<W: Wire>(session: &mut Session, wire: &mut W, cycles: u32) -> Ended {
     let lacking = "the table lacks `lamp`, `valves` or `switches`";
     let lamp = session.variable("lamp").ok_or(lacking)?;
     let valves = session.variable("valves").ok_or(lacking)?;
     let switches = session.variable("switches").ok_or(lacking)?;
-    let mut wire = UdpWire::connect_patient(rt, peer, PATIENCE).map_err(
-        |_| "there is no such socket",
-    )?;
-    session.bring_up(&mut wire);
+    session.bring_up(wire);
     if !session.is_up() {
         return Err("the slaves don't come up");
     }
     session.set(lamp, 1);
     let mut taken = 0;
     for cycle in 0..cycles {
-        if session.run_cycle(&mut wire).is_err() {
-            break;
-        }
-        let shown = session.get(switches).unwrap_or(0);
-        session.set(valves, shown & FOLLOWED);
-        if !session.report().is_some_and(|report| report.is_taken()) {
+        if !step(session, wire, switches, valves) {
             break;
         }
         taken = cycle + 1;
     }
     let (switches, valves) = (session.get(switches), session.get(valves));
     Ok((taken, switches.unwrap_or(0), valves.unwrap_or(0)))
+}
+
+/// Does so for the machine of a table, whose slaves answer at an address.
+fn run<H: AllocGlobal + Net>(rt: &H, table: &str, peer: SocketAddrV4, cycles: u32) -> Ended {
+    let Ok(mut session) = Session::open(rt.alloc(), table) else {
+        return Err("the input states no machine");
+    };
+    let Ok(mut wire) = UdpWire::connect_patient(rt, peer, PATIENCE) else {
+        return Err("there is no such socket");
+    };
+    follow(&mut session, &mut wire, cycles)
 }
 
 /// The arguments: an address with a port, and how many cycles; `None` if they aren't that.
@@ -76,7 +84,7 @@ fn main(rt: HostRuntime) -> io::Result<ExitCode> {
     };
     let mut table = String::new(rt.alloc());
     rt.stdin().read_to_string(&mut table)?;
-    match follow(&rt, table.as_str(), peer, cycles) {
+    match run(&rt, table.as_str(), peer, cycles) {
         Ok((taken, switches, valves)) => {
             println!(rt; "cycles {taken} switches {switches} valves {valves}")?;
             Ok(ExitCode::from(if taken == cycles { 0 } else { 1 }))
