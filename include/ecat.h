@@ -2,10 +2,10 @@
    table. The library is proved code; it has no sockets, threads or clock. You carry the frames, so a card, a driver or a test
    can be the wire.
 
-   Link with libecat.a. `ecat_open` reads a table. `ecat_next` and `ecat_take` bring the slaves up. `ecat_begin`, `ecat_part`,
-   `ecat_take` and `ecat_close` make a cycle. A call with a null handle, a number out of range or a buffer that is too short
-   changes nothing; each call says below what it then returns. A null pointer
-   to bytes counts as no bytes, and a null pointer to a result is allowed.
+   Link with libecat.a, or with the shared library (`pkg-config --cflags --libs ecat`). `ecat_open` reads a table. `ecat_next`
+   and `ecat_take` bring the slaves up. `ecat_begin`, `ecat_part`, `ecat_take` and `ecat_close` make a cycle. A call with a null
+   handle, a number out of range or a buffer that is too short changes nothing; each call says below what it then returns. A null
+   pointer to bytes counts as no bytes, and a null pointer to a result is allowed.
 
    Your program must keep these rules; the library doesn't check them:
    - Set a handle to {0} before you open it. Then let only these functions write it, and don't copy it.
@@ -16,18 +16,30 @@
 #ifndef ECAT_H
 #define ECAT_H
 
-#ifdef __cplusplus
-extern "C" {
-#else
-#include <stdbool.h>
-#endif
 #include <stddef.h>
 #include <stdint.h>
+#ifndef __cplusplus
+#include <stdbool.h>
+#endif
+
+/* The version, and the number of the binary interface. A library of another number doesn't fit this file; include/ecat.abi lists
+   what the number stands for. */
+#define ECAT_VERSION "0.1.0"
+#define ECAT_ABI 1
 
 /* The calls are inline functions of each file that includes this one. Define this as nothing in one file to export them from
    it, for example from a shared library. */
 #ifndef ECAT_CALL
 #define ECAT_CALL static inline
+#endif
+
+#ifdef __cplusplus
+#define ECAT_AS(type, value) static_cast<type>(value)
+#define ECAT_NONE nullptr
+extern "C" {
+#else
+#define ECAT_AS(type, value) ((type)(value))
+#define ECAT_NONE NULL
 #endif
 
 /* The most bytes that a frame has. A buffer for frames needs so many. */
@@ -36,13 +48,13 @@ extern "C" {
 struct ecat { void *at; };
 struct ecat_segment { void *at; };
 
-/* Why a table was refused, as `ecat plan` prints it: the number and the name of the refusal, and `count` values. The name ends
-   with a zero byte. */
+/* Why a table was refused, as `ecat plan` prints it: the number and the name of the refusal, and `count` values, with 0 behind
+   them. The name ends with a zero byte. */
 struct ecat_refusal {
     uint8_t number;
     char name[24];
     size_t count;
-    uint64_t values[2];
+    uint64_t values[4];
 };
 
 /* ---- exports of the library: call the functions below instead */
@@ -74,29 +86,43 @@ void ecat_c_segment_put(struct ecat_segment segment, size_t slave, size_t place,
 void ecat_c_segment_fault(struct ecat_segment segment, size_t slave, bool *done, struct ecat_segment *out);
 void ecat_c_segment_reset(struct ecat_segment segment, size_t slave, bool *done, struct ecat_segment *out);
 
-/* An export takes a handle by value and hands it back; in between the caller's handle is {0}. */
-static inline struct ecat ecat_lent(struct ecat *m) { struct ecat lent = *m; m->at = 0; return lent; }
-static inline struct ecat_segment ecat_segment_lent(struct ecat_segment *s) { struct ecat_segment lent = *s; s->at = 0; return lent; }
+/* An export takes a handle by value and hands it back. In between, the handle of a caller whose master changes is {0}. One that
+   doesn't change is handed back as it was. */
+static inline struct ecat ecat_lent(struct ecat *m) { struct ecat lent = *m; m->at = ECAT_NONE; return lent; }
+static inline struct ecat_segment ecat_segment_lent(struct ecat_segment *s) { struct ecat_segment lent = *s; s->at = ECAT_NONE; return lent; }
 
 /* A null pointer becomes a pointer to a byte, with length 0. */
-static inline uint8_t *ecat_bytes(const void *bytes, size_t *len) {
+static inline const uint8_t *ecat_bytes(const void *bytes, size_t *len) {
+    static const uint8_t none = 0;
+    if (!bytes) *len = 0;
+    return *len ? ECAT_AS(const uint8_t *, bytes) : &none;
+}
+
+static inline uint8_t *ecat_room(uint8_t *bytes, size_t *len) {
     static uint8_t none;
     if (!bytes) *len = 0;
-    return *len ? (uint8_t *)bytes : &none;
+    return *len ? bytes : &none;
 }
 
 static inline uint8_t ecat_told(const struct ecat_refused *told, const uint8_t *name, struct ecat_refusal *refusal) {
+    uint8_t number = told->is_open ? ECAT_AS(uint8_t, 0) : told->number;
     size_t k;
     if (refusal) {
-        refusal->number = told->is_open ? 0 : told->number;
-        for (k = 0; k + 1 < sizeof refusal->name && k < told->name; k++) refusal->name[k] = (char)name[k];
+        refusal->number = number;
+        for (k = 0; k + 1 < sizeof refusal->name && k < told->name; k++) refusal->name[k] = ECAT_AS(char, name[k]);
         refusal->name[k] = 0;
         refusal->count = told->count;
         refusal->values[0] = told->first;
         refusal->values[1] = told->second;
+        refusal->values[2] = refusal->values[3] = 0;
     }
-    return told->is_open ? 0 : told->number;
+    return number;
 }
+
+/* ---- the library */
+
+/* Returns ECAT_VERSION as it was when the calls were built. */
+ECAT_CALL const char *ecat_version(void) { return ECAT_VERSION; }
 
 /* ---- a master */
 
@@ -106,7 +132,7 @@ static inline uint8_t ecat_told(const struct ecat_refused *told, const uint8_t *
 ECAT_CALL uint8_t ecat_open(struct ecat *m, const char *table, size_t len, struct ecat_refusal *refusal) {
     struct ecat_refused told = {0, 0, 0, 0, 0, 0};
     uint8_t name[24];
-    uint8_t *bytes = ecat_bytes(table, &len);
+    const uint8_t *bytes = ecat_bytes(table, &len);
     if (!m || m->at) { told.number = 255; return ecat_told(&told, name, refusal); }
     ecat_c_open(bytes, len, name, sizeof name, &told, m);
     return ecat_told(&told, name, refusal);
@@ -122,7 +148,7 @@ ECAT_CALL void ecat_drop(struct ecat *m) {
    begins again. */
 ECAT_CALL size_t ecat_next(struct ecat *m, uint8_t *frame, size_t room) {
     struct ecat_done done = {0, 0, 0, 0};
-    uint8_t *bytes = ecat_bytes(frame, &room);
+    uint8_t *bytes = ecat_room(frame, &room);
     if (!m || !m->at) return 0;
     ecat_c_next(ecat_lent(m), bytes, room, &done, m);
     return done.count;
@@ -133,7 +159,7 @@ ECAT_CALL size_t ecat_next(struct ecat *m, uint8_t *frame, size_t room) {
    cycle that aren't back; it stays as it was if there is no handle. */
 ECAT_CALL bool ecat_take(struct ecat *m, const uint8_t *payload, size_t len, size_t *missing) {
     struct ecat_done done = {0, 0, 0, 0};
-    uint8_t *bytes = ecat_bytes(payload, &len);
+    const uint8_t *bytes = ecat_bytes(payload, &len);
     if (!m || !m->at) return false;
     ecat_c_take(ecat_lent(m), bytes, len, &done, m);
     if (missing) *missing = done.count;
@@ -141,11 +167,12 @@ ECAT_CALL bool ecat_take(struct ecat *m, const uint8_t *payload, size_t len, siz
 }
 
 /* Returns 1 if the slaves are up, 0 while the start-up runs or without a handle, or minus the number of its failure. */
-ECAT_CALL int ecat_phase(struct ecat *m) {
+ECAT_CALL int ecat_phase(const struct ecat *m) {
     struct ecat_done done = {0, 0, 0, 0};
+    struct ecat same = {ECAT_NONE};
     if (!m || !m->at) return 0;
-    ecat_c_phase(ecat_lent(m), &done, m);
-    return done.is_done ? 1 : -(int)done.number;
+    ecat_c_phase(*m, &done, &same);
+    return done.is_done ? 1 : -ECAT_AS(int, done.number);
 }
 
 /* Ends a start-up that runs, with failure 32: call this when no answer comes. One that has ended stays as it is. */
@@ -159,16 +186,17 @@ ECAT_CALL int ecat_begin(struct ecat *m) {
     struct ecat_done done = {0, 0, 0, 0};
     if (!m || !m->at) return -255;
     ecat_c_begin(ecat_lent(m), &done, m);
-    return done.is_done ? (int)done.count : -(int)done.number;
+    return done.is_done ? ECAT_AS(int, done.count) : -ECAT_AS(int, done.number);
 }
 
 /* Writes the frame of a part of the open cycle into `frame`, and returns its length in bytes. Parts are counted from 0. Returns
    0 if no cycle is open, there is no such part, or the frame doesn't fit. */
-ECAT_CALL size_t ecat_part(struct ecat *m, size_t part, uint8_t *frame, size_t room) {
+ECAT_CALL size_t ecat_part(const struct ecat *m, size_t part, uint8_t *frame, size_t room) {
     struct ecat_done done = {0, 0, 0, 0};
-    uint8_t *bytes = ecat_bytes(frame, &room);
+    uint8_t *bytes = ecat_room(frame, &room);
+    struct ecat same = {ECAT_NONE};
     if (!m || !m->at) return 0;
-    ecat_c_part(ecat_lent(m), part, bytes, room, &done, m);
+    ecat_c_part(*m, part, bytes, room, &done, &same);
     return done.is_done ? done.count : 0;
 }
 
@@ -180,17 +208,18 @@ ECAT_CALL bool ecat_close(struct ecat *m, size_t *missing, uint16_t *al) {
     if (!m || !m->at) return false;
     ecat_c_close(ecat_lent(m), &done, m);
     if (missing) *missing = done.count;
-    if (al) *al = (uint16_t)done.value;
+    if (al) *al = ECAT_AS(uint16_t, done.value);
     return done.is_done;
 }
 
 /* Returns 1 if the last closed cycle took the inputs of the sync unit with this number, and 0 if not. Returns -1 if there is no
    such unit, or no cycle was closed yet. */
-ECAT_CALL int ecat_unit(struct ecat *m, size_t unit) {
+ECAT_CALL int ecat_unit(const struct ecat *m, size_t unit) {
     struct ecat_done done = {0, 0, 0, 0};
+    struct ecat same = {ECAT_NONE};
     if (!m || !m->at || unit > 255) return -1;
-    ecat_c_unit(ecat_lent(m), (uint8_t)unit, &done, m);
-    return done.count ? (int)done.is_done : -1;
+    ecat_c_unit(*m, ECAT_AS(uint8_t, unit), &done, &same);
+    return done.count ? ECAT_AS(int, done.is_done) : -1;
 }
 
 /* Sets a variable of the outputs. Returns false if there is no such variable, it is an input, or it has too few bits. */
@@ -202,10 +231,11 @@ ECAT_CALL bool ecat_set(struct ecat *m, size_t variable, uint64_t value) {
 }
 
 /* Returns the value of a variable, or 0 if there is no such variable. */
-ECAT_CALL uint64_t ecat_get(struct ecat *m, size_t variable) {
+ECAT_CALL uint64_t ecat_get(const struct ecat *m, size_t variable) {
     struct ecat_done done = {0, 0, 0, 0};
+    struct ecat same = {ECAT_NONE};
     if (!m || !m->at) return 0;
-    ecat_c_get(ecat_lent(m), variable, &done, m);
+    ecat_c_get(*m, variable, &done, &same);
     return done.value;
 }
 
@@ -213,7 +243,7 @@ ECAT_CALL uint64_t ecat_get(struct ecat *m, size_t variable) {
    image has the output variables bit by bit, in the order of the table, without gaps. */
 ECAT_CALL size_t ecat_outputs(struct ecat *m, const uint8_t *outputs, size_t len) {
     struct ecat_done done = {0, 0, 0, 0};
-    uint8_t *bytes = ecat_bytes(outputs, &len);
+    const uint8_t *bytes = ecat_bytes(outputs, &len);
     if (!m || !m->at) return 0;
     ecat_c_outputs(ecat_lent(m), bytes, len, &done, m);
     return done.count;
@@ -221,22 +251,24 @@ ECAT_CALL size_t ecat_outputs(struct ecat *m, const uint8_t *outputs, size_t len
 
 /* Returns the length in bytes of the image of all inputs, or 0 without a handle. Writes the image into `inputs` if `room` is not
    less than this length. */
-ECAT_CALL size_t ecat_inputs(struct ecat *m, uint8_t *inputs, size_t room) {
+ECAT_CALL size_t ecat_inputs(const struct ecat *m, uint8_t *inputs, size_t room) {
     struct ecat_done done = {0, 0, 0, 0};
-    uint8_t *bytes = ecat_bytes(inputs, &room);
+    uint8_t *bytes = ecat_room(inputs, &room);
+    struct ecat same = {ECAT_NONE};
     if (!m || !m->at) return 0;
-    ecat_c_inputs(ecat_lent(m), bytes, room, &done, m);
+    ecat_c_inputs(*m, bytes, room, &done, &same);
     return done.count;
 }
 
 /* Returns the number of the variable with this name, or -1 if there is none. The name ends with a zero byte. */
-ECAT_CALL long ecat_variable(struct ecat *m, const char *name) {
+ECAT_CALL long ecat_variable(const struct ecat *m, const char *name) {
     struct ecat_done done = {0, 0, 0, 0};
     size_t len = 0;
+    struct ecat same = {ECAT_NONE};
     if (!m || !m->at || !name) return -1;
     while (name[len]) len++;
-    ecat_c_variable(ecat_lent(m), ecat_bytes(name, &len), len, &done, m);
-    return done.is_done ? (long)done.count : -1;
+    ecat_c_variable(*m, ecat_bytes(name, &len), len, &done, &same);
+    return done.is_done ? ECAT_AS(long, done.count) : -1;
 }
 
 /* ---- a segment: the slaves of a link table */
@@ -246,7 +278,7 @@ ECAT_CALL long ecat_variable(struct ecat *m, const char *name) {
 ECAT_CALL uint8_t ecat_segment_open(struct ecat_segment *s, const char *table, size_t len, bool full, struct ecat_refusal *refusal) {
     struct ecat_refused told = {0, 0, 0, 0, 0, 0};
     uint8_t name[24];
-    uint8_t *bytes = ecat_bytes(table, &len);
+    const uint8_t *bytes = ecat_bytes(table, &len);
     if (!s || s->at) { told.number = 255; return ecat_told(&told, name, refusal); }
     ecat_c_segment_open(bytes, len, full, name, sizeof name, &told, s);
     return ecat_told(&told, name, refusal);
@@ -260,7 +292,7 @@ ECAT_CALL void ecat_segment_drop(struct ecat_segment *s) {
 /* Passes a frame of `len` bytes through all slaves, in place. Returns false and changes nothing if the bytes are no frame. */
 ECAT_CALL bool ecat_segment_pass(struct ecat_segment *s, uint8_t *frame, size_t len) {
     bool done = false;
-    uint8_t *bytes = ecat_bytes(frame, &len);
+    uint8_t *bytes = ecat_room(frame, &len);
     if (!s || !s->at) return false;
     ecat_c_segment_pass(ecat_segment_lent(s), bytes, len, &done, s);
     return done;

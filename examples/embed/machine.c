@@ -45,6 +45,7 @@ static void mistakes(size_t len) {
     must(!ecat_set(&m, 0, 0) && ecat_get(&m, 0) == 0 && ecat_variable(&m, "lamp") == -1, "and has no variable");
     must(ecat_outputs(&m, NULL, 0) == 0 && ecat_inputs(&m, NULL, 0) == 0 && ecat_part(&m, 0, frame, sizeof frame) == 0, "and no image");
     must(!ecat_segment_serve(&s, 0) && !ecat_segment_pass(&s, frame, 4), "nor a slave");
+    must(!strcmp(ecat_version(), ECAT_VERSION), "there is a version");
     ecat_drop(&m);
     ecat_drop(NULL);
     must(ecat_open(NULL, table, len, NULL) == 255, "no handle");
@@ -78,6 +79,19 @@ static void mistakes(size_t len) {
     ecat_segment_drop(&s);
 }
 
+/* The calls that change nothing hand back the pointer that they were given. */
+static void same_pointer(const struct ecat *m) {
+    struct ecat_done done = {0, 0, 0, 0};
+    struct ecat same[6] = {{0}, {0}, {0}, {0}, {0}, {0}};
+    ecat_c_phase(*m, &done, &same[0]);
+    ecat_c_part(*m, 0, frame, sizeof frame, &done, &same[1]);
+    ecat_c_unit(*m, 0, &done, &same[2]);
+    ecat_c_get(*m, 0, &done, &same[3]);
+    ecat_c_inputs(*m, frame, sizeof frame, &done, &same[4]);
+    ecat_c_variable(*m, (const uint8_t *)"lamp", 4, &done, &same[5]);
+    for (int k = 0; k < 6; k++) must(same[k].at == m->at, "a handle that doesn't change is handed back as it was");
+}
+
 int main(int argc, char **argv) {
     struct ecat m = {0};
     struct ecat_segment slaves = {0};
@@ -89,6 +103,7 @@ int main(int argc, char **argv) {
     mistakes(len);
     must(ecat_open(&m, table, len, NULL) == 0 && ecat_segment_open(&slaves, table, len, false, NULL) == 0, "both are opened");
     bring_up(&m, &slaves);
+    same_pointer(&m);
     long wanted = ecat_variable(&m, "force_wanted"), valves = ecat_variable(&m, "valves"), switches = ecat_variable(&m, "switches");
     must(wanted >= 0 && valves >= 0 && switches >= 0, "the variables are there");
     for (int k = 1; k <= cycles; k++) {
@@ -104,6 +119,7 @@ int main(int argc, char **argv) {
     must(!cycle(&m, &slaves, &al) && ecat_unit(&m, 0) == 1 && ecat_unit(&m, 1) == 0, "its unit isn't taken, and the other is");
     uint8_t image[16];
     size_t outs = ecat_outputs(&m, NULL, 0), ins = ecat_inputs(&m, NULL, 0);
+    same_pointer(&m);
     must(outs > 0 && outs <= sizeof image && ins > 0 && ins <= sizeof image, "the images have bytes");
     memset(image, 0xFF, sizeof image);
     must(ecat_outputs(&m, image, outs) == outs && ecat_get(&m, (size_t)wanted) == 0xFFFF, "the image of the outputs is set");
