@@ -1,0 +1,240 @@
+"""The EtherCAT master and the simulated slaves of libecat, for control programs in Python.
+
+    with ecat.Master(open("machine.toml").read()) as m:
+        m.bring_up(wire)
+        m["lamp"] = 1
+        if m.cycle(wire).taken:
+            print(m["switches"])
+
+`Master` and `Segment` have the calls of ecat.h, which describes them. A wire is anything with `send` and `receive`, such as a class
+of yours over a socket; a `Segment` is one. The library is the file that ECAT_LIBRARY names, else the installed one. Its calls hold
+Python's lock, so threads may share a handle.
+"""
+from __future__ import annotations
+
+import collections
+import ctypes
+import os
+import pathlib
+from typing import Any, Callable, Deque, Dict, List, NamedTuple, Optional, Protocol, Tuple, Union
+
+ABI, FRAME = 1, 1472
+
+
+class Refused(Exception):
+    """A table is refused: the number, the name and the values of the refusal, as `ecat plan` prints them."""
+
+    def __init__(self, number: int, name: str, values: List[int]) -> None:
+        super().__init__(" ".join(map(str, [number, name, *values])))
+        self.number, self.name, self.values = number, name, values
+
+
+class Failed(Exception):
+    """A start-up failed, or a cycle can't begin: the number of the failure."""
+
+    def __init__(self, number: int) -> None:
+        super().__init__(str(number))
+        self.number = number
+
+
+class Report(NamedTuple):
+    """A closed cycle: whether all inputs were taken, how many frames were missing, and the OR of the AL status words."""
+    taken: bool
+    missing: int
+    al: int
+
+
+class Wire(Protocol):
+    """What carries frames. `receive` returns the next payload, or nothing if none came in time."""
+
+    def send(self, frame: bytes) -> object: ...
+
+    def receive(self) -> bytes: ...
+
+
+class _Handle(ctypes.Structure):
+    _fields_ = [("at", ctypes.c_void_p)]
+
+
+class _Refusal(ctypes.Structure):
+    _fields_ = [("number", ctypes.c_uint8), ("name", ctypes.c_char * 24), ("count", ctypes.c_size_t), ("values", ctypes.c_uint64 * 4)]
+
+
+_H, _BYTES, _AT = ctypes.POINTER(_Handle), ctypes.c_char_p, ctypes.c_void_p
+_SIZE, _BOOL, _INT, _U64, _U8 = ctypes.c_size_t, ctypes.c_bool, ctypes.c_int, ctypes.c_uint64, ctypes.c_uint8
+# the result and the parameters of each call
+_CALLS: Dict[str, Tuple[Any, List[Any]]] = {
+    "version": (_BYTES, []), "open": (_U8, [_H, _BYTES, _SIZE, _AT]), "drop": (None, [_H]), "next": (_SIZE, [_H, _AT, _SIZE]),
+    "take": (_BOOL, [_H, _BYTES, _SIZE, _AT]), "phase": (_INT, [_H]), "give_up": (None, [_H]), "begin": (_INT, [_H]),
+    "part": (_SIZE, [_H, _SIZE, _AT, _SIZE]), "close": (_BOOL, [_H, _AT, _AT]), "unit": (_INT, [_H, _SIZE]),
+    "set": (_BOOL, [_H, _SIZE, _U64]), "get": (_U64, [_H, _SIZE]), "outputs": (_SIZE, [_H, _BYTES, _SIZE]),
+    "inputs": (_SIZE, [_H, _AT, _SIZE]), "variable": (ctypes.c_long, [_H, _BYTES]),
+    "segment_open": (_U8, [_H, _BYTES, _SIZE, _BOOL, _AT]), "segment_drop": (None, [_H]), "segment_pass": (_BOOL, [_H, _AT, _SIZE]),
+    "segment_serve": (_BOOL, [_H, _SIZE]), "segment_get": (_BOOL, [_H, _SIZE, _SIZE, _AT]),
+    "segment_put": (_BOOL, [_H, _SIZE, _SIZE, _U8]), "segment_fault": (_BOOL, [_H, _SIZE]), "segment_reset": (_BOOL, [_H, _SIZE]),
+}
+
+
+def _load() -> Any:
+    name = f"libecat.so.{ABI}"
+    found = [str(folder / name) for folder in pathlib.Path(__file__).resolve().parents if (folder / name).exists()]
+    lib = ctypes.PyDLL(os.environ.get("ECAT_LIBRARY") or [*found, name][0])
+    for call, (result, given) in _CALLS.items():
+        function = getattr(lib, "ecat_" + call)
+        function.restype, function.argtypes = result, given
+    return lib
+
+
+_lib = _load()
+VERSION: str = _lib.ecat_version().decode()
+
+
+class _Owner:
+    """What owns a handle."""
+
+    def __init__(self, opens: Any, drops: Any, table: Union[str, bytes], *more: object) -> None:
+        self._handle, self._drops, refusal = _Handle(), drops, _Refusal()
+        text = table.encode() if isinstance(table, str) else table
+        if opens(self._handle, text, len(text), *more, ctypes.byref(refusal)):
+            raise Refused(refusal.number, refusal.name.decode(), refusal.values[:refusal.count])
+
+    def drop(self) -> None:
+        self._drops(self._handle)
+
+    def __enter__(self) -> Any:
+        return self
+
+    def __exit__(self, *_: object) -> None:
+        self.drop()
+
+    def __del__(self) -> None:
+        self.drop()
+
+
+class Master(_Owner):
+    """The master of a table. `m[NAME]` is a variable: KeyError if there is none, ValueError if it can't be set to a value."""
+
+    def __init__(self, table: Union[str, bytes]) -> None:
+        super().__init__(_lib.ecat_open, _lib.ecat_drop, table)
+        self._room, self._missing, self._al = ctypes.create_string_buffer(FRAME), ctypes.c_size_t(), ctypes.c_uint16()
+        self._numbers: Dict[str, int] = {}
+
+    def next(self) -> bytes:
+        return ctypes.string_at(self._room, _lib.ecat_next(self._handle, self._room, FRAME))
+
+    def take(self, payload: bytes) -> bool:
+        return _lib.ecat_take(self._handle, payload, len(payload), ctypes.byref(self._missing))
+
+    def phase(self) -> int:
+        return _lib.ecat_phase(self._handle)
+
+    def give_up(self) -> None:
+        _lib.ecat_give_up(self._handle)
+
+    def begin(self) -> int:
+        parts = _lib.ecat_begin(self._handle)
+        if parts < 0:
+            raise Failed(-parts)
+        return parts
+
+    def part(self, part: int) -> bytes:
+        return ctypes.string_at(self._room, _lib.ecat_part(self._handle, part, self._room, FRAME))
+
+    def close(self) -> Report:
+        taken = _lib.ecat_close(self._handle, ctypes.byref(self._missing), ctypes.byref(self._al))
+        return Report(taken, self._missing.value, self._al.value)
+
+    def unit(self, unit: int) -> Optional[bool]:
+        return {0: False, 1: True}.get(_lib.ecat_unit(self._handle, unit))
+
+    def variable(self, name: str) -> int:
+        if name not in self._numbers:
+            number = _lib.ecat_variable(self._handle, name.encode())
+            if number < 0:
+                raise KeyError(name)
+            self._numbers[name] = number
+        return self._numbers[name]
+
+    def __getitem__(self, name: str) -> int:
+        return _lib.ecat_get(self._handle, self.variable(name))
+
+    def __setitem__(self, name: str, value: int) -> None:
+        if not 0 <= value < 1 << 64 or not _lib.ecat_set(self._handle, self.variable(name), value):
+            raise ValueError(f"{name} is no output that holds {value}")
+
+    def set_outputs(self, image: bytes) -> int:
+        return _lib.ecat_outputs(self._handle, image, len(image))
+
+    def inputs(self) -> bytes:
+        image = ctypes.create_string_buffer(_lib.ecat_inputs(self._handle, None, 0))
+        return image.raw[:_lib.ecat_inputs(self._handle, image, len(image))]
+
+    def bring_up(self, wire: Wire) -> None:
+        """Sends each frame of the start-up, and receives until its answer came. Raises Failed if one doesn't come, or is a failure."""
+        while frame := self.next():
+            wire.send(frame)
+            while (payload := wire.receive()) and not self.take(payload):
+                pass
+            if not payload:
+                self.give_up()
+            if self.phase() < 0:
+                raise Failed(-self.phase())
+
+    def cycle(self, wire: Wire) -> Report:
+        """Sends the frames of a cycle, and receives until none is missing. A late or foreign payload changes nothing."""
+        self._missing.value = parts = self.begin()
+        for part in range(parts):
+            wire.send(self.part(part))
+        while self._missing.value and (payload := wire.receive()):
+            self.take(payload)
+        return self.close()
+
+
+class Segment(_Owner):
+    """The slaves of a table, and a wire to them. `application` returns the inputs of a slave, by its number and its outputs."""
+
+    def __init__(self, table: Union[str, bytes], application: Callable[[int, bytes], bytes] = lambda _, outputs: outputs, full: bool = False) -> None:
+        super().__init__(_lib.ecat_segment_open, _lib.ecat_segment_drop, table, full)
+        self.application = application
+        self._answers: Deque[bytes] = collections.deque()
+
+    def pass_frame(self, frame: bytes) -> Optional[bytes]:
+        room = ctypes.create_string_buffer(frame, len(frame))
+        return room.raw if _lib.ecat_segment_pass(self._handle, room, len(frame)) else None
+
+    def serve(self, slave: int) -> bool:
+        return _lib.ecat_segment_serve(self._handle, slave)
+
+    def get(self, slave: int, place: int) -> Optional[int]:
+        byte = ctypes.c_uint8()
+        return byte.value if _lib.ecat_segment_get(self._handle, slave, place, ctypes.byref(byte)) else None
+
+    def put(self, slave: int, place: int, byte: int) -> bool:
+        return _lib.ecat_segment_put(self._handle, slave, place, byte)
+
+    def fault(self, slave: int) -> bool:
+        return _lib.ecat_segment_fault(self._handle, slave)
+
+    def reset(self, slave: int) -> bool:
+        return _lib.ecat_segment_reset(self._handle, slave)
+
+    def step(self) -> None:
+        """A firmware step of each slave, and one of its application."""
+        slave = 0
+        while self.serve(slave):
+            outputs = bytearray()
+            while (byte := self.get(slave, len(outputs))) is not None:
+                outputs.append(byte)
+            inputs, place = self.application(slave, bytes(outputs)), 0
+            while self.put(slave, place, inputs[place] if place < len(inputs) else 0):
+                place += 1
+            slave += 1
+
+    def send(self, frame: bytes) -> None:
+        """Passes a frame, which is received then, and makes a step."""
+        if answer := self.pass_frame(frame):
+            self._answers.append(answer)
+        self.step()
+
+    def receive(self) -> bytes:
+        return self._answers.popleft() if self._answers else b""
