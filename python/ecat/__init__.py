@@ -170,7 +170,7 @@ class Master(_Owner):
         return image.raw[:_lib.ecat_inputs(self._handle, image, len(image))]
 
     def bring_up(self, wire: Wire) -> None:
-        """Sends each frame of the start-up, and receives until its answer came. Raises Failed if one doesn't come, or is a failure."""
+        """Sends each frame of the start-up, and receives until its answer came. Raises Failed if one doesn't come, or the start-up fails."""
         while frame := self.next():
             wire.send(frame)
             while (payload := wire.receive()) and not self.take(payload):
@@ -178,7 +178,9 @@ class Master(_Owner):
             if not payload:
                 self.give_up()
             if self.phase() < 0:
-                raise Failed(-self.phase())
+                break
+        if self.phase() != 1:
+            raise Failed(-self.phase())
 
     def cycle(self, wire: Wire) -> Report:
         """Sends the frames of a cycle, and receives until none is missing. A late or foreign payload changes nothing."""
