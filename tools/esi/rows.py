@@ -80,6 +80,8 @@ REFUSED = [
     ("box", [(END, END + "<Eeprom><ConfigData>0501</ConfigData></Eeprom>")], "its AL status is a copy by its EEPROM, and it has a mailbox"),
     # what has no plan
     ("box", [(OUT, OUT.replace("#x1100", "#x107F"))], "its sync managers overlap at 0x107F to 0x1084"),
+    ("box", [(OUT, OUT.replace("#x1100", "#x1040"))], "its sync managers overlap at 0x1040 to 0x1045"),
+    ("box", [(IN, IN.replace("#x1180", "#x1105"))], "its sync managers overlap at 0x1105 to 0x110D"),
     # three bytes of inputs, three times
     ("box", [(OUT, OUT.replace("#x1100", "#x1188"))], "its sync managers overlap at 0x1180 to 0x1188"),
     ("box", [(IN, IN.replace("#x1180", "#x2FF8"))], "it uses 0x2FF8 to 0x3000; a plan has 0x1000 to 0x2FFF"),
@@ -114,9 +116,21 @@ REFUSED = [
     ("box", [(INIT, command(data="<Data>0</Data>"))], "the data of init command 0x8000:0x01 aren't bytes in hex"),
     ("box", [(INIT, command(data="<Data>#x0A</Data>"))], "the data of init command 0x8000:0x01 aren't bytes in hex"),
     ("box", [(INIT, command(ways=()))], "init command 0x8000:0x01 has no transition"),
+    ("box", [(INIT, command(sub="<SubIndex>256</SubIndex>"))], "the subindex of init command 0x8000 is 256; it may be 0 to 255"),
     ("box", [(INIT, command(index=""))], "the index of an init command is missing"),
     ("pins", [("0401000000000000", "04 01 0")], "the data of its EEPROM aren't bytes in hex"),
     ("box", [(END, END + "<Dc><OpMode><AssignActivate>on</AssignActivate></OpMode></Dc>")], 'AssignActivate of a mode is "on", which is no number'),
+]
+
+# the same with --no-hardware; behind each reason stands that a table says so only with `hardware`
+PLAIN_REFUSED = [
+    ("box", [], "it has init commands"),
+    ("box", [(INIT, ""), (COE, "<CoE>")], "its assignment is fixed"),
+    ("box", [(INIT, ""), (REVISION, "")], "any revision fits"),
+    ("box", [(INIT, ""), (OUT, OUT.replace("#x24", "#x64"))], "manager 2, control byte 0x64, is for Outputs"),
+    ("box", [(INIT, ""), (IN, IN.replace("#x20", "#x30"))], "manager 3, control byte 0x30, is for Inputs"),
+    ("pins", [], "it has no firmware"),
+    ("pins", [("0401000000000000", "0400")], "manager 0, control byte 0x44, is for Outputs"),
 ]
 
 # a sample, its changes, those of its table, and what is left out
@@ -127,12 +141,15 @@ SAID = [
     ("box", [(OUT, OUT.replace("<Sm ", '<Sm MinSize="0" MaxSize="2" Enable="#x09" Watchdog="1" OpOnly="1" '))], [], []),
     ("box", [(COE, '<CoE SdoInfo="0" PdoAssign="TRUE" PdoConfig="1" PdoUpload="1" CompleteAccess="1" SegmentedSdo="1" EdsFile="a.eds">')], [], []),
     ("box", [("#x6001</Index><SubIndex>1<", "#x6001</Index><SubIndex>#x01<"), ("<EtherCATInfo>", '<EtherCATInfo xmlns:xsi="http://x" xsi:noNamespaceSchemaLocation="EtherCATInfo.xsd" Version="1.6">')], [], []),
+    ("box", [(TITLE, TITLE + "<b/>" * 100 + "<a>" * 60 + "</a>" * 60)], [], []),
     # names
     ("box", [(">box<", ">Box-7 (24&#160;V)/\u00e4<")], [('\nname = "box"', '\nname = "Box_7_24_V"'), ('"box"\n# type = "box"', '"box_7_24_v"\n# type = "Box_7_24_V"')], []),
+    ("box", [(">box<", ">Box 9<")], [('\nname = "box"', '\nname = "Box_9"'), ('"box"\n# type = "box"', '"box_9"\n# type = "Box_9"')], []),
     ("box", [(">box<", f">{'b' * 40}<")], [('\nname = "box"', f'\nname = "{"b" * 32}"'), ('"box"\n# type = "box"', f'"{"b" * 32}"\n# type = "{"b" * 32}"')], []),
     ("box", [(">box<", ">\u00e4<")], [('\nname = "box"', '\nname = "product_00000002"'), ('"box"\n# type = "box"', '"product_00000002"\n# type = "product_00000002"')], []),
     ("box", [(TITLE, '<Name LcId="1031">Kasten</Name>')], [("# A box\n", "# Kasten\n")], []),
     ("box", [(TITLE, '<Name LcId="1031">Kasten</Name><Name LcId="1033"><![CDATA[<A> & \u00fc]]></Name>')], [("# A box\n", "# <A> & \u00fc\n")], []),
+    ("box", [(TITLE, "<Name>Kasten</Name><Name>Caja</Name>")], [("# A box\n", "# Kasten\n")], []),
     ("box", [(TITLE, "")], [("# A box\n", "")], []),
     ("box", [("A box", "A\n[[type]]\n&#x7F;&#x9B;2J\u202e\u2028 box&#13;")], [("# A box\n", "# A [[type]] 2J box\n")], []),
     ("box", [("A box", "a" * 100)], [("# A box\n", f"# {'a' * 58}..\n")], []),
@@ -150,6 +167,9 @@ SAID = [
     ("box", [("#x1A01", "#x1A00")], [(HEAT_LINE, ""), (SLAVE, "")], ["PDO 0x1A00: it stands twice"]),
     ("box", [(HEAT, HEAT.replace("8", "64")), ("SINT", "LINT")], [("[0x6001, 1, 8]", "[0x6001, 1, 64]"), ("SINT", "LINT")], []),
     ("box", [(HEAT, HEAT.replace("8", "9"))], [("[0x6001, 1, 8]", "[0x6001, 1, 9]"), (" SINT", "")], ["the data type of entry 0x6001:0x01: SINT has 8 bits, but it has 9"]),
+    ("box", [("SINT", "BIT2")], [(" SINT", "")], ["the data type of entry 0x6001:0x01: BIT2 has 2 bits, but it has 8"]),
+    ("box", [("SINT", "STRING(10)")], [(" SINT", "")], ["the data type of entry 0x6001:0x01: STRING(10) has 80 bits, but it has 8"]),
+    ("box", [(HEAT, HEAT.replace("<SubIndex>1</SubIndex>", ""))], [("[0x6001, 1, 8]", "[0x6001, 0, 8]")], []),
     ("box", [(HEAT, HEAT.replace("8", "0"))], [("[[0x6001, 1, 8]]", "[]"), ("Heat SINT", "nothing")],
      ["the data type of entry 0x6001:0x01: SINT has 8 bits, but it has 0", "entry 0x6001:0x01, which has no bits"]),
     ("box", [("</RxPdo>\n", "</RxPdo>\n" + "".join(pdo("RxPdo", 0x1601 + k) for k in range(17)))],
@@ -162,11 +182,14 @@ SAID = [
                                             for k, (kind, bits) in enumerate(DATA_TYPES)) + "</TxPdo>\n<TxPdo>")],
      [("Speed INT, gap", "Speed INT, gap, " + ", ".join(f"entry {kind}" for kind, _ in DATA_TYPES)),
       ("[0, 0, 4]", "[0, 0, 4], " + ", ".join(f"[0x5000, {k}, {bits}]" for k, (_, bits) in enumerate(DATA_TYPES)))], []),
+    ("box", [("<BitLen>4</BitLen>", "<SubIndex>7</SubIndex><BitLen>4</BitLen><Name>pad</Name><DataType>INT</DataType>")], [], []),
+    ("box", [("#x1600", "#x17FF")], [("index = 0x1600", "index = 0x17FF"), ("out = [0x1600]", "out = [0x17FF]")], []),
     # a fixed assignment
     ("box", [(COE, "<CoE>")], [(HEAT_LINE, ""), (SLAVE, ""), ("]\ninit = [", "]\nfixed = true\ninit = [")], ["PDO 0x1A01: it isn't assigned, and the assignment is fixed"]),
     ("box", [(IN, IN.replace("<Sm ", '<Sm FixedAssignment="1" '))], [(HEAT_LINE, ""), (SLAVE, ""), ("]\ninit = [", "]\nfixed = true\ninit = [")],
      ["PDO 0x1A01: it isn't assigned, and the assignment is fixed"]),
     # managers
+    ("box", [(BOX_OUT, BOX_OUT.replace("128", "16")), (BOX_IN, BOX_IN.replace("128", "#x20"))], [("[0x1000, 128, 0x1080, 128]", "[0x1000, 16, 0x1080, 32]")], []),
     ("box", [(OUT, OUT.replace("#x24", "#x64")), (IN, IN.replace("#x20", "#x10"))], [("]\ninit = [", "]\nout_manager = [2, 0x64]\nin_manager = [3, 0x10]\ninit = [")], []),
     # its inputs are manager 2, and nothing is in its outputs
     ("box", [(OUT + "Outputs</Sm>\n", ""), ('<TxPdo Sm="3">', '<TxPdo Sm="2">'), ('<RxPdo Sm="2">', "<RxPdo>")],
@@ -174,12 +197,18 @@ SAID = [
       ("]\ninit = [", "]\nin_manager = [2, 0x20]\ninit = ["), ("# out = [0x1600]\n", "")], ["PDO 0x1600: there is no manager for Outputs"]),
     ("pins", [(PINS_OUT, 'StartAddress="#x0F02"'), (PINS_BITS, "<BitLen>16</BitLen>"), ('<Sm DefaultSize="1" StartAddress="#x0F02"', '<Sm StartAddress="#x0F02"')],
      [("0x0F00", "0x0F02"), ("entry BOOL", "entry"), ("[0x7000, 1, 1]", "[0x7000, 1, 16]")], []),
+    ("box", [(IN, IN.replace("#x1180", "#x1106"))], [("in_start = 0x1180", "in_start = 0x1106")], []),
     # init commands
+    ("box", [(INIT, command(sub="<SubIndex>#xFF</SubIndex>"))], [("[0x8000, 1, 8, 10]", "[0x8000, 255, 8, 10]")], []),
     ("box", [(INIT, command(data="<Data> 0102\n0304 </Data>") + command(index="#x8001", ways=("IP",), sub="") + command(index="32770", ways=("PS", "IP")))],
      [("    [0x8000, 1, 8, 10],\n", "    [0x8001, 0, 8, 10],\n    [0x8002, 1, 8, 10],\n    [0x8000, 1, 32, 67305985],\n    [0x8002, 1, 8, 10],\n")], []),
     ("box", [(INIT, INIT + command(index="#x8001", ways=("SP", "OS")))], [], ["init command 0x8001:0x01 on the way OS, SP"]),
     ("box", [(INIT, INIT + command(index="#x1C12", attributes=' CompleteAccess="1"') + command(index="#x1C13", data="<Data/>"))], [],
      ["an init command to 0x1C12: the start-up assigns the PDOs", "an init command to 0x1C13: the start-up assigns the PDOs"]),
+    *[("box", [(INIT, command(index="#x1C12", sub="", data="<Data>00</Data>") + command(index=index, sub=""))],
+       [("[0x8000, 1, 8, 10]", f"[0x1C12, 0, 8, 0],\n    [{index.replace('#', '0')}, 0, 8, 10]")], []) for index in ("#x1600", "#x1A00", "#x1BFF")],
+    *[("box", [(INIT, command(index="#x1C12", sub="", data="<Data>00</Data>") + command(index=index, sub=""))],
+       [("[0x8000, 1, 8, 10]", f"[{index.replace('#', '0')}, 0, 8, 10]")], ["an init command to 0x1C12: the start-up assigns the PDOs"]) for index in ("#x15FF", "#x1C00")],
     ("box", [(INIT, INIT * 64)], [("    [0x8000, 1, 8, 10],\n", "    [0x8000, 1, 8, 10],\n" * 64)], []),
     ("box", [(INIT, "")], [("init = [\n    [0x8000, 1, 8, 10],\n]\n", "")], []),
     # firmware
@@ -208,6 +237,7 @@ FILES = [
     (b'<?xml version="1.0" encoding="gbk"?><EtherCATInfo/>', "it is no XML: "),
     (BOMB.encode() + b"<EtherCATInfo>&a39;</EtherCATInfo>", "it has a document type, which no ESI file has"),
     (b'<!DOCTYPE x [<!ENTITY e SYSTEM "file:///etc/passwd">]><EtherCATInfo><Vendor><Id>&e;</Id></Vendor></EtherCATInfo>', "it has a document type, which no ESI file has"),
+    (b"<EtherCATInfo>" + b"<b/>" * 100 + b"<a>" * 64, "its elements are over 64 deep"),
     (b"<EtherCATInfo>" + b"<a>" * 1000000, "its elements are over 64 deep"),
     (b"<EtherCATConfig/>", "it is no ESI file: its element is EtherCATConfig"),
     (b"<EtherCATInfo/>", "the vendor's number is missing"),
