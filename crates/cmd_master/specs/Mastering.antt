@@ -1,5 +1,5 @@
 -- What `ecat master` does (this project's profile).
-use Rattle.std.specs.Prelude.{◌≡◌, ◌⊎◌, Result}
+use Rattle.std.specs.Prelude.{◌≡◌, ◌⊎◌, None, Result, length, replicate}
 use Rattle.ec_table.specs.Contents.{Contents}
 use Rattle.ec_wire.specs.Wires.{WireState, silent}
 use Rattle.ec_session.specs.Sessions.{new_session}
@@ -17,7 +17,7 @@ use Rattle.cmd_master.specs.Saying.{SaysLine}
 
 -- a new master of a table over a wire
 abbrev pub begun_over : Reasons → Contents → WireState → MasteredState
-begun_over reasons t w = record { session = new_session t; wire = w; reasons = reasons }
+begun_over reasons t w = record { session = new_session t; wire = w; reasons = reasons; states = replicate (length t.slaves) None }
 
 -- The lines of an input lead a master of a table to another state. All are done, and what they expect holds, or doesn't so many times.
 -- Or they are cut short, and what was printed until then stays. Or memory is refused before the first line.

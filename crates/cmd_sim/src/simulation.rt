@@ -7,8 +7,8 @@ use crate::reasons::{has_cycle, reason_text};
 use crate::scene::Scene;
 use ec_console::{Reasons, Said, Target};
 use ec_link::Machine;
-use ec_script::{Line, LineAction, LineOutput, is_simulated, output_text};
-use ec_simulation::{view_of, watch_action};
+use ec_script::{Line, LineAction, LineOutput, is_simulated};
+use ec_simulation::{printed_text, watch_action};
 use ec_table::Table;
 use ec_world::{Watcher, World};
 use std::alloc::{AllocError, Global};
@@ -121,8 +121,7 @@ fn line_text(
     ensures { IfOk result (λ text.
         IsLineText reasons scene.entry.table.now line.now.number scene.entry.world.now output (string_bytes text)) }
 {
-    let view = view_of(scene.world);
-    let mut text = output_text(alloc, scene.table, line.number, output, &view)?;
+    let mut text = printed_text(alloc, scene.world, scene.table, line.number, output)?;
     if !is_reasoned(reasons, output) {
         return Ok(text);
     }

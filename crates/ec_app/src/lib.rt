@@ -26,4 +26,7 @@ pub use ec_console::{
 pub use ec_script::{Line, LineAction, ScriptError, read_script};
 pub use ec_simulation::run_line;
 pub use ec_text::{Refused, header_text, plan_text};
-pub use ec_wire::{App, MemoryWire, UdpWire, Wire, bring_up_wire, run_cycle, serve_segment};
+pub use ec_wire::{
+    App, MemoryWire, UdpWire, Wire, bring_up_resting, bring_up_wire, run_cycle, run_lossy_cycle,
+    serve_segment,
+};

@@ -220,6 +220,7 @@ Lines of a script:
   ready           runs the start-up to its end
   cycle           runs a cycle: begin, each frame past all slaves and back, close
   show            prints the input variables
+  states          prints the slaves' AL states, as a master reads them
   repeat N LINE   runs LINE N times, 1 to 1000000; LINE isn't a `repeat`
 
 Lines that change nothing, and print something only if what they expect doesn't hold:
@@ -258,6 +259,9 @@ What a line prints, before the next one runs:
                     al WORD         the OR of the slaves' AL status words in hex
   byte BYTE       what `get` read, in hex
   NAME VALUE      each input variable, after `show`
+  state S NAME STATE CODE
+                  each slave, after `states`: INIT, PREOP, SAFEOP or OP, with `+ERROR` behind
+                  after an error, or `-` without a station address; and the AL status code in hex
   unmet LINE      what this line expects doesn't hold; the script goes on
 Other lines print nothing. A repeated line prints each time.
 
@@ -396,11 +400,15 @@ Ethernet frames of type 0x88A4 on the raw socket of a network card, which is alr
 `tools/with_card` opens one.
 
 Lines:
-  ready           runs a start-up over the wire, from its beginning to its end
+  ready           sets all outputs to 0, and runs a start-up over the wire to its end. Between two
+                  polls of a wait it rests: 1000 take about 9 seconds
   set NAME VALUE  sets an output variable; the next cycle sends it
-  cycle           runs a cycle over the wire
+  cycle           runs a cycle over the wire. It closes when all answers are there, or MS are over
   show            prints the input variables
   report          prints the last report again
+  states          reads the slaves' AL states, and changes nothing
+  stop            sets all outputs to 0, runs a cycle, and asks all slaves for INIT. Then only
+                  `ready` goes on
   expect NAME VALUE
                   an input variable of the image is VALUE
   expect taken, expect untaken
@@ -408,6 +416,9 @@ Lines:
                   it, that unit
   expect ready, expect failed
                   how the last start-up ended; a number may stand behind `failed`
+  expect state S STATE
+                  slave S says that it is in INIT, PREOP, SAFEOP or OP; an AL status code of four
+                  hex digits may stand behind it
   repeat N LINE   runs LINE N times, 1 to 1000000; LINE isn't a `repeat`
 
 What a line prints; lines count from 1 behind `%%`:
@@ -415,17 +426,21 @@ What a line prints; lines count from 1 behind `%%`:
   failed NUMBER   it has failed, by 9, 26 to 32, 36 or 38: `ecat loop --help` says what each
                   stands for. With `--explain` the line behind it says what was seen
   report ...      after `cycle` and `report`, as `ecat sim --help` says
-  fault 37 Wire   a socket was faulty in a `cycle`, or an answer didn't come for MS. Inputs and the
-                  last report stay as they were, and a new `cycle` or `ready` may go well
+  fault 37 Wire   a socket was faulty in a `cycle`, `states` or `stop`. Inputs and the last report
+                  stay as they were, and a new `cycle` or `ready` may go well
+  state S NAME STATE CODE
+                  each slave, after `states`: INIT, PREOP, BOOT, SAFEOP or OP, with `+ERROR` behind
+                  after an error, or `-` if it doesn't answer; and the AL status code in hex
   NAME VALUE      each input variable, after `show`
   unmet LINE      what this line expects doesn't hold
   no LINE         what this line says can't be done, and nothing was done. With `--explain` the line
                   behind it says why. It stands for:
-                    `cycle` before a start-up, after one that failed, or with no frame number left
+                    `cycle` or `stop` before a start-up, after one that failed, or with no frame
+                    number left
                     `set` of an input variable, or of a value that the variable can't hold
                     `report` before the first one
-  bad LINE        the line is none of these, and nothing was done. `expect` of an output variable or
-                  of a slave's state is bad too: no frame of a cycle carries them
+  bad LINE        the line is none of these, and nothing was done. `expect` of an output variable is
+                  bad too: no frame carries what slaves show of it
 Other lines print nothing. A repeated line prints each time.
 
 Exit status:

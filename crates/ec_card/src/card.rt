@@ -1,14 +1,17 @@
 //! A wire over the raw socket of a network card.
-ghost use Rattle.std.specs.Prelude.{◌≡◌, ◌≤◌, ◌≤ℤ◌, pos, length, IfOk, IfSome};
+ghost use Rattle.std.specs.Prelude.{◌≡◌, ◌≤◌, ◌≤ℤ◌, pos, length, IfOk};
 ghost use Rattle.ec_wire.specs.Wires.{silent};
 
 use crate::ethernet::{Sender, framed, payload_of};
 use ec_frame::field::MAX_FRAME_LEN;
 use ec_wire::{Patience, PatientSocket, SocketFault, Wire};
 use os::FromRawFd;
+use std::io;
+use std::io::ErrorKind;
 use std::marker::Model;
 use std::net::UdpSocket;
 use std::os::fd::IntoRawFd;
+use std::time::Duration;
 
 /// The most bytes that are read of a received frame.
 const ROOM: usize = 1514;
@@ -83,23 +86,21 @@ impl CardWire {
         self.socket.has_sent(&frame, None)
     }
 
-    /// Reads frames until one is handed on. Returns how many bytes of its payload are in the buffer, or
-    /// `None` if a call failed, or too many frames weren't handed on.
-    fn await_payload(&self, buffer: &mut [u8]) -> Option<usize>
-        ensures { IfSome result (λ count. count ≤ length buffer.new) }
+    /// Reads frames until one is handed on, with the patience that is left after `waited`. Returns how many bytes of its payload are in
+    /// the buffer, or the system's error. It is `ErrorKind::WouldBlock` if no frame came, or too many frames weren't handed on.
+    fn await_payload(&self, waited: Duration, buffer: &mut [u8]) -> io::Result<usize>
+        ensures { IfOk result (λ count. count ≤ length buffer.new) }
     {
         let mut frame = [0; ROOM];
         for _ in 0..self.reads {
-            let Ok(count) = self.socket.receive(&mut frame) else {
-                return None;
-            };
+            let count = self.socket.receive_within(waited, &mut frame)?;
             if let Some(payload) = payload_of(self.own, &frame[..count]) {
                 let size = payload.len().min(buffer.len());
                 buffer[..size].copy_from_slice(&payload[..size]);
-                return Some(size);
+                return Ok(size);
             }
         }
-        None
+        Err(io::Error::from(ErrorKind::WouldBlock))
     }
 }
 
@@ -118,11 +119,22 @@ impl Wire for CardWire {
     }
 
     fn recv(&mut self, buffer: &mut [u8]) -> usize {
-        match self.await_payload(buffer) {
-            Some(count) => count,
-            None => {
+        match self.await_payload(Duration::ZERO, buffer) {
+            Ok(count) => count,
+            Err(_) => {
                 self.failures = self.failures.saturating_add(1);
                 0
+            }
+        }
+    }
+
+    fn recv_within(&mut self, waited: Duration, buffer: &mut [u8]) -> Option<usize> {
+        match self.await_payload(waited, buffer) {
+            Ok(count) => Some(count),
+            Err(error) if error.kind() == ErrorKind::WouldBlock => None,
+            Err(_) => {
+                self.failures = self.failures.saturating_add(1);
+                None
             }
         }
     }

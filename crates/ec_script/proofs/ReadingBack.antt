@@ -27,7 +27,7 @@ use Rattle.ec_script.specs.declared.forms.ExpectForm.TheVariants as expected
 use Rattle.ec_script.specs.declared.forms.Form.{Form}
 use Rattle.ec_script.specs.declared.forms.Form.TheVariants as form
 use Rattle.ec_script.specs.declared.line.LineAction.{LineAction}
-use Rattle.ec_script.specs.declared.line.LineAction.TheVariants.{Start, Set, Begin, Pass, Lose, Return, Close, Serve, Put, Get, Fail, Reset, Input, Never, Expect, Ready, Cycle, Show, Report}
+use Rattle.ec_script.specs.declared.line.LineAction.TheVariants.{Start, Set, Begin, Pass, Lose, Return, Close, Serve, Put, Get, Fail, Reset, Input, Never, Expect, Ready, Cycle, Show, Report, States, Stop}
 use Rattle.ec_script.specs.declared.line.Line.{Line}
 use Rattle.ec_script.specs.declared.read.Reading.TheVariants as reading
 use Rattle.ec_script.specs.declared.value.WrittenValue.{WrittenValue}
@@ -506,6 +506,8 @@ action_back t Ready sound h = back t form.Ready _ (codes "ready") [] refl refl r
 action_back t Cycle sound h = back t form.Cycle _ (codes "cycle") [] refl refl refl refl refl refl
 action_back t Show sound h = back t form.Show _ (codes "show") [] refl refl refl refl refl refl
 action_back t Report sound h = back t form.Report _ (codes "report") [] refl refl refl refl refl refl
+action_back t States sound h = back t form.States _ (codes "states") [] refl refl refl refl refl refl
+action_back t Stop sound h = back t form.Stop _ (codes "stop") [] refl refl refl refl refl refl
 
 -- words that stand for a line
 record IsLineBack (t : Contents) (line : Line) (words : List Text) : Type 0 where

@@ -8,7 +8,7 @@ use Rattle.ec_script.specs.declared.forms.ExpectForm.TheVariants as expected
 use Rattle.ec_script.specs.declared.forms.Form.{Form}
 use Rattle.ec_script.specs.declared.forms.Form.TheVariants as form
 use Rattle.ec_script.specs.declared.line.LineAction.{LineAction}
-use Rattle.ec_script.specs.declared.line.LineAction.TheVariants.{Start, Set, Begin, Pass, Lose, Return, Close, Serve, Put, Get, Fail, Reset, Input, Never, Expect, Ready, Cycle, Show, Report}
+use Rattle.ec_script.specs.declared.line.LineAction.TheVariants.{Start, Set, Begin, Pass, Lose, Return, Close, Serve, Put, Get, Fail, Reset, Input, Never, Expect, Ready, Cycle, Show, Report, States, Stop}
 use Rattle.ec_script.specs.declared.value.WrittenValue.{WrittenValue}
 use Rattle.ec_script.specs.declared.value.WrittenValue.TheVariants.{Number, Outside}
 use Rattle.ec_script.specs.Forms.{form_of}
@@ -61,6 +61,8 @@ action_of_form t words form.Ready = Some Ready
 action_of_form t words form.Cycle = Some Cycle
 action_of_form t words form.Show = Some Show
 action_of_form t words form.Report = Some Report
+action_of_form t words form.States = Some States
+action_of_form t words form.Stop = Some Stop
 action_of_form t words (form.Expect e) = expectation_of_form t words e >>= (λ x. Some (Expect x))
 
 -- ---- words

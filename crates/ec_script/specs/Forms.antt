@@ -6,7 +6,7 @@ use Rattle.std.specs.List.{find, list_all, zip}
 use Rattle.std.specs.Str.{bytes_eq}
 use Rattle.ec_script.specs.declared.forms.ExpectForm.TheVariants as expects
 use Rattle.ec_script.specs.declared.forms.Form.{Form}
-use Rattle.ec_script.specs.declared.forms.Form.TheVariants.{Start, Set, Begin, Pass, Lose, Return, Close, Serve, Put, Get, Fail, Reset, Input, Ready, Cycle, Show, Report, Expect}
+use Rattle.ec_script.specs.declared.forms.Form.TheVariants.{Start, Set, Begin, Pass, Lose, Return, Close, Serve, Put, Get, Fail, Reset, Input, Ready, Cycle, Show, Report, States, Stop, Expect}
 use Rattle.ec_script.specs.Words.{Text, words_of}
 
 abbrev pub forms : List (Form × Text)
@@ -28,6 +28,8 @@ forms =
     ∷ (Cycle, codes "cycle")
     ∷ (Show, codes "show")
     ∷ (Report, codes "report")
+    ∷ (States, codes "states")
+    ∷ (Stop, codes "stop")
     ∷ (Expect (expects.Unit true), codes "expect taken UNIT")
     ∷ (Expect (expects.Units true), codes "expect taken")
     ∷ (Expect (expects.Unit false), codes "expect untaken UNIT")

@@ -10,7 +10,7 @@ use Rattle.ec_table.specs.declared.rows.VariableRow.{VariableRow}
 use Rattle.ec_script.specs.declared.expectation.Expectation.{Expectation}
 use Rattle.ec_script.specs.declared.expectation.Expectation.TheVariants as expects
 use Rattle.ec_script.specs.declared.line.LineAction.{LineAction}
-use Rattle.ec_script.specs.declared.line.LineAction.TheVariants.{Start, Set, Begin, Pass, Lose, Return, Close, Serve, Put, Get, Fail, Reset, Input, Never, Expect, Ready, Cycle, Show, Report}
+use Rattle.ec_script.specs.declared.line.LineAction.TheVariants.{Start, Set, Begin, Pass, Lose, Return, Close, Serve, Put, Get, Fail, Reset, Input, Never, Expect, Ready, Cycle, Show, Report, States, Stop}
 use Rattle.ec_script.specs.declared.line.Line.{Line}
 use Rattle.ec_script.specs.declared.read.Reading.TheVariants as reading
 use Rattle.ec_script.specs.Words.{Text}
@@ -77,6 +77,8 @@ words_for variables Ready = codes "ready" ∷ []
 words_for variables Cycle = codes "cycle" ∷ []
 words_for variables Show = codes "show" ∷ []
 words_for variables Report = codes "report" ∷ []
+words_for variables States = codes "states" ∷ []
+words_for variables Stop = codes "stop" ∷ []
 
 -- an action that is done once stands alone
 abbrev pub words_for_line : List VariableRow → Line → List Text
@@ -140,6 +142,8 @@ IsActionOf variables Ready = Unit {0}
 IsActionOf variables Cycle = Unit {0}
 IsActionOf variables Show = Unit {0}
 IsActionOf variables Report = Unit {0}
+IsActionOf variables States = Unit {0}
+IsActionOf variables Stop = Unit {0}
 
 -- an action that can be written, once or more often
 pub record IsLineOf (variables : List VariableRow) (line : Line) : Type 0 where

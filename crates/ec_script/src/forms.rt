@@ -32,6 +32,8 @@ pub enum Form {
     Cycle,
     Show,
     Report,
+    States,
+    Stop,
     Expect(ExpectForm),
 }
 
@@ -54,7 +56,7 @@ pub enum ExpectForm {
 
 /// How the lines of a script are written, without `repeat`: a word in capitals stands for what it names, and any other for itself.
 /// Words that fit several forms have the first of them. A form stands before those that are its beginning.
-pub static FORMS: [(Form, &str); 27] = [
+pub static FORMS: [(Form, &str); 29] = [
     (Form::Start, "start"),
     (Form::Set, "set NAME VALUE"),
     (Form::Begin, "begin"),
@@ -72,6 +74,8 @@ pub static FORMS: [(Form, &str); 27] = [
     (Form::Cycle, "cycle"),
     (Form::Show, "show"),
     (Form::Report, "report"),
+    (Form::States, "states"),
+    (Form::Stop, "stop"),
     (Form::Expect(ExpectForm::Unit(true)), "expect taken UNIT"),
     (Form::Expect(ExpectForm::Units(true)), "expect taken"),
     (Form::Expect(ExpectForm::Unit(false)), "expect untaken UNIT"),
@@ -147,6 +151,8 @@ fn action_of_form(form: Form, words: Operands<'_>) -> Option<LineAction>
         Form::Cycle => LineAction::Cycle,
         Form::Show => LineAction::Show,
         Form::Report => LineAction::Report,
+        Form::States => LineAction::States,
+        Form::Stop => LineAction::Stop,
         Form::Expect(form) => LineAction::Expect(expectation_of_form(form, words)?),
     })
 }

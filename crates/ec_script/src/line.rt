@@ -45,6 +45,10 @@ pub enum LineAction {
     Show,
     /// The last report is printed.
     Report,
+    /// The AL states of all slaves are printed.
+    States,
+    /// The outputs become 0, a cycle is run, and all slaves are asked for INIT.
+    Stop,
 }
 
 /// A line of a script that isn't empty.
@@ -57,9 +61,9 @@ pub struct Line {
     pub action: LineAction,
 }
 
-/// Whether a script of simulated slaves may have this action: it may have any but `Report`.
+/// Whether a script of simulated slaves may have this action: it may have any but `Report` and `Stop`.
 pub fn is_simulated(action: LineAction) -> bool
     ensures { result ≡ is_simulated action }
 {
-    !matches!(action, LineAction::Report)
+    !matches!(action, LineAction::Report | LineAction::Stop)
 }

@@ -20,5 +20,7 @@ pub mod Running
 pub mod Seeing
 -- where frames are that were sent
 pub mod SlotsSent
+-- only one output prints AL states
+pub mod Statuses
 -- turn after turn of a start-up
 pub mod Turning

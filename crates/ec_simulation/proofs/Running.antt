@@ -9,7 +9,7 @@ use Rattle.ec_world.specs.Laws.{IsRun}
 use Rattle.ec_world.specs.World.{WorldState, IsStep, awaits, is_up}
 use Rattle.ec_world.proofs.Refinement.StepsRefine.{runs_join}
 use Rattle.ec_script.specs.declared.line.LineAction.{LineAction}
-use Rattle.ec_script.specs.declared.line.LineAction.TheVariants.{Input, Never, Expect, Ready, Cycle, Show, Report}
+use Rattle.ec_script.specs.declared.line.LineAction.TheVariants.{Input, Never, Expect, Ready, Cycle, Show, Report, States, Stop}
 use Rattle.ec_script.specs.declared.output.LineOutput.{LineOutput}
 use Rattle.ec_script.specs.declared.line.Line.{Line}
 use Rattle.ec_script.specs.declared.output.LineOutput.TheVariants as output
@@ -184,6 +184,8 @@ lines_run Ready old new word h = ready_made old new (is_done word) (starts_goes 
 lines_run Cycle old new word h = are_made (cycle_events old) old new (is_done word) (cycle_goes old new word h)
 lines_run Show old new word h = are_made [] old new (is_done word) (h.0, ap is_done h.1)
 lines_run Report old new word h = are_made [] old new (is_done word) (h.0, ap is_done h.1)
+lines_run States old new word h = are_made [] old new (is_done word) (h.0, ap is_done h.1)
+lines_run Stop old new word h = (h.0, ap is_done h.1)
 lines_run action old new word h = let es = alone (event_of action) in are_made es old new (is_done word) (goes_all es old new word h)
 
 abbrev HasRun : WorldState → WorldState → Type 0

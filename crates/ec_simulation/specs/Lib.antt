@@ -2,6 +2,8 @@
 
 -- what lines can print and expect of a world
 pub mod Views
+-- the AL states of its slaves
+pub mod Statuses
 -- an input variable as the plant sets it, as events
 pub mod Inputs
 -- when what a line expects of a world holds

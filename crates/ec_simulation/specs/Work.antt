@@ -6,7 +6,7 @@ use Rattle.ec_world.specs.declared.event.Event.{Event}
 use Rattle.ec_world.specs.declared.event.Event.TheVariants as event
 use Rattle.ec_world.specs.World.{WorldState, IsStep}
 use Rattle.ec_script.specs.declared.line.LineAction.{LineAction}
-use Rattle.ec_script.specs.declared.line.LineAction.TheVariants.{Start, Set, Begin, Pass, Lose, Return, Close, Serve, Put, Get, Fail, Reset, Input, Never, Expect, Ready, Cycle, Show, Report}
+use Rattle.ec_script.specs.declared.line.LineAction.TheVariants.{Start, Set, Begin, Pass, Lose, Return, Close, Serve, Put, Get, Fail, Reset, Input, Never, Expect, Ready, Cycle, Show, Report, States, Stop}
 use Rattle.ec_script.specs.declared.output.LineOutput.{LineOutput}
 use Rattle.ec_script.specs.declared.output.LineOutput.TheVariants as output
 use Rattle.ec_script.specs.Outputs.{is_done, output_if}
@@ -122,4 +122,6 @@ Does Ready old new word = Starts last_turn old new word
 Does Cycle old new word = RunsCycle old new word
 Does Show old new word = (new ≡ old) × (word ≡ output.Values)
 Does Report old new word = (new ≡ old) × (word ≡ output.Report)
+Does States old new word = (new ≡ old) × (word ≡ output.States)
+Does Stop old new word = (new ≡ old) × (word ≡ output.No)
 Does action old new word = MakesAll (alone (event_of action)) old new word

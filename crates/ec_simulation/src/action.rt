@@ -51,7 +51,9 @@ pub fn event_of(action: LineAction) -> Option<Event>
         | LineAction::Ready
         | LineAction::Cycle
         | LineAction::Show
-        | LineAction::Report => None,
+        | LineAction::Report
+        | LineAction::States
+        | LineAction::Stop => None,
     }
 }
 
@@ -77,12 +79,13 @@ fn perform<S: Watcher>(world: &mut World<'_>, watcher: &mut S, action: LineActio
         LineAction::Fail(slave) => make(world, watcher, Event::Fault(slave)),
         LineAction::Reset(slave) => make(world, watcher, Event::Reset(slave)),
         LineAction::Input(variable, value) => put_input(world, watcher, variable, value),
-        LineAction::Never(_) => LineOutput::No,
+        LineAction::Never(_) | LineAction::Stop => LineOutput::No,
         LineAction::Expect(expected) => expect(world, expected),
         LineAction::Ready => start_up(world, watcher),
         LineAction::Cycle => run_cycle(world, watcher),
         LineAction::Show => LineOutput::Values,
         LineAction::Report => LineOutput::Report,
+        LineAction::States => LineOutput::States,
     }
 }
 

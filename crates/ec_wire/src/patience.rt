@@ -1,6 +1,7 @@
 //! How long a receive on a socket waits, and a socket whose calls no signal cuts short.
-ghost use Rattle.std.specs.Prelude.{◌≡◌, ◌==◌, ◌≤◌, ◌*◌, length, None, Some, IfOk, if◌then◌else◌};
-ghost use Rattle.ec_wire.specs.Waiting.{AreWithin, lasts};
+ghost use Rattle.std.specs.Prelude.{◌≡◌, ◌==◌, ◌≤◌, ◌*◌, length, None, Some, IfOk, if◌then◌else◌, option_map};
+ghost use Rattle.std.specs.Duration.{as_nanos};
+ghost use Rattle.ec_wire.specs.Waiting.{AreWithin, lasts, parts_left};
 
 use std::io;
 use std::io::ErrorKind;
@@ -66,12 +67,26 @@ fn parts_of(whole: Duration) -> u32
     }
 }
 
+/// How many parts of a wait are left after `waited`, of `count` in all.
+fn parts_left(part: Option<Duration>, count: u64, waited: Duration) -> u64
+    ensures { result ≡ parts_left (option_map as_nanos part) count (as_nanos waited) }
+{
+    match part {
+        None => count,
+        Some(part) => {
+            let over = waited.as_nanos() / part.as_nanos().max(1);
+            count.saturating_sub(u64::try_from(over).unwrap_or(u64::MAX))
+        }
+    }
+}
+
 /// A datagram socket whose calls are made again if a signal interrupts them, as when a process is stopped and goes on. A receive
 /// waits in parts, and a part that was interrupted counts as over. So it never waits longer than its patience, and the time
 /// during which the process is stopped doesn't count.
 #[derive(Drop)]
 pub struct PatientSocket {
     socket: UdpSocket,
+    part: Option<Duration>,
     parts: u64,
 }
 
@@ -86,7 +101,11 @@ impl PatientSocket {
         if socket.set_read_timeout(part).is_err() || socket.set_nonblocking(false).is_err() {
             return Err(socket);
         }
-        Ok(PatientSocket { socket, parts })
+        Ok(PatientSocket {
+            socket,
+            part,
+            parts,
+        })
     }
 
     /// The port of the socket.
@@ -121,7 +140,18 @@ impl PatientSocket {
     pub fn receive(&self, buffer: &mut [u8]) -> io::Result<usize>
         ensures { IfOk result (λ count. count ≤ length buffer.new) }
     {
-        for _ in 0..self.parts {
+        self.receive_within(Duration::ZERO, buffer)
+    }
+
+    /// Receives as [`PatientSocket::receive`] does, with the patience that is left after `waited`.
+    ///
+    /// # Errors
+    ///
+    /// Those of [`PatientSocket::receive`].
+    pub fn receive_within(&self, waited: Duration, buffer: &mut [u8]) -> io::Result<usize>
+        ensures { IfOk result (λ count. count ≤ length buffer.new) }
+    {
+        for _ in 0..parts_left(self.part, self.parts, waited) {
             match self.socket.recv(buffer) {
                 Err(error) if is_over(&error) => {}
                 ended => return ended,
@@ -133,15 +163,19 @@ impl PatientSocket {
         ended
     }
 
-    /// Receives as [`PatientSocket::receive`] does, and also returns the address that the datagram came from.
+    /// Receives as [`PatientSocket::receive_within`] does, and also returns the address that the datagram came from.
     ///
     /// # Errors
     ///
     /// Those of [`PatientSocket::receive`].
-    pub(crate) fn receive_from(&self, buffer: &mut [u8]) -> io::Result<(usize, SocketAddr)>
+    pub(crate) fn receive_from(
+        &self,
+        waited: Duration,
+        buffer: &mut [u8],
+    ) -> io::Result<(usize, SocketAddr)>
         ensures { IfOk result (λ came. came.0 ≤ length buffer.new) }
     {
-        for _ in 0..self.parts {
+        for _ in 0..parts_left(self.part, self.parts, waited) {
             match self.socket.recv_from(buffer) {
                 Err(error) if is_over(&error) => {}
                 ended => return ended,

@@ -7,8 +7,10 @@ use crate::patience::{Patience, PatientSocket};
 use crate::wire::Wire;
 use ec_frame::field::MAX_FRAME_LEN;
 use std::io;
+use std::io::ErrorKind;
 use std::marker::Model;
 use std::net::{Ipv4Addr, Net, SocketAddr, SocketAddrV4, UdpSocket};
+use std::time::Duration;
 
 /// How long a master waits for a payload by default, in milliseconds.
 const PATIENCE: u16 = 500;
@@ -167,14 +169,18 @@ impl UdpWire {
         }
     }
 
-    /// Receives a payload. Returns how many bytes of it are in `buffer`, and the peer to send to next.
-    fn receive(&self, buffer: &mut [u8]) -> io::Result<(usize, Peer)>
+    /// Receives a payload, with the patience that is left after `waited`. Returns how many bytes of it are in `buffer`, and the peer to
+    /// send to next. `ErrorKind::WouldBlock` if nothing came.
+    fn receive(&self, waited: Duration, buffer: &mut [u8]) -> io::Result<(usize, Peer)>
         ensures { IfOk result (λ came. came.0 ≤ length buffer.new) }
     {
         match self.peer {
-            Peer::Connected => Ok((self.socket.receive(buffer)?, Peer::Connected)),
+            Peer::Connected => {
+                let count = self.socket.receive_within(waited, buffer)?;
+                Ok((count, Peer::Connected))
+            }
             Peer::Last(_) => {
-                let (count, sender) = self.socket.receive_from(buffer)?;
+                let (count, sender) = self.socket.receive_from(waited, buffer)?;
                 Ok((count, Peer::Last(Some(sender))))
             }
         }
@@ -197,12 +203,27 @@ impl Wire for UdpWire {
 
     fn recv(&mut self, buffer: &mut [u8]) -> usize {
         let room = buffer.len().min(MAX_FRAME_LEN);
-        let Ok((count, peer)) = self.receive(&mut buffer[..room]) else {
+        let Ok((count, peer)) = self.receive(Duration::ZERO, &mut buffer[..room]) else {
             self.failures = self.failures.saturating_add(1);
             return 0;
         };
         self.peer = peer;
         count
+    }
+
+    fn recv_within(&mut self, waited: Duration, buffer: &mut [u8]) -> Option<usize> {
+        let room = buffer.len().min(MAX_FRAME_LEN);
+        match self.receive(waited, &mut buffer[..room]) {
+            Ok((count, peer)) => {
+                self.peer = peer;
+                Some(count)
+            }
+            Err(error) if error.kind() == ErrorKind::WouldBlock => None,
+            Err(_) => {
+                self.failures = self.failures.saturating_add(1);
+                None
+            }
+        }
     }
 }
 

@@ -1,6 +1,9 @@
 //! What a wire is.
-ghost use Rattle.std.specs.Prelude.{◌≡◌, ◌≤◌, [], ◌∷◌, true, false, take, length, not, is_some, IfSome, IfNone};
+ghost use Rattle.std.specs.Prelude.{◌≡◌, ◌≤◌, [], ◌∷◌, true, false, take, length, not, is_ok, is_some, IfErr, IfOk, IfSome, IfNone};
 ghost use Rattle.ec_wire.specs.Wires.{WireState, Carries, is_fault};
+
+use crate::error::SocketFault;
+use std::time::Duration;
 
 /// What carries payloads to a segment and back.
 ///
@@ -22,6 +25,14 @@ pub trait Wire {
     fn recv(&mut self, buffer: &mut [u8]) -> usize
         ensures within { result ≤ length buffer.new }
         ensures done { is_fault (state self.old) (state self.new) ≡ false → Carries (state self.old) (state self.new) [] (take result buffer.new ∷ []) }
+        ensures lost { is_fault (state self.old) (state self.new) ≡ true → Carries (state self.old) (state self.new) [] [] };
+
+    /// Receives a payload into `buffer`, as `recv` does. The wire's patience began `waited` ago. If it ends and nothing has come, that is
+    /// no fault, and the call returns `None`.
+    fn recv_within(&mut self, waited: Duration, buffer: &mut [u8]) -> Option<usize>
+        ensures within { IfSome result (λ count. count ≤ length buffer.new) }
+        ensures done { is_fault (state self.old) (state self.new) ≡ false → IfSome result (λ count. Carries (state self.old) (state self.new) [] (take count buffer.new ∷ [])) }
+        ensures none { is_fault (state self.old) (state self.new) ≡ false → IfNone result (Carries (state self.old) (state self.new) [] []) }
         ensures lost { is_fault (state self.old) (state self.new) ≡ true → Carries (state self.old) (state self.new) [] [] };
 }
 
@@ -51,6 +62,33 @@ pub fn receive_on<W: Wire>(wire: &mut W, buffer: &mut [u8]) -> Option<usize>
         Some(count)
     } else {
         None
+    }
+}
+
+/// Receives a payload into `buffer` before the wire's patience ends, which began `waited` ago. Returns its length there in bytes, or `None`
+/// if nothing came.
+///
+/// # Errors
+///
+/// `SocketFault` exactly if the call was a fault.
+pub fn listen_on<W: Wire>(
+    wire: &mut W,
+    waited: Duration,
+    buffer: &mut [u8],
+) -> Result<Option<usize>, SocketFault>
+    ensures fault { is_ok result ≡ not (is_fault (W.state wire.old) (W.state wire.new)) }
+    ensures same { IfOk result (λ heard. (W.state wire.new).failed ≡ (W.state wire.old).failed) }
+    ensures within { IfOk result (λ heard. IfSome heard (λ count. count ≤ length buffer.new)) }
+    ensures done { IfOk result (λ heard. IfSome heard (λ count. Carries (W.state wire.old) (W.state wire.new) [] (take count buffer.new ∷ []))) }
+    ensures none { IfOk result (λ heard. IfNone heard (Carries (W.state wire.old) (W.state wire.new) [] [])) }
+    ensures lost { IfErr result (λ fault. Carries (W.state wire.old) (W.state wire.new) [] []) }
+{
+    let before = wire.failures();
+    let heard = wire.recv_within(waited, buffer);
+    if is_fine(before, wire.failures()) {
+        Ok(heard)
+    } else {
+        Err(SocketFault)
     }
 }
 

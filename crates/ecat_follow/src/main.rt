@@ -12,6 +12,7 @@ use ec_wire::{UdpWire, Wire};
 use std::io::Read;
 use std::net::{Net, SocketAddrV4};
 use std::process::ExitCode;
+use std::time::Clock;
 use std::{env, io};
 
 /// How many milliseconds an answer is awaited.
@@ -21,8 +22,14 @@ const PATIENCE: u16 = 500;
 const FOLLOWED: u64 = 3;
 
 /// Runs a cycle, and sets the valves as the switches are. Returns whether it was taken.
-fn step<W: Wire>(session: &mut Session, wire: &mut W, switches: usize, valves: usize) -> bool {
-    if session.run_cycle(wire).is_err() {
+fn step<W: Wire, C: Clock>(
+    session: &mut Session,
+    wire: &mut W,
+    clock: &C,
+    switches: usize,
+    valves: usize,
+) -> bool {
+    if session.run_lossy_cycle(wire, clock).is_err() {
         return false;
     }
     let shown = session.get(switches).unwrap_or(0);
@@ -34,19 +41,19 @@ fn step<W: Wire>(session: &mut Session, wire: &mut W, switches: usize, valves: u
 type Ended = Result<(u32, u64, u64), &'static str>;
 
 /// Brings the slaves up, lights the lamp, and runs cycles up to the first that isn't taken.
-fn follow<W: Wire>(session: &mut Session, wire: &mut W, cycles: u32) -> Ended {
+fn follow<W: Wire, C: Clock>(session: &mut Session, wire: &mut W, clock: &C, cycles: u32) -> Ended {
     let lacking = "the table lacks `lamp`, `valves` or `switches`";
     let lamp = session.variable("lamp").ok_or(lacking)?;
     let valves = session.variable("valves").ok_or(lacking)?;
     let switches = session.variable("switches").ok_or(lacking)?;
-    session.bring_up(wire);
+    session.bring_up_resting(wire, clock);
     if !session.is_up() {
         return Err("the slaves don't come up");
     }
     session.set(lamp, 1);
     let mut taken = 0;
     for cycle in 0..cycles {
-        if !step(session, wire, switches, valves) {
+        if !step(session, wire, clock, switches, valves) {
             break;
         }
         taken = cycle + 1;
@@ -56,14 +63,14 @@ fn follow<W: Wire>(session: &mut Session, wire: &mut W, cycles: u32) -> Ended {
 }
 
 /// Does so for the machine of a table, whose slaves answer at an address.
-fn run<H: AllocGlobal + Net>(rt: &H, table: &str, peer: SocketAddrV4, cycles: u32) -> Ended {
+fn run<H: AllocGlobal + Net + Clock>(rt: &H, table: &str, peer: SocketAddrV4, cycles: u32) -> Ended {
     let Ok(mut session) = Session::open(rt.alloc(), table) else {
         return Err("the input states no machine");
     };
     let Ok(mut wire) = UdpWire::connect_patient(rt, peer, PATIENCE) else {
         return Err("there is no such socket");
     };
-    follow(&mut session, &mut wire, cycles)
+    follow(&mut session, &mut wire, rt, cycles)
 }
 
 /// The arguments: an address with a port, and how many cycles; `None` if they aren't that.

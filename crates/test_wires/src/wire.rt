@@ -28,7 +28,7 @@ fn three_slaves(rt: HostRuntime) {
     expect_trials(
         &rt,
         THREE_SLAVES,
-        "start-ups, frames, faults, refusal, spent wire, loop",
+        "start-ups, frames, faults, refusal, spent wire, silence, loop",
     );
 }
 

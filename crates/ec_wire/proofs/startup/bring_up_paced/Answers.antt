@@ -2,7 +2,7 @@ use Rattle.std.proofs.Common.{◌≡◌, arith}
 use Rattle.ec_start.specs.Running.{last_number}
 use Rattle.ec_wire.proofs.StartUpTurns.{brought_ended, brought_plan, last_turn, one_turn}
 use Rattle.ec_wire.proofs.ComingUp.{comes_up_over}
-use Rattle.ec_wire.proofs.startup.bring_up_wire.Goals as goal
+use Rattle.ec_wire.proofs.startup.bring_up_paced.Goals as goal
 
 pub returns-then-not-turn-clause-ended : goal.returns-then-not-turn-clause-ended
 returns-then-not-turn-clause-ended g c = brought_ended _ _ _ _ (c.turn.ensures.ended c.if-not-turn.true)
