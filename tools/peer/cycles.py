@@ -16,8 +16,8 @@ from payloads import mostly, random_payload, tampered
 # frame, and ten bytes; where the first process data are, and how far it is from the end of these to the next
 STATUS, BROADCAST, PROCESS, BETWEEN = 34, 36, 48, 12
 SLAVES = 3
-# a master waits so many milliseconds, and this tool so many seconds
-PATIENCE, LIMIT = 300, 20
+# a master waits so many milliseconds for the answers of a cycle, and this tool so many seconds
+PATIENCE, LIMIT = 500, 20
 # so many answers of earlier cycles are remembered
 MEMORY = 48
 
@@ -64,17 +64,14 @@ class Cycle:
     """A cycle's frames as they were sent, what the slaves made of them, and what the master must have kept of each."""
 
     def __init__(self, sent, answers):
-        self.sent, self.answers, self.kept = sent, answers, [None] * len(sent)
-        # how many payloads the master got, and how many it takes at most
-        self.given, self.most = 0, 2 * len(sent) + 64
+        self.sent, self.answers, self.kept, self.is_over = sent, answers, [None] * len(sent), False
 
     def is_open(self):
-        """Whether the master waits for more: it lacks an answer, and got less than the most payloads of a cycle."""
-        return None in self.kept and self.given < self.most
+        """Whether the master waits for more: it lacks an answer, and its patience isn't over."""
+        return None in self.kept and not self.is_over
 
     def take(self, payload):
         """The master gets a payload. It keeps one that answers a frame which has no answer yet."""
-        self.given += 1
         for place, sent in enumerate(self.sent):
             if self.kept[place] is None and is_answer(payload, sent):
                 self.kept[place] = payload
@@ -263,29 +260,35 @@ class Line:
         else:
             self.waiting.append(payload)
 
+    def expire(self, cycle):
+        """The master's patience is over: it has printed its report."""
+        if cycle.is_open():
+            self.wait(1)
+            cycle.is_over = True
+
     def lie(self):
-        """A cycle with lies up to its end; then a few payloads may come too late. In some the answer of a part is the last payload that
-        the master takes, or the first that is too late."""
-        cycle, lost = self.begin(), mostly(self.random, 0.92, None, self.random.randrange(len(self.machine.parts)))
-        in_time = self.random.randrange(2)
-        while cycle.is_open():
-            is_last = lost is not None and in_time and cycle.given + 1 == cycle.most
-            self.give(cycle, cycle.answers[lost] if is_last else self.liar.next(cycle, lost))
-        if lost is not None:
+        """A cycle with lies up to its end; then a few payloads may come too late. In some the answer of a part doesn't come, or comes as
+        the last before the master's patience is over."""
+        cycle, lost = self.begin(), mostly(self.random, 0.95, None, self.random.randrange(len(self.machine.parts)))
+        left = self.random.randrange(80)
+        while cycle.is_open() and (lost is None or left):
+            self.give(cycle, self.liar.next(cycle, lost))
+            left -= 1
+        if lost is not None and self.random.randrange(2):
             self.give(cycle, cycle.answers[lost])
+        self.expire(cycle)
         for _ in range(mostly(self.random, 0.8, 0, self.random.randint(1, 3))):
             self.give(cycle, self.liar.next(cycle, None))
         self.last = self.judge.report(cycle.kept)
         return self.last
 
     def fall_silent(self):
-        """A cycle with a few lies, and then nothing. It ends with a fault unless a lie was an answer to each part."""
+        """A cycle with a few lies, and then nothing."""
         cycle = self.begin()
         for _ in range(self.random.randrange(4)):
             if cycle.is_open():
                 self.give(cycle, self.liar.lie(cycle))
-        if cycle.is_open():
-            return self.fault()
+        self.expire(cycle)
         self.last = self.judge.report(cycle.kept)
         return self.last
 

@@ -6,10 +6,17 @@ use Rattle.ec_start.specs.Running.{StartState, begun}
 use Rattle.ec_cycle.specs.Closing.{ReportState}
 use Rattle.ec_cycle.specs.Master.{MasterState, OpenCycle, cycle_limit, holds_value, readied}
 use Rattle.ec_cycle.specs.declared.error.CycleError.TheVariants.{NotReady, NumbersSpent, Open}
+use Rattle.ec_al.specs.declared.state.State.{State}
+use Rattle.ec_asking.specs.declared.answer.AlStatus.{AlStatus}
 use Rattle.ec_wire.specs.declared.error.RunError.{RunError}
+use Rattle.ec_wire.specs.declared.error.SocketFault.{SocketFault}
+use Rattle.ec_wire.specs.Wires.{WireState}
 use Rattle.ec_session.specs.Sessions.{SessionState, is_up, new_session}
-use Rattle.ec_session.specs.Wired.{run_refusal, with_run, with_start}
-use Rattle.ec_session.proofs.Wiring.{runs_keep_the_rest}
+use Rattle.ec_session.specs.Asking.{EndsAsked, GoesOn, cleared, stopped, with_asked}
+use Rattle.ec_session.specs.Wired.{LosesAndCycles, run_refusal, start_again, with_run, with_start}
+use Rattle.ec_session.proofs.Asked.{clearing_keeps_the_rest, reads_keep_the_rest, status_reads_keep_the_rest}
+use Rattle.ec_session.proofs.Wiring.{lossy_runs_keep_the_rest}
+use Rattle.ec_script.specs.declared.expectation.Expectation.TheVariants as expects
 use Rattle.ec_script.specs.declared.line.Line.{Line}
 use Rattle.ec_script.specs.declared.line.LineAction.{LineAction}
 use Rattle.ec_script.specs.declared.line.LineAction.TheVariants as act
@@ -17,7 +24,7 @@ use Rattle.ec_script.specs.declared.output.LineOutput.{LineOutput}
 use Rattle.ec_script.specs.declared.output.LineOutput.TheVariants as output
 use Rattle.ec_console.specs.Saying.{Says}
 use Rattle.cmd_master.specs.State.{MasteredState}
-use Rattle.cmd_master.specs.Doing.{Does, Either, RunsCycle, Sets, Tells}
+use Rattle.cmd_master.specs.Doing.{Does, Either, ReadsOne, RunsCycle, Sets, StopsMachine, Tells}
 use Rattle.cmd_master.specs.Saying.{SaysLine}
 use Rattle.cmd_master.specs.Laws.{CyclesCanRun}
 use Rattle.cmd_master.specs.Mastering.{begun_over}
@@ -50,8 +57,42 @@ holds_started s start h = record {
 -- ---- a cycle
 
 holds_run : (s : SessionState) (ended : Result ReportState RunError) (after : MasterState) → Holds s → after.cycle ≡ None → after.is_ready ≡ s.master.is_ready → Holds (with_run s ended after)
-holds_run s (Ok report) after h none ready = record { none_open = none; up = λ up. ready ∙ h.up up }
-holds_run s (Err error) after h none ready = record { none_open = none; up = λ up. ready ∙ h.up up }
+holds_run s ended after h none ready = record { none_open = none; up = λ up. ready ∙ h.up up }
+
+holds_ran : (s t : SessionState) (w v : WireState) (r : Result Unit RunError) → LosesAndCycles s w t v r → Holds s → Holds t
+holds_ran s t w v r h held =
+    let rest = lossy_runs_keep_the_rest s.master w v h.ended h.after h.run in
+    subst Holds (sym h.is) (holds_run s h.ended h.after held (ap (λ (m : MasterState). m.cycle) rest) (ap (λ (m : MasterState). m.is_ready) rest))
+
+-- ---- the outputs are 0
+
+holds_cleared : (s : SessionState) → Holds s → Holds (cleared s)
+holds_cleared s h =
+    let rest = clearing_keeps_the_rest s.master in
+    record { none_open = ap (λ (m : MasterState). m.cycle) rest ∙ h.none_open; up = λ up. ap (λ (m : MasterState). m.is_ready) rest ∙ h.up up }
+
+-- ---- questions
+
+holds_asked : (s : SessionState) → Holds s → Holds (with_asked s)
+holds_asked s h = record { none_open = h.none_open; up = h.up }
+
+holds_counted : (s t : SessionState) → t ≡ record s { asked = t.asked } → Holds s → Holds t
+holds_counted s t is h = subst Holds (sym is) (record { none_open = h.none_open; up = h.up })
+
+not_up : (s : SessionState) → is_up (start_again s).phase ≡ false
+unfolding begun
+not_up s = refl
+
+holds_stopped : (s : SessionState) → Holds s → Holds (stopped s)
+holds_stopped s h = record { none_open = h.none_open; up = λ up. (let bad : false ≡ true = sym (not_up s) ∙ up in cc) }
+
+holds_ended : (s t : SessionState) (told : Result (Option AlStatus) SocketFault) (answer : Result Unit RunError) → EndsAsked s told t answer → Holds s → Holds t
+holds_ended s t (Ok told) answer h held = subst Holds (sym h.0) (holds_stopped s held)
+holds_ended s t (Err fault) answer h held = subst Holds (sym h.0) held
+
+holds_gone : (ran : Result Unit RunError) (s t : SessionState) (w v : WireState) (answer : Result Unit RunError) → GoesOn ran s w t v answer → Holds s → Holds t
+holds_gone (Ok done) s t w v answer h held = holds_ended h.mid t h.told answer h.ends (subst Holds (sym h.asked.is) (holds_asked s held))
+holds_gone (Err error) s t w v answer h held = subst Holds (sym h.0) held
 
 -- ---- a line
 
@@ -63,24 +104,41 @@ holds_set v x s t said true h held = subst (λ (m : MasteredState). Holds m.sess
 holds_set v x s t said false h held = holds_told s t output.No said h held
 
 holds_cycled : (s t : MasteredState) (said : LineOutput) (b : Bool) → Either b (RunsCycle s t said) (Tells s t output.No said) → Holds s.session → Holds t.session
-holds_cycled s t said true h held =
-    let rest = runs_keep_the_rest s.session.master s.wire t.wire h.cycles.ended h.cycles.after h.cycles.run in
-    subst Holds (sym h.cycles.is)
-    (holds_run s.session h.cycles.ended h.cycles.after held (ap (λ (m : MasterState). m.cycle) rest) (ap (λ (m : MasterState). m.is_ready) rest))
+holds_cycled s t said true h held = holds_ran s.session t.session s.wire t.wire h.result h.cycles held
 holds_cycled s t said false h held = holds_told s t output.No said h held
+
+holds_stop : (s t : MasteredState) (said : LineOutput) (b : Bool) → Either b (StopsMachine s t said) (Tells s t output.No said) → Holds s.session → Holds t.session
+holds_stop s t said true h held =
+    holds_gone h.stops.ran h.stops.mid t.session h.stops.between t.wire h.result h.stops.goes_on
+    (holds_ran (cleared s.session) h.stops.mid s.wire h.stops.between h.stops.ran h.stops.cycles (holds_cleared s.session held))
+holds_stop s t said false h held = holds_told s t output.No said h held
+
+holds_one : (slave : ℕ) (state : State) (code : Option ℕ) (s t : MasteredState) (said : LineOutput) → ReadsOne slave state code s t said → Holds s.session → Holds t.session
+holds_one slave state code s t said h held = holds_counted s.session t.session (status_reads_keep_the_rest slave s.session t.session s.wire t.wire h.told h.reads) held
 
 holds_done : (action : LineAction) (s t : MasteredState) (said : LineOutput) → Does action s t said → Holds s.session → Holds t.session
 holds_done (act.Set v x) s t said h held = holds_set v x s t said (holds_value x (slice_get s.session.master.plan.variables v)) h held
-holds_done act.Ready s t said h held = subst Holds (sym h.starts.is) (holds_started s.session h.starts.start held)
+holds_done act.Ready s t said h held = subst Holds (sym h.starts.is) (holds_started (cleared s.session) h.starts.start (holds_cleared s.session held))
+holds_done act.Stop s t said h held = holds_stop s t said (is_none (run_refusal s.session)) h held
+holds_done act.States s t said h held = holds_counted s.session t.session (reads_keep_the_rest s.session t.session s.wire t.wire t.states h.result h.reads) held
 holds_done act.Cycle s t said h held = holds_cycled s t said (is_none (run_refusal s.session)) h held
 holds_done (act.Never v) s t said h held = holds_told s t output.No said h held
-holds_done (act.Expect e) s t said h held = subst (λ (m : MasteredState). Holds m.session) (sym h.same) held
+holds_done (act.Expect (expects.State slave state code)) s t said h held = holds_one slave state code s t said h held
+holds_done (act.Expect (expects.Is v x)) s t said h held = subst (λ (m : MasteredState). Holds m.session) (sym h.same) held
+holds_done (act.Expect (expects.Never v)) s t said h held = subst (λ (m : MasteredState). Holds m.session) (sym h.same) held
+holds_done (act.Expect (expects.Units taken)) s t said h held = subst (λ (m : MasteredState). Holds m.session) (sym h.same) held
+holds_done (act.Expect (expects.Unit u taken)) s t said h held = subst (λ (m : MasteredState). Holds m.session) (sym h.same) held
+holds_done (act.Expect expects.Ready) s t said h held = subst (λ (m : MasteredState). Holds m.session) (sym h.same) held
+holds_done (act.Expect (expects.Failed number)) s t said h held = subst (λ (m : MasteredState). Holds m.session) (sym h.same) held
 holds_done act.Show s t said h held = holds_told s t output.Values said h held
 holds_done act.Report s t said h held = subst (λ (m : MasteredState). Holds m.session) (sym h.same) held
 holds_done act.Start s t said h held = holds_told s t output.No said h held
 holds_done act.Begin s t said h held = holds_told s t output.No said h held
 holds_done (act.Pass k) s t said h held = holds_told s t output.No said h held
 holds_done (act.Lose k) s t said h held = holds_told s t output.No said h held
+holds_done (act.LosePart n k) s t said h held = holds_told s t output.No said h held
+holds_done (act.Output v) s t said h held = holds_told s t output.No said h held
+holds_done act.Served s t said h held = holds_told s t output.No said h held
 holds_done (act.Return k) s t said h held = holds_told s t output.No said h held
 holds_done act.Close s t said h held = holds_told s t output.No said h held
 holds_done (act.Serve k) s t said h held = holds_told s t output.No said h held

@@ -1,25 +1,32 @@
 -- What the calls of a session make of a master over a wire.
-use Rattle.std.proofs.Common.{◌≡◌, ◌∙◌, ℕ, Bool, true, false, Option, Some, None, Result, Ok, Err, refl, sym, ap, subst}
+use Rattle.std.proofs.Common.{◌≡◌, ◌∙◌, ℕ, List, length, nat_lt, Bool, true, false, Option, Some, None, Result, Ok, Err, refl, sym, ap, subst}
 use Rattle.std.specs.Prelude.{is_none, slice_get}
+use Rattle.ec_al.specs.declared.state.State.{State}
 use Rattle.ec_cycle.specs.Closing.{ReportState}
 use Rattle.ec_cycle.specs.Master.{MasterState, holds_value, variable_set}
 use Rattle.ec_cycle.specs.declared.error.CycleError.{CycleError}
+use Rattle.ec_asking.specs.declared.answer.AlStatus.{AlStatus}
 use Rattle.ec_wire.specs.declared.error.RunError.{RunError}
 use Rattle.ec_wire.specs.declared.error.RunError.TheVariants.{Refused, Wire}
+use Rattle.ec_wire.specs.declared.error.SocketFault.{SocketFault}
 use Rattle.ec_wire.specs.Wires.{WireState}
-use Rattle.ec_session.specs.Sessions.{SessionState}
-use Rattle.ec_session.specs.Wired.{Cycles, Starts, run_refusal, with_number_used, with_run}
+use Rattle.ec_session.specs.Asking.{AsksInit, EndsAsked, GoesOn, ReadsStates, ReadsStatus, Stops, cleared, with_asked}
+use Rattle.ec_session.specs.Sessions.{SessionState, outputs_cleared}
+use Rattle.ec_session.specs.Wired.{LosesAndCycles, Starts, run_refusal, with_number_used}
+use Rattle.ec_session.proofs.Asked.{reads_keep_the_rest, status_reads_keep_the_rest}
+use Rattle.ec_script.specs.declared.expectation.Expectation.TheVariants as expects
 use Rattle.ec_script.specs.declared.line.LineAction.{LineAction}
 use Rattle.ec_script.specs.declared.line.LineAction.TheVariants as act
 use Rattle.ec_script.specs.declared.output.LineOutput.{LineOutput}
 use Rattle.ec_script.specs.declared.output.LineOutput.TheVariants as output
+use Rattle.ec_script.specs.Outputs.{output_if}
 use Rattle.ec_console.specs.declared.wanted.Reasons.{Reasons}
 use Rattle.cmd_master.specs.State.{MasteredState}
-use Rattle.cmd_master.specs.Doing.{Does, Either, RunsCycle, Sets, Tells, output_of_run}
+use Rattle.cmd_master.specs.Doing.{Does, Either, ReadsOne, RunsCycle, Sets, StopsMachine, Tells, is_in_state, output_of_read, output_of_run, output_of_stop}
 
 -- a master over a wire, by its parts
-abbrev pub state_of : SessionState → WireState → Reasons → MasteredState
-state_of s w reasons = record { session = s; wire = w; reasons = reasons }
+abbrev pub state_of : SessionState → WireState → Reasons → List (Option AlStatus) → MasteredState
+state_of s w reasons states = record { session = s; wire = w; reasons = reasons; states = states }
 
 either_true : (b : Bool) (x y : Type 0) → b ≡ true → x → Either b x y
 either_true b x y is h = subst (λ (c : Bool). Either c x y) (sym is) h
@@ -29,8 +36,8 @@ either_false b x y is h = subst (λ (c : Bool). Either c x y) (sym is) h
 
 -- ---- a start-up
 
-pub started : (s t : SessionState) (w v : WireState) (reasons : Reasons) → Starts s w t v → Does act.Ready (state_of s w reasons) (state_of t v reasons) output.Ended
-started s t w v reasons starts = record { starts = starts; reasons = refl; is = refl }
+pub started : (s c t : SessionState) (w v : WireState) (reasons : Reasons) (states : List (Option AlStatus)) → c ≡ cleared s → Starts c w t v → Does act.Ready (state_of s w reasons states) (state_of t v reasons states) output.Ended
+started s c t w v reasons states zeros starts = record { starts = subst (λ (x : SessionState). Starts x w t v) zeros starts; rest = (refl, refl); is = refl }
 
 -- ---- a cycle
 
@@ -40,37 +47,66 @@ only_fault (Ok done) is = let bad : output.Report ≡ output.Fault = is in cc
 only_fault (Err Wire) is = refl
 only_fault (Err (Refused e)) is = let bad : output.No ≡ output.Fault = is in cc
 
-pub cycled : (s t : SessionState) (w v : WireState) (reasons : Reasons) (r : Result Unit RunError) (said : LineOutput) → said ≡ output_of_run r
-    → (run_refusal s ≡ None → Cycles s w t v r) → ((e : CycleError) → run_refusal s ≡ Some e → r ≡ Err (Refused e)) → ((e : CycleError) → run_refusal s ≡ Some e → t ≡ s) → ((e : CycleError) → run_refusal s ≡ Some e → v ≡ w)
-    → (r ≡ Err Wire → t ≡ with_number_used s) → Does act.Cycle (state_of s w reasons) (state_of t v reasons) said
-cycled s t w v reasons r said is runs refused same_session same_wire faulted = by (run_refusal s) refl
+pub cycled : (s t : SessionState) (w v : WireState) (reasons : Reasons) (states : List (Option AlStatus)) (r : Result Unit RunError) (said : LineOutput) → said ≡ output_of_run r
+    → (run_refusal s ≡ None → LosesAndCycles s w t v r) → ((e : CycleError) → run_refusal s ≡ Some e → r ≡ Err (Refused e)) → ((e : CycleError) → run_refusal s ≡ Some e → t ≡ s) → ((e : CycleError) → run_refusal s ≡ Some e → v ≡ w)
+    → (r ≡ Err Wire → t ≡ with_number_used s) → Does act.Cycle (state_of s w reasons states) (state_of t v reasons states) said
+cycled s t w v reasons states r said is runs refused same_session same_wire faulted = by (run_refusal s) refl
   where
-    by : (o : Option CycleError) → run_refusal s ≡ o → Does act.Cycle (state_of s w reasons) (state_of t v reasons) said
-    by None none = either_true (is_none (run_refusal s)) (RunsCycle (state_of s w reasons) (state_of t v reasons) said) (Tells (state_of s w reasons) (state_of t v reasons) output.No said) (ap is_none none) (record {
+    by : (o : Option CycleError) → run_refusal s ≡ o → Does act.Cycle (state_of s w reasons states) (state_of t v reasons states) said
+    by None none = either_true (is_none (run_refusal s)) (RunsCycle (state_of s w reasons states) (state_of t v reasons states) said) (Tells (state_of s w reasons states) (state_of t v reasons states) output.No said) (ap is_none none) (record {
       result = r;
       cycles = runs none;
-      reasons = refl;
+      rest = (refl, refl);
       is = is;
       untaken = λ fault. faulted (only_fault r (sym is ∙ fault));
     })
-    by (Some e) some = either_false (is_none (run_refusal s)) (RunsCycle (state_of s w reasons) (state_of t v reasons) said) (Tells (state_of s w reasons) (state_of t v reasons) output.No said) (ap is_none some) (record {
-      same = ap (λ (x : SessionState). state_of x v reasons) (same_session e some) ∙ ap (λ (x : WireState). state_of s x reasons) (same_wire e some);
+    by (Some e) some = either_false (is_none (run_refusal s)) (RunsCycle (state_of s w reasons states) (state_of t v reasons states) said) (Tells (state_of s w reasons states) (state_of t v reasons states) output.No said) (ap is_none some) (record {
+      same = ap (λ (x : SessionState). state_of x v reasons states) (same_session e some) ∙ ap (λ (x : WireState). state_of s x reasons states) (same_wire e some);
       is = is ∙ ap output_of_run (refused e some);
     })
 
+-- ---- the machine is stopped
+
+pub stopped : (s t : SessionState) (w v : WireState) (reasons : Reasons) (states : List (Option AlStatus)) (r : Result Unit RunError) (said : LineOutput) → said ≡ output_of_stop r
+    → (run_refusal s ≡ None → Stops s w t v r) → ((e : CycleError) → run_refusal s ≡ Some e → r ≡ Err (Refused e)) → ((e : CycleError) → run_refusal s ≡ Some e → t ≡ s) → ((e : CycleError) → run_refusal s ≡ Some e → v ≡ w)
+    → Does act.Stop (state_of s w reasons states) (state_of t v reasons states) said
+stopped s t w v reasons states r said is stops refused same_session same_wire = by (run_refusal s) refl
+  where
+    by : (o : Option CycleError) → run_refusal s ≡ o → Does act.Stop (state_of s w reasons states) (state_of t v reasons states) said
+    by None none = either_true (is_none (run_refusal s)) (StopsMachine (state_of s w reasons states) (state_of t v reasons states) said) (Tells (state_of s w reasons states) (state_of t v reasons states) output.No said) (ap is_none none) (record {
+      result = r;
+      stops = stops none;
+      rest = (refl, refl);
+      is = is;
+    })
+    by (Some e) some = either_false (is_none (run_refusal s)) (StopsMachine (state_of s w reasons states) (state_of t v reasons states) said) (Tells (state_of s w reasons states) (state_of t v reasons states) output.No said) (ap is_none some) (record {
+      same = ap (λ (x : SessionState). state_of x v reasons states) (same_session e some) ∙ ap (λ (x : WireState). state_of s x reasons states) (same_wire e some);
+      is = is ∙ ap output_of_stop (refused e some);
+    })
+
+-- ---- AL states
+
+pub read_all : (s t : SessionState) (w v : WireState) (reasons : Reasons) (states told : List (Option AlStatus)) (r : Result Unit SocketFault) (said : LineOutput) → said ≡ output_of_read r → length told ≡ length states → ReadsStates s w told t v r
+    → Does act.States (state_of s w reasons states) (state_of t v reasons told) said
+read_all s t w v reasons states told r said is count reads = record { result = r; count = count; reads = reads; reasons = refl; is = is }
+
+pub read_one : (slave : ℕ) (state : State) (code : Option ℕ) (s t : SessionState) (w v : WireState) (reasons : Reasons) (states : List (Option AlStatus)) (told : Result (Option AlStatus) SocketFault) (said : LineOutput)
+    → ReadsStatus slave s w t v told → said ≡ output_if (is_in_state state code told) → Does (act.Expect (expects.State slave state code)) (state_of s w reasons states) (state_of t v reasons states) said
+read_one slave state code s t w v reasons states told said reads is = record { told = told; reads = reads; rest = (refl, refl); is = is }
+
 -- ---- a variable
 
-pub was_set : (variable value : ℕ) (s t : SessionState) (w : WireState) (reasons : Reasons) (b : Bool) → b ≡ holds_value value (slice_get s.master.plan.variables variable)
-    → (b ≡ true → t ≡ record s { master = variable_set s.master variable value }) → b ≡ true → Does (act.Set variable value) (state_of s w reasons) (state_of t w reasons) output.Nothing
-was_set variable value s t w reasons b answer done is =
-    either_true (holds_value value (slice_get s.master.plan.variables variable)) (Sets variable value (state_of s w reasons) (state_of t w reasons) output.Nothing) (Tells (state_of s w reasons) (state_of t w reasons) output.No output.Nothing)
-    (sym answer ∙ is) (record { session = ap (λ (x : SessionState). state_of x w reasons) (done is); is = refl })
+pub was_set : (variable value : ℕ) (s t : SessionState) (w : WireState) (reasons : Reasons) (states : List (Option AlStatus)) (b : Bool) → b ≡ holds_value value (slice_get s.master.plan.variables variable)
+    → (b ≡ true → t ≡ record s { master = variable_set s.master variable value }) → b ≡ true → Does (act.Set variable value) (state_of s w reasons states) (state_of t w reasons states) output.Nothing
+was_set variable value s t w reasons states b answer done is =
+    either_true (holds_value value (slice_get s.master.plan.variables variable)) (Sets variable value (state_of s w reasons states) (state_of t w reasons states) output.Nothing) (Tells (state_of s w reasons states) (state_of t w reasons states) output.No output.Nothing)
+    (sym answer ∙ is) (record { session = ap (λ (x : SessionState). state_of x w reasons states) (done is); is = refl })
 
-pub was_kept : (variable value : ℕ) (s t : SessionState) (w : WireState) (reasons : Reasons) (b : Bool) → b ≡ holds_value value (slice_get s.master.plan.variables variable)
-    → (b ≡ false → t ≡ s) → b ≡ false → Does (act.Set variable value) (state_of s w reasons) (state_of t w reasons) output.No
-was_kept variable value s t w reasons b answer kept is =
-    either_false (holds_value value (slice_get s.master.plan.variables variable)) (Sets variable value (state_of s w reasons) (state_of t w reasons) output.No) (Tells (state_of s w reasons) (state_of t w reasons) output.No output.No)
-    (sym answer ∙ is) (record { same = ap (λ (x : SessionState). state_of x w reasons) (kept is); is = refl })
+pub was_kept : (variable value : ℕ) (s t : SessionState) (w : WireState) (reasons : Reasons) (states : List (Option AlStatus)) (b : Bool) → b ≡ holds_value value (slice_get s.master.plan.variables variable)
+    → (b ≡ false → t ≡ s) → b ≡ false → Does (act.Set variable value) (state_of s w reasons states) (state_of t w reasons states) output.No
+was_kept variable value s t w reasons states b answer kept is =
+    either_false (holds_value value (slice_get s.master.plan.variables variable)) (Sets variable value (state_of s w reasons states) (state_of t w reasons states) output.No) (Tells (state_of s w reasons states) (state_of t w reasons states) output.No output.No)
+    (sym answer ∙ is) (record { same = ap (λ (x : SessionState). state_of x w reasons states) (kept is); is = refl })
 
 -- ---- the table stays
 
@@ -81,26 +117,49 @@ set_table : (variable value : ℕ) (s t : MasteredState) (said : LineOutput) (b 
 set_table variable value s t said true h = ap (λ (m : MasteredState). m.session.table) h.session
 set_table variable value s t said false h = told_table s t output.No said h
 
-run_table : (s : SessionState) (ended : Result ReportState RunError) (after : MasterState) → (with_run s ended after).table ≡ s.table
-run_table s (Ok report) after = refl
-run_table s (Err error) after = refl
-
 cycle_table : (s t : MasteredState) (said : LineOutput) (b : Bool) → Either b (RunsCycle s t said) (Tells s t output.No said) → t.session.table ≡ s.session.table
-cycle_table s t said true h = ap (λ (x : SessionState). x.table) h.cycles.is ∙ run_table s.session h.cycles.ended h.cycles.after
+cycle_table s t said true h = ap (λ (x : SessionState). x.table) h.cycles.is
 cycle_table s t said false h = told_table s t output.No said h
+
+ended_table : (s t : SessionState) (told : Result (Option AlStatus) SocketFault) (answer : Result Unit RunError) → EndsAsked s told t answer → t.table ≡ s.table
+ended_table s t (Ok told) answer h = ap (λ (x : SessionState). x.table) h.0
+ended_table s t (Err fault) answer h = ap (λ (x : SessionState). x.table) h.0
+
+gone_table : (ran : Result Unit RunError) (s t : SessionState) (w v : WireState) (answer : Result Unit RunError) → GoesOn ran s w t v answer → t.table ≡ s.table
+gone_table (Ok done) s t w v answer h = ended_table h.mid t h.told answer h.ends ∙ ap (λ (x : SessionState). x.table) h.asked.is
+gone_table (Err error) s t w v answer h = ap (λ (x : SessionState). x.table) h.0
+
+stop_table : (s t : MasteredState) (said : LineOutput) (b : Bool) → Either b (StopsMachine s t said) (Tells s t output.No said) → t.session.table ≡ s.session.table
+stop_table s t said true h =
+    gone_table h.stops.ran h.stops.mid t.session h.stops.between t.wire h.result h.stops.goes_on ∙ ap (λ (x : SessionState). x.table) h.stops.cycles.is
+stop_table s t said false h = told_table s t output.No said h
+
+one_table : (slave : ℕ) (state : State) (code : Option ℕ) (s t : MasteredState) (said : LineOutput) → ReadsOne slave state code s t said → t.session.table ≡ s.session.table
+one_table slave state code s t said h = ap (λ (x : SessionState). x.table) (status_reads_keep_the_rest slave s.session t.session s.wire t.wire h.told h.reads)
 
 pub table_stays : (action : LineAction) (s t : MasteredState) (said : LineOutput) → Does action s t said → t.session.table ≡ s.session.table
 table_stays (act.Set v x) s t said h = set_table v x s t said (holds_value x (slice_get s.session.master.plan.variables v)) h
 table_stays act.Ready s t said h = ap (λ (x : SessionState). x.table) h.starts.is
 table_stays act.Cycle s t said h = cycle_table s t said (is_none (run_refusal s.session)) h
+table_stays act.Stop s t said h = stop_table s t said (is_none (run_refusal s.session)) h
+table_stays act.States s t said h = ap (λ (x : SessionState). x.table) (reads_keep_the_rest s.session t.session s.wire t.wire t.states h.result h.reads)
 table_stays (act.Never v) s t said h = told_table s t output.No said h
-table_stays (act.Expect e) s t said h = ap (λ (m : MasteredState). m.session.table) h.same
+table_stays (act.Expect (expects.State slave state code)) s t said h = one_table slave state code s t said h
+table_stays (act.Expect (expects.Is v x)) s t said h = ap (λ (m : MasteredState). m.session.table) h.same
+table_stays (act.Expect (expects.Never v)) s t said h = ap (λ (m : MasteredState). m.session.table) h.same
+table_stays (act.Expect (expects.Units taken)) s t said h = ap (λ (m : MasteredState). m.session.table) h.same
+table_stays (act.Expect (expects.Unit u taken)) s t said h = ap (λ (m : MasteredState). m.session.table) h.same
+table_stays (act.Expect expects.Ready) s t said h = ap (λ (m : MasteredState). m.session.table) h.same
+table_stays (act.Expect (expects.Failed number)) s t said h = ap (λ (m : MasteredState). m.session.table) h.same
 table_stays act.Show s t said h = ap (λ (m : MasteredState). m.session.table) h.same
 table_stays act.Report s t said h = ap (λ (m : MasteredState). m.session.table) h.same
 table_stays act.Start s t said h = told_table s t output.No said h
 table_stays act.Begin s t said h = told_table s t output.No said h
 table_stays (act.Pass k) s t said h = told_table s t output.No said h
 table_stays (act.Lose k) s t said h = told_table s t output.No said h
+table_stays (act.LosePart n k) s t said h = told_table s t output.No said h
+table_stays (act.Output v) s t said h = told_table s t output.No said h
+table_stays act.Served s t said h = told_table s t output.No said h
 table_stays (act.Return k) s t said h = told_table s t output.No said h
 table_stays act.Close s t said h = told_table s t output.No said h
 table_stays (act.Serve k) s t said h = told_table s t output.No said h

@@ -1,10 +1,12 @@
 -- The text of a line and why behind it, and that reasons only add lines.
-use Rattle.std.proofs.Common.{◌≡◌, ◌∙◌, ℕ, List, [], ◌++◌, Bool, true, false, Result, Ok, Err, IfOk, String, Global, refl, sym, ap, subst, append-nil}
+use Rattle.std.proofs.Common.{◌≡◌, ◌∙◌, ℕ, List, [], ◌++◌, Bool, true, false, Option, Result, Ok, Err, IfOk, String, Global, refl, sym, ap, subst, append-nil}
 use Rattle.std.specs.Prelude.{is_none, slice_get, string_bytes}
 use Rattle.ec_table.specs.Contents.{Contents}
 use Rattle.ec_cycle.specs.Master.{holds_value}
+use Rattle.ec_asking.specs.declared.answer.AlStatus.{AlStatus}
 use Rattle.ec_session.specs.Sessions.{SessionState}
 use Rattle.ec_session.specs.Wired.{run_refusal}
+use Rattle.ec_script.specs.declared.expectation.Expectation.TheVariants as expects
 use Rattle.ec_script.specs.declared.line.Line.{Line}
 use Rattle.ec_script.specs.declared.line.LineAction.{LineAction}
 use Rattle.ec_script.specs.declared.line.LineAction.TheVariants as act
@@ -18,7 +20,7 @@ use Rattle.ec_console.specs.Reasons.{Part, ReasonIf}
 use Rattle.ec_console.proofs.ReasonLemmas.{only_adds, reason_if, some_why}
 use Rattle.ec_console.specs.Unmet.{unmet_of}
 use Rattle.cmd_master.specs.State.{MasteredState}
-use Rattle.cmd_master.specs.Doing.{Does, Either, RunsCycle, Sets, Tells, view_of}
+use Rattle.cmd_master.specs.Doing.{Does, Either, RunsCycle, Sets, StopsMachine, Tells, view_of}
 use Rattle.cmd_master.specs.Saying.{SaysLine, is_reasoned, plain_text}
 use Rattle.cmd_master.specs.Stages.{IsLineText, IsReasonedText}
 use Rattle.cmd_master.specs.Laws.{ReasonsOnlyAdd, SaysUntold, untold}
@@ -26,35 +28,35 @@ use Rattle.cmd_master.specs.Laws.{ReasonsOnlyAdd, SaysUntold, untold}
 -- ---- a text and why behind it
 
 -- the text of an output is that of the session
-pub text_of : {E : Type 0} (r : Result (String Global) E) (s : SessionState) (t : Contents) (n : ℕ) (view : ViewState) (said : LineOutput) → t ≡ s.table → view ≡ view_of s
-    → IfOk r (λ text. string_bytes text ≡ output_text t n view said) → IfOk r (λ text. string_bytes text ≡ plain_text s n said)
-text_of r s t n view said of_table seen is =
-    subst (λ (v : ViewState). IfOk r (λ text. string_bytes text ≡ output_text s.table n v said)) seen (subst (λ (x : Contents). IfOk r (λ text. string_bytes text ≡ output_text x n view said)) of_table is)
+pub text_of : {E : Type 0} (r : Result (String Global) E) (s : SessionState) (states : List (Option AlStatus)) (t : Contents) (n : ℕ) (view : ViewState) (said : LineOutput) → t ≡ s.table → view ≡ view_of s
+    → IfOk r (λ text. string_bytes text ≡ output_text t n view states said) → IfOk r (λ text. string_bytes text ≡ plain_text s states n said)
+text_of r s states t n view said of_table seen is =
+    subst (λ (v : ViewState). IfOk r (λ text. string_bytes text ≡ output_text s.table n v states said)) seen (subst (λ (x : Contents). IfOk r (λ text. string_bytes text ≡ output_text x n view states said)) of_table is)
 
 -- no reason follows it
-pub line_alone : {E : Type 0} (r : Result (String Global) E) (reasons : Reasons) (s : SessionState) (n : ℕ) (said : LineOutput) → is_reasoned reasons s said ≡ false → IfOk r (λ text. string_bytes text ≡ plain_text s n said)
-    → IfOk r (λ text. IsLineText reasons s n said (string_bytes text))
-line_alone (Ok text) reasons s n said none is = ([], subst (λ (b : Bool). ReasonIf b []) (sym none) refl, is ∙ sym (append-nil (plain_text s n said)))
-line_alone (Err e) reasons s n said none is = tt
+pub line_alone : {E : Type 0} (r : Result (String Global) E) (reasons : Reasons) (s : SessionState) (states : List (Option AlStatus)) (n : ℕ) (said : LineOutput) → is_reasoned reasons s said ≡ false → IfOk r (λ text. string_bytes text ≡ plain_text s states n said)
+    → IfOk r (λ text. IsLineText reasons s states n said (string_bytes text))
+line_alone (Ok text) reasons s states n said none is = ([], subst (λ (b : Bool). ReasonIf b []) (sym none) refl, is ∙ sym (append-nil (plain_text s states n said)))
+line_alone (Err e) reasons s states n said none is = tt
 
 -- or one does
-pub line_reasoned : {E : Type 0} (r : Result (String Global) E) (reasons : Reasons) (s : SessionState) (n : ℕ) (said : LineOutput) → is_reasoned reasons s said ≡ true → IfOk r (λ text. IsReasonedText s n said (string_bytes text))
-    → IfOk r (λ text. IsLineText reasons s n said (string_bytes text))
-line_reasoned (Ok text) reasons s n said wanted (why, reason, is) = (why, subst (λ (b : Bool). ReasonIf b why) (sym wanted) reason, is)
-line_reasoned (Err e) reasons s n said wanted h = tt
+pub line_reasoned : {E : Type 0} (r : Result (String Global) E) (reasons : Reasons) (s : SessionState) (states : List (Option AlStatus)) (n : ℕ) (said : LineOutput) → is_reasoned reasons s said ≡ true → IfOk r (λ text. IsReasonedText s states n said (string_bytes text))
+    → IfOk r (λ text. IsLineText reasons s states n said (string_bytes text))
+line_reasoned (Ok text) reasons s states n said wanted (why, reason, is) = (why, subst (λ (b : Bool). ReasonIf b why) (sym wanted) reason, is)
+line_reasoned (Err e) reasons s states n said wanted h = tt
 
 -- a text that a line may have, if there is no memory for it
 pub some_line : (s : MasteredState) (line : Line) (t : MasteredState) (said : LineOutput) → Does line.action s t said → (printed : List ℕ) × (unmet : ℕ) × SaysLine s line t printed unmet
 some_line s line t said does =
     let why = some_why (is_reasoned t.reasons t.session said) in
-    (plain_text t.session line.number said ++ why.0, unmet_of (is_unmet said), record { said = said; does = does; why = why.0; reason = why.1; text = refl; count = refl })
+    (plain_text t.session t.states line.number said ++ why.0, unmet_of (is_unmet said), record { said = said; does = does; why = why.0; reason = why.1; text = refl; count = refl })
 
 -- a text that it has, by the session behind it
-pub one_line : (s : MasteredState) (line : Line) (t now : MasteredState) (said : LineOutput) (text : List ℕ) (is_one : Bool) → Does line.action s t said → now ≡ t → IsLineText now.reasons now.session line.number said text → is_one ≡ is_unmet said
+pub one_line : (s : MasteredState) (line : Line) (t now : MasteredState) (said : LineOutput) (text : List ℕ) (is_one : Bool) → Does line.action s t said → now ≡ t → IsLineText now.reasons now.session now.states line.number said text → is_one ≡ is_unmet said
     → SaysLine s line t text (unmet_of is_one)
-one_line s line t now said text is_one does same prints counts = by (subst (λ (m : MasteredState). IsLineText m.reasons m.session line.number said text) same prints)
+one_line s line t now said text is_one does same prints counts = by (subst (λ (m : MasteredState). IsLineText m.reasons m.session m.states line.number said text) same prints)
   where
-    by : IsLineText t.reasons t.session line.number said text → SaysLine s line t text (unmet_of is_one)
+    by : IsLineText t.reasons t.session t.states line.number said text → SaysLine s line t text (unmet_of is_one)
     by (why, reason, is) = record { said = said; does = does; why = why; reason = reason; text = is; count = ap unmet_of counts }
 
 -- ---- what a line does doesn't depend on reasons
@@ -67,21 +69,36 @@ untold_set v x s t said true h = record { session = ap untold h.session; is = h.
 untold_set v x s t said false h = untold_tells s t output.No said h
 
 untold_cycle : (s t : MasteredState) (said : LineOutput) (b : Bool) → Either b (RunsCycle s t said) (Tells s t output.No said) → Either b (RunsCycle (untold s) (untold t) said) (Tells (untold s) (untold t) output.No said)
-untold_cycle s t said true h = record { result = h.result; cycles = h.cycles; reasons = refl; is = h.is; untaken = h.untaken }
+untold_cycle s t said true h = record { result = h.result; cycles = h.cycles; rest = (refl, h.rest.1); is = h.is; untaken = h.untaken }
 untold_cycle s t said false h = untold_tells s t output.No said h
+
+untold_stop : (s t : MasteredState) (said : LineOutput) (b : Bool) → Either b (StopsMachine s t said) (Tells s t output.No said) → Either b (StopsMachine (untold s) (untold t) said) (Tells (untold s) (untold t) output.No said)
+untold_stop s t said true h = record { result = h.result; stops = h.stops; rest = (refl, h.rest.1); is = h.is }
+untold_stop s t said false h = untold_tells s t output.No said h
 
 untold_does : (action : LineAction) (s t : MasteredState) (said : LineOutput) → Does action s t said → Does action (untold s) (untold t) said
 untold_does (act.Set v x) s t said h = untold_set v x s t said (holds_value x (slice_get s.session.master.plan.variables v)) h
-untold_does act.Ready s t said h = record { starts = h.starts; reasons = refl; is = h.is }
+untold_does act.Ready s t said h = record { starts = h.starts; rest = (refl, h.rest.1); is = h.is }
+untold_does act.Stop s t said h = untold_stop s t said (is_none (run_refusal s.session)) h
+untold_does act.States s t said h = record { result = h.result; count = h.count; reads = h.reads; reasons = refl; is = h.is }
 untold_does act.Cycle s t said h = untold_cycle s t said (is_none (run_refusal s.session)) h
 untold_does (act.Never v) s t said h = untold_tells s t output.No said h
-untold_does (act.Expect e) s t said h = record { same = ap untold h.same; is = h.is }
+untold_does (act.Expect (expects.State slave state code)) s t said h = record { told = h.told; reads = h.reads; rest = (refl, h.rest.1); is = h.is }
+untold_does (act.Expect (expects.Is v x)) s t said h = record { same = ap untold h.same; is = h.is }
+untold_does (act.Expect (expects.Never v)) s t said h = record { same = ap untold h.same; is = h.is }
+untold_does (act.Expect (expects.Units taken)) s t said h = record { same = ap untold h.same; is = h.is }
+untold_does (act.Expect (expects.Unit u taken)) s t said h = record { same = ap untold h.same; is = h.is }
+untold_does (act.Expect expects.Ready) s t said h = record { same = ap untold h.same; is = h.is }
+untold_does (act.Expect (expects.Failed number)) s t said h = record { same = ap untold h.same; is = h.is }
 untold_does act.Show s t said h = record { same = ap untold h.same; is = h.is }
 untold_does act.Report s t said h = record { same = ap untold h.same; is = h.is }
 untold_does act.Start s t said h = untold_tells s t output.No said h
 untold_does act.Begin s t said h = untold_tells s t output.No said h
 untold_does (act.Pass k) s t said h = untold_tells s t output.No said h
 untold_does (act.Lose k) s t said h = untold_tells s t output.No said h
+untold_does (act.LosePart n k) s t said h = untold_tells s t output.No said h
+untold_does (act.Output v) s t said h = untold_tells s t output.No said h
+untold_does act.Served s t said h = untold_tells s t output.No said h
 untold_does (act.Return k) s t said h = untold_tells s t output.No said h
 untold_does act.Close s t said h = untold_tells s t output.No said h
 untold_does (act.Serve k) s t said h = untold_tells s t output.No said h
@@ -93,13 +110,13 @@ untold_does (act.Input v x) s t said h = untold_tells s t output.No said h
 
 -- ---- lines with reasons and without
 
-untold_line : (s : MasteredState) (line : Line) (t : MasteredState) (printed : List ℕ) (unmet : ℕ) (h : SaysLine s line t printed unmet) → SaysUntold s line t (plain_text t.session line.number h.said) unmet
+untold_line : (s : MasteredState) (line : Line) (t : MasteredState) (printed : List ℕ) (unmet : ℕ) (h : SaysLine s line t printed unmet) → SaysUntold s line t (plain_text t.session t.states line.number h.said) unmet
 untold_line s line t printed unmet h = record {
   said = h.said;
   does = untold_does line.action s t h.said h.does;
   why = [];
   reason = refl;
-  text = sym (append-nil (plain_text t.session line.number h.said));
+  text = sym (append-nil (plain_text t.session t.states line.number h.said));
   count = h.count;
 }
 
@@ -107,7 +124,7 @@ untold_line s line t printed unmet h = record {
 line_adds : (s : MasteredState) (line : Line) (t : MasteredState) (printed : List ℕ) (unmet : ℕ) → SaysLine s line t printed unmet
     → (part : Part) × (printed ≡ part.said ++ part.why) × SaysUntold s line t part.said unmet
 line_adds s line t printed unmet h =
-    (record { said = plain_text t.session line.number h.said; why = h.why; is = reason_if _ h.why h.reason }, h.text, untold_line s line t printed unmet h)
+    (record { said = plain_text t.session t.states line.number h.said; why = h.why; is = reason_if _ h.why h.reason }, h.text, untold_line s line t printed unmet h)
 
 pub reasons_only_add : ReasonsOnlyAdd
 reasons_only_add = only_adds SaysLine SaysUntold line_adds

@@ -1,15 +1,21 @@
 -- What an action does to a master over a wire, and its output (this project's profile). `ec_session` defines a start-up and a cycle over
 -- a wire, and `ec_cycle` how a variable is set.
-use Rattle.std.specs.Prelude.{ℕ, ◌≡◌, slice_get, Bool, true, false, is_none, Option, Some, None, Result, Ok, Err}
+use Rattle.std.specs.Prelude.{ℕ, ◌≡◌, ◌%◌, ◌==◌, ◌&&◌, length, slice_get, Bool, true, false, is_none, Option, Some, None, Result, Ok, Err}
+use Rattle.ec_al.specs.declared.state.State.{State}
+use Rattle.ec_al.specs.States.{state_number}
 use Rattle.ec_start.specs.Running.{outcome_of}
 use Rattle.ec_cycle.specs.Closing.{ReportState}
 use Rattle.ec_cycle.specs.Master.{holds_value, variable_set}
 use Rattle.ec_wire.specs.declared.error.RunError.{RunError}
 use Rattle.ec_wire.specs.declared.error.RunError.TheVariants.{Refused, Wire}
+use Rattle.ec_wire.specs.declared.error.SocketFault.{SocketFault}
+use Rattle.ec_asking.specs.declared.answer.AlStatus.{AlStatus}
+use Rattle.ec_session.specs.Asking.{ReadsStates, ReadsStatus, Stops, cleared}
 use Rattle.ec_session.specs.Sessions.{SessionState}
-use Rattle.ec_session.specs.Wired.{Cycles, Starts, run_refusal, with_number_used}
+use Rattle.ec_session.specs.Wired.{LosesAndCycles, Starts, run_refusal, with_number_used}
+use Rattle.ec_script.specs.declared.expectation.Expectation.TheVariants as expects
 use Rattle.ec_script.specs.declared.line.LineAction.{LineAction}
-use Rattle.ec_script.specs.declared.line.LineAction.TheVariants.{Set, Never, Expect, Ready, Cycle, Show, Report}
+use Rattle.ec_script.specs.declared.line.LineAction.TheVariants.{Set, Never, Expect, Ready, Cycle, Show, Report, States, Stop}
 use Rattle.ec_script.specs.declared.output.LineOutput.{LineOutput}
 use Rattle.ec_script.specs.declared.output.LineOutput.TheVariants as output
 use Rattle.ec_script.specs.Expecting.{is_met}
@@ -26,10 +32,14 @@ pub record Tells (s t : MasteredState) (what said : LineOutput) : Type 0 where
   pub same : t ≡ s
   pub is : said ≡ what
 
--- a start-up is run over the wire
+-- the session and the wire may change, and nothing else
+abbrev pub KeepsRest : MasteredState → MasteredState → Type 0
+KeepsRest s t = (t.reasons ≡ s.reasons) × (t.states ≡ s.states)
+
+-- all outputs become 0, and a start-up is run over the wire
 pub record StartsUp (s t : MasteredState) (said : LineOutput) : Type 0 where
-  pub starts : Starts s.session s.wire t.session t.wire
-  pub reasons : t.reasons ≡ s.reasons
+  pub starts : Starts (cleared s.session) s.wire t.session t.wire
+  pub rest : KeepsRest s t
   pub is : said ≡ output.Ended
 
 -- the output of a cycle: its report, or that the wire had a fault, or that none could be run
@@ -38,13 +48,55 @@ output_of_run (Ok done) = output.Report
 output_of_run (Err Wire) = output.Fault
 output_of_run (Err (Refused error)) = output.No
 
--- a cycle is run over the wire; after a fault of the wire only its number is used up
+-- A cycle is run over the wire, on which frames may be lost. After a fault of the wire only its number is used up.
 pub record RunsCycle (s t : MasteredState) (said : LineOutput) : Type 0 where
   pub result : Result Unit RunError
-  pub cycles : Cycles s.session s.wire t.session t.wire result
-  pub reasons : t.reasons ≡ s.reasons
+  pub cycles : LosesAndCycles s.session s.wire t.session t.wire result
+  pub rest : KeepsRest s t
   pub is : said ≡ output_of_run result
   pub untaken : said ≡ output.Fault → t.session ≡ with_number_used s.session
+
+-- the output of `stop`: nothing, or that the wire had a fault, or that no cycle could be run
+abbrev pub output_of_stop : Result Unit RunError → LineOutput
+output_of_stop (Ok done) = output.Nothing
+output_of_stop (Err Wire) = output.Fault
+output_of_stop (Err (Refused error)) = output.No
+
+-- the machine is stopped over the wire
+pub record StopsMachine (s t : MasteredState) (said : LineOutput) : Type 0 where
+  pub result : Result Unit RunError
+  pub stops : Stops s.session s.wire t.session t.wire result
+  pub rest : KeepsRest s t
+  pub is : said ≡ output_of_stop result
+
+-- the output of `states`: what was read, or that the wire had a fault
+abbrev pub output_of_read : Result Unit SocketFault → LineOutput
+output_of_read (Ok done) = output.States
+output_of_read (Err fault) = output.Fault
+
+-- the AL states of all slaves are read over the wire
+pub record ReadsAll (s t : MasteredState) (said : LineOutput) : Type 0 where
+  pub result : Result Unit SocketFault
+  pub count : length t.states ≡ length s.states
+  pub reads : ReadsStates s.session s.wire t.states t.session t.wire result
+  pub reasons : t.reasons ≡ s.reasons
+  pub is : said ≡ output_of_read result
+
+abbrev pub has_code : Option ℕ → ℕ → Bool
+has_code None shown = true
+has_code (Some code) shown = shown == code
+
+-- a slave said that it is in a state, and this code if one is given
+abbrev pub is_in_state : State → Option ℕ → Result (Option AlStatus) SocketFault → Bool
+is_in_state state code (Ok (Some told)) = (told.word % 16 == state_number state) && has_code code told.code
+is_in_state state code _ = false
+
+-- the AL state of a slave is read over the wire, and compared
+pub record ReadsOne (slave : ℕ) (state : State) (code : Option ℕ) (s t : MasteredState) (said : LineOutput) : Type 0 where
+  pub told : Result (Option AlStatus) SocketFault
+  pub reads : ReadsStatus slave s.session s.wire t.session t.wire told
+  pub rest : KeepsRest s t
+  pub is : said ≡ output_if (is_in_state state code told)
 
 -- a variable becomes a value
 pub record Sets (variable value : ℕ) (s t : MasteredState) (said : LineOutput) : Type 0 where
@@ -64,9 +116,12 @@ last_report (Some report) = output.Report
 abbrev pub Does : LineAction → MasteredState → MasteredState → LineOutput → Type 0
 Does (Set v x) s t said = Either (holds_value x (slice_get s.session.master.plan.variables v)) (Sets v x s t said) (Tells s t output.No said)
 Does (Never v) s t said = Tells s t output.No said
+Does (Expect (expects.State slave state code)) s t said = ReadsOne slave state code s t said
 Does (Expect e) s t said = Tells s t (output_if (is_met e (view_of s.session))) said
 Does Ready s t said = StartsUp s t said
 Does Cycle s t said = Either (is_none (run_refusal s.session)) (RunsCycle s t said) (Tells s t output.No said)
+Does States s t said = ReadsAll s t said
+Does Stop s t said = Either (is_none (run_refusal s.session)) (StopsMachine s t said) (Tells s t output.No said)
 Does Show s t said = Tells s t output.Values said
 Does Report s t said = Tells s t (last_report s.session.report) said
 Does _ s t said = Tells s t output.No said

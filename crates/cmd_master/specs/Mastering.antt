@@ -1,14 +1,14 @@
 -- What `ecat master` does (this project's profile).
-use Rattle.std.specs.Prelude.{◌≡◌, ◌⊎◌, Result}
+use Rattle.std.specs.Prelude.{◌≡◌, ◌⊎◌, None, Result, length, replicate}
 use Rattle.ec_table.specs.Contents.{Contents}
 use Rattle.ec_wire.specs.Wires.{WireState, silent}
 use Rattle.ec_session.specs.Sessions.{new_session}
 use Rattle.ec_console.specs.declared.refusal.Refusal.{Refusal}
-use Rattle.ec_console.specs.declared.refusal.Refusal.TheVariants.{Socket}
 use Rattle.ec_console.specs.declared.wanted.Reasons.{Reasons}
 use Rattle.ec_console.specs.Coming.{ComesOut, ComesPart, reading_at}
 use Rattle.ec_console.specs.Given.{Given}
 use Rattle.ec_console.specs.Printing.{OutputState}
+use Rattle.ec_console.specs.Refusals.{IsSocket}
 use Rattle.ec_console.specs.Saying.{EndsRun}
 use Rattle.ec_console.specs.Stating.{IsNeverRun}
 use Rattle.cmd_master.specs.State.{MasteredState}
@@ -17,7 +17,7 @@ use Rattle.cmd_master.specs.Saying.{SaysLine}
 
 -- a new master of a table over a wire
 abbrev pub begun_over : Reasons → Contents → WireState → MasteredState
-begun_over reasons t w = record { session = new_session t; wire = w; reasons = reasons }
+begun_over reasons t w = record { session = new_session t; wire = w; reasons = reasons; states = replicate (length t.slaves) None }
 
 -- The lines of an input lead a master of a table to another state. All are done, and what they expect holds, or doesn't so many times.
 -- Or they are cut short, and what was printed until then stays. Or memory is refused before the first line.
@@ -32,4 +32,4 @@ RunsOnWire reasons t input old new ended = (last : MasteredState) × RunsOver t 
 
 -- over a socket or a card; or there is none
 abbrev pub RunsMachine : Reasons → Contents → (input : Given) → (old new : OutputState) → Result Unit Refusal → Type 0
-RunsMachine reasons t input old new ended = RunsOnWire reasons t input old new ended ⊎ IsNeverRun (λ refusal. refusal ≡ Socket) (new ≡ old) ended
+RunsMachine reasons t input old new ended = RunsOnWire reasons t input old new ended ⊎ IsNeverRun IsSocket (new ≡ old) ended

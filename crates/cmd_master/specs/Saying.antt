@@ -1,6 +1,7 @@
 -- What a line of `ecat master` prints, done once (this project's profile). `ec_script` defines the text of an output.
-use Rattle.std.specs.Prelude.{◌≡◌, ◌++◌, ℕ, List, Bool, true, false, None}
+use Rattle.std.specs.Prelude.{◌≡◌, ◌++◌, ℕ, List, Bool, true, false, Option, None}
 use Rattle.ec_start.specs.Running.{outcome_of}
+use Rattle.ec_asking.specs.declared.answer.AlStatus.{AlStatus}
 use Rattle.ec_session.specs.Sessions.{SessionState}
 use Rattle.ec_script.specs.declared.line.Line.{Line}
 use Rattle.ec_script.specs.declared.output.LineOutput.{LineOutput}
@@ -21,9 +22,9 @@ is_reasoned Added s No = true
 is_reasoned Added s Ended = is_failed None (outcome_of s.startup.phase)
 is_reasoned _ s _ = false
 
--- what line n prints for an output, by the session behind it
-abbrev pub plain_text : SessionState → ℕ → LineOutput → List ℕ
-plain_text s n said = output_text s.table n (view_of s) said
+-- what line n prints for an output, by the session behind it and the AL states that were read last
+abbrev pub plain_text : SessionState → List (Option AlStatus) → ℕ → LineOutput → List ℕ
+plain_text s states n said = output_text s.table n (view_of s) states said
 
 -- A line is done once, the same with and without reasons. It prints the text of its output. Why it can't be done or has failed stands
 -- behind that, if reasons are wanted.
@@ -32,5 +33,5 @@ pub record SaysLine (s : MasteredState) (line : Line) (t : MasteredState) (print
   pub does : Does line.action s t said
   pub why : List ℕ
   pub reason : ReasonIf (is_reasoned t.reasons t.session said) why
-  pub text : printed ≡ plain_text t.session line.number said ++ why
+  pub text : printed ≡ plain_text t.session t.states line.number said ++ why
   pub count : unmet ≡ unmet_of (is_unmet said)

@@ -1,5 +1,6 @@
 -- What private code returns. You don't need it to read what is printed.
-use Rattle.std.specs.Prelude.{◌≡◌, ◌++◌, ℕ, List, Result}
+use Rattle.std.specs.Prelude.{◌≡◌, ◌++◌, ℕ, List, Option, Result}
+use Rattle.ec_asking.specs.declared.answer.AlStatus.{AlStatus}
 use Rattle.ec_diagnostic.specs.Reason.{IsReason}
 use Rattle.ec_session.specs.Sessions.{SessionState}
 use Rattle.ec_script.specs.declared.line.Line.{Line}
@@ -15,12 +16,12 @@ use Rattle.ec_console.specs.Saying.{EndsRun}
 use Rattle.cmd_master.specs.Saying.{is_reasoned, plain_text}
 
 -- the text of line n, with a reason behind it
-abbrev pub IsReasonedText : SessionState → ℕ → LineOutput → List ℕ → Type 0
-IsReasonedText s n said text = (why : List ℕ) × IsReason why × (text ≡ plain_text s n said ++ why)
+abbrev pub IsReasonedText : SessionState → List (Option AlStatus) → ℕ → LineOutput → List ℕ → Type 0
+IsReasonedText s states n said text = (why : List ℕ) × IsReason why × (text ≡ plain_text s states n said ++ why)
 
 -- the text of line n, with the reason behind it that it may have
-abbrev pub IsLineText : Reasons → SessionState → ℕ → LineOutput → List ℕ → Type 0
-IsLineText reasons s n said text = (why : List ℕ) × ReasonIf (is_reasoned reasons s said) why × (text ≡ plain_text s n said ++ why)
+abbrev pub IsLineText : Reasons → SessionState → List (Option AlStatus) → ℕ → LineOutput → List ℕ → Type 0
+IsLineText reasons s states n said text = (why : List ℕ) × ReasonIf (is_reasoned reasons s said) why × (text ≡ plain_text s states n said ++ why)
 
 -- the lines of an input lead a target to another state, or some of them do
 abbrev pub RunsTarget : {S : Type 0} → (S → Line → S → List ℕ → ℕ → Type 0) → (read : ℕ → List ℕ → Reading) → (begun last : S) → (input : Given) → (old new : OutputState) → Result Unit Refusal → Type 0

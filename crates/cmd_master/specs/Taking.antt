@@ -7,7 +7,7 @@ use Rattle.ec_table.specs.declared.rows.VariableRow.{VariableRow}
 use Rattle.ec_script.specs.declared.expectation.Expectation.{Expectation}
 use Rattle.ec_script.specs.declared.expectation.Expectation.TheVariants as expects
 use Rattle.ec_script.specs.declared.line.LineAction.{LineAction}
-use Rattle.ec_script.specs.declared.line.LineAction.TheVariants.{Set, Never, Expect, Ready, Cycle, Show, Report}
+use Rattle.ec_script.specs.declared.line.LineAction.TheVariants.{Set, Never, Expect, Ready, Cycle, Show, Report, States, Stop}
 
 -- a variable of the inputs
 abbrev pub is_toward_master : Direction → Bool
@@ -18,13 +18,13 @@ abbrev pub is_input : Option VariableRow → Bool
 is_input None = false
 is_input (Some row) = is_toward_master row.direction
 
--- A master sees its inputs, its report and its start-up. It doesn't see what slaves publish of its outputs, nor their AL states.
+-- A master sees its inputs, its report and its start-up, and reads AL states. It doesn't see what slaves publish of its outputs.
 abbrev pub is_observable : List VariableRow → Expectation → Bool
 is_observable rows (expects.Is v x) = is_input (slice_get rows v)
 is_observable rows (expects.Never v) = is_input (slice_get rows v)
 is_observable rows (expects.Units taken) = true
 is_observable rows (expects.Unit u taken) = true
-is_observable rows (expects.State s state code) = false
+is_observable rows (expects.State s state code) = true
 is_observable rows expects.Ready = true
 is_observable rows (expects.Failed number) = true
 
@@ -37,4 +37,6 @@ takes_action t Ready = true
 takes_action t Cycle = true
 takes_action t Show = true
 takes_action t Report = true
+takes_action t States = true
+takes_action t Stop = true
 takes_action t _ = false

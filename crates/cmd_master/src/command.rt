@@ -11,7 +11,7 @@ use crate::mastered::Mastered;
 use ec_card::{CardWire, Sender};
 use ec_console::{Capture, InputStream, OutputStream, Reasons, Refusal, Target, end_of, run_input};
 use ec_link::Machine;
-use ec_wire::{CapturedWire, Patience, Side, SocketFault, UdpWire, Wire};
+use ec_wire::{CapturedWire, Patience, Side, SocketFault, Trouble, UdpWire, Wire};
 use std::alloc::Global;
 use std::fs::Files;
 use std::io::{Read, Write};
@@ -51,13 +51,13 @@ pub fn run_connected<H: AllocGlobal + Net + Files + Clock, R: Read + Drop, O: Wr
     match options.descriptor {
         None => {
             let wire = connect(rt, options)?;
-            let mastered = Mastered::new(rt.alloc(), machine, wire, options.reasons)?;
+            let mastered = Mastered::new(rt.alloc(), rt, machine, wire, options.reasons)?;
             run_tapped(rt, mastered, capture, input, output)
         }
         Some(descriptor) => {
             let patience = Patience::of_millis(options.patience);
             let wire = CardWire::of_descriptor(i32::from(descriptor), Sender::Master, patience)?;
-            let mastered = Mastered::new(rt.alloc(), machine, wire, options.reasons)?;
+            let mastered = Mastered::new(rt.alloc(), rt, machine, wire, options.reasons)?;
             run_tapped(rt, mastered, capture, input, output)
         }
     }
@@ -69,7 +69,7 @@ fn connect<R: Net>(rt: &R, options: MasterOptions<'_>) -> Result<UdpWire, Socket
 {
     match options.to.parse::<SocketAddrV4>() {
         Ok(peer) => UdpWire::connect_patient(rt, peer, options.patience),
-        Err(_) => Err(SocketFault),
+        Err(_) => Err(SocketFault(Trouble::Unmade)),
     }
 }
 
@@ -77,7 +77,7 @@ fn connect<R: Net>(rt: &R, options: MasterOptions<'_>) -> Result<UdpWire, Socket
 /// carries.
 fn run_tapped<H: AllocGlobal + Files + Clock, W: Wire + Drop, R: Read + Drop, O: Write + Drop>(
     rt: &H,
-    mastered: Mastered<W>,
+    mastered: Mastered<'_, W, H>,
     capture: &mut Capture<H::File>,
     input: &mut InputStream<R>,
     output: &mut OutputStream<O>,
@@ -98,11 +98,15 @@ fn run_tapped<H: AllocGlobal + Files + Clock, W: Wire + Drop, R: Read + Drop, O:
                 session,
                 wire,
                 reasons,
+                states,
+                clock,
             } = mastered;
             let mut tapped = Mastered {
                 session,
                 wire: CapturedWire::new(wire, recording, Side::Master, rt),
                 reasons,
+                states,
+                clock,
             };
             let ended = run_all(rt.alloc(), &mut tapped, input, output);
             let (_, recording) = tapped.wire.into_parts();

@@ -1,45 +1,51 @@
 //! A master over a wire, which lines move: the actions that it takes, what they do to it, and what they print.
-ghost use Rattle.std.specs.Prelude.{◌≡◌, IfOk, slice_get, string_bytes};
-ghost use Rattle.ec_script.specs.declared.line.LineAction.TheVariants.{Cycle, Ready, Set};
+ghost use Rattle.std.specs.Prelude.{◌≡◌, IfOk, None, replicate, slice_get, string_bytes};
+ghost use Rattle.ec_script.specs.declared.expectation.Expectation.TheVariants.{State as InState};
+ghost use Rattle.ec_script.specs.declared.line.LineAction.TheVariants.{Cycle, Expect, Ready, Set, States, Stop};
 ghost use Rattle.ec_script.specs.Expecting.{is_met};
 ghost use Rattle.ec_script.specs.Outputs.{output_if};
-ghost use Rattle.cmd_master.specs.Doing.{Does, last_report, output_of_run, view_of};
+ghost use Rattle.cmd_master.specs.Doing.{Does, is_in_state, last_report, output_of_run, output_of_stop, view_of};
 ghost use Rattle.cmd_master.specs.Mastering.{begun_over};
 ghost use Rattle.cmd_master.specs.Saying.{is_reasoned, plain_text};
 ghost use Rattle.cmd_master.specs.Stages.{IsLineText, IsReasonedText};
 ghost use Rattle.cmd_master.specs.Taking.{is_input, is_observable};
 
 use crate::why::Why;
+use ec_al::State;
 use ec_console::{Reasons, Said, Target};
 use ec_diagnostic::reason_line;
 use ec_link::Machine;
 use ec_script::{
     Expectation, Line, LineAction, LineOutput, MasterView, is_failed, is_met, output_text,
 };
-use ec_session::Session;
+use ec_session::{AlStatus, Session};
 use ec_table::{Direction, Table};
-use ec_wire::{RunError, Wire};
+use ec_wire::{RunError, SocketFault, Wire};
 use std::alloc::{AllocError, Global};
 use std::marker::Model;
+use std::time::Clock;
 
-/// A master over a wire, which lines move. It owns its session and its wire. With reasons, it also says why a line can't be done or has
-/// failed.
+/// A master over a wire, which lines move. It owns its session and its wire, and a clock measures how long it waits and rests. With
+/// reasons, it also says why a line can't be done or has failed.
 #[derive(Drop)]
-pub struct Mastered<W: Wire + Drop> {
+pub struct Mastered<'c, W: Wire + Drop, C: Clock> {
     pub(crate) session: Session,
     pub(crate) wire: W,
     pub(crate) reasons: Reasons,
+    // what the slaves said of their AL states when they were read last
+    pub(crate) states: Vec<Option<AlStatus>>,
+    pub(crate) clock: &'c C,
 }
 
-impl<W: Wire + Drop> Model for Mastered<W> {
+impl<'c, W: Wire + Drop, C: Clock> Model for Mastered<'c, W, C> {
     ghost use Rattle.cmd_master.specs.State.{MasteredState};
 
     ghost Value = { MasteredState };
 
-    ghost view = { λ m. record { session = m.session; wire = W.state m.wire; reasons = m.reasons } };
+    ghost view = { λ m. record { session = m.session; wire = W.state m.wire; reasons = m.reasons; states = m.states.items } };
 }
 
-impl<W: Wire + Drop> Mastered<W> {
+impl<'c, W: Wire + Drop, C: Clock> Mastered<'c, W, C> {
     /// A master of a machine over a wire, before its first start-up. All variables are 0.
     ///
     /// # Errors
@@ -47,16 +53,20 @@ impl<W: Wire + Drop> Mastered<W> {
     /// `AllocError` if memory ran out.
     pub fn new(
         alloc: Global,
+        clock: &'c C,
         machine: Machine,
         wire: W,
         reasons: Reasons,
-    ) -> Result<Mastered<W>, AllocError>
+    ) -> Result<Mastered<'c, W, C>, AllocError>
         ensures { IfOk result (λ m. m ≡ begun_over reasons machine (W.state wire)) }
     {
+        let states = nothing_read(alloc, machine.table().slaves().len())?;
         Ok(Mastered {
             session: Session::new(alloc, machine)?,
             wire,
             reasons,
+            states,
+            clock,
         })
     }
 
@@ -69,6 +79,11 @@ impl<W: Wire + Drop> Mastered<W> {
             LineAction::Ready => self.bring_up(),
             LineAction::Cycle => self.run_cycle(),
             LineAction::Set(variable, value) => self.set(variable, value),
+            LineAction::States => self.read_states(),
+            LineAction::Stop => self.stop(),
+            LineAction::Expect(Expectation::State(slave, state, code)) => {
+                self.expect_state(slave, state, code)
+            }
             LineAction::Expect(expected) => self.expect(expected),
             LineAction::Show => LineOutput::Values,
             LineAction::Report => self.last_report(),
@@ -77,6 +92,7 @@ impl<W: Wire + Drop> Mastered<W> {
             | LineAction::Begin
             | LineAction::Pass(_)
             | LineAction::Lose(_)
+            | LineAction::LosePart(_, _)
             | LineAction::Return(_)
             | LineAction::Close
             | LineAction::Serve(_)
@@ -84,15 +100,18 @@ impl<W: Wire + Drop> Mastered<W> {
             | LineAction::Get(_, _)
             | LineAction::Fail(_)
             | LineAction::Reset(_)
-            | LineAction::Input(_, _) => LineOutput::No,
+            | LineAction::Input(_, _)
+            | LineAction::Output(_)
+            | LineAction::Served => LineOutput::No,
         }
     }
 
-    /// Runs a start-up over the wire, from its beginning.
+    /// Sets all outputs to 0 and runs a start-up over the wire, from its beginning.
     fn bring_up(&mut self) -> LineOutput
         ensures { Does Ready self.old self.new result }
     {
-        self.session.bring_up(&mut self.wire);
+        self.session.clear_outputs();
+        self.session.bring_up_resting(&mut self.wire, self.clock);
         LineOutput::Ended
     }
 
@@ -100,7 +119,39 @@ impl<W: Wire + Drop> Mastered<W> {
     fn run_cycle(&mut self) -> LineOutput
         ensures { Does Cycle self.old self.new result }
     {
-        output_of_run(self.session.run_cycle(&mut self.wire))
+        output_of_run(self.session.run_lossy_cycle(&mut self.wire, self.clock))
+    }
+
+    /// Reads the AL states of all slaves. `Fault` if the wire had one.
+    fn read_states(&mut self) -> LineOutput
+        ensures { Does States self.old self.new result }
+    {
+        match self
+            .session
+            .read_states(&mut self.wire, self.clock, &mut self.states)
+        {
+            Ok(()) => LineOutput::States,
+            Err(_) => LineOutput::Fault,
+        }
+    }
+
+    /// Stops the machine. `No`, and nothing changes, if no cycle can be run.
+    fn stop(&mut self) -> LineOutput
+        ensures { Does Stop self.old self.new result }
+    {
+        output_of_stop(self.session.stop(&mut self.wire, self.clock))
+    }
+
+    /// Reads the AL state of a slave. `Nothing` if it is in this state, and shows this code if one is given, else `Unmet`.
+    fn expect_state(&mut self, slave: usize, state: State, code: Option<u16>) -> LineOutput
+        ensures { Does (Expect (InState slave state code)) self.old self.new result }
+    {
+        let told = self.session.read_status(&mut self.wire, self.clock, slave);
+        if is_in_state(state, code, told) {
+            LineOutput::Nothing
+        } else {
+            LineOutput::Unmet
+        }
     }
 
     /// Sets an output variable to a value. `No`, and nothing changes, if it is no output or can't hold the value.
@@ -135,7 +186,7 @@ impl<W: Wire + Drop> Mastered<W> {
     }
 }
 
-impl<W: Wire + Drop> Target for Mastered<W> {
+impl<W: Wire + Drop, C: Clock> Target for Mastered<'_, W, C> {
     ghost use Rattle.cmd_master.specs.Saying.{SaysLine};
     ghost use Rattle.cmd_master.specs.Taking.{takes_action};
 
@@ -157,11 +208,14 @@ impl<W: Wire + Drop> Target for Mastered<W> {
             | LineAction::Ready
             | LineAction::Cycle
             | LineAction::Show
-            | LineAction::Report => true,
+            | LineAction::Report
+            | LineAction::States
+            | LineAction::Stop => true,
             LineAction::Start
             | LineAction::Begin
             | LineAction::Pass(_)
             | LineAction::Lose(_)
+            | LineAction::LosePart(_, _)
             | LineAction::Return(_)
             | LineAction::Close
             | LineAction::Serve(_)
@@ -169,13 +223,22 @@ impl<W: Wire + Drop> Target for Mastered<W> {
             | LineAction::Get(_, _)
             | LineAction::Fail(_)
             | LineAction::Reset(_)
-            | LineAction::Input(_, _) => false,
+            | LineAction::Input(_, _)
+            | LineAction::Output(_)
+            | LineAction::Served => false,
         }
     }
 
     fn obey(&mut self, alloc: Global, line: &Line) -> Result<Said, AllocError> {
         let output = self.act(line.action);
-        let text = said_text(alloc, &self.session, self.reasons, line, output)?;
+        let text = said_text(
+            alloc,
+            &self.session,
+            &self.states,
+            self.reasons,
+            line,
+            output,
+        )?;
         Ok(Said {
             text,
             is_unmet: output.is_unmet(),
@@ -194,14 +257,37 @@ fn output_of_run(ran: Result<(), RunError>) -> LineOutput
     }
 }
 
+/// The output of `stop`: nothing, unless the wire had a fault or no cycle could be run.
+fn output_of_stop(stopped: Result<(), RunError>) -> LineOutput
+    ensures { result ≡ output_of_stop stopped }
+{
+    match stopped {
+        Ok(()) => LineOutput::Nothing,
+        Err(RunError::Wire) => LineOutput::Fault,
+        Err(RunError::Refused(_)) => LineOutput::No,
+    }
+}
+
+/// Whether a slave said that it is in a state, and this code if one is given.
+fn is_in_state(state: State, code: Option<u16>, told: Result<Option<AlStatus>, SocketFault>) -> bool
+    ensures { result ≡ is_in_state state code told }
+{
+    match told {
+        Ok(Some(status)) => {
+            status.word % 16 == state.number() && code.is_none_or(|code| status.code == code)
+        }
+        Ok(None) | Err(_) => false,
+    }
+}
+
 /// Whether a master over a wire can see what is expected.
 fn is_observable(table: &Table, expected: Expectation) -> bool
     ensures { result ≡ is_observable table.now.variables expected }
 {
     match expected {
         Expectation::Is(variable, _) | Expectation::Never(variable) => is_input(table, variable),
-        Expectation::State(_, _, _) => false,
-        Expectation::Units(_)
+        Expectation::State(_, _, _)
+        | Expectation::Units(_)
         | Expectation::Unit(_, _)
         | Expectation::Ready
         | Expectation::Failed(_) => true,
@@ -230,16 +316,17 @@ fn is_input(table: &Table, place: usize) -> bool
 fn said_text(
     alloc: Global,
     session: &Session,
+    states: &[Option<AlStatus>],
     reasons: Reasons,
     line: &Line,
     output: LineOutput,
 ) -> Result<String, AllocError>
-    ensures { IfOk result (λ text. IsLineText reasons session.now line.now.number output (string_bytes text)) }
+    ensures { IfOk result (λ text. IsLineText reasons session.now states.now line.now.number output (string_bytes text)) }
 {
     if is_reasoned(reasons, session, output) {
-        reasoned_text(alloc, session, line, output)
+        reasoned_text(alloc, session, states, line, output)
     } else {
-        plain_text(alloc, session, line.number, output)
+        plain_text(alloc, session, states, line.number, output)
     }
 }
 
@@ -247,12 +334,13 @@ fn said_text(
 fn reasoned_text(
     alloc: Global,
     session: &Session,
+    states: &[Option<AlStatus>],
     line: &Line,
     output: LineOutput,
 ) -> Result<String, AllocError>
-    ensures { IfOk result (λ text. IsReasonedText session.now line.now.number output (string_bytes text)) }
+    ensures { IfOk result (λ text. IsReasonedText session.now states.now line.now.number output (string_bytes text)) }
 {
-    let mut text = plain_text(alloc, session, line.number, output)?;
+    let mut text = plain_text(alloc, session, states, line.number, output)?;
     let action = line.action;
     let why = Why { session, action };
     let words = format!(in alloc; "{why}")?;
@@ -264,12 +352,21 @@ fn reasoned_text(
 fn plain_text(
     alloc: Global,
     session: &Session,
+    states: &[Option<AlStatus>],
     number: usize,
     output: LineOutput,
 ) -> Result<String, AllocError>
-    ensures { IfOk result (λ text. string_bytes text ≡ plain_text session.now number output) }
+    ensures { IfOk result (λ text. string_bytes text ≡ plain_text session.now states.now number output) }
 {
-    output_text(alloc, session.table(), number, output, &view_of(session))
+    let table = session.table();
+    output_text(alloc, table, number, output, &view_of(session), states)
+}
+
+/// Room for what slaves say of their AL states: nothing yet.
+fn nothing_read(alloc: Global, slaves: usize) -> Result<Vec<Option<AlStatus>>, AllocError>
+    ensures { IfOk result (λ states. states.items ≡ replicate slaves None) }
+{
+    vec![in alloc; None; slaves]
 }
 
 /// What lines see of a session.

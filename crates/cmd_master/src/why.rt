@@ -61,7 +61,7 @@ impl fmt::Display for Why<'_> {
     fn fmt<W: fmt::Write>(&self, f: &mut fmt::Formatter<W>) -> fmt::Result {
         match self.action {
             LineAction::Ready => self.write_failed(f),
-            LineAction::Cycle => self.write_no_cycle(f),
+            LineAction::Cycle | LineAction::Stop => self.write_no_cycle(f),
             LineAction::Set(variable, _) | LineAction::Never(variable) => {
                 self.write_unset(f, variable)
             }

@@ -11,9 +11,9 @@ use Rattle.ec_script.specs.declared.output.LineOutput.{LineOutput}
 use Rattle.ec_script.specs.Outputs.{is_done, is_unmet}
 use Rattle.ec_script.specs.Scripts.{repeated}
 use Rattle.ec_script.specs.Texts.{output_text}
-use Rattle.ec_script.specs.Views.{ViewState}
 use Rattle.ec_simulation.specs.Events.{RunsLine}
 use Rattle.ec_simulation.specs.Observing.{Observes}
+use Rattle.ec_simulation.specs.Statuses.{statuses}
 use Rattle.ec_simulation.specs.Views.{view_of}
 use Rattle.ec_simulation.specs.Work.{Does}
 use Rattle.ec_simulation.proofs.Seeing.{observes_none, observes_then}
@@ -33,15 +33,13 @@ use Rattle.cmd_sim.specs.Stages.{IsLineText}
 
 -- ---- a line and why it says `no`
 
-pub line_alone : (reasons : Reasons) (t : Contents) (n : ℕ) (w : WorldState) (view : ViewState) (said : LineOutput) (text : List ℕ) → view ≡ view_of w → is_reasoned reasons said ≡ false → text ≡ output_text t n view said
+pub line_alone : (reasons : Reasons) (t : Contents) (n : ℕ) (w : WorldState) (said : LineOutput) (text : List ℕ) → is_reasoned reasons said ≡ false → text ≡ output_text t n (view_of w) (statuses w) said
     → IsLineText reasons t n w said text
-line_alone reasons t n w view said text of_it none is =
-    ([], subst (λ (b : Bool). ReasonIf b []) (sym none) refl, is ∙ (ap (λ (v : ViewState). output_text t n v said) of_it ∙ sym (append-nil (output_text t n (view_of w) said))))
+line_alone reasons t n w said text none is = ([], subst (λ (b : Bool). ReasonIf b []) (sym none) refl, is ∙ sym (append-nil (output_text t n (view_of w) (statuses w) said)))
 
-pub line_reasoned : (reasons : Reasons) (t : Contents) (n : ℕ) (w : WorldState) (view : ViewState) (said : LineOutput) (before why text : List ℕ) → view ≡ view_of w → is_reasoned reasons said ≡ true
-    → before ≡ output_text t n view said → IsReason why → text ≡ before ++ why → IsLineText reasons t n w said text
-line_reasoned reasons t n w view said before why text of_it told first reason is =
-    (why, subst (λ (b : Bool). ReasonIf b why) (sym told) reason, is ∙ ap (λ (r : List ℕ). r ++ why) (first ∙ ap (λ (v : ViewState). output_text t n v said) of_it))
+pub line_reasoned : (reasons : Reasons) (t : Contents) (n : ℕ) (w : WorldState) (said : LineOutput) (before why text : List ℕ) → is_reasoned reasons said ≡ true
+    → before ≡ output_text t n (view_of w) (statuses w) said → IsReason why → text ≡ before ++ why → IsLineText reasons t n w said text
+line_reasoned reasons t n w said before why text told first reason is = (why, subst (λ (b : Bool). ReasonIf b why) (sym told) reason, is ∙ ap (λ (r : List ℕ). r ++ why) first)
 
 -- ---- a line
 
@@ -68,7 +66,7 @@ pub obeyed_unsaid : {S : Type 0} (observed : S → WorldState → Event → Worl
     → (text : List ℕ) × (unmet : ℕ) × Simulates observed s line (simulated v d t reasons) text unmet
 obeyed_unsaid observed w b t reasons s line v d said is does run plan sees =
     let why = some_why (is_reasoned reasons said) in
-    let text : List ℕ = output_text t line.number (view_of v) said ++ why.0 in
+    let text : List ℕ = output_text t line.number (view_of v) (statuses v) said ++ why.0 in
     let unmet : ℕ = unmet_of (is_unmet said) in
     (text, unmet, obeyed observed w b t reasons s line v d said text unmet is does run plan sees (why.0, why.1, refl) refl)
 

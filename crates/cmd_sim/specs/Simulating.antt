@@ -14,6 +14,7 @@ use Rattle.ec_script.specs.Scripts.{is_simulated, repeated}
 use Rattle.ec_script.specs.Texts.{output_text}
 use Rattle.ec_simulation.specs.Events.{RunsLine}
 use Rattle.ec_simulation.specs.Observing.{Observes}
+use Rattle.ec_simulation.specs.Statuses.{statuses}
 use Rattle.ec_simulation.specs.Views.{view_of}
 use Rattle.ec_simulation.specs.Work.{Does}
 use Rattle.ec_console.specs.declared.refusal.Refusal.{Refusal}
@@ -41,7 +42,7 @@ pub record SaysLine (reasons : Reasons) (t : Contents) (w : WorldState) (line : 
   pub run : RunsLine line.action w new (is_done said)
   pub why : List ℕ
   pub reason : ReasonIf (is_reasoned reasons said) why
-  pub text : printed ≡ output_text t line.number (view_of new) said ++ why
+  pub text : printed ≡ output_text t line.number (view_of new) (statuses new) said ++ why
   pub count : unmet ≡ unmet_of (is_unmet said)
 
 -- the actions that a simulated segment takes

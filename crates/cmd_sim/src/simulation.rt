@@ -1,14 +1,16 @@
 //! A simulated segment that lines act on.
-ghost use Rattle.std.specs.Prelude.{◌≡◌, IfOk, string_bytes};
+ghost use Rattle.std.specs.Prelude.{◌≡◌, IfOk, false, string_bytes, true};
+ghost use Rattle.ec_ring.specs.Rings.{IsNoFrame};
+ghost use Rattle.ec_world.specs.Outside.{IsCarried};
 ghost use Rattle.cmd_sim.specs.Simulating.{is_reasoned};
 ghost use Rattle.cmd_sim.specs.Stages.{IsLineText};
 
 use crate::reasons::{has_cycle, reason_text};
 use crate::scene::Scene;
 use ec_console::{Reasons, Said, Target};
-use ec_link::Machine;
-use ec_script::{Line, LineAction, LineOutput, is_simulated, output_text};
-use ec_simulation::{view_of, watch_action};
+use ec_link::{Machine, Plan};
+use ec_script::{Line, LineAction, LineOutput, is_simulated};
+use ec_simulation::{printed_text, watch_action};
 use ec_table::Table;
 use ec_world::{Watcher, World};
 use std::alloc::{AllocError, Global};
@@ -67,6 +69,31 @@ impl<'m, S: Watcher + Drop> Simulation<'m, S> {
         }
     }
 
+    /// A payload of another master passes all slaves, and then each makes a firmware step. Returns whether it was a frame; if it wasn't,
+    /// nothing changes. The watcher sees nothing of it.
+    pub fn carry(&mut self, payload: &mut [u8]) -> bool
+        ensures carried { result ≡ true → IsCarried self.old.world payload.old self.new.world payload.new }
+        ensures others { self.new ≡ record self.old { world = self.new.world } }
+        ensures refused { result ≡ false → IsNoFrame payload.old }
+        ensures unchanged { result ≡ false → self.new ≡ self.old }
+    {
+        self.world.carry(payload)
+    }
+
+    /// The plan of its machine.
+    pub fn plan(&self) -> &'m Plan
+        ensures { result.now ≡ self.now.world.plan }
+    {
+        self.world.plan()
+    }
+
+    /// Whether it says why a line can't be done.
+    pub fn reasons(&self) -> Reasons
+        ensures { result ≡ self.now.reasons }
+    {
+        self.reasons
+    }
+
     /// The watcher, with what it kept.
     pub fn into_watcher(self) -> S
         ensures { result ≡ self.entry.watcher }
@@ -121,8 +148,7 @@ fn line_text(
     ensures { IfOk result (λ text.
         IsLineText reasons scene.entry.table.now line.now.number scene.entry.world.now output (string_bytes text)) }
 {
-    let view = view_of(scene.world);
-    let mut text = output_text(alloc, scene.table, line.number, output, &view)?;
+    let mut text = printed_text(alloc, scene.world, scene.table, line.number, output)?;
     if !is_reasoned(reasons, output) {
         return Ok(text);
     }

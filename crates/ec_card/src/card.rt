@@ -1,14 +1,17 @@
 //! A wire over the raw socket of a network card.
-ghost use Rattle.std.specs.Prelude.{◌≡◌, ◌≤◌, ◌≤ℤ◌, pos, length, IfOk, IfSome};
-ghost use Rattle.ec_wire.specs.Wires.{silent};
+ghost use Rattle.std.specs.Prelude.{◌≡◌, ◌≤◌, ◌≤ℤ◌, pos, length, IfOk};
+ghost use Rattle.ec_wire.specs.Wires.{failed_again, silent};
 
 use crate::ethernet::{Sender, framed, payload_of};
 use ec_frame::field::MAX_FRAME_LEN;
-use ec_wire::{Patience, PatientSocket, SocketFault, Wire};
+use ec_wire::{Patience, PatientSocket, SocketFault, Trouble, Wire};
 use os::FromRawFd;
+use std::io;
+use std::io::ErrorKind;
 use std::marker::Model;
 use std::net::UdpSocket;
-use std::os::fd::IntoRawFd;
+use std::os::fd::{IntoRawFd, RawFd};
+use std::time::Duration;
 
 /// The most bytes that are read of a received frame.
 const ROOM: usize = 1514;
@@ -29,6 +32,7 @@ pub struct CardWire {
     // the most frames that one receive reads
     reads: u64,
     failures: u64,
+    trouble: Trouble,
 }
 
 impl Model for CardWire {
@@ -66,40 +70,52 @@ impl CardWire {
                 own,
                 reads: reads_of(own, patience),
                 failures: 0,
+                trouble: Trouble::Silence,
             }),
-            Err(socket) => {
+            Err((socket, trouble)) => {
                 let _ = socket.into_raw_fd();
-                Err(SocketFault)
+                Err(SocketFault(trouble))
             }
         }
     }
 
-    /// Sends a payload in a frame. Returns whether all of it was sent.
-    fn has_sent(&self, payload: &[u8]) -> bool {
-        if payload.len() > MAX_FRAME_LEN {
-            return false;
-        }
-        let frame = framed(self.own, payload);
-        self.socket.has_sent(&frame, None)
+    /// The descriptor of the socket, at which one can wait for frames.
+    pub fn descriptor(&self) -> RawFd {
+        self.socket.descriptor()
     }
 
-    /// Reads frames until one is handed on. Returns how many bytes of its payload are in the buffer, or
-    /// `None` if a call failed, or too many frames weren't handed on.
-    fn await_payload(&self, buffer: &mut [u8]) -> Option<usize>
-        ensures { IfSome result (λ count. count ≤ length buffer.new) }
+    /// Sends all of a payload in a frame, or returns why it isn't sent.
+    fn send_all(&self, payload: &[u8]) -> Result<(), Trouble> {
+        if payload.len() > MAX_FRAME_LEN {
+            return Err(Trouble::Unmade);
+        }
+        let frame = framed(self.own, payload);
+        self.socket.send(&frame, None)
+    }
+
+    /// Counts a fault, and keeps why it was one.
+    fn fail(&mut self, trouble: Trouble)
+        ensures { self.new ≡ failed_again self.old }
+    {
+        self.failures = self.failures.saturating_add(1);
+        self.trouble = trouble;
+    }
+
+    /// Reads frames until one is handed on, with the patience that is left after `waited`. Returns how many bytes of its payload are in
+    /// the buffer, or the system's error. It is `ErrorKind::WouldBlock` if no frame came, or too many frames weren't handed on.
+    fn await_payload(&self, waited: Duration, buffer: &mut [u8]) -> io::Result<usize>
+        ensures { IfOk result (λ count. count ≤ length buffer.new) }
     {
         let mut frame = [0; ROOM];
         for _ in 0..self.reads {
-            let Ok(count) = self.socket.receive(&mut frame) else {
-                return None;
-            };
+            let count = self.socket.receive_within(waited, &mut frame)?;
             if let Some(payload) = payload_of(self.own, &frame[..count]) {
                 let size = payload.len().min(buffer.len());
                 buffer[..size].copy_from_slice(&payload[..size]);
-                return Some(size);
+                return Ok(size);
             }
         }
-        None
+        Err(io::Error::from(ErrorKind::WouldBlock))
     }
 }
 
@@ -110,22 +126,45 @@ impl Wire for CardWire {
         self.failures
     }
 
+    fn trouble(&self) -> Trouble {
+        self.trouble
+    }
+
     fn send(&mut self, payload: &[u8]) {
-        let failures = self.failures;
-        if !self.has_sent(payload) {
-            self.failures = failures.saturating_add(1);
+        if let Err(trouble) = self.send_all(payload) {
+            self.fail(trouble);
         }
     }
 
     fn recv(&mut self, buffer: &mut [u8]) -> usize {
-        match self.await_payload(buffer) {
-            Some(count) => count,
-            None => {
-                self.failures = self.failures.saturating_add(1);
+        match self.await_payload(Duration::ZERO, buffer) {
+            Ok(count) => count,
+            Err(error) => {
+                self.fail(Trouble::of(&error));
                 0
             }
         }
     }
+
+    fn recv_within(&mut self, waited: Duration, buffer: &mut [u8]) -> Option<usize> {
+        match self.await_payload(waited, buffer) {
+            Ok(count) => Some(count),
+            Err(error) if error.kind() == ErrorKind::WouldBlock => None,
+            Err(error) => {
+                self.fail(Trouble::of(&error));
+                None
+            }
+        }
+    }
+}
+
+/// Whether a descriptor is that of a socket. It stays open.
+pub fn is_socket(descriptor: u16) -> bool {
+    // SAFETY: as in `CardWire::of_descriptor`; the descriptor is given back at once.
+    let socket = unsafe { UdpSocket::from_raw_fd(i32::from(descriptor)) };
+    let is_socket = socket.read_timeout().is_ok();
+    let _ = socket.into_raw_fd();
+    is_socket
 }
 
 /// The most frames that one receive reads.

@@ -8,11 +8,16 @@ use ec_script::{FORMS, Form, REPEAT, WordKind};
 pub fn form_of(line: Line<'_>, is_variable: bool) -> Option<&'static str> {
     for (form, text) in &FORMS {
         let has_room = !is_variable || text.split(' ').count() == 3;
-        if *form != Form::Report && has_room && begins(line, text) {
+        if is_scripted(*form) && has_room && begins(line, text) {
             return Some(*text);
         }
     }
     None
+}
+
+/// Whether a script of simulated slaves has lines of this form.
+fn is_scripted(form: Form) -> bool {
+    !matches!(form, Form::Report | Form::Stop)
 }
 
 /// Whether a line begins as a form does.
@@ -32,7 +37,7 @@ fn begins(line: Line<'_>, form: &str) -> bool {
 pub fn verb_near(diagnosis: &mut Diagnosis<'_>, word: &str) -> Option<&'static str> {
     let mut near = Nearest::to(word);
     for (place, (form, text)) in FORMS.iter().enumerate() {
-        if *form != Form::Report {
+        if is_scripted(*form) {
             near = diagnosis.nearer(near, word, place, first_word(text));
         }
     }

@@ -18,6 +18,7 @@ pub mod Expecting
 -- the outputs of lines
 pub mod Outputs
 -- what lines print
+pub mod States
 pub mod Texts
 -- how a line is written, and that it is read back
 pub mod Writing

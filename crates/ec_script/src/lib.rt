@@ -11,6 +11,7 @@ mod met;
 mod operands;
 mod output;
 mod read;
+mod states;
 mod value;
 mod view;
 mod words;

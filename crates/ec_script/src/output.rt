@@ -1,10 +1,12 @@
 //! The output of a line, and what it prints.
-ghost use Rattle.std.specs.Prelude.{◌≡◌, ◌++◌, IfOk, OnOk, string_bytes};
+ghost use Rattle.std.specs.Prelude.{◌≡◌, ◌++◌, IfOk, OnOk, slice_get, string_bytes};
 ghost use Rattle.ec_text.specs.ReportText.{report_if};
 ghost use Rattle.ec_script.specs.Outputs.{is_done, is_unmet};
-ghost use Rattle.ec_script.specs.Texts.{byte_text, output_text};
+ghost use Rattle.ec_script.specs.Texts.{byte_text, output_text, value_text};
 
+use crate::states::state_lines;
 use crate::view::MasterView;
+use ec_asking::AlStatus;
 use ec_table::{Table, Version};
 use ec_text::{input_lines, write_outcome, write_report};
 use std::alloc::{AllocError, Global};
@@ -27,8 +29,12 @@ pub enum LineOutput {
     Report,
     /// The input variables.
     Values,
+    /// The AL states of all slaves.
+    States,
     /// A fault of the wire ended the cycle, and nothing of it was taken.
     Fault,
+    /// A variable and its value.
+    Value(usize, u64),
 }
 
 impl LineOutput {
@@ -43,7 +49,9 @@ impl LineOutput {
             | LineOutput::Byte
             | LineOutput::Ended
             | LineOutput::Report
-            | LineOutput::Values => true,
+            | LineOutput::Values
+            | LineOutput::States
+            | LineOutput::Value(_, _) => true,
         }
     }
 
@@ -55,7 +63,8 @@ impl LineOutput {
     }
 }
 
-/// The text that line `number` prints for this output, by a master of the table.
+/// The text that line `number` prints for this output, by a master of the table. `states` is what the slaves say of their AL states,
+/// none of one that doesn't answer; only the output `States` prints it.
 ///
 /// # Errors
 ///
@@ -66,8 +75,9 @@ pub fn output_text(
     number: usize,
     output: LineOutput,
     view: &MasterView<'_, '_>,
+    states: &[Option<AlStatus>],
 ) -> Result<String, AllocError>
-    ensures { IfOk result (λ text. string_bytes text ≡ output_text table.now number view.now output) }
+    ensures { IfOk result (λ text. string_bytes text ≡ output_text table.now number view.now states.now output) }
 {
     let mut text = String::new(alloc);
     match output {
@@ -78,9 +88,30 @@ pub fn output_text(
         LineOutput::Ended => write_outcome(&mut text, view.outcome)?,
         LineOutput::Report => write_last(alloc, &mut text, table.version(), view)?,
         LineOutput::Values => return input_lines(alloc, table, view.master),
+        LineOutput::States => return state_lines(alloc, table, states),
         LineOutput::Fault => text.push_str("fault 37 Wire\n")?,
+        LineOutput::Value(variable, value) => write_value(&mut text, table, variable, value)?,
     }
     Ok(text)
+}
+
+/// Adds the line of a variable and its value, if there is such a variable.
+fn write_value(
+    text: &mut String,
+    table: &Table,
+    variable: usize,
+    value: u64,
+) -> Result<(), AllocError>
+    ensures { OnOk result (string_bytes text.new
+        ≡ string_bytes text.old ++ value_text value (slice_get table.now.variables variable)) }
+{
+    match table.variables().get(variable) {
+        None => Ok(()),
+        Some(row) => {
+            let name = row.name.as_str();
+            writeln!(text, "{name} {value}")
+        }
+    }
 }
 
 /// Adds the line of the byte that an application read, if one did.

@@ -2,3 +2,5 @@
 pub mod Plans
 -- what a start-up and a cycle over a wire leave of a session
 pub mod Wiring
+-- what it asks over one
+pub mod Asked

@@ -13,11 +13,12 @@ use Rattle.ec_wire.specs.declared.error.RunError.TheVariants.{Refused, Wire}
 use Rattle.ec_wire.specs.Wires.{WireState}
 use Rattle.ec_wire.specs.BringingUp.{IsBroughtUp}
 use Rattle.ec_wire.specs.ComingUp.{ComesUpOver}
+use Rattle.ec_wire.specs.Losing.{IsLossyRun}
 use Rattle.ec_wire.specs.Running.{AreTaken, IsEnded, IsRun}
 use Rattle.ec_session.specs.Held.{IsOfTable}
-use Rattle.ec_session.specs.Laws.{RunsKeepTheRest}
+use Rattle.ec_session.specs.Laws.{LossyRunsKeepTheRest, RunsKeepTheRest}
 use Rattle.ec_session.specs.Sessions.{SessionState, is_up, ready_with}
-use Rattle.ec_session.specs.Wired.{Cycles, Starts, run_refusal, start_again, with_number_used, with_run, without_report}
+use Rattle.ec_session.specs.Wired.{Cycles, LosesAndCycles, Starts, run_refusal, start_again, with_number_used, with_run, without_report}
 use Rattle.ec_session.proofs.Plans.{begun_plan}
 
 -- ---- payloads that are taken
@@ -106,6 +107,45 @@ faulted s w v r error after up run refused is wire = by (begin_refusal s.master)
     by None free =
         let ran : IsRun s.master w v (Err Wire) after = subst (λ (x : Result ReportState RunError). IsRun s.master w v x after) ended (run free) in
         ap (λ (m : MasterState). record s { master = m }) (fault_keeps s.master w v after (none_open s.master free) ran)
+    by (Some e) was = absurd (let f : Err Wire ≡ Err (Refused e) = sym ended ∙ refused e was in cc)
+
+-- ---- a cycle on which frames may be lost
+
+pub lossy_runs_keep_the_rest : LossyRunsKeepTheRest
+lossy_runs_keep_the_rest m w v r after run =
+    ended_keeps run.last w v r after run.ends
+    ∙ (ap (λ (x : MasterState). record x { inputs = after.inputs; cycle = None }) (all_keep run.begun run.heard.got run.last run.heard.taken)
+    ∙ ap (λ (x : MasterState). record x { inputs = after.inputs; cycle = None }) run.begins.is)
+
+lossy-fault-keeps : (m : MasterState) (w v : WireState) (after : MasterState) → m.cycle ≡ None → IsLossyRun m w v (Err Wire) after → after ≡ record m { next = m.next + 1 }
+lossy-fault-keeps m w v after none run =
+    run.ends.1
+    ∙ (ap (λ (x : MasterState). record x { cycle = None }) (all_keep run.begun run.heard.got run.last run.heard.taken)
+    ∙ (ap (λ (x : MasterState). record x { cycle = None }) run.begins.is ∙ ap (λ (c : Option OpenCycle). record m { next = m.next + 1; cycle = c }) (sym none)))
+
+pub lossy_plan : (m after : MasterState) (w v : WireState) (r : Result ReportState RunError) → (begin_refusal m ≡ None → IsLossyRun m w v r after) → ((e : CycleError) → begin_refusal m ≡ Some e → after ≡ m)
+    → after.plan ≡ m.plan
+lossy_plan m after w v r run same = by (begin_refusal m) refl
+  where
+    by : (o : Option CycleError) → begin_refusal m ≡ o → after.plan ≡ m.plan
+    by None free = ap (λ (x : MasterState). x.plan) (lossy_runs_keep_the_rest m w v r after (run free))
+    by (Some e) refused = ap (λ (x : MasterState). x.plan) (same e refused)
+
+pub lossy_cycled : (s t : SessionState) (w v : WireState) (r : Result ReportState RunError) (after : MasterState) (answer : Result Unit RunError) → is_up s.startup.phase ≡ true → (begin_refusal s.master ≡ None → IsLossyRun s.master w v r after)
+    → t ≡ with_run s r after → answer ≡ without_report r → run_refusal s ≡ None → LosesAndCycles s w t v answer
+lossy_cycled s t w v r after answer up run is answers free = record { ended = r; after = after; run = run (sym (refusal_up s up) ∙ free); is = is; answers = answers }
+
+pub lossy_faulted : (s : SessionState) (w v : WireState) (r : Result ReportState RunError) (error : RunError) (after : MasterState) → is_up s.startup.phase ≡ true → (begin_refusal s.master ≡ None → IsLossyRun s.master w v r after)
+    → ((e : CycleError) → begin_refusal s.master ≡ Some e → r ≡ Err (Refused e)) → r ≡ Err error → error ≡ Wire → record s { master = after } ≡ with_number_used s
+lossy_faulted s w v r error after up run refused is wire = by (begin_refusal s.master) refl
+  where
+    ended : r ≡ Err Wire
+    ended = subst (λ (e : RunError). r ≡ Err e) wire is
+
+    by : (o : Option CycleError) → begin_refusal s.master ≡ o → record s { master = after } ≡ with_number_used s
+    by None free =
+        let ran : IsLossyRun s.master w v (Err Wire) after = subst (λ (x : Result ReportState RunError). IsLossyRun s.master w v x after) ended (run free) in
+        ap (λ (m : MasterState). record s { master = m }) (lossy-fault-keeps s.master w v after (none_open s.master free) ran)
     by (Some e) was = absurd (let f : Err Wire ≡ Err (Refused e) = sym ended ∙ refused e was in cc)
 
 -- ---- a start-up

@@ -4,6 +4,8 @@
 pub mod Sessions
 -- what it does over a wire
 pub mod Wired
+-- what it asks over a wire
+pub mod Asking
 -- Laws: what the definitions say together.
 pub mod Laws
 -- Private: these serve private code and its proofs alone.

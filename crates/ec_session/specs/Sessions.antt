@@ -1,5 +1,5 @@
 -- A master that owns its machine. Each of its calls by hand is a call of its start-up or of its master.
-use Rattle.std.specs.Prelude.{◌≡◌, ℕ, ◌==◌, Bool, true, false, if◌then◌else◌, List, Option, None, option_and_then, position, slice_get}
+use Rattle.std.specs.Prelude.{◌≡◌, ℕ, zero, suc, ◌==◌, Bool, true, false, if◌then◌else◌, List, Option, None, length, option_and_then, position, slice_get}
 use Rattle.std.specs.Str.{bytes_eq}
 use Rattle.ec_table.specs.Contents.{Contents}
 use Rattle.ec_table.specs.declared.rows.VariableRow.{VariableRow}
@@ -9,7 +9,7 @@ use Rattle.ec_start.specs.declared.phase.Phase.{Phase}
 use Rattle.ec_start.specs.declared.phase.Phase.TheVariants.{Idle, Sent, Ready, Failed}
 use Rattle.ec_start.specs.Running.{StartState, IsStartTaken, begun, has_failed, restarted}
 use Rattle.ec_cycle.specs.Closing.{ReportState}
-use Rattle.ec_cycle.specs.Master.{MasterState, IsTaken, new_master, readied}
+use Rattle.ec_cycle.specs.Master.{MasterState, IsTaken, holds_value, new_master, readied, variable_set}
 pub use Rattle.ec_wire.specs.BringingUp.{IsNextFrame}
 
 -- the value of a `Session`
@@ -20,10 +20,12 @@ pub record SessionState : Type 0 where
   pub master : MasterState
   -- the report of the last cycle that had one
   pub report : Option ReportState
+  -- how many questions were asked, modulo 65536
+  pub asked : ℕ
 
 -- the session of a table: start-up and master are new
 abbrev pub new_session : Contents → SessionState
-new_session t = record { table = t; startup = begun (plan_of t).slaves 0; master = new_master (plan_of t); report = None }
+new_session t = record { table = t; startup = begun (plan_of t).slaves 0; master = new_master (plan_of t); report = None; asked = 0 }
 
 -- the session of the table that a text states
 abbrev pub IsOpened : List ℕ → SessionState → Type 0
@@ -59,6 +61,19 @@ IsGivenBy false old payload is_accepted new = IsStarting old payload is_accepted
 
 abbrev pub IsGiven : SessionState → List ℕ → Bool → SessionState → Type 0
 IsGiven old payload is_accepted new = IsGivenBy old.master.is_ready old payload is_accepted new
+
+-- a variable of the outputs becomes 0; no other changes
+abbrev pub zero_set : MasterState → ℕ → MasterState
+zero_set m variable = if holds_value 0 (slice_get m.plan.variables variable) then variable_set m variable 0 else m
+
+-- the first n variables, as far as they are outputs
+abbrev pub zeros_set : MasterState → ℕ → MasterState
+zeros_set m zero = m
+zeros_set m (suc n) = zero_set (zeros_set m n) n
+
+-- each variable of the outputs becomes 0
+abbrev pub outputs_cleared : MasterState → MasterState
+outputs_cleared m = zeros_set m (length m.plan.variables)
 
 -- whether a report says that the inputs of a unit were taken, if it has the unit
 abbrev pub unit_taken : ℕ → ReportState → Option Bool

@@ -9,6 +9,7 @@ use Rattle.ec_wire.specs.declared.error.RunError.{RunError}
 use Rattle.ec_wire.specs.Wires.{WireState}
 use Rattle.ec_wire.specs.BringingUp.{IsBroughtUp}
 use Rattle.ec_wire.specs.ComingUp.{ComesUpOver}
+use Rattle.ec_wire.specs.Losing.{IsLossyRun}
 use Rattle.ec_wire.specs.Running.{IsRun}
 use Rattle.ec_session.specs.Sessions.{SessionState, is_up, ready_with}
 
@@ -35,9 +36,12 @@ abbrev pub run_refusal : SessionState → Option CycleError
 run_refusal s = if is_up s.startup.phase then begin_refusal s.master else Some NotReady
 
 -- the report is kept until the next one
+abbrev pub report_behind : Option ReportState → Result ReportState RunError → Option ReportState
+report_behind kept (Ok report) = Some report
+report_behind kept (Err error) = kept
+
 abbrev pub with_run : SessionState → Result ReportState RunError → MasterState → SessionState
-with_run s (Ok report) m = record s { master = m; report = Some report }
-with_run s (Err error) m = record s { master = m }
+with_run s ran m = record s { master = m; report = report_behind s.report ran }
 
 abbrev pub without_report : Result ReportState RunError → Result Unit RunError
 without_report (Ok report) = Ok tt
@@ -47,6 +51,14 @@ pub record Cycles (s : SessionState) (w : WireState) (t : SessionState) (v : Wir
   pub ended : Result ReportState RunError
   pub after : MasterState
   pub run : IsRun s.master w v ended after
+  pub is : t ≡ with_run s ended after
+  pub answers : answer ≡ without_report ended
+
+-- The same over a wire on which frames may be lost.
+pub record LosesAndCycles (s : SessionState) (w : WireState) (t : SessionState) (v : WireState) (answer : Result Unit RunError) : Type 0 where
+  pub ended : Result ReportState RunError
+  pub after : MasterState
+  pub run : IsLossyRun s.master w v ended after
   pub is : t ≡ with_run s ended after
   pub answers : answer ≡ without_report ended
 

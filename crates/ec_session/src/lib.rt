@@ -2,8 +2,10 @@
 //! by hand or over a wire.
 #![tactic(auto)]
 
+mod asking;
 mod by_hand;
 pub mod laws;
 mod session;
 
 pub use crate::session::Session;
+pub use ec_asking::AlStatus;

@@ -1,22 +1,23 @@
 //! A master that owns its machine, and runs over a wire.
-ghost use Rattle.std.specs.Prelude.{◌≡◌, ◌≢◌, ◌==◌, ◌<◌, ◌↔◌, true, false, Some, None, Err, length, slice_get, is_some, option_and_then, position, IfErr, IfOk, IfSome, IsTrue, MatchOption};
+ghost use Rattle.std.specs.Prelude.{◌≡◌, ◌≢◌, ◌==◌, ◌<◌, ◌↔◌, true, false, Some, None, Err, length, max, slice_get, is_some, option_and_then, position, IfErr, IfOk, IfSome, IsTrue, MatchOption};
 ghost use Rattle.ec_cycle.specs.declared.error.CycleError.{CycleError};
 ghost use Rattle.ec_cycle.specs.Master.{frame_of as part_of, holds_value, missing_of, value_at, variable_set};
 ghost use Rattle.ec_link.specs.Machine.{Refuses};
 ghost use Rattle.ec_link.specs.Plan.{plan_of};
 ghost use Rattle.ec_start.specs.Running.{outcome_of};
 ghost use Rattle.ec_wire.specs.declared.error.RunError.TheVariants.{Refused, Wire as WireFault};
-ghost use Rattle.ec_session.specs.Sessions.{IsOpened, is_up, new_session, ready_with, unit_taken, variable_named};
-ghost use Rattle.ec_session.specs.Wired.{Cycles, Starts, run_refusal, with_number_used};
+ghost use Rattle.ec_session.specs.Sessions.{IsOpened, is_up, new_session, outputs_cleared, ready_with, unit_taken, variable_named, zero_set};
+ghost use Rattle.ec_session.specs.Wired.{Cycles, LosesAndCycles, Starts, report_behind, run_refusal, with_number_used, without_report};
 
 use ec_cycle::{CycleError, Master, Report};
 use ec_link::{LinkError, Machine, MachineError, Plan};
 use ec_start::{HeldPlan, Phase, StartError, Startup};
 use ec_table::Table;
-use ec_wire::{RunError, Wire, bring_up_wire, run_cycle};
+use ec_wire::{RunError, Wire, bring_up_resting, bring_up_wire, run_cycle, run_lossy_cycle};
 use std::alloc::{AllocError, Global};
 use std::marker::Model;
 use std::sync::Arc;
+use std::time::Clock;
 
 /// A master that owns its machine: the table with its plan, the last start-up, the master of cycles and the last report. It
 /// borrows nothing, and frees all it owns when it is dropped. You carry the frames by hand, or give a wire.
@@ -26,6 +27,8 @@ pub struct Session {
     pub(crate) startup: Startup<'static>,
     pub(crate) master: Master<'static>,
     pub(crate) report: Option<Report>,
+    // how many questions were asked; 0 follows 65535
+    pub(crate) asked: u16,
 }
 
 impl Model for Session {
@@ -35,7 +38,7 @@ impl Model for Session {
 
     ghost Value = { SessionState };
 
-    ghost view = { λ s. record { table = arc_value s.machine; startup = s.startup; master = s.master; report = s.report } };
+    ghost view = { λ s. record { table = arc_value s.machine; startup = s.startup; master = s.master; report = s.report; asked = s.asked } };
 
     ghost invariant = { λ s. IsOfTable (arc_value s.machine) s.startup s.master };
 }
@@ -59,6 +62,7 @@ impl Session {
             startup,
             master,
             report: None,
+            asked: 0,
         })
     }
 
@@ -125,13 +129,24 @@ impl Session {
     }
 
     /// Runs a start-up over a wire, from its beginning, with frame numbers that are new. If it ends Ready, cycles can be run;
-    /// [`outcome`](Session::outcome) returns how it ended. An earlier start-up, which may be under way, is given up.
+    /// [`outcome`](Session::outcome) returns how it ended. An earlier start-up, which may be under way, is given up. It never rests.
     pub fn bring_up<W: Wire>(&mut self, wire: &mut W)
         ensures { Starts self.old (W.state wire.old) self.new (W.state wire.new) }
     {
-        let number = self.startup.next_number().max(self.master.next_number());
+        let number = self.next_start();
         self.startup.begin_again(number);
         bring_up_wire(&mut self.startup, wire);
+        make_ready(&mut self.master, &self.startup);
+    }
+
+    /// Runs a start-up over a wire to a segment elsewhere, as [`bring_up`](Session::bring_up) does. It rests between two polls of one
+    /// wait, as [`ec_wire::bring_up_resting`] does.
+    pub fn bring_up_resting<W: Wire, C: Clock>(&mut self, wire: &mut W, clock: &C)
+        ensures { Starts self.old (W.state wire.old) self.new (W.state wire.new) }
+    {
+        let number = self.next_start();
+        self.startup.begin_again(number);
+        bring_up_resting(&mut self.startup, wire, clock);
         make_ready(&mut self.master, &self.startup);
     }
 
@@ -152,13 +167,34 @@ impl Session {
         if !self.is_up() {
             return Err(RunError::Refused(CycleError::NotReady));
         }
-        match run_cycle(&mut self.master, wire) {
-            Ok(report) => {
-                self.report = Some(report);
-                Ok(())
-            }
-            Err(error) => Err(error),
+        let ran = run_cycle(&mut self.master, wire);
+        keep_report(&mut self.report, ran)
+    }
+
+    /// Runs one cycle over a wire on which frames may be lost, as [`ec_wire::run_lossy_cycle`] does: parts that don't come back before
+    /// the wire's patience is over are missing in the report, and the other units are taken. What came of it is the report until the next
+    /// one.
+    ///
+    /// # Errors
+    ///
+    /// Those of [`run_cycle`](Session::run_cycle). An answer that doesn't come is none.
+    pub fn run_lossy_cycle<W: Wire, C: Clock>(
+        &mut self,
+        wire: &mut W,
+        clock: &C,
+    ) -> Result<(), RunError>
+        ensures run { run_refusal self.old ≡ None → LosesAndCycles self.old (W.state wire.old) self.new (W.state wire.new) result }
+        ensures refused { (e : CycleError) → run_refusal self.old ≡ Some e → result ≡ Err (Refused e) }
+        ensures refused_session { (e : CycleError) → run_refusal self.old ≡ Some e → self.new ≡ self.old }
+        ensures refused_wire { (e : CycleError) → run_refusal self.old ≡ Some e → wire.new ≡ wire.old }
+        ensures fault { result ≡ Err WireFault → self.new ≡ with_number_used self.old }
+    {
+        let is_up = self.is_up();
+        if !is_up {
+            return Err(RunError::Refused(CycleError::NotReady));
         }
+        let ran = run_lossy_cycle(&mut self.master, wire, clock);
+        keep_report(&mut self.report, ran)
     }
 
     /// The number of parts of a cycle.
@@ -229,6 +265,13 @@ impl Session {
         true
     }
 
+    /// Sets each variable of the outputs to 0.
+    pub fn clear_outputs(&mut self)
+        ensures { self.new ≡ record self.old { master = outputs_cleared self.old.master } }
+    {
+        clear_outputs(&mut self.master);
+    }
+
     /// The value of a variable; none if there is no such variable.
     pub fn get(&self, variable: usize) -> Option<u64>
         ensures some { IfSome result (λ value. value ≡ value_at self.now.master (slice_get self.now.master.plan.variables variable)) }
@@ -261,6 +304,13 @@ impl Session {
     {
         self.master.inputs()
     }
+
+    /// The number of the first frame of the next start-up: neither the last start-up nor a cycle has used it.
+    pub(crate) fn next_start(&self) -> u64
+        ensures { result ≡ max self.now.startup.next self.now.master.next }
+    {
+        self.startup.next_number().max(self.master.next_number())
+    }
 }
 
 /// Makes the master ready if the start-up has ended Ready.
@@ -272,6 +322,35 @@ pub(crate) fn make_ready(master: &mut Master<'_>, startup: &Startup<'_>)
     match startup.phase() {
         Phase::Ready => master.ready(startup),
         Phase::Idle | Phase::Sent(_) | Phase::Failed(_) => {}
+    }
+}
+
+/// Keeps the report of a cycle, if it has one.
+fn keep_report(kept: &mut Option<Report>, ran: Result<Report, RunError>) -> Result<(), RunError>
+    ensures kept { kept.new ≡ report_behind kept.old ran }
+    ensures answer { result ≡ without_report ran }
+{
+    let report = ran?;
+    *kept = Some(report);
+    Ok(())
+}
+
+/// Sets each variable of the outputs to 0.
+fn clear_outputs(master: &mut Master<'_>)
+    ensures cleared { master.new ≡ outputs_cleared master.old }
+    ensures plan { master.new.plan ≡ master.old.plan }
+{
+    for variable in 0..master.variables() {
+        clear_output(master, variable);
+    }
+}
+
+/// Sets a variable to 0 if it is an output.
+fn clear_output(master: &mut Master<'_>, variable: usize)
+    ensures { master.new ≡ zero_set master.old variable }
+{
+    if master.can_set(variable, 0) {
+        master.set(variable, 0);
     }
 }
 

@@ -18,7 +18,11 @@ pub mod Readying
 pub mod Running
 -- runs that a watcher saw, one after the other
 pub mod Seeing
+-- an output variable as the slaves publish it, link after link
+pub mod Shown
 -- where frames are that were sent
 pub mod SlotsSent
+-- only one output prints AL states
+pub mod Statuses
 -- turn after turn of a start-up
 pub mod Turning

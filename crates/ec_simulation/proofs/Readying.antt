@@ -25,6 +25,7 @@ use Rattle.ec_simulation.specs.Rounds.{rounds, rounds_found}
 use Rattle.ec_script.specs.declared.line.LineAction.TheVariants.{Ready}
 use Rattle.ec_text.specs.ReportText.{outcome_text}
 use Rattle.ec_script.specs.Texts.{output_text}
+use Rattle.ec_simulation.specs.Statuses.{statuses}
 use Rattle.ec_simulation.specs.Views.{view_of}
 use Rattle.ec_script.specs.Outputs.{is_done}
 use Rattle.ec_simulation.specs.Work.{Does, Makes, MakesAll, Onward, RunsTurn, Starts, ends, has_ended, is_starting, said_of, last_turn}
@@ -213,7 +214,7 @@ ready_law t old new word from does =
     )
 
 -- and what is printed of it
-pub says_ready : (t : Contents) (old new : WorldState) (n : ℕ) (word : LineOutput) → IsToStart t old → Does Ready old new word → output_text t n (view_of new) word ≡ codes "ready" ++ newline
+pub says_ready : (t : Contents) (old new : WorldState) (n : ℕ) (word : LineOutput) → IsToStart t old → Does Ready old new word → output_text t n (view_of new) (statuses new) word ≡ codes "ready" ++ newline
 says_ready t old new n word from does =
     let r = ready_law t old new word from does in
-    ap (λ (x : LineOutput). output_text t n (view_of new) x) r.0 ∙ ap (λ (p : Phase). outcome_text (outcome_of p)) r.1.up.works.ready
+    ap (λ (x : LineOutput). output_text t n (view_of new) (statuses new) x) r.0 ∙ ap (λ (p : Phase). outcome_text (outcome_of p)) r.1.up.works.ready

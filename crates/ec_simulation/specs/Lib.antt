@@ -2,10 +2,14 @@
 
 -- what lines can print and expect of a world
 pub mod Views
+-- the AL states of its slaves
+pub mod Statuses
 -- an input variable as the plant sets it, as events
 pub mod Inputs
 -- when what a line expects of a world holds
 pub mod Expecting
+-- an output variable as the slaves publish it
+pub mod Showing
 -- how frames go round, as events
 pub mod Rounds
 -- what a line does to a world, and its output

@@ -7,9 +7,12 @@ pub mod laws;
 mod met;
 mod rounds;
 mod run;
+mod showing;
+mod status;
 mod view;
 
 pub use crate::action::{event_of, watch_action};
 pub use crate::met::is_met;
 pub use crate::run::{do_action, run_line};
+pub use crate::status::{printed_text, status_of};
 pub use crate::view::view_of;

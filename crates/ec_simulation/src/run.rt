@@ -8,13 +8,14 @@ ghost use Rattle.ec_script.specs.declared.output.LineOutput.{LineOutput};
 ghost use Rattle.ec_script.specs.Outputs.{is_done};
 ghost use Rattle.ec_simulation.specs.Work.{Does};
 ghost use Rattle.ec_simulation.specs.Events.{RunsLine};
+ghost use Rattle.ec_simulation.specs.Statuses.{statuses};
 ghost use Rattle.ec_simulation.specs.Views.{view_of};
 ghost use Rattle.ec_simulation.specs.Promised.{IsReadied};
 ghost use Rattle.ec_script.specs.Texts.{output_text};
 
 use crate::action::watch_action;
-use crate::view::view_of;
-use ec_script::{Line, LineAction, LineOutput, output_text};
+use crate::status::printed_text;
+use ec_script::{Line, LineAction, LineOutput};
 use ec_table::Table;
 use ec_world::{Unwatched, World};
 use std::alloc::{AllocError, Global};
@@ -46,11 +47,11 @@ pub fn run_line(
 ) -> Result<String, AllocError>
     ensures does { (output : LineOutput) × Does line.now.action world.old world.new output
         × RunsLine line.now.action world.old world.new (is_done output)
-        × IfOk result (λ text. string_bytes text ≡ output_text table.now line.now.number (view_of world.new) output) }
+        × IfOk result (λ text. string_bytes text ≡ output_text table.now line.now.number (view_of world.new) (statuses world.new) output) }
     ensures up { IsToStart table.now world.old → line.now.action ≡ Ready → IsReadied table.now world.old world.new
         × IfOk result (λ text. string_bytes text ≡ codes "ready" ++ newline) }
     ensures plan { world.new.plan ≡ world.old.plan }
 {
     let output = do_action(world, line.action);
-    output_text(alloc, table, line.number, output, &view_of(world))
+    printed_text(alloc, world, table, line.number, output)
 }

@@ -9,7 +9,7 @@ mod plan;
 mod refusal;
 mod report;
 
-pub use crate::digits::{push_number, push_value, write_counter};
+pub use crate::digits::{push_number, push_value, write_counter, write_word};
 pub use crate::header::header_text;
 pub use crate::inputs::{input_lines, value_of};
 pub use crate::plan::plan_text;

@@ -4,6 +4,8 @@ pub mod PatientCalls
 pub mod WireCalls
 -- payloads taken one after the other
 pub mod TakenPayloads
+-- payloads that come behind a question
+pub mod Hearing
 -- what an application reads and writes
 pub mod ApplicationBytes
 -- slaves that are served one after the other, and what an application may make of its outputs later

@@ -6,6 +6,10 @@ pub mod Wires
 pub mod Waiting
 -- a cycle over a wire
 pub mod Running
+-- a cycle over a wire on which frames may be lost
+pub mod Losing
+-- a question over a wire
+pub mod Asked
 -- a start-up over a wire
 pub mod BringingUp
 -- what the applications of slaves do, and a segment that answers on a wire
@@ -17,3 +21,6 @@ pub mod ComingUp
 pub mod Taps
 -- the errors' numbers and names
 pub mod Errors
+-- Private: these serve private code and its proofs alone.
+-- how a start-up rests
+pub mod Resting

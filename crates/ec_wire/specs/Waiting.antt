@@ -1,5 +1,5 @@
 -- How long a receive on a socket waits. A choice of this project.
-use Rattle.std.specs.Prelude.{ℕ, ◌*◌, ◌≤◌, ◌≡◌, Option, None, Some}
+use Rattle.std.specs.Prelude.{ℕ, ◌*◌, ◌-◌, ◌/◌, ◌≤◌, ◌≡◌, max, Option, None, Some}
 use Rattle.std.specs.Duration.{as_nanos}
 use Rattle.std.specs.declared.time.Duration.{Duration}
 use Rattle.ec_wire.specs.declared.patience.Patience.{Patience}
@@ -15,3 +15,8 @@ abbrev pub AreWithin : Patience → (part : Option Duration) → (count : ℕ) �
 AreWithin Endless part count = part ≡ None
 AreWithin (For whole) None count = ⊥
 AreWithin (For whole) (Some part) count = as_nanos part * count ≤ as_nanos whole
+
+-- how many of `count` parts are left after a time, all in nanoseconds
+abbrev pub parts_left : (part : Option ℕ) → (count waited : ℕ) → ℕ
+parts_left None count waited = count
+parts_left (Some part) count waited = count - waited / max part 1

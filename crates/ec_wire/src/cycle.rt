@@ -67,7 +67,7 @@ fn receive_parts<W: Wire>(master: &mut Master<'_>, wire: &mut W) -> bool
 }
 
 /// Sends the frames of the open cycle in order, up to the first fault. Returns whether there was none.
-fn send_parts<W: Wire>(master: &Master<'_>, wire: &mut W) -> bool
+pub(crate) fn send_parts<W: Wire>(master: &Master<'_>, wire: &mut W) -> bool
     requires open { is_some master.now.cycle ≡ true }
     requires count { length (frames_of master.now.cycle) ≡ length master.now.plan.parts }
     ensures sent { (n : ℕ) × Carries (W.state wire.old) (W.state wire.new) (take n (frames_of master.now.cycle)) []

@@ -4,12 +4,14 @@ ghost use Rattle.ec_wire.specs.Wires.{counted, max_failed, nothing_sent, one_mor
 
 use crate::application::{App, answer};
 use crate::error::SocketFault;
+use crate::trouble::Trouble;
 use crate::udp::UdpWire;
-use crate::wire::{Wire, receive_on, send_on};
+use crate::wire::{Wire, listen_on, receive_on, send_on};
 use ec_frame::field::MAX_FRAME_LEN;
 use ec_ring::Ring;
 use std::marker::Model;
 use std::net::Net;
+use std::time::Duration;
 
 /// The sockets of a master and of its segment, on ports of 127.0.0.1 that the system picks. They are connected with each other:
 /// neither receives what comes from elsewhere.
@@ -119,7 +121,7 @@ impl<A: App + Drop> Loopback<A> {
         let sockets = Sockets::bind(rt)?;
         let ports = (sockets.master.port(), sockets.segment.port());
         let Some(app) = self.app.take() else {
-            return Err(SocketFault);
+            return Err(SocketFault(Trouble::Unmade));
         };
         self.counts.slaves = ring.len();
         Ok(LoopWire {
@@ -216,6 +218,15 @@ impl<A: App + Drop> LoopWire<A> {
         receive_on(&mut self.sockets.master, buffer)
     }
 
+    /// Receives a payload over the master's socket, with the patience that is left after `waited`. Returns its length in bytes, `None` if
+    /// nothing came, or `SocketFault` at a fault.
+    fn listen(&mut self, waited: Duration, buffer: &mut [u8]) -> Result<Option<usize>, SocketFault>
+        ensures unchanged { self.new ≡ self.old }
+        ensures within { IfOk result (λ heard. IfSome heard (λ count. count ≤ length buffer.new)) }
+    {
+        listen_on(&mut self.sockets.master, waited, buffer)
+    }
+
     /// Counts a fault.
     fn fail(&mut self)
         ensures { self.new ≡ record self.old { traffic = record self.old.traffic { failed = one_more self.old.traffic.failed } } }
@@ -243,6 +254,10 @@ impl<A: App + Drop> Wire for LoopWire<A> {
         self.counts.failed
     }
 
+    fn trouble(&self) -> Trouble {
+        self.sockets.master.trouble()
+    }
+
     fn send(&mut self, payload: &[u8]) {
         let sent = self.counts.sent;
         if self.may_count(sent) && self.is_answered(payload) {
@@ -262,5 +277,24 @@ impl<A: App + Drop> Wire for LoopWire<A> {
         }
         self.fail();
         0
+    }
+
+    fn recv_within(&mut self, waited: Duration, buffer: &mut [u8]) -> Option<usize> {
+        let received = self.counts.received;
+        if !self.may_count(received) {
+            self.fail();
+            return None;
+        }
+        match self.listen(waited, buffer) {
+            Ok(Some(count)) => {
+                self.counts.received = received + 1;
+                Some(count)
+            }
+            Ok(None) => None,
+            Err(_) => {
+                self.fail();
+                None
+            }
+        }
     }
 }

@@ -4,11 +4,13 @@ ghost use Rattle.ec_wire.specs.Wires.{Carries, Payloads, WireState, failed_again
 
 use crate::application::{Echo, answer};
 use crate::payload::{Payload, frame_of};
+use crate::trouble::Trouble;
 use crate::wire::Wire;
 use ec_frame::field::MAX_FRAME_LEN;
 use ec_ring::Ring;
 use std::alloc::{AllocError, Global};
 use std::marker::Model;
+use std::time::Duration;
 
 /// A wire to a ring of slaves in memory, whose applications copy their outputs to their inputs. A sent frame passes the slaves, each
 /// is served, and the frame waits until it is received. Contracts know each payload that the wire carried. One of its calls is a
@@ -141,6 +143,10 @@ impl Wire for MemoryWire {
         self.failures
     }
 
+    fn trouble(&self) -> Trouble {
+        Trouble::Unmade
+    }
+
     fn send(&mut self, payload: &[u8]) {
         if !self.begin_call() || payload.len() > MAX_FRAME_LEN || !self.carry(payload) {
             self.fail();
@@ -155,5 +161,13 @@ impl Wire for MemoryWire {
         }
         self.fail();
         0
+    }
+
+    fn recv_within(&mut self, _waited: Duration, buffer: &mut [u8]) -> Option<usize> {
+        if !self.begin_call() || self.received.len() >= self.room {
+            self.fail();
+            return None;
+        }
+        self.deliver(buffer)
     }
 }

@@ -1,10 +1,13 @@
 //! How long a receive on a socket waits, and a socket whose calls no signal cuts short.
-ghost use Rattle.std.specs.Prelude.{◌≡◌, ◌==◌, ◌≤◌, ◌*◌, length, None, Some, IfOk, if◌then◌else◌};
-ghost use Rattle.ec_wire.specs.Waiting.{AreWithin, lasts};
+ghost use Rattle.std.specs.Prelude.{◌≡◌, ◌==◌, ◌≤◌, ◌*◌, length, None, Some, IfOk, if◌then◌else◌, option_map};
+ghost use Rattle.std.specs.Duration.{as_nanos};
+ghost use Rattle.ec_wire.specs.Waiting.{AreWithin, lasts, parts_left};
 
+use crate::trouble::Trouble;
 use std::io;
 use std::io::ErrorKind;
 use std::net::{SocketAddr, UdpSocket};
+use std::os::fd::{AsRawFd, RawFd};
 use std::time::Duration;
 
 /// The least number of parts of a patience that ends.
@@ -66,12 +69,26 @@ fn parts_of(whole: Duration) -> u32
     }
 }
 
+/// How many parts of a wait are left after `waited`, of `count` in all.
+fn parts_left(part: Option<Duration>, count: u64, waited: Duration) -> u64
+    ensures { result ≡ parts_left (option_map as_nanos part) count (as_nanos waited) }
+{
+    match part {
+        None => count,
+        Some(part) => {
+            let over = waited.as_nanos() / part.as_nanos().max(1);
+            count.saturating_sub(u64::try_from(over).unwrap_or(u64::MAX))
+        }
+    }
+}
+
 /// A datagram socket whose calls are made again if a signal interrupts them, as when a process is stopped and goes on. A receive
 /// waits in parts, and a part that was interrupted counts as over. So it never waits longer than its patience, and the time
 /// during which the process is stopped doesn't count.
 #[derive(Drop)]
 pub struct PatientSocket {
     socket: UdpSocket,
+    part: Option<Duration>,
     parts: u64,
 }
 
@@ -80,13 +97,29 @@ impl PatientSocket {
     ///
     /// # Errors
     ///
-    /// The socket itself, if it isn't a socket or the system refuses the patience, as it refuses 0.
-    pub fn new(socket: UdpSocket, patience: Patience) -> Result<PatientSocket, UdpSocket> {
+    /// The socket itself, and what the system says, if it isn't a socket or the system refuses the patience, as it refuses 0.
+    pub fn new(
+        socket: UdpSocket,
+        patience: Patience,
+    ) -> Result<PatientSocket, (UdpSocket, Trouble)> {
         let (part, parts) = patience.parts();
-        if socket.set_read_timeout(part).is_err() || socket.set_nonblocking(false).is_err() {
-            return Err(socket);
+        let refused = match socket.set_read_timeout(part) {
+            Ok(()) => socket.set_nonblocking(false).err(),
+            Err(error) => Some(error),
+        };
+        match refused {
+            Some(error) => Err((socket, Trouble::of(&error))),
+            None => Ok(PatientSocket {
+                socket,
+                part,
+                parts,
+            }),
         }
-        Ok(PatientSocket { socket, parts })
+    }
+
+    /// The descriptor of the socket, at which one can wait.
+    pub fn descriptor(&self) -> RawFd {
+        self.socket.as_raw_fd()
     }
 
     /// The port of the socket.
@@ -99,17 +132,21 @@ impl PatientSocket {
         self.socket.connect(peer)
     }
 
-    /// Sends a datagram to the address `to`, or to the peer that the socket is connected with if that is `None`. Returns whether all
-    /// of it was sent.
-    pub fn has_sent(&self, datagram: &[u8], to: Option<SocketAddr>) -> bool {
+    /// Sends a datagram to the address `to`, or to the peer that the socket is connected with if that is `None`.
+    ///
+    /// # Errors
+    ///
+    /// What the system says; also if not all of it was sent.
+    pub fn send(&self, datagram: &[u8], to: Option<SocketAddr>) -> Result<(), Trouble> {
         for _ in 0..self.parts {
             match self.send_once(datagram, to) {
-                Ok(count) => return count == datagram.len(),
+                Ok(count) if count == datagram.len() => return Ok(()),
+                Ok(_) => return Err(Trouble::Unmade),
                 Err(error) if error.kind() == ErrorKind::Interrupted => {}
-                Err(_) => return false,
+                Err(error) => return Err(Trouble::of(&error)),
             }
         }
-        false
+        Err(Trouble::Silence)
     }
 
     /// Receives a datagram into `buffer`, cut to the room there, and returns how many bytes are there. When the patience is over, it
@@ -121,7 +158,18 @@ impl PatientSocket {
     pub fn receive(&self, buffer: &mut [u8]) -> io::Result<usize>
         ensures { IfOk result (λ count. count ≤ length buffer.new) }
     {
-        for _ in 0..self.parts {
+        self.receive_within(Duration::ZERO, buffer)
+    }
+
+    /// Receives as [`PatientSocket::receive`] does, with the patience that is left after `waited`.
+    ///
+    /// # Errors
+    ///
+    /// Those of [`PatientSocket::receive`].
+    pub fn receive_within(&self, waited: Duration, buffer: &mut [u8]) -> io::Result<usize>
+        ensures { IfOk result (λ count. count ≤ length buffer.new) }
+    {
+        for _ in 0..parts_left(self.part, self.parts, waited) {
             match self.socket.recv(buffer) {
                 Err(error) if is_over(&error) => {}
                 ended => return ended,
@@ -133,15 +181,19 @@ impl PatientSocket {
         ended
     }
 
-    /// Receives as [`PatientSocket::receive`] does, and also returns the address that the datagram came from.
+    /// Receives as [`PatientSocket::receive_within`] does, and also returns the address that the datagram came from.
     ///
     /// # Errors
     ///
     /// Those of [`PatientSocket::receive`].
-    pub(crate) fn receive_from(&self, buffer: &mut [u8]) -> io::Result<(usize, SocketAddr)>
+    pub(crate) fn receive_from(
+        &self,
+        waited: Duration,
+        buffer: &mut [u8],
+    ) -> io::Result<(usize, SocketAddr)>
         ensures { IfOk result (λ came. came.0 ≤ length buffer.new) }
     {
-        for _ in 0..self.parts {
+        for _ in 0..parts_left(self.part, self.parts, waited) {
             match self.socket.recv_from(buffer) {
                 Err(error) if is_over(&error) => {}
                 ended => return ended,

@@ -3,11 +3,12 @@ ghost use Rattle.std.specs.Prelude.{◌≡◌, ℕ, [], ◌∷◌};
 ghost use Rattle.ec_capture.specs.Recordings.{Notes};
 ghost use Rattle.ec_wire.specs.Taps.{has_passed, captured_of};
 
-use crate::wire::{Wire, receive_on, send_on};
+use crate::trouble::Trouble;
+use crate::wire::{Wire, listen_on, receive_on, send_on};
 use ec_capture::{Packet, Recorder};
 use std::io::Write;
 use std::marker::Model;
-use std::time::{Clock, SystemTime, UNIX_EPOCH};
+use std::time::{Clock, Duration, SystemTime, UNIX_EPOCH};
 
 /// The end of a segment at which a wire is.
 #[derive(Clone, Copy, Debug, PartialEq, Eq)]
@@ -78,6 +79,10 @@ impl<'c, W: Wire + Drop, O: Write + Drop, C: Clock> Wire for CapturedWire<'c, W,
         self.wire.failures()
     }
 
+    fn trouble(&self) -> Trouble {
+        self.wire.trouble()
+    }
+
     fn send(&mut self, payload: &[u8]) {
         if send_on(&mut self.wire, payload) {
             note(&mut self.capture, self.side, self.clock, true, payload);
@@ -96,6 +101,20 @@ impl<'c, W: Wire + Drop, O: Write + Drop, C: Clock> Wire for CapturedWire<'c, W,
             &buffer[..count],
         );
         count
+    }
+
+    fn recv_within(&mut self, waited: Duration, buffer: &mut [u8]) -> Option<usize> {
+        let Ok(Some(count)) = listen_on(&mut self.wire, waited, buffer) else {
+            return None;
+        };
+        note(
+            &mut self.capture,
+            self.side,
+            self.clock,
+            false,
+            &buffer[..count],
+        );
+        Some(count)
     }
 }
 

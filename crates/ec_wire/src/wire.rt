@@ -1,6 +1,10 @@
 //! What a wire is.
-ghost use Rattle.std.specs.Prelude.{◌≡◌, ◌≤◌, [], ◌∷◌, true, false, take, length, not, is_some, IfSome, IfNone};
+ghost use Rattle.std.specs.Prelude.{◌≡◌, ◌≤◌, [], ◌∷◌, true, false, take, length, not, is_ok, is_some, IfErr, IfOk, IfSome, IfNone};
 ghost use Rattle.ec_wire.specs.Wires.{WireState, Carries, is_fault};
+
+use crate::error::SocketFault;
+use crate::trouble::Trouble;
+use std::time::Duration;
 
 /// What carries payloads to a segment and back.
 ///
@@ -13,6 +17,9 @@ pub trait Wire {
     fn failures(&self) -> u64
         ensures { result ≡ (state self.now).failed };
 
+    /// Why the last call that was a fault was one. No clause says what: the system knows that.
+    fn trouble(&self) -> Trouble;
+
     /// Sends a payload. A call with more than 1472 bytes is a fault.
     fn send(&mut self, payload: &[u8])
         ensures done { is_fault (state self.old) (state self.new) ≡ false → Carries (state self.old) (state self.new) (payload.now ∷ []) [] }
@@ -22,6 +29,14 @@ pub trait Wire {
     fn recv(&mut self, buffer: &mut [u8]) -> usize
         ensures within { result ≤ length buffer.new }
         ensures done { is_fault (state self.old) (state self.new) ≡ false → Carries (state self.old) (state self.new) [] (take result buffer.new ∷ []) }
+        ensures lost { is_fault (state self.old) (state self.new) ≡ true → Carries (state self.old) (state self.new) [] [] };
+
+    /// Receives a payload into `buffer`, as `recv` does. The wire's patience began `waited` ago. If it ends and nothing has come, that is
+    /// no fault, and the call returns `None`.
+    fn recv_within(&mut self, waited: Duration, buffer: &mut [u8]) -> Option<usize>
+        ensures within { IfSome result (λ count. count ≤ length buffer.new) }
+        ensures done { is_fault (state self.old) (state self.new) ≡ false → IfSome result (λ count. Carries (state self.old) (state self.new) [] (take count buffer.new ∷ [])) }
+        ensures none { is_fault (state self.old) (state self.new) ≡ false → IfNone result (Carries (state self.old) (state self.new) [] []) }
         ensures lost { is_fault (state self.old) (state self.new) ≡ true → Carries (state self.old) (state self.new) [] [] };
 }
 
@@ -51,6 +66,33 @@ pub fn receive_on<W: Wire>(wire: &mut W, buffer: &mut [u8]) -> Option<usize>
         Some(count)
     } else {
         None
+    }
+}
+
+/// Receives a payload into `buffer` before the wire's patience ends, which began `waited` ago. Returns its length there in bytes, or `None`
+/// if nothing came.
+///
+/// # Errors
+///
+/// `SocketFault` exactly if the call was a fault.
+pub fn listen_on<W: Wire>(
+    wire: &mut W,
+    waited: Duration,
+    buffer: &mut [u8],
+) -> Result<Option<usize>, SocketFault>
+    ensures fault { is_ok result ≡ not (is_fault (W.state wire.old) (W.state wire.new)) }
+    ensures same { IfOk result (λ heard. (W.state wire.new).failed ≡ (W.state wire.old).failed) }
+    ensures within { IfOk result (λ heard. IfSome heard (λ count. count ≤ length buffer.new)) }
+    ensures done { IfOk result (λ heard. IfSome heard (λ count. Carries (W.state wire.old) (W.state wire.new) [] (take count buffer.new ∷ []))) }
+    ensures none { IfOk result (λ heard. IfNone heard (Carries (W.state wire.old) (W.state wire.new) [] [])) }
+    ensures lost { IfErr result (λ fault. Carries (W.state wire.old) (W.state wire.new) [] []) }
+{
+    let before = wire.failures();
+    let heard = wire.recv_within(waited, buffer);
+    if is_fine(before, wire.failures()) {
+        Ok(heard)
+    } else {
+        Err(SocketFault(wire.trouble()))
     }
 }
 

@@ -13,6 +13,7 @@ use ec_wire::UdpWire;
 use std::io::Read;
 use std::net::{Net, SocketAddrV4};
 use std::process::ExitCode;
+use std::time::Clock;
 use std::{env, io};
 
 /// How many milliseconds an answer is awaited.
@@ -23,7 +24,7 @@ const FOLLOWED: u64 = 3;
 
 /// Runs the machine of a table, whose slaves answer at an address. Returns how many cycles were taken, and the values of the switches
 /// and the valves then. The error says why no cycle was run.
-fn follow<H: AllocGlobal + Net>(
+fn follow<H: AllocGlobal + Net + Clock>(
     rt: &H,
     table: &str,
     peer: SocketAddrV4,
@@ -37,14 +38,14 @@ fn follow<H: AllocGlobal + Net>(
     let mut wire = UdpWire::connect_patient(rt, peer, PATIENCE).map_err(
         |_| "there is no such socket",
     )?;
-    session.bring_up(&mut wire);
+    session.bring_up_resting(&mut wire, rt);
     if !session.is_up() {
         return Err("the slaves don't come up");
     }
     session.set(lamp, 1);
     let mut taken = 0;
     for cycle in 0..cycles {
-        if session.run_cycle(&mut wire).is_err() {
+        if session.run_lossy_cycle(&mut wire, rt).is_err() {
             break;
         }
         let shown = session.get(switches).unwrap_or(0);

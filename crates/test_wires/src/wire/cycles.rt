@@ -10,9 +10,10 @@ use crate::wire::machines::{
 use ec_cycle::{Master, Report};
 use ec_link::{ExpectedCounters, Machine};
 use ec_ring::Ring;
-use ec_wire::{Echo, LoopWire, Loopback, MemoryWire, RunError, Wire, run_cycle};
+use ec_wire::{Echo, LoopWire, Loopback, MemoryWire, RunError, Wire, run_cycle, run_lossy_cycle};
 use std::net::{Ipv4Addr, Net, SocketAddr, UdpSocket};
 use std::process::Abort;
+use std::time::Clock;
 
 /// An output variable, and the input variable that shows what its slave got a frame before. The slave is of the last part.
 type Mirror = (usize, usize);
@@ -119,6 +120,30 @@ pub fn expect_spent(rt: &(impl AllocGlobal + Abort), machine: &Machine, master: 
 {
     brought_up(rt, machine, master, 0);
     expect_error(rt, master, (RunError::Wire, 37, "Wire"));
+}
+
+/// What is seen of a cycle on whose wire nothing comes back: its missing parts, whether all units were taken, and an input.
+fn seen_in_silence<H: Clock + Abort>(rt: &H, master: &mut Master<'_>) -> (usize, bool, u64) {
+    let mut silent = Fake {
+        failures: 0,
+        bytes: 0,
+        received: 0,
+    };
+    let report = run_lossy_cycle(master, &mut silent, rt).expect(rt, "a report");
+    (report.missing(), report.is_taken(), value_of(master, 3))
+}
+
+/// Once its slaves have come up a cycle on whose wire nothing comes back has a report.
+pub fn expect_silence<H: AllocGlobal + Clock + Abort>(
+    rt: &H,
+    machine: &Machine,
+    master: &mut Master<'_>,
+)
+    requires { master.old.plan ≡ plan_of machine.now }
+{
+    brought_up(rt, machine, master, 0);
+    let seen = seen_in_silence(rt, master);
+    assert_same(rt, &seen, &(1, false, 0));
 }
 
 /// Whether a cycle was taken by a counter of 6.

@@ -8,6 +8,7 @@ use ec_link::Machine;
 use ec_wire::MemoryWire;
 use std::alloc::Global;
 use std::process::Abort;
+use std::time::Clock;
 
 const THREE_SLAVES: &str = test_data::BARE_THREE_SLAVES;
 
@@ -15,9 +16,9 @@ const THREE_SLAVES: &str = test_data::BARE_THREE_SLAVES;
 const NEVER: u64 = u64::MAX;
 
 /// Runs lines by a master over a wire. What they print is said by no clause, so that the comparisons behind it carry nothing of it.
-fn run_all(
+fn run_all<C: Clock>(
     alloc: Global,
-    mastered: &mut Mastered<MemoryWire>,
+    mastered: &mut Mastered<'_, MemoryWire, C>,
     lines: &str,
     output: &mut OutputStream<Vec<u8>>,
 ) -> Result<u64, Refusal> {
@@ -37,12 +38,12 @@ fn wire_of(rt: &(impl AllocGlobal + Abort), machine: &Machine, fails_at: u64) ->
 }
 
 /// A master of the three slaves over a wire.
-fn mastered_over(
-    rt: &(impl AllocGlobal + Abort),
+fn mastered_over<H: AllocGlobal + Abort + Clock>(
+    rt: &H,
     wire: MemoryWire,
     reasons: Reasons,
-) -> Mastered<MemoryWire> {
-    Mastered::new(rt.alloc(), three_slaves(rt), wire, reasons).expect(rt, "memory")
+) -> Mastered<'_, MemoryWire, H> {
+    Mastered::new(rt.alloc(), rt, three_slaves(rt), wire, reasons).expect(rt, "memory")
 }
 
 /// Lines, the call of the wire that fails, how often what they expect isn't so, and what they print.
@@ -55,7 +56,7 @@ fn expect_ended(rt: &impl Abort, run: &Run, ended: Result<u64, Refusal>, output:
 }
 
 /// Runs lines over a wire to the three slaves, and compares what they print.
-fn expect_run<H: AllocGlobal + Abort>(rt: &H, reasons: Reasons, run: &Run) {
+fn expect_run<H: AllocGlobal + Abort + Clock>(rt: &H, reasons: Reasons, run: &Run) {
     let wire = wire_of(rt, &three_slaves(rt), run.1);
     let mut mastered = mastered_over(rt, wire, reasons);
     let mut output = OutputStream::new(Vec::new(rt.alloc()));
@@ -64,7 +65,7 @@ fn expect_run<H: AllocGlobal + Abort>(rt: &H, reasons: Reasons, run: &Run) {
 }
 
 /// Does so with each of these.
-fn expect_runs<H: AllocGlobal + Abort>(rt: &H, reasons: Reasons, runs: &[Run]) {
+fn expect_runs<H: AllocGlobal + Abort + Clock>(rt: &H, reasons: Reasons, runs: &[Run]) {
     for run in runs {
         expect_run(rt, reasons, run);
     }
@@ -72,7 +73,7 @@ fn expect_runs<H: AllocGlobal + Abort>(rt: &H, reasons: Reasons, runs: &[Run]) {
 
 // The start-up of the three slaves has 75 frames, each sent in one call of the wire and received in the next, and a cycle has
 // one: so the first cycle begins with call 150, and a start-up behind it with call 152.
-const RUNS: [Run; 10] = [
+const RUNS: [Run; 13] = [
     // What a cycle sends comes back as input in the next one.
     (
         "ready\nset b 0x123\ncycle\ncycle\nexpect d 0x123\nshow\n",
@@ -80,12 +81,12 @@ const RUNS: [Run; 10] = [
         0,
         "ready\nreport taken missing 0 counters 6 al 0008\nreport taken missing 0 counters 6 al 0008\nc 0\nd 291\n",
     ),
-    // Before a start-up nothing is run, and there is no report; what is set is kept for later.
+    // Before a start-up nothing is run, and there is no report; what was set is 0 again behind it.
     (
         "cycle\nreport\nshow\nset b 2\nready\nrepeat 2 cycle\nshow",
         NEVER,
         0,
-        "no 1\nno 2\nc 0\nd 0\nready\nreport taken missing 0 counters 6 al 0008\nreport taken missing 0 counters 6 al 0008\nc 0\nd 2\n",
+        "no 1\nno 2\nc 0\nd 0\nready\nreport taken missing 0 counters 6 al 0008\nreport taken missing 0 counters 6 al 0008\nc 0\nd 0\n",
     ),
     // The last report again, as often as is asked, also with a comment.
     (
@@ -127,12 +128,34 @@ const RUNS: [Run; 10] = [
         0,
         "ready\nfault 37 Wire\nno 3\n",
     ),
-    // Slaves that are up are brought up again; their inputs are 0 then, until outputs have come to them.
+    // Slaves that are up are brought up again; their outputs and inputs are 0 then.
     (
-        "ready\nset b 9\nrepeat 2 cycle\nexpect d 9\nready\ncycle\nexpect d 0\ncycle\nexpect d 9\n",
+        "ready\nset b 9\nrepeat 2 cycle\nexpect d 9\nready\ncycle\nexpect d 0\ncycle\nexpect d 0\n",
         NEVER,
         0,
         "ready\nreport taken missing 0 counters 6 al 0008\nreport taken missing 0 counters 6 al 0008\nready\nreport taken missing 0 counters 6 al 0008\nreport taken missing 0 counters 6 al 0008\n",
+    ),
+    // AL states, and a machine that is stopped: without station addresses no slave answers, and a slave that isn't there never does.
+    (
+        "states\nready\nexpect state 0 OP\nexpect state 1 OP 0000\nexpect state 2 SAFEOP\nexpect state 3 OP\nstop\nstates\ncycle\nexpect ready\nready\ncycle\n",
+        NEVER,
+        3,
+        "state 0 s0 - 0000\nstate 1 s1 - 0000\nstate 2 s2 - 0000\nready\nunmet 5\nunmet 6\n\
+         state 0 s0 INIT 0000\nstate 1 s1 INIT 0000\nstate 2 s2 INIT 0000\nno 9\nunmet 10\nready\nreport taken missing 0 counters 6 al 0008\n",
+    ),
+    // Outputs are 0 behind `stop`.
+    (
+        "stop\nready\nset b 9\nrepeat 2 cycle\nexpect d 9\nstop\nready\ncycle\nexpect d 0\n",
+        NEVER,
+        0,
+        "no 1\nready\nreport taken missing 0 counters 6 al 0008\nreport taken missing 0 counters 6 al 0008\nready\nreport taken missing 0 counters 6 al 0008\n",
+    ),
+    // A fault of the wire while states are read; the answer that is left on the wire is none of the next question.
+    (
+        "states\nstates\n",
+        3,
+        0,
+        "fault 37 Wire\nstate 0 s0 - 0000\nstate 1 s1 - 0000\nstate 2 s2 - 0000\n",
     ),
     // Where that fails, no cycle is run until they are.
     (

@@ -1,8 +1,6 @@
 use Rattle.std.proofs.Common.{◌≡◌, ℕ, List, subst}
 use Rattle.std.specs.Prelude.{IfOk, string_bytes}
 use Rattle.ec_script.specs.declared.line.LineAction.{LineAction}
-use Rattle.ec_script.specs.Texts.{output_text}
-use Rattle.ec_script.specs.Views.{ViewState}
 use Rattle.ec_simulation.specs.Work.{Does}
 use Rattle.ec_simulation.proofs.Readying.{ready_law, says_ready}
 use Rattle.ec_simulation.proofs.run.run_line.Goals as goal
@@ -14,8 +12,7 @@ returns-clause-up c = λ from is.
     let old = c.args.world.now in
     let new = c.do_action-output.new.world in
     let word = c.do_action-output.result in
-    let does = subst (λ (a : LineAction). Does a old new word) is c.do_action-output.ensures.does in
-    let printed = subst (λ (view : ViewState). IfOk c.output_text.result (λ text. string_bytes text ≡ output_text t n view word)) c.view_of.ensures c.output_text.ensures in (
+    let does = subst (λ (a : LineAction). Does a old new word) is c.do_action-output.ensures.does in (
       (ready_law t old new word from does).1,
-      subst (λ (xs : List ℕ). IfOk c.output_text.result (λ text. string_bytes text ≡ xs)) (says_ready t old new n word from does) printed,
+      subst (λ (xs : List ℕ). IfOk c.printed_text.result (λ text. string_bytes text ≡ xs)) (says_ready t old new n word from does) c.printed_text.ensures,
     )

@@ -22,7 +22,7 @@ invariant_of-self-in-Err g c =
 pub returns-in-Err-clause-fault : goal.returns-in-Err-clause-fault
 returns-in-Err-clause-fault g c = λ fault.
     let i = c.self.inside in
-    let s : SessionState = record { table = arc_value i.machine; startup = i.startup; master = i.master; report = i.report } in
+    let s : SessionState = record { table = arc_value i.machine; startup = i.startup; master = i.master; report = i.report; asked = i.asked } in
     let up : is_up s.startup.phase ≡ true = ap (λ (x : SessionState). is_up x.startup.phase) c.self.view_is ∙ (sym c.is_up.ensures ∙ c.if-not-is_up.false) in
     let same : Err c.in-Err.error ≡ Err WireFault = fault in
     let wire : c.in-Err.error ≡ WireFault = cc in

@@ -1,0 +1,12 @@
+use Rattle.std.proofs.Common.{◌≡◌, ◌∙◌, ap, arith, length}
+use Rattle.ec_cycle.specs.Master.{MasterState}
+use Rattle.ec_session.proofs.Asked.{all_zero, next_zero, zeros_plan}
+use Rattle.ec_session.proofs.session.clear_outputs.Goals as goal
+
+pub loop-variable-preserved : goal.loop-variable-preserved
+loop-variable-preserved c =
+    let b = c.loop-variable.invariant in
+    record {
+      cleared = next_zero c.args.master.now c.loop-variable.master c.clear_output.new.master c.loop-variable.variable b.cleared c.clear_output.ensures;
+      end = b.end;
+    }

@@ -1,0 +1,27 @@
+-- Only the output `States` prints AL states.
+use Rattle.std.proofs.Common.{◌≡◌, ◌∙◌, ℕ, List, Option, Result, Ok, Err, IfOk, refl, ap, subst, string_bytes}
+use Rattle.ec_table.specs.Contents.{Contents}
+use Rattle.ec_asking.specs.declared.answer.AlStatus.{AlStatus}
+use Rattle.ec_script.specs.declared.output.LineOutput.{LineOutput}
+use Rattle.ec_script.specs.declared.output.LineOutput.TheVariants.{Nothing, No, Unmet, Byte, Ended, Report, Values, States, Fault}
+use Rattle.ec_script.specs.Texts.{output_text}
+use Rattle.ec_script.specs.Views.{ViewState}
+use Rattle.ec_world.specs.World.{WorldState}
+use Rattle.ec_simulation.specs.Statuses.{states_for, statuses}
+
+same_text : (t : Contents) (n : ℕ) (view : ViewState) (w : WorldState) (said : LineOutput) → output_text t n view (states_for w said) said ≡ output_text t n view (statuses w) said
+same_text t n view w Nothing = refl
+same_text t n view w No = refl
+same_text t n view w Unmet = refl
+same_text t n view w Byte = refl
+same_text t n view w Ended = refl
+same_text t n view w Report = refl
+same_text t n view w Values = refl
+same_text t n view w States = refl
+same_text t n view w Fault = refl
+
+pub printed_as : {E : Type 0} (r : Result _ E) (t : Contents) (n : ℕ) (view here : ViewState) (w : WorldState) (states : List (Option AlStatus)) (said : LineOutput) → view ≡ here → states ≡ states_for w said
+    → IfOk r (λ text. string_bytes text ≡ output_text t n view states said) → IfOk r (λ text. string_bytes text ≡ output_text t n here (statuses w) said)
+printed_as (Ok text) t n view here w states said of_it shown is =
+    is ∙ (ap (λ (v : ViewState). output_text t n v states said) of_it ∙ (ap (λ (ss : List (Option AlStatus)). output_text t n here ss said) shown ∙ same_text t n here w said))
+printed_as (Err e) t n view here w states said of_it shown is = tt
