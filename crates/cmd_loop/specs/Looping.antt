@@ -22,8 +22,9 @@ use Rattle.ec_text.specs.PlanText.{newline}
 use Rattle.ec_text.specs.InputText.{inputs_text, value_of_variable}
 use Rattle.ec_text.specs.ReportText.{report_text}
 use Rattle.ec_console.specs.declared.refusal.Refusal.{Refusal}
-use Rattle.ec_console.specs.declared.refusal.Refusal.TheVariants.{Memory, Start, Run, Socket, Output}
+use Rattle.ec_console.specs.declared.refusal.Refusal.TheVariants.{Memory, Start, Run, Output}
 use Rattle.ec_console.specs.Printing.{IsCutOff, IsPrinted, OutputState}
+use Rattle.ec_console.specs.Refusals.{IsSocket}
 
 -- ---- lines
 
@@ -165,7 +166,7 @@ IsNeverRun Refuses old new before after ended =
 
 -- there is no memory for the slaves, or there are no sockets
 abbrev pub IsUnbound : Refusal → Type 0
-IsUnbound refusal = (refusal ≡ Memory) ⊎ (refusal ≡ Socket)
+IsUnbound refusal = (refusal ≡ Memory) ⊎ IsSocket refusal
 
 -- the cycles of a table; or there is no memory for its slaves, or there are no sockets
 abbrev pub LoopsOnSockets : ℕ → Contents → (old new : OutputState) → (before after : Traffic) → Result Unit Refusal → Type 0

@@ -4,11 +4,11 @@ use Rattle.ec_table.specs.Contents.{Contents}
 use Rattle.ec_wire.specs.Wires.{WireState, silent}
 use Rattle.ec_session.specs.Sessions.{new_session}
 use Rattle.ec_console.specs.declared.refusal.Refusal.{Refusal}
-use Rattle.ec_console.specs.declared.refusal.Refusal.TheVariants.{Socket}
 use Rattle.ec_console.specs.declared.wanted.Reasons.{Reasons}
 use Rattle.ec_console.specs.Coming.{ComesOut, ComesPart, reading_at}
 use Rattle.ec_console.specs.Given.{Given}
 use Rattle.ec_console.specs.Printing.{OutputState}
+use Rattle.ec_console.specs.Refusals.{IsSocket}
 use Rattle.ec_console.specs.Saying.{EndsRun}
 use Rattle.ec_console.specs.Stating.{IsNeverRun}
 use Rattle.cmd_master.specs.State.{MasteredState}
@@ -32,4 +32,4 @@ RunsOnWire reasons t input old new ended = (last : MasteredState) × RunsOver t 
 
 -- over a socket or a card; or there is none
 abbrev pub RunsMachine : Reasons → Contents → (input : Given) → (old new : OutputState) → Result Unit Refusal → Type 0
-RunsMachine reasons t input old new ended = RunsOnWire reasons t input old new ended ⊎ IsNeverRun (λ refusal. refusal ≡ Socket) (new ≡ old) ended
+RunsMachine reasons t input old new ended = RunsOnWire reasons t input old new ended ⊎ IsNeverRun IsSocket (new ≡ old) ended

@@ -11,7 +11,7 @@ use crate::mastered::Mastered;
 use ec_card::{CardWire, Sender};
 use ec_console::{Capture, InputStream, OutputStream, Reasons, Refusal, Target, end_of, run_input};
 use ec_link::Machine;
-use ec_wire::{CapturedWire, Patience, Side, SocketFault, UdpWire, Wire};
+use ec_wire::{CapturedWire, Patience, Side, SocketFault, Trouble, UdpWire, Wire};
 use std::alloc::Global;
 use std::fs::Files;
 use std::io::{Read, Write};
@@ -69,7 +69,7 @@ fn connect<R: Net>(rt: &R, options: MasterOptions<'_>) -> Result<UdpWire, Socket
 {
     match options.to.parse::<SocketAddrV4>() {
         Ok(peer) => UdpWire::connect_patient(rt, peer, options.patience),
-        Err(_) => Err(SocketFault),
+        Err(_) => Err(SocketFault(Trouble::Unmade)),
     }
 }
 

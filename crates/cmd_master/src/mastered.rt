@@ -92,6 +92,7 @@ impl<'c, W: Wire + Drop, C: Clock> Mastered<'c, W, C> {
             | LineAction::Begin
             | LineAction::Pass(_)
             | LineAction::Lose(_)
+            | LineAction::LosePart(_, _)
             | LineAction::Return(_)
             | LineAction::Close
             | LineAction::Serve(_)
@@ -99,7 +100,9 @@ impl<'c, W: Wire + Drop, C: Clock> Mastered<'c, W, C> {
             | LineAction::Get(_, _)
             | LineAction::Fail(_)
             | LineAction::Reset(_)
-            | LineAction::Input(_, _) => LineOutput::No,
+            | LineAction::Input(_, _)
+            | LineAction::Output(_)
+            | LineAction::Served => LineOutput::No,
         }
     }
 
@@ -212,6 +215,7 @@ impl<W: Wire + Drop, C: Clock> Target for Mastered<'_, W, C> {
             | LineAction::Begin
             | LineAction::Pass(_)
             | LineAction::Lose(_)
+            | LineAction::LosePart(_, _)
             | LineAction::Return(_)
             | LineAction::Close
             | LineAction::Serve(_)
@@ -219,7 +223,9 @@ impl<W: Wire + Drop, C: Clock> Target for Mastered<'_, W, C> {
             | LineAction::Get(_, _)
             | LineAction::Fail(_)
             | LineAction::Reset(_)
-            | LineAction::Input(_, _) => false,
+            | LineAction::Input(_, _)
+            | LineAction::Output(_)
+            | LineAction::Served => false,
         }
     }
 

@@ -1,36 +1,39 @@
 -- A segment that is served.
-use Rattle.std.proofs.Common.{◌≡◌, ◌∙◌, ap, inl, inr, ℕ, List, refl, sym, subst, Option, Result, Ok, Err}
+use Rattle.std.proofs.Common.{◌≡◌, ◌∙◌, ap, inl, inr, ℕ, List, refl, sym, subst, Option, Some, None, Result, Ok, Err}
 use Rattle.std.specs.Result.{IsErrAnd}
 use Rattle.ec_slave.specs.State.{SlaveState}
 use Rattle.ec_wire.specs.Wires.{IsOpened, SocketState, WireState, silent}
 use Rattle.ec_wire.specs.Segments.{HasServed, WasCutOff}
+use Rattle.ec_wire.specs.declared.trouble.Trouble.{Trouble}
 use Rattle.ec_wire.proofs.ServedSlaves.{all_treated_by}
 use Rattle.ec_console.specs.declared.refusal.Refusal.{Refusal}
 use Rattle.ec_console.specs.declared.refusal.Refusal.TheVariants as refusal
 use Rattle.ec_console.specs.Printing.{IsPrinted, IsEprinted, OutputState, PrintsText}
-use Rattle.ec_table.specs.Contents.{Contents}
-use Rattle.cmd_segment.specs.Serving.{ServesMachine, ServesOnCard, ServesOnPort, ServesSegment, any_inputs, listening_line, served_line}
+use Rattle.ec_console.specs.Refusals.{IsSocket}
+use Rattle.ec_live.specs.Doing.{served_line}
+use Rattle.cmd_segment.specs.Opening.{TellsOpened, TellsPort, listening_line}
+use Rattle.cmd_segment.specs.Serving.{IsUnmade, IsUnopened, ServedAll, ServedSome, ServesOpened, ServesSegment, any_inputs}
 
 -- ---- what is printed
 
 -- all payloads came
-pub all_served : (r : Result Unit Refusal) (frames answered refused : ℕ) (may_produce : List ℕ → List ℕ → Type 0) (first last : List SlaveState) (before after : WireState) (old new : OutputState)
-    → HasServed may_produce first last before after frames answered refused → PrintsText (served_line answered refused) old new r
+pub all_served : (r : Result Unit Refusal) (frames : Option ℕ) (answered refused : ℕ) (may_produce : List ℕ → List ℕ → Type 0) (first last : List SlaveState) (before after : WireState) (old new : OutputState)
+    → ServedAll frames may_produce first last before after answered refused → PrintsText (served_line answered refused) old new r
     → ServesSegment frames may_produce first last before after old new r
 all_served (Ok done) frames answered refused may_produce first last before after old new h printed = (answered, refused, h, printed)
 all_served (Err e) frames answered refused may_produce first last before after old new h printed =
     subst (λ (x : Refusal). ServesSegment frames may_produce first last before after old new (Err x)) (sym printed.0) (answered, refused, inl h, printed.1)
 
 -- a fault of the wire, and the counts are printed
-pub some_served : (r : Result Unit Refusal) (frames answered refused : ℕ) (may_produce : List ℕ → List ℕ → Type 0) (first last : List SlaveState) (before after : WireState) (old new : OutputState)
-    → WasCutOff may_produce first last before after frames answered refused → IsPrinted old new (served_line answered refused) → r ≡ Err refusal.Socket
+pub some_served : (r : Result Unit Refusal) (trouble : Trouble) (frames : Option ℕ) (answered refused : ℕ) (may_produce : List ℕ → List ℕ → Type 0) (first last : List SlaveState) (before after : WireState)
+    (old new : OutputState) → ServedSome frames may_produce first last before after answered refused → IsPrinted old new (served_line answered refused) → r ≡ Err (refusal.Socket trouble)
     → ServesSegment frames may_produce first last before after old new r
-some_served r frames answered refused may_produce first last before after old new h printed is =
+some_served r trouble frames answered refused may_produce first last before after old new h printed is =
     subst (ServesSegment frames may_produce first last before after old new) (sym is) (answered, refused, h, printed)
 
 -- or they can't be
-pub served_unprinted : (r s : Result Unit Refusal) (x : Refusal) (frames answered refused : ℕ) (may_produce : List ℕ → List ℕ → Type 0) (first last : List SlaveState) (before after : WireState) (old new : OutputState)
-    → WasCutOff may_produce first last before after frames answered refused → IsErrAnd r (λ e. e ≡ x) → s ≡ Err x → PrintsText (served_line answered refused) old new s
+pub served_unprinted : (r s : Result Unit Refusal) (x : Refusal) (frames : Option ℕ) (answered refused : ℕ) (may_produce : List ℕ → List ℕ → Type 0) (first last : List SlaveState) (before after : WireState)
+    (old new : OutputState) → ServedSome frames may_produce first last before after answered refused → IsErrAnd r (λ e. e ≡ x) → s ≡ Err x → PrintsText (served_line answered refused) old new s
     → ServesSegment frames may_produce first last before after old new r
 served_unprinted (Ok done) s x frames answered refused may_produce first last before after old new h is err printed = absurd is
 served_unprinted (Err e) s x frames answered refused may_produce first last before after old new h is err printed =
@@ -66,12 +69,20 @@ cut-any may_produce first last before after frames answered refused h = record {
   fault = h.fault;
 }
 
-serves-any : (r : Result Unit Refusal) (frames : ℕ) (may_produce : List ℕ → List ℕ → Type 0) (first last : List SlaveState) (before after : WireState) (old new : OutputState)
+all-any : (frames : Option ℕ) (may_produce : List ℕ → List ℕ → Type 0) (first last : List SlaveState) (before after : WireState) (answered refused : ℕ)
+    → ServedAll frames may_produce first last before after answered refused → ServedAll frames any_inputs first last before after answered refused
+all-any frames may_produce first last before after answered refused h = (h.0, h.1, served-any may_produce first last before after h.0 answered refused h.2)
+
+some-any : (frames : Option ℕ) (may_produce : List ℕ → List ℕ → Type 0) (first last : List SlaveState) (before after : WireState) (answered refused : ℕ)
+    → ServedSome frames may_produce first last before after answered refused → ServedSome frames any_inputs first last before after answered refused
+some-any frames may_produce first last before after answered refused h = (h.0, h.1, cut-any may_produce first last before after h.0 answered refused h.2)
+
+serves-any : (r : Result Unit Refusal) (frames : Option ℕ) (may_produce : List ℕ → List ℕ → Type 0) (first last : List SlaveState) (before after : WireState) (old new : OutputState)
     → ServesSegment frames may_produce first last before after old new r → ServesSegment frames any_inputs first last before after old new r
-serves-any (Ok done) frames may_produce first last before after old new h = (h.0, h.1, served-any may_produce first last before after frames h.0 h.1 h.2, h.3)
-serves-any (Err refusal.Socket) frames may_produce first last before after old new h = (h.0, h.1, cut-any may_produce first last before after frames h.0 h.1 h.2, h.3)
-serves-any (Err refusal.Output) frames may_produce first last before after old new (a, b, inl h, part) = (a, b, inl (served-any may_produce first last before after frames a b h), part)
-serves-any (Err refusal.Output) frames may_produce first last before after old new (a, b, inr h, part) = (a, b, inr (cut-any may_produce first last before after frames a b h), part)
+serves-any (Ok done) frames may_produce first last before after old new h = (h.0, h.1, all-any frames may_produce first last before after h.0 h.1 h.2, h.3)
+serves-any (Err (refusal.Socket trouble)) frames may_produce first last before after old new h = (h.0, h.1, some-any frames may_produce first last before after h.0 h.1 h.2, h.3)
+serves-any (Err refusal.Output) frames may_produce first last before after old new (a, b, inl h, part) = (a, b, inl (all-any frames may_produce first last before after a b h), part)
+serves-any (Err refusal.Output) frames may_produce first last before after old new (a, b, inr h, part) = (a, b, inr (some-any frames may_produce first last before after a b h), part)
 serves-any (Err refusal.Memory) frames may_produce first last before after old new h = absurd h
 serves-any (Err (refusal.Frame e)) frames may_produce first last before after old new h = absurd h
 serves-any (Err (refusal.Table e)) frames may_produce first last before after old new h = absurd h
@@ -83,46 +94,44 @@ serves-any (Err refusal.BadHex) frames may_produce first last before after old n
 serves-any (Err refusal.Input) frames may_produce first last before after old new h = absurd h
 serves-any (Err (refusal.Unmet n)) frames may_produce first last before after old new h = absurd h
 
+-- ---- a wire that is opened
+
+-- a port that is listened on
+pub tells_port : (octets : List ℕ) (asked : ℕ) (socket : SocketState) (port : ℕ) (quiet told : OutputState) → IsOpened asked socket → port ≡ socket.port
+    → IsEprinted (listening_line octets port) quiet told → TellsPort octets asked quiet told
+tells_port octets asked socket port quiet told opened is line = (port, (λ some. is ∙ opened.port some), line)
+
+pub tells_card : (given : Option ℕ) (n : ℕ) (octets : List ℕ) (asked : ℕ) (quiet : OutputState) → given ≡ Some n → TellsOpened given octets asked quiet quiet
+tells_card given n octets asked quiet is = subst (λ (o : Option ℕ). TellsOpened o octets asked quiet quiet) (sym is) refl
+
+pub tells_opened : (given : Option ℕ) (octets : List ℕ) (asked : ℕ) (quiet told : OutputState) → given ≡ None → TellsPort octets asked quiet told → TellsOpened given octets asked quiet told
+tells_opened given octets asked quiet told is h = subst (λ (o : Option ℕ). TellsOpened o octets asked quiet told) (sym is) h
+
 -- ---- the whole
 
-pub no_slaves : (r : Result Unit Refusal) (descriptor : Option ℕ) (frames port : ℕ) (t : Contents) (old quiet : OutputState) → IsErrAnd r (λ e. e ≡ refusal.Memory)
-    → ServesMachine descriptor frames port t old old quiet quiet r
-no_slaves (Ok done) descriptor frames port t old quiet is = absurd is
-no_slaves (Err e) descriptor frames port t old quiet is = inr (ap (λ (x : Refusal). Err x) is, refl, refl)
+pub no_slaves : (r : Result Unit Refusal) (old quiet : OutputState) → IsErrAnd r (λ e. e ≡ refusal.Memory) → IsUnmade old old quiet quiet r
+no_slaves (Ok done) old quiet is = absurd is
+no_slaves (Err e) old quiet is = (ap (λ (x : Refusal). Err x) is, refl, refl)
 
 -- there is no such socket, and nothing was printed
-pub port_unbound : (r : Result Unit Refusal) (frames port : ℕ) (first : List SlaveState) (old quiet told : OutputState) → IsErrAnd r (λ e. e ≡ refusal.Socket) → told ≡ quiet
-    → ServesOnPort frames port first old old quiet told r
-port_unbound (Ok done) frames port first old quiet told is same = absurd is
-port_unbound (Err e) frames port first old quiet told is same = inr (ap (λ (x : Refusal). Err x) is, refl, same)
+pub unopened : (r : Result Unit Refusal) (trouble : Trouble) (old quiet told : OutputState) → IsErrAnd r (λ e. e ≡ refusal.Socket trouble) → told ≡ quiet → IsUnopened old old quiet told r
+unopened (Ok done) trouble old quiet told is same = absurd is
+unopened (Err e) trouble old quiet told is same = record {
+  refused = subst IsSocket (sym is) tt;
+  printed = refl;
+  told = same;
+}
 
-pub port_served : (r : Result Unit Refusal) (frames port : ℕ) (opened closed : SocketState) (old new quiet told : OutputState) (may_produce : List ℕ → List ℕ → Type 0) (first last : List SlaveState)
-    → IsOpened port opened → IsEprinted (listening_line opened.port) quiet told
-    → ServesSegment frames may_produce first last (silent opened.failed) (silent closed.failed) old new r → ServesOnPort frames port first old new quiet told r
-port_served r frames port opened closed old new quiet told may_produce first last socket line serves = inl (record {
-  opened = opened;
-  closed = closed;
-  last = last;
-  socket = socket;
-  tells = line;
-  serves = serves-any r frames may_produce first last (silent opened.failed) (silent closed.failed) old new serves;
-})
-
--- the same on a card
-pub card_unbound : (r : Result Unit Refusal) (frames : ℕ) (first : List SlaveState) (old : OutputState) → IsErrAnd r (λ e. e ≡ refusal.Socket) → ServesOnCard frames first old old r
-card_unbound (Ok done) frames first old is = absurd is
-card_unbound (Err e) frames first old is = inr (ap (λ (x : Refusal). Err x) is, refl)
-
-pub card_served : (r : Result Unit Refusal) (frames : ℕ) (opened closed : WireState) (old new : OutputState) (may_produce : List ℕ → List ℕ → Type 0) (first last : List SlaveState)
-    → opened ≡ silent 0 → ServesSegment frames may_produce first last opened closed old new r → ServesOnCard frames first old new r
-card_served r frames opened closed old new may_produce first last fresh serves = inl (record {
+pub opened_serves : (r : Result Unit Refusal) (frames : Option ℕ) (opened closed : WireState) (old new : OutputState) (may_produce : List ℕ → List ℕ → Type 0) (first last : List SlaveState)
+    → opened ≡ silent 0 → ServesSegment frames may_produce first last opened closed old new r → ServesOpened frames first old new r
+opened_serves r frames opened closed old new may_produce first last fresh serves = record {
   closed = closed;
   last = last;
   serves = subst (λ (w : WireState). ServesSegment frames any_inputs first last w closed old new r) fresh (serves-any r frames may_produce first last opened closed old new serves);
-})
+}
 
 -- payloads answered on a wire where they are noted are answered on the wire
-pub tapped_serves : {W : Type 0} (state : W → WireState) (frames : ℕ) (may_produce : List ℕ → List ℕ → Type 0) (slaves served : List SlaveState) (first began after : WireState) (last : W)
+pub tapped_serves : {W : Type 0} (state : W → WireState) (frames : Option ℕ) (may_produce : List ℕ → List ℕ → Type 0) (slaves served : List SlaveState) (first began after : WireState) (last : W)
     (old new : OutputState) (r : Result Unit Refusal) → began ≡ first → state last ≡ after → ServesSegment frames may_produce slaves served began after old new r
     → (x : W) × ServesSegment frames may_produce slaves served first (state x) old new r
 tapped_serves state frames may_produce slaves served first began after last old new r same is serves = (

@@ -66,6 +66,7 @@ impl fmt::Display for Why<'_, '_> {
                 table: scene.table,
                 variable,
             }),
+            LineAction::Output(variable) => scene.write_unshown(f, variable),
             LineAction::Ready => scene.write_event(f, Event::StartNext),
             // a whole cycle wasn't begun, or a frame of it is held up
             LineAction::Cycle if self.had_cycle || !has_cycle(scene.world) => {

@@ -94,6 +94,28 @@ impl Scene<'_, '_> {
         )
     }
 
+    /// Writes why slaves publish no value of a variable.
+    pub fn write_unshown<W: fmt::Write>(
+        &self,
+        f: &mut fmt::Formatter<W>,
+        variable: usize,
+    ) -> fmt::Result {
+        let Some(row) = self.table.variables().get(variable) else {
+            return write!(f, "the table has no variable {variable}");
+        };
+        let name = Printable(row.name.as_str());
+        match row.direction {
+            Direction::In => write!(
+                f,
+                "`{name}` is an input, which slaves don't publish as outputs"
+            ),
+            Direction::Out => write!(
+                f,
+                "`{name}` has bits that no slave publishes: its outputs aren't set up"
+            ),
+        }
+    }
+
     /// Writes why a line that writes variables of direction `wanted` doesn't set a variable.
     pub fn write_unset<W: fmt::Write>(
         &self,

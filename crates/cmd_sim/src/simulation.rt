@@ -1,12 +1,14 @@
 //! A simulated segment that lines act on.
-ghost use Rattle.std.specs.Prelude.{◌≡◌, IfOk, string_bytes};
+ghost use Rattle.std.specs.Prelude.{◌≡◌, IfOk, false, string_bytes, true};
+ghost use Rattle.ec_ring.specs.Rings.{IsNoFrame};
+ghost use Rattle.ec_world.specs.Outside.{IsCarried};
 ghost use Rattle.cmd_sim.specs.Simulating.{is_reasoned};
 ghost use Rattle.cmd_sim.specs.Stages.{IsLineText};
 
 use crate::reasons::{has_cycle, reason_text};
 use crate::scene::Scene;
 use ec_console::{Reasons, Said, Target};
-use ec_link::Machine;
+use ec_link::{Machine, Plan};
 use ec_script::{Line, LineAction, LineOutput, is_simulated};
 use ec_simulation::{printed_text, watch_action};
 use ec_table::Table;
@@ -65,6 +67,31 @@ impl<'m, S: Watcher + Drop> Simulation<'m, S> {
             table,
             reasons,
         }
+    }
+
+    /// A payload of another master passes all slaves, and then each makes a firmware step. Returns whether it was a frame; if it wasn't,
+    /// nothing changes. The watcher sees nothing of it.
+    pub fn carry(&mut self, payload: &mut [u8]) -> bool
+        ensures carried { result ≡ true → IsCarried self.old.world payload.old self.new.world payload.new }
+        ensures others { self.new ≡ record self.old { world = self.new.world } }
+        ensures refused { result ≡ false → IsNoFrame payload.old }
+        ensures unchanged { result ≡ false → self.new ≡ self.old }
+    {
+        self.world.carry(payload)
+    }
+
+    /// The plan of its machine.
+    pub fn plan(&self) -> &'m Plan
+        ensures { result.now ≡ self.now.world.plan }
+    {
+        self.world.plan()
+    }
+
+    /// Whether it says why a line can't be done.
+    pub fn reasons(&self) -> Reasons
+        ensures { result ≡ self.now.reasons }
+    {
+        self.reasons
     }
 
     /// The watcher, with what it kept.

@@ -7,9 +7,12 @@ use Rattle.ec_console.specs.declared.refusal.Refusal.{Refusal}
 use Rattle.ec_console.specs.Refusals.{number_of, status_of}
 use Rattle.ec_console.specs.declared.refusal.Refusal.TheVariants.{Memory}
 use Rattle.ec_console.specs.Given.{Given, given_by}
-use Rattle.ec_console.specs.Stating.{RefusesStated, States}
+use Rattle.ec_console.specs.Stating.{RefusesStated, States, slave_form}
 use Rattle.ec_console.specs.declared.form.SlaveForm.{SlaveForm}
 use Rattle.ec_console.specs.declared.stated.Source.{Source}
+use Rattle.ec_console.specs.declared.stated.Source.TheVariants as takes
+use Rattle.ec_console.specs.Reasons.{reasons_of}
+use Rattle.std.specs.Net.Addr.{ipv4_octets}
 use Rattle.ec_script.specs.declared.line.Line.{Line}
 use Rattle.ec_console.specs.Printing.{OutputState}
 use Rattle.ec_lines.specs.Inputs.{InputState}
@@ -18,8 +21,9 @@ use Rattle.ec_table.specs.Contents.{Contents}
 use Rattle.cmd_loop.specs.Looping.{LoopsOnSockets}
 use Rattle.ec_app.specs.declared.work.Work.{Work}
 use Rattle.ec_app.specs.declared.work.Work.TheVariants as work
-use Rattle.ec_app.specs.Running.{Ends, EndsAlone, EndsGiven, EndsOwning, EndsUnread, LeavesApp, Stream, Eprints, EprintsWith, given_words, unread}
-use Rattle.ec_args.specs.Requests.{Reads}
+use Rattle.ec_app.specs.Running.{Ends, EndsAlone, EndsGiven, EndsOwning, EndsUnread, IsEndpoint, LeavesApp, LeavesIf, Runs, RunsPlant, RunsSegment, RunsSlaves, RunsWork, Stream, Eprints, EprintsWith, does_of, form_of, given_words, source_of, unread, work_if}
+use Rattle.cmd_segment.specs.declared.endpoint.Endpoint.{Endpoint}
+use Rattle.ec_args.specs.Requests.{Reads, SegmentArguments, SegmentOf}
 use Rattle.ec_args.specs.declared.request.Notice.{Notice}
 use Rattle.ec_args.specs.declared.request.Request.{Request}
 use Rattle.ec_args.specs.declared.request.Request.TheVariants.{Pass, Plan, Decode, Encode, Sim, Loop, Segment, Master}
@@ -49,7 +53,7 @@ ends_unread (Ok (Decode t e)) old new app_old app_new alone = tt
 ends_unread (Ok Encode) old new app_old app_new alone = tt
 ends_unread (Ok (Sim l c e)) old new app_old app_new alone = tt
 ends_unread (Ok (Loop n c e)) old new app_old app_new alone = tt
-ends_unread (Ok (Segment n p d f i c e)) old new app_old app_new alone = tt
+ends_unread (Ok (Segment o c e)) old new app_old app_new alone = tt
 ends_unread (Ok (Master a d m c e)) old new app_old app_new alone = tt
 ends_unread (Err error) old new app_old app_new alone = alone.0
 
@@ -100,6 +104,7 @@ left_alone (work.Script reasons) x = refl
 left_alone (work.Live reasons) x = refl
 left_alone (work.Cycles cycles) x = tt
 left_alone (work.Segment form endpoint) x = tt
+left_alone (work.Plant form endpoint reasons) x = refl
 left_alone (work.Master options) x = refl
 
 -- what is read is a source and a form of some work
@@ -108,3 +113,31 @@ refused_as s source f form text x same like h = subst (λ (y : Source). RefusesS
 
 pub stated_as : (s source : Source) (f form : SlaveForm) (text : List ℕ) (t : Contents) (lines : List Line) → s ≡ source → f ≡ form → States s f text t lines → States source form text t lines
 stated_as s source f form text t lines same like h = subst (λ (y : Source). States y form text t lines) same (subst (λ (y : SlaveForm). States s y text t lines) like h)
+
+-- ---- a segment
+
+-- what its work does is what its arguments ask for
+pub segment_runs : (a : SegmentArguments) (explained : Bool) (e : Endpoint) (w : Work) (file : Option (List ℕ)) (given : Given) (output told : Stream) (ended : Result Unit Refusal) → IsEndpoint a e
+    → w ≡ work_if a.live (slave_form a.full) e (reasons_of explained) → RunsWork (source_of w) (form_of w) (does_of w) file given output told ended
+    → Runs (SegmentOf a file explained) given output told ended
+segment_runs a explained e w file given output told ended is same h = (ipv4_octets e.address, is.bound, slaves a.live same)
+  where
+    slaves : (live : Bool) → w ≡ work_if live (slave_form a.full) e (reasons_of explained) → RunsSlaves live a (ipv4_octets e.address) file explained given output told ended
+    slaves false same =
+        let runs = subst (λ (x : Work). RunsWork (source_of x) (form_of x) (does_of x) file given output told ended) same h in
+        subst (λ (d : Option ℕ). RunsWork takes.Table (slave_form a.full) (RunsSegment d (ipv4_octets e.address) a.port a.frames) file given output told ended) is.descriptor
+        (subst (λ (n : ℕ). RunsWork takes.Table (slave_form a.full) (RunsSegment e.descriptor (ipv4_octets e.address) n a.frames) file given output told ended) is.port
+        (subst (λ (n : Option ℕ). RunsWork takes.Table (slave_form a.full) (RunsSegment e.descriptor (ipv4_octets e.address) e.port n) file given output told ended) is.frames runs))
+    slaves true same =
+        let runs = subst (λ (x : Work). RunsWork (source_of x) (form_of x) (does_of x) file given output told ended) same h in
+        subst (λ (d : Option ℕ). RunsWork takes.Lines (slave_form a.full) (RunsPlant (reasons_of explained) d (ipv4_octets e.address) a.port a.frames) file given output told ended) is.descriptor
+        (subst (λ (n : ℕ). RunsWork takes.Lines (slave_form a.full) (RunsPlant (reasons_of explained) e.descriptor (ipv4_octets e.address) n a.frames) file given output told ended) is.port
+        (subst (λ (n : Option ℕ). RunsWork takes.Lines (slave_form a.full) (RunsPlant (reasons_of explained) e.descriptor (ipv4_octets e.address) e.port n) file given output told ended) is.frames runs))
+
+pub segment_alone : {A : Type 0} (a : SegmentArguments) (explained : Bool) (e : Endpoint) (w : Work) (old new : A) → w ≡ work_if a.live (slave_form a.full) e (reasons_of explained) → LeavesApp w old new
+    → LeavesIf a.live old new
+segment_alone {A} a explained e w old new same h = alone a.live same
+  where
+    alone : (live : Bool) → w ≡ work_if live (slave_form a.full) e (reasons_of explained) → LeavesIf live old new
+    alone false same = tt
+    alone true same = subst (λ (x : Work). LeavesApp x old new) same h

@@ -1,6 +1,9 @@
 -- How a run of `ecat` ends, whatever it was asked for (this project's profile).
 use Rattle.std.specs.Prelude.{◌≡◌, ◌≢◌, ◌⊎◌, ℕ, Bool, true, false, List, [], ◌∷◌, ◌++◌, map, Option, Result, Ok, Err, codes}
 use Rattle.std.specs.IoError.{error_kind}
+use Rattle.std.specs.Net.Addr.{ipv4_octets}
+use Rattle.std.specs.Net.Grammar.{IsIpv4Text}
+use Rattle.std.specs.declared.net.ipv4_addr.Ipv4Addr.{Ipv4Addr}
 use Rattle.std.specs.Vec.Iter.{into_iter_items}
 use Rattle.std.specs.declared.alloc.Global.{Global}
 use Rattle.std.specs.declared.io.Error.{Error}
@@ -8,7 +11,7 @@ use Rattle.std.specs.declared.io.ErrorKind.TheVariants.{OutOfMemory}
 use Rattle.std.specs.declared.string.String.{String}
 use Rattle.std.specs.declared.vec.IntoIter.{IntoIter}
 use Rattle.std.specs.String.{string_bytes}
-use Rattle.ec_args.specs.Requests.{Command, PassOf, PlanOf, DecodeOf, EncodeOf, SimOf, LoopOf, SegmentOf, MasterOf, Reads, command_of, is_explained}
+use Rattle.ec_args.specs.Requests.{Command, SegmentArguments, PassOf, PlanOf, DecodeOf, EncodeOf, SimOf, LoopOf, SegmentOf, MasterOf, Reads, command_of, is_explained}
 use Rattle.ec_args.specs.declared.request.Notice.{Notice}
 use Rattle.ec_args.specs.declared.request.Notice.TheVariants as notice
 use Rattle.ec_args.specs.declared.request.Request.{Request}
@@ -31,7 +34,10 @@ use Rattle.ec_console.specs.Stating.{RunsSource, slave_form}
 use Rattle.ec_app.specs.declared.work.Work.{Work}
 use Rattle.ec_app.specs.declared.work.Work.TheVariants as work
 use Rattle.cmd_master.specs.Mastering.{RunsMachine}
-use Rattle.cmd_segment.specs.Serving.{ServesMachine}
+use Rattle.cmd_segment.specs.declared.endpoint.Endpoint.{Endpoint}
+use Rattle.cmd_segment.specs.Serving.{LivesMachine, ServesMachine}
+use Rattle.ec_app.specs.Wrong.{IsAddress, IsRight, IsWrong, wrong_text}
+use Rattle.ec_app.specs.declared.wrong.Wrong.{Wrong}
 use Rattle.ec_annotate.specs.Annotating.{names_of}
 use Rattle.ec_app.specs.Remarking.{RunsDecodeWith}
 use Rattle.ec_app.specs.Translating.{RunsEncode}
@@ -67,9 +73,14 @@ RunsAsTheyCome reasons output stderr input t lines ended = RunsLive reasons t in
 abbrev pub RunsCycles : ℕ → (output stderr : Stream) → Given → Contents → List Line → Result Unit Refusal → Type 0
 RunsCycles cycles output stderr input t lines ended = ((after : Traffic) × LoopsOnSockets cycles t output.old output.new nothing_sent after ended) × IsQuiet stderr
 
--- `ecat segment`: the slaves are served, on a port or the card of a descriptor
-abbrev pub RunsSegment : (descriptor : Option ℕ) → (frames port : ℕ) → (output stderr : Stream) → Given → Contents → List Line → Result Unit Refusal → Type 0
-RunsSegment descriptor frames port output stderr input t lines ended = ServesMachine descriptor frames port t output.old output.new stderr.old stderr.new ended
+-- `ecat segment`: the slaves are served, on a port of an address or the card of a descriptor
+abbrev pub RunsSegment : (descriptor : Option ℕ) → (octets : List ℕ) → (port : ℕ) → (frames : Option ℕ) → (output stderr : Stream) → Given → Contents → List Line → Result Unit Refusal → Type 0
+RunsSegment descriptor octets port frames output stderr input t lines ended = ServesMachine descriptor octets port frames t output.old output.new stderr.old stderr.new ended
+
+-- `ecat segment --live`: and the lines that the input gives move them as they come
+abbrev pub RunsPlant : Reasons → (descriptor : Option ℕ) → (octets : List ℕ) → (port : ℕ) → (frames : Option ℕ) → (output stderr : Stream) → Given → Contents → List Line → Result Unit Refusal → Type 0
+RunsPlant reasons descriptor octets port frames output stderr input t lines ended =
+    LivesMachine descriptor octets port frames reasons t input output.old output.new stderr.old stderr.new ended
 
 -- `ecat master`: the lines that the input gives are run with a new master
 abbrev pub RunsMaster : Reasons → (output stderr : Stream) → Given → Contents → List Line → Result Unit Refusal → Type 0
@@ -81,6 +92,7 @@ source_of (work.Script reasons) = takes.Script
 source_of (work.Live reasons) = takes.Lines
 source_of (work.Cycles cycles) = takes.Table
 source_of (work.Segment form endpoint) = takes.Table
+source_of (work.Plant form endpoint reasons) = takes.Lines
 source_of (work.Master options) = takes.Lines
 
 abbrev pub form_of : Work → SlaveForm
@@ -88,14 +100,35 @@ form_of (work.Script reasons) = Plain
 form_of (work.Live reasons) = Plain
 form_of (work.Cycles cycles) = Plain
 form_of (work.Segment form endpoint) = form
+form_of (work.Plant form endpoint reasons) = form
 form_of (work.Master options) = Plain
 
 abbrev pub does_of : Work → (output stderr : Stream) → Given → Contents → List Line → Result Unit Refusal → Type 0
 does_of (work.Script reasons) = RunsScript reasons
 does_of (work.Live reasons) = RunsAsTheyCome reasons
 does_of (work.Cycles cycles) = RunsCycles cycles
-does_of (work.Segment form endpoint) = RunsSegment endpoint.descriptor endpoint.frames endpoint.port
+does_of (work.Segment form endpoint) = RunsSegment endpoint.descriptor (ipv4_octets endpoint.address) endpoint.port endpoint.frames
+does_of (work.Plant form endpoint reasons) = RunsPlant reasons endpoint.descriptor (ipv4_octets endpoint.address) endpoint.port endpoint.frames
 does_of (work.Master options) = RunsMaster options.reasons
+
+-- the address that a segment listens on, by its text: 127.0.0.1 if that is no address
+abbrev pub IsBound : (text octets : List ℕ) → Type 0
+IsBound text octets =
+    ((a : Ipv4Addr) × IsIpv4Text text a × (octets ≡ ipv4_octets a)) ⊎ ((IsAddress text → ⊥) × (octets ≡ 127 ∷ 0 ∷ 0 ∷ 1 ∷ []))
+
+-- the work that a segment's arguments ask for
+pub record IsEndpoint (a : SegmentArguments) (endpoint : Endpoint) : Type 0 where
+  pub frames : endpoint.frames ≡ a.frames
+  pub bound : IsBound a.bind (ipv4_octets endpoint.address)
+  pub port : endpoint.port ≡ a.port
+  pub descriptor : endpoint.descriptor ≡ a.descriptor
+
+abbrev pub work_if : (live : Bool) → SlaveForm → Endpoint → Reasons → Work
+work_if false form endpoint reasons = work.Segment form endpoint
+work_if true form endpoint reasons = work.Plant form endpoint reasons
+
+abbrev pub IsWorkOf : SegmentArguments → (explained : Bool) → Work → Type 0
+IsWorkOf a explained w = (endpoint : Endpoint) × IsEndpoint a endpoint × (w ≡ work_if a.live (slave_form a.full) endpoint (reasons_of explained))
 
 -- the machine that the input states is run, with a capture if its file is named
 abbrev pub RunsWork : Source → SlaveForm → (does : Stream → Stream → Given → Contents → List Line → Result Unit Refusal → Type 0) → (file : Option (List ℕ)) → (given : Given) → (output stderr : Stream) → Result Unit Refusal → Type 0
@@ -107,6 +140,11 @@ abbrev pub RunsSim : (live : Bool) → (file : Option (List ℕ)) → (explained
 RunsSim false file explained = RunsWork takes.Script Plain (RunsScript (reasons_of explained)) file
 RunsSim true file explained = RunsWork takes.Lines Plain (RunsAsTheyCome (reasons_of explained)) file
 
+-- `ecat segment`, whose slaves lines move too if it is live
+abbrev pub RunsSlaves : (live : Bool) → SegmentArguments → (octets : List ℕ) → (file : Option (List ℕ)) → (explained : Bool) → (given : Given) → (output stderr : Stream) → Result Unit Refusal → Type 0
+RunsSlaves false a octets file explained = RunsWork takes.Table (slave_form a.full) (RunsSegment a.descriptor octets a.port a.frames) file
+RunsSlaves true a octets file explained = RunsWork takes.Lines (slave_form a.full) (RunsPlant (reasons_of explained) a.descriptor octets a.port a.frames) file
+
 -- ---- all commands
 
 -- what a command does with the output, and what it says while it runs, by what the input gives, if that is known
@@ -117,10 +155,15 @@ Runs (DecodeOf table explained) given output stderr ended = RunsDecodeWith table
 Runs EncodeOf given output stderr ended = RunsEncode given output.old output.new ended × IsQuiet stderr
 Runs (SimOf live capture explained) given output stderr ended = RunsSim live capture explained given output stderr ended
 Runs (LoopOf cycles capture explained) given output stderr ended = RunsWork takes.Table Plain (RunsCycles cycles) capture given output stderr ended
-Runs (SegmentOf frames port descriptor full idle capture explained) given output stderr ended =
-    RunsWork takes.Table (slave_form full) (RunsSegment descriptor frames port) capture given output stderr ended
+Runs (SegmentOf arguments capture explained) given output stderr ended =
+    (octets : List ℕ) × IsBound arguments.bind octets × RunsSlaves arguments.live arguments octets capture explained given output stderr ended
 Runs (MasterOf to descriptor patience capture explained) given output stderr ended =
     RunsWork takes.Lines Plain (RunsMaster (reasons_of explained)) capture given output stderr ended
+
+-- slaves that lines move have no simulated application
+abbrev pub LeavesIf : {A : Type 0} → (live : Bool) → (old new : A) → Type 0
+LeavesIf true old new = new ≡ old
+LeavesIf false old new = Unit {0}
 
 -- what a command leaves alone: one that reads no input leaves it as it is, and one with no simulated application steps
 -- none
@@ -131,7 +174,7 @@ LeavesAlone (DecodeOf table explained) input_old input_new app_old app_new = app
 LeavesAlone EncodeOf input_old input_new app_old app_new = app_new ≡ app_old
 LeavesAlone (SimOf live capture explained) input_old input_new app_old app_new = app_new ≡ app_old
 LeavesAlone (LoopOf cycles capture explained) input_old input_new app_old app_new = Unit {0}
-LeavesAlone (SegmentOf frames port descriptor full idle capture explained) input_old input_new app_old app_new = Unit {0}
+LeavesAlone (SegmentOf arguments capture explained) input_old input_new app_old app_new = LeavesIf arguments.live app_old app_new
 LeavesAlone (MasterOf to descriptor patience capture explained) input_old input_new app_old app_new = app_new ≡ app_old
 
 -- what some work leaves alone: the application, unless it simulates slaves
@@ -140,6 +183,7 @@ LeavesApp (work.Script reasons) old new = new ≡ old
 LeavesApp (work.Live reasons) old new = new ≡ old
 LeavesApp (work.Cycles cycles) old new = Unit {0}
 LeavesApp (work.Segment form endpoint) old new = Unit {0}
+LeavesApp (work.Plant form endpoint reasons) old new = new ≡ old
 LeavesApp (work.Master options) old new = new ≡ old
 
 -- what may stand behind the line of a refusal: nothing, unless the refusal is to be explained; then the text is free
@@ -157,11 +201,21 @@ abbrev pub EprintsWith : List ℕ → Stream → ℕ → Result Unit Refusal →
 EprintsWith more faults status (Ok done) = (status ≡ 0) × (faults.new ≡ faults.old)
 EprintsWith more faults status (Err refusal) = (status ≡ status_of refusal) × IsEprinted (line_of refusal ++ more) faults.old faults.new
 
+-- a command is run
+abbrev pub EndsCommand : Command → (given : Given) → (output faults : Stream) → ℕ → Type 0
+EndsCommand command given output faults status =
+    (ended : Result Unit Refusal) × (noted : OutputState) × (more : List ℕ) × Runs command given output (record { old = faults.old; new = noted }) ended
+    × MayExplain (is_explained command) more × EprintsWith more (record { old = noted; new = faults.new }) status ended
+
+-- or its arguments can't be right, and the fault stream says so
+abbrev pub EndsWrong : Command → (output faults : Stream) → ℕ → Type 0
+EndsWrong command output faults status =
+    (wrong : Wrong) × IsWrong command wrong × (status ≡ 2) × (output.new ≡ output.old) × IsEprinted (wrong_text wrong) faults.old faults.new
+
 -- how a run ends that was asked for a command, or that prints a notice in place of one
 abbrev pub Ends : Result Request Notice → (given : Given) → (output faults : Stream) → ℕ → Type 0
 Ends (Ok request) given output faults status =
-    (ended : Result Unit Refusal) × (noted : OutputState) × (more : List ℕ) × Runs (command_of request) given output (record { old = faults.old; new = noted }) ended
-    × MayExplain (is_explained (command_of request)) more × EprintsWith more (record { old = noted; new = faults.new }) status ended
+    (IsRight (command_of request) × EndsCommand (command_of request) given output faults status) ⊎ EndsWrong (command_of request) output faults status
 Ends (Err notice.Memory) given output faults status = (output.new ≡ output.old) × Eprints faults status (Err Memory)
 Ends (Err (notice.Help text)) given output faults status = (ended : Result Unit Refusal) × PrintsText (string_bytes text) output.old output.new ended × Eprints faults status ended
 Ends (Err (notice.Usage text)) given output faults status = (status ≡ 2) × (output.new ≡ output.old) × IsEprinted (string_bytes text) faults.old faults.new
@@ -202,7 +256,7 @@ LeavesInput (DecodeOf table explained) old new = Unit {0}
 LeavesInput EncodeOf old new = Unit {0}
 LeavesInput (SimOf live capture explained) old new = Unit {0}
 LeavesInput (LoopOf cycles capture explained) old new = Unit {0}
-LeavesInput (SegmentOf frames port descriptor full idle capture explained) old new = Unit {0}
+LeavesInput (SegmentOf arguments capture explained) old new = Unit {0}
 LeavesInput (MasterOf to descriptor patience capture explained) old new = Unit {0}
 
 -- what a run leaves of the input: all of it, too, if it prints a notice in place of a command

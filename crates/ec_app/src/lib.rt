@@ -9,6 +9,7 @@ mod remarked;
 mod run;
 mod translate;
 mod work;
+mod wrong;
 
 pub use crate::pass::{pass_hex, print_pass};
 pub use crate::plan::{PlanForm, print_plan, show_plan};

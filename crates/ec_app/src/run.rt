@@ -1,10 +1,10 @@
 //! All commands, by their arguments.
 ghost use Rattle.std.specs.Prelude.{◌≡◌, ◌∷◌, [], map, Contains, Result};
-ghost use Rattle.ec_args.specs.Requests.{Reads, command_of};
+ghost use Rattle.ec_args.specs.Requests.{Reads, arguments_of, command_of};
 ghost use Rattle.ec_args.specs.declared.request.Notice.{Notice as NoticeValue};
 ghost use Rattle.ec_args.specs.declared.request.Request.{Request as RequestValue};
 ghost use Rattle.ec_console.specs.Explaining.{IsLeft};
-ghost use Rattle.ec_app.specs.Running.{Ends, EndsAlone, EndsOwning, LeavesAlone, Runs, Eprints, EprintsWith, unwritten};
+ghost use Rattle.ec_app.specs.Running.{Ends, EndsAlone, EndsOwning, IsWorkOf, LeavesAlone, Runs, Eprints, EprintsWith, unwritten};
 ghost use Rattle.ec_console.specs.Given.{given_by};
 
 use crate::pass::print_pass;
@@ -12,10 +12,11 @@ use crate::plan::{PlanForm, print_plan};
 use crate::remarked::print_payloads;
 use crate::translate::print_encode;
 use crate::work::{Work, run_work};
+use crate::wrong::wrong_of;
 use cmd_master::MasterOptions;
 use cmd_segment::Endpoint;
 use ec_annotate::Names;
-use ec_args::{Notice, Request, read_args};
+use ec_args::{Notice, Request, SegmentOptions, read_args};
 use ec_console::{
     Console, Explanation, InputStream, OutputStream, Reasons, Refusal, SlaveForm, print_text,
 };
@@ -23,7 +24,7 @@ use ec_wire::App;
 use std::convert::AsStr;
 use std::fs::Files;
 use std::io::{Read, Write};
-use std::net::Net;
+use std::net::{Ipv4Addr, Net};
 use std::time::Clock;
 
 /// Runs the command that the words ask for, and returns the exit status, as [`run_console`] does. The first word is the program's name.
@@ -94,6 +95,10 @@ fn end_run<H: AllocGlobal + Net + Files + Clock, R: Read + Drop, W: Write + Drop
 {
     match read {
         Ok(request) => {
+            if let Some(wrong) = wrong_of(&request) {
+                console.faults.eprint_text(wrong.text().as_bytes());
+                return 2;
+            }
             console.explanation = Explanation::new(rt.alloc(), request.explained());
             let ended = run_request(rt, request, console, app);
             console.explanation.explain_stream(rt.alloc(), &ended);
@@ -134,6 +139,25 @@ fn exit_status<F: Write + Drop>(ended: Result<(), Refusal>, faults: &mut OutputS
     match ended {
         Ok(()) => 0,
         Err(refusal) => faults.eprint_refusal(&refusal),
+    }
+}
+
+/// The work of a segment.
+fn segment_work<'a>(options: SegmentOptions<'_>, explained: bool) -> Work<'a>
+    ensures { IsWorkOf (arguments_of options) explained result }
+{
+    let endpoint = Endpoint {
+        frames: options.frames,
+        address: options.bind.parse().unwrap_or(Ipv4Addr::LOCALHOST),
+        port: options.port,
+        descriptor: options.descriptor,
+        idle: options.idle,
+    };
+    let form = SlaveForm::of(options.full);
+    if options.live {
+        Work::Plant(form, endpoint, Reasons::of(explained))
+    } else {
+        Work::Segment(form, endpoint)
     }
 }
 
@@ -207,23 +231,10 @@ fn run_request<
             ..
         } => run_work(rt, Work::Cycles(cycles), capture, console, app),
         Request::Segment {
-            frames,
-            port,
-            descriptor,
-            full,
-            idle,
+            options,
             capture,
-            ..
-        } => {
-            let endpoint = Endpoint {
-                frames,
-                port,
-                descriptor,
-                idle,
-            };
-            let work = Work::Segment(SlaveForm::of(full), endpoint);
-            run_work(rt, work, capture, console, app)
-        }
+            explained,
+        } => run_work(rt, segment_work(options, explained), capture, console, app),
         Request::Master {
             to,
             descriptor,

@@ -7,7 +7,7 @@ ghost use Rattle.ec_app.specs.Running.{IsSilent, LeavesApp, RunsWork, does_of, f
 
 use cmd_loop::run_loopback;
 use cmd_master::{MasterOptions, run_connected};
-use cmd_segment::{Endpoint, run_segment};
+use cmd_segment::{Endpoint, run_plant, run_segment};
 use cmd_sim::{run_live, run_script};
 use ec_console::{
     Capture, Console, Interfaces, Reasons, Refusal, SlaveForm, Source, Stated, close_capture,
@@ -30,6 +30,8 @@ pub enum Work<'a> {
     Cycles(u16),
     /// Its slaves are served, in a form.
     Segment(SlaveForm, Endpoint),
+    /// Its slaves are served, in a form, and the lines that the input gives move them.
+    Plant(SlaveForm, Endpoint, Reasons),
     /// The lines that the input gives move its master.
     Master(MasterOptions<'a>),
 }
@@ -41,7 +43,7 @@ impl Work<'_> {
     {
         match *self {
             Work::Script(_) => Source::Script,
-            Work::Live(_) | Work::Master(_) => Source::Lines,
+            Work::Live(_) | Work::Plant(_, _, _) | Work::Master(_) => Source::Lines,
             Work::Cycles(_) | Work::Segment(_, _) => Source::Table,
         }
     }
@@ -51,7 +53,7 @@ impl Work<'_> {
         ensures { result ≡ form_of self.now }
     {
         match *self {
-            Work::Segment(form, _) => form,
+            Work::Segment(form, _) | Work::Plant(form, _, _) => form,
             Work::Script(_) | Work::Live(_) | Work::Cycles(_) | Work::Master(_) => SlaveForm::Plain,
         }
     }
@@ -61,7 +63,7 @@ impl Work<'_> {
         match *self {
             Work::Script(_) | Work::Live(_) => Interfaces::Segment,
             Work::Cycles(_) => Interfaces::One("loop"),
-            Work::Segment(_, _) => Interfaces::One("segment"),
+            Work::Segment(_, _) | Work::Plant(_, _, _) => Interfaces::One("segment"),
             Work::Master(_) => Interfaces::One("master"),
         }
     }
@@ -185,6 +187,9 @@ fn run_on<H: AllocGlobal + Net + Files + Clock, R: Read + Drop, W: Write + Drop,
                 &mut console.faults,
                 app,
             )
+        }
+        Work::Plant(_, endpoint, reasons) => {
+            run_plant(rt, &machine, endpoint, reasons, capture, console)
         }
         Work::Master(options) => {
             run_connected(

@@ -22,7 +22,7 @@ use Rattle.ec_args.specs.declared.request.Notice.{Notice}
 use Rattle.ec_args.specs.declared.request.Notice.TheVariants.{Memory, Help, Usage}
 use Rattle.ec_args.specs.declared.request.Request.{Request}
 use Rattle.ec_args.specs.CommandLine.{ecat}
-use Rattle.ec_args.specs.Requests.{Asks, ArePassArguments, ArePlanArguments, Command, Finds, FindsAny, FindsFlag, FindsNumber, FindsText, IsFault, IsNotice, MeetsAs, MeetsCommand, PassIsRead, PlanIsRead, PassOf, PlanOf, DecodeOf, EncodeOf, SimOf, LoopOf, SegmentOf, MasterOf, command_of, is_answer, word_of}
+use Rattle.ec_args.specs.Requests.{Asks, ArePassArguments, ArePlanArguments, Command, Finds, FindsAny, FindsFlag, FindsNumber, FindsText, IsFault, IsNotice, MeetsAs, MeetsCommand, SegmentArguments, PassIsRead, PlanIsRead, PassOf, PlanOf, DecodeOf, EncodeOf, SimOf, LoopOf, SegmentOf, MasterOf, command_of, is_answer, word_of}
 use Rattle.ec_args.specs.Stages.{IsAskedAs, IsNeverAsked}
 use Rattle.ec_args.proofs.PlanArguments.{explain-met, explain-no_fault, plan-met, plan-no_fault, plan_rows}
 use Rattle.ec_args.proofs.PassArguments.{ecat-is_simple, ecat-simple, frame_row, no-fault, number_argument, slaves_row, subcommand-pass, value_argument}
@@ -79,7 +79,7 @@ is_pass (DecodeOf t e) called = absurd (other_word (codes "decode") (codes "pass
 is_pass EncodeOf called = absurd (other_word (codes "encode") (codes "pass") refl called)
 is_pass (SimOf l c e) called = absurd (other_word (codes "sim") (codes "pass") refl called)
 is_pass (LoopOf n c e) called = absurd (other_word (codes "loop") (codes "pass") refl called)
-is_pass (SegmentOf n p d f i c e) called = absurd (other_word (codes "segment") (codes "pass") refl called)
+is_pass (SegmentOf a c e) called = absurd (other_word (codes "segment") (codes "pass") refl called)
 is_pass (MasterOf t d p c e) called = absurd (other_word (codes "master") (codes "pass") refl called)
 
 pub is_plan : (command : Command) → word_of command ≡ codes "plan" → (h : Bool) × (e : Bool) × (command ≡ PlanOf h e)
@@ -89,7 +89,7 @@ is_plan (DecodeOf t e) called = absurd (other_word (codes "decode") (codes "plan
 is_plan EncodeOf called = absurd (other_word (codes "encode") (codes "plan") refl called)
 is_plan (SimOf l c e) called = absurd (other_word (codes "sim") (codes "plan") refl called)
 is_plan (LoopOf n c e) called = absurd (other_word (codes "loop") (codes "plan") refl called)
-is_plan (SegmentOf n p d f i c e) called = absurd (other_word (codes "segment") (codes "plan") refl called)
+is_plan (SegmentOf a c e) called = absurd (other_word (codes "segment") (codes "plan") refl called)
 is_plan (MasterOf t d p c e) called = absurd (other_word (codes "master") (codes "plan") refl called)
 
 pub is_loop : (command : Command) → word_of command ≡ codes "loop" → (n : ℕ) × (c : Option Text) × (e : Bool) × (command ≡ LoopOf n c e)
@@ -99,17 +99,17 @@ is_loop (DecodeOf t e) called = absurd (other_word (codes "decode") (codes "loop
 is_loop EncodeOf called = absurd (other_word (codes "encode") (codes "loop") refl called)
 is_loop (SimOf l c e) called = absurd (other_word (codes "sim") (codes "loop") refl called)
 is_loop (LoopOf n c e) called = (n, c, e, refl)
-is_loop (SegmentOf n p d f i c e) called = absurd (other_word (codes "segment") (codes "loop") refl called)
+is_loop (SegmentOf a c e) called = absurd (other_word (codes "segment") (codes "loop") refl called)
 is_loop (MasterOf t d p c e) called = absurd (other_word (codes "master") (codes "loop") refl called)
 
-pub is_segment : (command : Command) → word_of command ≡ codes "segment" → (n : ℕ) × (p : ℕ) × (d : Option ℕ) × (f : Bool) × (i : ℕ) × (c : Option Text) × (e : Bool) × (command ≡ SegmentOf n p d f i c e)
+pub is_segment : (command : Command) → word_of command ≡ codes "segment" → (a : SegmentArguments) × (c : Option Text) × (e : Bool) × (command ≡ SegmentOf a c e)
 is_segment (PassOf n f) called = absurd (other_word (codes "pass") (codes "segment") refl called)
 is_segment (PlanOf h e) called = absurd (other_word (codes "plan") (codes "segment") refl called)
 is_segment (DecodeOf t e) called = absurd (other_word (codes "decode") (codes "segment") refl called)
 is_segment EncodeOf called = absurd (other_word (codes "encode") (codes "segment") refl called)
 is_segment (SimOf l c e) called = absurd (other_word (codes "sim") (codes "segment") refl called)
 is_segment (LoopOf n c e) called = absurd (other_word (codes "loop") (codes "segment") refl called)
-is_segment (SegmentOf n p d f i c e) called = (n, p, d, f, i, c, e, refl)
+is_segment (SegmentOf a c e) called = (a, c, e, refl)
 is_segment (MasterOf t d p c e) called = absurd (other_word (codes "master") (codes "segment") refl called)
 
 pub is_master : (command : Command) → word_of command ≡ codes "master" → (t : Text) × (d : Option ℕ) × (p : ℕ) × (c : Option Text) × (e : Bool) × (command ≡ MasterOf t d p c e)
@@ -119,7 +119,7 @@ is_master (DecodeOf t e) called = absurd (other_word (codes "decode") (codes "ma
 is_master EncodeOf called = absurd (other_word (codes "encode") (codes "master") refl called)
 is_master (SimOf l c e) called = absurd (other_word (codes "sim") (codes "master") refl called)
 is_master (LoopOf n c e) called = absurd (other_word (codes "loop") (codes "master") refl called)
-is_master (SegmentOf n p d f i c e) called = absurd (other_word (codes "segment") (codes "master") refl called)
+is_master (SegmentOf a c e) called = absurd (other_word (codes "segment") (codes "master") refl called)
 is_master (MasterOf t d p c e) called = (t, d, p, c, e, refl)
 
 -- what is found for the arguments of a command of this name is what `clap` met
@@ -151,7 +151,7 @@ no_such_word name rows pass plan decode encode sim loop segment master (DecodeOf
 no_such_word name rows pass plan decode encode sim loop segment master (EncodeOf, met) = encode (ap name_in met.named)
 no_such_word name rows pass plan decode encode sim loop segment master (SimOf l c e, met) = sim (ap name_in met.named)
 no_such_word name rows pass plan decode encode sim loop segment master (LoopOf n c e, met) = loop (ap name_in met.named)
-no_such_word name rows pass plan decode encode sim loop segment master (SegmentOf n p d f i c e, met) = segment (ap name_in met.named)
+no_such_word name rows pass plan decode encode sim loop segment master (SegmentOf a c e, met) = segment (ap name_in met.named)
 no_such_word name rows pass plan decode encode sim loop segment master (MasterOf t d p c e, met) = master (ap name_in met.named)
 
 -- a number that `get_one` read, one that it may leave out, a text that `get_str` read, and a flag
@@ -211,23 +211,22 @@ no_cycles found r value is command called h =
     let it = is_loop command called in
     finds_no_number found (codes "cycles") 16 r it.0 value is (subst (Finds (rows_of found)) it.3 h).for_cycles
 
-pub no_frames : (found : Found) (r : Option ℕ) → ((t : List ℕ) → one_text found (codes "frames") ≡ Some t → ReadsOne (NumberGives 32) t r) → r ≡ None
-    → IsNeverAsked (codes "segment") (rows_of found)
-no_frames found r value is command called h =
+pub no_bind : (found : Found) → first_value found (codes "bind") ≡ None → IsNeverAsked (codes "segment") (rows_of found)
+no_bind found none command called h =
     let it = is_segment command called in
-    finds_no_number found (codes "frames") 32 r it.0 value is (subst (Finds (rows_of found)) it.7 h).for_frames
+    no_text found (codes "bind") it.0.bind none (subst (Finds (rows_of found)) it.3 h).for_bind
 
 pub no_port : (found : Found) (r : Option ℕ) → ((t : List ℕ) → one_text found (codes "port") ≡ Some t → ReadsOne (NumberGives 16) t r) → r ≡ None
     → IsNeverAsked (codes "segment") (rows_of found)
 no_port found r value is command called h =
     let it = is_segment command called in
-    finds_no_number found (codes "port") 16 r it.1 value is (subst (Finds (rows_of found)) it.7 h).for_port
+    finds_no_number found (codes "port") 16 r it.0.port value is (subst (Finds (rows_of found)) it.3 h).for_port
 
 pub no_idle : (found : Found) (r : Option ℕ) → ((t : List ℕ) → one_text found (codes "idle") ≡ Some t → ReadsOne (NumberGives 32) t r) → r ≡ None
     → IsNeverAsked (codes "segment") (rows_of found)
 no_idle found r value is command called h =
     let it = is_segment command called in
-    finds_no_number found (codes "idle") 32 r it.4 value is (subst (Finds (rows_of found)) it.7 h).for_idle
+    finds_no_number found (codes "idle") 32 r it.0.idle value is (subst (Finds (rows_of found)) it.3 h).for_idle
 
 pub no_to : (found : Found) → first_value found (codes "to") ≡ None → IsNeverAsked (codes "master") (rows_of found)
 no_to found none command called h =

@@ -65,7 +65,11 @@ cycles_rule = needed (number_rule (codes "cycles") 0 1000)
 
 -- how many payloads are received
 abbrev pub frames_rule : Rule
-frames_rule = needed (number_rule (codes "frames") 0 4294967295)
+frames_rule = number_rule (codes "frames") 0 4294967295
+
+-- the address that a segment listens on; without it, that of the machine itself
+abbrev pub bind_rule : Rule
+bind_rule = or_else (codes "127.0.0.1") (text_rule (codes "bind"))
 
 -- a port; without it, EtherCAT's
 abbrev pub port_rule : Rule
@@ -121,10 +125,10 @@ loop_shape = (with_rule turning explain_rule).top
 
 -- which payloads a segment is to answer, on what, and as which slaves
 abbrev pub listening : App
-listening = with_rule (with_rule (new_app (codes "segment")) frames_rule) port_rule
+listening = with_rule (with_rule (with_rule (new_app (codes "segment")) frames_rule) bind_rule) port_rule
 
 abbrev pub showing : App
-showing = with_rule (with_rule listening descriptor_rule) full_rule
+showing = with_rule (with_rule (with_rule listening descriptor_rule) full_rule) live_rule
 
 abbrev pub waiting : App
 waiting = with_rule (with_rule showing idle_rule) capture_rule

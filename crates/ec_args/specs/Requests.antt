@@ -14,7 +14,23 @@ use Rattle.ec_args.specs.CommandLine.{ecat}
 use Rattle.ec_args.specs.declared.request.Notice.{Notice}
 use Rattle.ec_args.specs.declared.request.Notice.TheVariants.{Memory, Help, Usage}
 use Rattle.ec_args.specs.declared.request.Request.{Request}
+use Rattle.ec_args.specs.declared.request.SegmentOptions.{SegmentOptions}
 use Rattle.ec_args.specs.declared.request.Request.TheVariants.{Pass, Plan, Decode, Encode, Sim, Loop, Segment, Master}
+
+-- on what a segment answers, how many payloads, and as which slaves
+pub record SegmentArguments : Type 0 where
+  pub frames : Option ℕ
+  -- the text of an address
+  pub bind : Text
+  pub port : ℕ
+  -- it replaces address and port
+  pub descriptor : Option ℕ
+  -- whether its slaves are as usual masters expect them
+  pub full : Bool
+  -- how many seconds it waits for a payload
+  pub idle : ℕ
+  -- whether lines move its slaves as they come
+  pub live : Bool
 
 -- a command, and its arguments
 pub data Command : Type 0 where
@@ -31,9 +47,8 @@ pub data Command : Type 0 where
   SimOf : Bool → Option Text → Bool → Command
   -- `ecat loop`: the number of cycles
   LoopOf : ℕ → Option Text → Bool → Command
-  -- `ecat segment`: the number of payloads, the port, and the descriptor that replaces it if one is given. Then whether its slaves are
-  -- as usual masters expect them, and how many seconds it waits for a payload
-  SegmentOf : ℕ → ℕ → Option ℕ → Bool → ℕ → Option Text → Bool → Command
+  -- `ecat segment`
+  SegmentOf : SegmentArguments → Option Text → Bool → Command
   -- `ecat master`: the text of a segment's address and port, and the descriptor that replaces it if one is given. Then how many
   -- milliseconds it waits for an answer
   MasterOf : Text → Option ℕ → ℕ → Option Text → Bool → Command
@@ -46,7 +61,7 @@ word_of (DecodeOf table explained) = codes "decode"
 word_of EncodeOf = codes "encode"
 word_of (SimOf live capture explained) = codes "sim"
 word_of (LoopOf cycles capture explained) = codes "loop"
-word_of (SegmentOf frames port descriptor full idle capture explained) = codes "segment"
+word_of (SegmentOf arguments capture explained) = codes "segment"
 word_of (MasterOf to descriptor patience capture explained) = codes "master"
 
 -- whether it is to explain a refusal
@@ -57,7 +72,7 @@ is_explained (DecodeOf table explained) = false
 is_explained EncodeOf = false
 is_explained (SimOf live capture explained) = explained
 is_explained (LoopOf cycles capture explained) = explained
-is_explained (SegmentOf frames port descriptor full idle capture explained) = explained
+is_explained (SegmentOf arguments capture explained) = explained
 is_explained (MasterOf to descriptor patience capture explained) = explained
 
 -- ---- what `clap` finds for its arguments
@@ -106,12 +121,14 @@ pub record FindsLoop (rows : List Row) (cycles : ℕ) (capture : Option Text) (e
   pub for_capture : FindsText rows (codes "capture") capture
   pub for_explain : FindsFlag rows (codes "explain") explained
 
-pub record FindsSegment (rows : List Row) (frames port : ℕ) (descriptor : Option ℕ) (full : Bool) (idle : ℕ) (capture : Option Text) (explained : Bool) : Type 0 where
-  pub for_frames : FindsNumber rows (codes "frames") frames (2 ^ 32)
-  pub for_port : FindsNumber rows (codes "port") port (2 ^ 16)
-  pub for_descriptor : FindsAny rows (codes "descriptor") descriptor (2 ^ 16)
-  pub for_full : FindsFlag rows (codes "full") full
-  pub for_idle : FindsNumber rows (codes "idle") idle (2 ^ 32)
+pub record FindsSegment (rows : List Row) (arguments : SegmentArguments) (capture : Option Text) (explained : Bool) : Type 0 where
+  pub for_frames : FindsAny rows (codes "frames") arguments.frames (2 ^ 32)
+  pub for_bind : FindsText rows (codes "bind") (Some arguments.bind)
+  pub for_port : FindsNumber rows (codes "port") arguments.port (2 ^ 16)
+  pub for_descriptor : FindsAny rows (codes "descriptor") arguments.descriptor (2 ^ 16)
+  pub for_full : FindsFlag rows (codes "full") arguments.full
+  pub for_idle : FindsNumber rows (codes "idle") arguments.idle (2 ^ 32)
+  pub for_live : FindsFlag rows (codes "live") arguments.live
   pub for_capture : FindsText rows (codes "capture") capture
   pub for_explain : FindsFlag rows (codes "explain") explained
 
@@ -130,7 +147,7 @@ Finds rows (DecodeOf table explained) = FindsDecode rows table explained
 Finds rows EncodeOf = Unit {0}
 Finds rows (SimOf live capture explained) = FindsSim rows live capture explained
 Finds rows (LoopOf cycles capture explained) = FindsLoop rows cycles capture explained
-Finds rows (SegmentOf frames port descriptor full idle capture explained) = FindsSegment rows frames port descriptor full idle capture explained
+Finds rows (SegmentOf arguments capture explained) = FindsSegment rows arguments capture explained
 Finds rows (MasterOf to descriptor patience capture explained) = FindsMaster rows to descriptor patience capture explained
 
 -- `clap` met this command, and found its arguments
@@ -143,6 +160,18 @@ pub record MeetsAs (met : Option (Text × List Row)) (command : Command) : Type 
 abbrev pub MeetsCommand : Option (Text × List Row) → Type 0
 MeetsCommand met = (command : Command) × MeetsAs met command
 
+-- what is asked of a segment
+abbrev pub arguments_of : SegmentOptions → SegmentArguments
+arguments_of options = record {
+  frames = options.frames;
+  bind = options.bind.now;
+  port = options.port;
+  descriptor = options.descriptor;
+  full = options.full;
+  idle = options.idle;
+  live = options.live;
+}
+
 -- the command that is asked for
 abbrev pub command_of : Request → Command
 command_of (Pass slaves frame) = PassOf slaves frame.now
@@ -151,8 +180,7 @@ command_of (Decode table explained) = DecodeOf (option_map (λ file. file.now) t
 command_of Encode = EncodeOf
 command_of (Sim live capture explained) = SimOf live (option_map (λ file. file.now) capture) explained
 command_of (Loop cycles capture explained) = LoopOf cycles (option_map (λ file. file.now) capture) explained
-command_of (Segment frames port descriptor full idle capture explained) =
-    SegmentOf frames port descriptor full idle (option_map (λ file. file.now) capture) explained
+command_of (Segment options capture explained) = SegmentOf (arguments_of options) (option_map (λ file. file.now) capture) explained
 command_of (Master to descriptor patience capture explained) =
     MasterOf to.now descriptor patience (option_map (λ file. file.now) capture) explained
 

@@ -121,12 +121,13 @@ fn loop_command<'a>(alloc: Global) -> Made<'a>
     with_argument(command, explain_argument(alloc))
 }
 
-/// `ecat segment --frames N [--port P | --descriptor N] [--full] [--idle SECONDS] [--capture FILE] [--explain]`.
+/// `ecat segment [--frames N] [--bind ADDRESS] [--port P | --descriptor N] [--full] [--live] [--idle SECONDS] [--capture FILE]
+/// [--explain]`.
 fn segment_command<'a>(alloc: Global) -> Made<'a>
     ensures { IsMadeAs result (alone segment_shape) }
 {
     let usage =
-        "ecat segment --frames <N> [--port <P> | --descriptor <N>] [--full] [--idle <SECONDS>] [--capture <FILE>] [--explain] < TABLE";
+        "ecat segment [--frames <N>] [--bind <ADDRESS>] [--port <P> | --descriptor <N>] [--full] [--live] [--idle <SECONDS>] [--capture <FILE>] [--explain] < TABLE";
     let about = "Answers frames as the slaves of a link table, on a UDP port or a network card";
     let command = used_as(
         alloc,
@@ -136,15 +137,19 @@ fn segment_command<'a>(alloc: Global) -> Made<'a>
         SEGMENT_EXAMPLE,
         SEGMENT_LINES,
     );
-    let help = "How many payloads are received, 0 to 4294967295";
-    let frames = required(number(alloc, "frames", "N", 0, u32::MAX, help));
-    let command = with_argument(command, frames);
-    let help = "The UDP port on 127.0.0.1, 1 to 65535";
+    let help = "How many payloads are received, 0 to 4294967295; without it, as many as come";
+    let command = with_argument(command, number(alloc, "frames", "N", 0, u32::MAX, help));
+    let help = "The IPv4 address that it listens on";
+    let bind = by_default(option(alloc, "bind", "ADDRESS", help), "127.0.0.1");
+    let command = with_argument(command, bind);
+    let help = "The UDP port there, 1 to 65535";
     let port = by_default(number(alloc, "port", "P", 1, 65535, help), "34980");
     let command = with_argument(command, port);
     let command = with_argument(command, descriptor_argument(alloc));
     let help = "Give slaves what usual masters expect: SII categories, DL status, more objects";
     let command = with_argument(command, flag(alloc, "full", help));
+    let help = "Move the slaves by the lines behind the link table, as they come";
+    let command = with_argument(command, flag(alloc, "live", help));
     let help = "How many seconds it waits for a payload, 0 to 86400; 0 waits without end";
     let idle = by_default(number(alloc, "idle", "SECONDS", 0, 86400, help), "60");
     let command = with_argument(command, idle);

@@ -217,6 +217,7 @@ Lines of a script:
   reset S         slave S is switched off and on
   in NAME VALUE   sets an input variable as the plant does. Each slave with bits of it writes all
                   its input bytes, the other bits as it published them last
+  out NAME        prints an output variable as the slaves publish it
   ready           runs the start-up to its end
   cycle           runs a cycle: begin, each frame past all slaves and back, close
   show            prints the input variables
@@ -258,7 +259,7 @@ What a line prints, before the next one runs:
                                     frame is missing
                     al WORD         the OR of the slaves' AL status words in hex
   byte BYTE       what `get` read, in hex
-  NAME VALUE      each input variable, after `show`
+  NAME VALUE      each input variable, after `show`; the output variable, after `out`
   state S NAME STATE CODE
                   each slave, after `states`: INIT, PREOP, SAFEOP or OP, with `+ERROR` behind
                   after an error, or `-` without a station address; and the AL status code in hex
@@ -348,9 +349,9 @@ Refusals with status 4:
 /// The text below the arguments of `ecat segment` in its short help.
 pub(crate) const SEGMENT_EXAMPLE: &str = "\
 Example: slaves for `ecat master`, or for another master
-  ecat segment --frames 1000000 < examples/three_slaves.toml
+  ecat segment < examples/three_slaves.toml
 
-`ecat segment --help` says what is printed, and what is refused.";
+`ecat segment --help` lists the lines of `--live`, and says what is printed and refused.";
 
 /// The text below them in its long help.
 pub(crate) const SEGMENT_LINES: &str = "\
@@ -359,14 +360,45 @@ TABLE is a link table; docs/TABLES.md describes it.
 The slaves' applications show their outputs as their inputs. Once the segment listens on a port,
 standard error has a line that says so. With `--descriptor` it answers Ethernet frames of type
 0x88A4 on the raw socket of a network card, which is already open; `tools/with_card` opens one.
-At the end it prints `served N refused M`: N payloads were frames and were answered, M were not.
-It does so too if no payload came for SECONDS.
+At the end it prints `served N refused M`: it answered N frames, and M other payloads came. It ends
+after N payloads, if `--frames N` says so, and if no payload came for SECONDS.
 
 With `--full`, slaves are as usual masters expect them. They also have SII categories, DL status,
 and CoE objects 0x1000 to 0x100A and 0x1C00.
 
+With `--live`, TABLE is a link table up to a line `%%`, and behind it lines that are run one by one
+as they come, between two frames. So another program can be the plant, through a pipe. The slaves
+have no applications then. The end of the input changes nothing. Words, numbers, S, NAME, VALUE,
+BYTE and comments are those of `ecat sim --help`.
+
+Lines of `--live`:
+  in NAME VALUE   sets an input variable as the plant does
+  out NAME        prints an output variable as the slaves publish it
+  put S I BYTE    slave S writes byte I of its inputs
+  get S I         it reads byte I of its outputs
+  fault S         the application of slave S has a fault
+  reset S         slave S is switched off and on
+  lose N          the next N frames are lost: no slave sees them, and none is answered
+  lose N part P   the next N cyclic frames of part P are lost
+  served          prints how many frames were answered so far, and how many other payloads came
+  repeat N LINE   runs LINE N times, 1 to 1000000; LINE isn't a `repeat`
+  expect NAME VALUE
+                  the slaves publish VALUE in the linked bits of this output variable
+  expect state S STATE CODE
+                  slave S is in INIT, PREOP, SAFEOP or OP, with this AL status code in four hex
+                  digits, which may be left out
+
+What a line prints, before the next one runs:
+  no LINE         the line of this number can't be done. With `--explain` the next line says why
+  bad LINE        it has none of these forms, and did nothing
+  byte BYTE       what `get` read, in hex
+  NAME VALUE      the output variable, after `out`
+  served N refused M
+                  after `served`, as at the end
+  unmet LINE      what this line expects doesn't hold; the segment goes on
+
 Exit status:
-  0  all payloads came, and the line is on standard output
+  0  all payloads came, or none came for SECONDS, and the line is on standard output
   2  the command line isn't valid: correct it as standard error says
   3  refused, and standard error says `ecat: NUMBER NAME VALUES`:
      11 to 25, 44       the table is refused; `ecat plan --help` says what to do
@@ -377,9 +409,11 @@ Exit status:
      42 Input           standard input couldn't be read, isn't UTF-8, or has over 1048576 bytes:
                         see where it comes from
      43 Socket          the port is in use: take another
-                        the descriptor is no socket of a card: open the card
-                        no payload came for SECONDS: start the master in time, or give a longer
-                        `--idle`";
+                        ADDRESS is none of this computer's: correct it
+                        fewer than N payloads came, and none for SECONDS: start the master in time,
+                        or give a longer `--idle`
+  5  the segment served to its end, and standard error says `ecat: NUMBER NAME VALUE`:
+     45 Unmet COUNT     `unmet` was printed COUNT times: see the lines that it names";
 
 /// The text below the arguments of `ecat master` in its short help.
 pub(crate) const MASTER_EXAMPLE: &str = "\
@@ -456,8 +490,6 @@ Exit status:
                         output goes, and the file
      42 Input           standard input couldn't be read, or the table isn't UTF-8, or has over
                         1048576 bytes: see where it comes from
-     43 Socket          ADDRESS:PORT is no IPv4 address with a port, or there is no socket for it:
-                        correct the address
-                        the descriptor is no socket of a card: open the card
+     43 Socket          there is no socket for ADDRESS:PORT: correct the address
   5  all lines were run, and standard error says `ecat: NUMBER NAME VALUE`:
      45 Unmet COUNT     `unmet` was printed COUNT times: see the lines that it names";

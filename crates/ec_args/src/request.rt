@@ -63,20 +63,11 @@ pub enum Request<'a> {
         /// Whether a refusal is explained.
         explained: bool,
     },
-    /// Answer this many payloads as the slaves of the input's link table, on this port or on the card
-    /// whose socket has this descriptor. Wait for each at most `idle` seconds; 0 waits without end. With
-    /// `full`, the slaves are as usual masters expect them.
+    /// Answer payloads as the slaves of the input's link table, on a port or on the card whose socket has a
+    /// descriptor.
     Segment {
-        /// How many payloads are received.
-        frames: u32,
-        /// The UDP port on 127.0.0.1, 1 to 65535.
-        port: u16,
-        /// The descriptor of a card's raw socket, 0 to 1023, which replaces the port.
-        descriptor: Option<u16>,
-        /// Whether the slaves are as usual masters expect them.
-        full: bool,
-        /// How many seconds it waits for a payload, 0 to 86400.
-        idle: u32,
+        /// On what it answers, how many, and as which slaves.
+        options: SegmentOptions<'a>,
         /// The file of the capture.
         capture: Option<&'a str>,
         /// Whether a refusal is explained.
@@ -97,6 +88,25 @@ pub enum Request<'a> {
         /// Whether a refusal is explained, and why a line can't be done or a start-up failed.
         explained: bool,
     },
+}
+
+/// On what a segment answers, how many payloads, and as which slaves.
+#[derive(Clone, Copy, Debug, PartialEq, Eq, Drop)]
+pub struct SegmentOptions<'a> {
+    /// How many payloads are received; if it isn't given, as many as come.
+    pub frames: Option<u32>,
+    /// The IPv4 address that it listens on, as it was given.
+    pub bind: &'a str,
+    /// The UDP port there, 1 to 65535.
+    pub port: u16,
+    /// The descriptor of a card's raw socket, 0 to 1023, which replaces address and port.
+    pub descriptor: Option<u16>,
+    /// Whether the slaves are as usual masters expect them.
+    pub full: bool,
+    /// How many seconds it waits for a payload, 0 to 86400; 0 waits without end.
+    pub idle: u32,
+    /// Whether lines behind the link table move the slaves as they come.
+    pub live: bool,
 }
 
 impl Request<'_> {
@@ -228,12 +238,17 @@ fn read_segment<'a>(given: &ArgMatches<'a>) -> Option<Request<'a>>
     ensures some { IfSome result (IsAskedAs (codes "segment") (rows_of (found_of given.now))) }
     ensures none { IfNone result (IsNeverAsked (codes "segment") (rows_of (found_of given.now))) }
 {
-    Some(Request::Segment {
-        frames: given.get_one::<u32>("frames")?,
+    let options = SegmentOptions {
+        frames: given.get_one::<u32>("frames"),
+        bind: given.get_str("bind")?,
         port: given.get_one::<u16>("port")?,
         descriptor: given.get_one::<u16>("descriptor"),
         full: given.get_flag("full"),
         idle: given.get_one::<u32>("idle")?,
+        live: given.get_flag("live"),
+    };
+    Some(Request::Segment {
+        options,
         capture: given.get_str("capture"),
         explained: given.get_flag("explain"),
     })

@@ -1,16 +1,16 @@
 //! A wire over the raw socket of a network card.
 ghost use Rattle.std.specs.Prelude.{◌≡◌, ◌≤◌, ◌≤ℤ◌, pos, length, IfOk};
-ghost use Rattle.ec_wire.specs.Wires.{silent};
+ghost use Rattle.ec_wire.specs.Wires.{failed_again, silent};
 
 use crate::ethernet::{Sender, framed, payload_of};
 use ec_frame::field::MAX_FRAME_LEN;
-use ec_wire::{Patience, PatientSocket, SocketFault, Wire};
+use ec_wire::{Patience, PatientSocket, SocketFault, Trouble, Wire};
 use os::FromRawFd;
 use std::io;
 use std::io::ErrorKind;
 use std::marker::Model;
 use std::net::UdpSocket;
-use std::os::fd::IntoRawFd;
+use std::os::fd::{IntoRawFd, RawFd};
 use std::time::Duration;
 
 /// The most bytes that are read of a received frame.
@@ -32,6 +32,7 @@ pub struct CardWire {
     // the most frames that one receive reads
     reads: u64,
     failures: u64,
+    trouble: Trouble,
 }
 
 impl Model for CardWire {
@@ -69,21 +70,35 @@ impl CardWire {
                 own,
                 reads: reads_of(own, patience),
                 failures: 0,
+                trouble: Trouble::Silence,
             }),
-            Err(socket) => {
+            Err((socket, trouble)) => {
                 let _ = socket.into_raw_fd();
-                Err(SocketFault)
+                Err(SocketFault(trouble))
             }
         }
     }
 
-    /// Sends a payload in a frame. Returns whether all of it was sent.
-    fn has_sent(&self, payload: &[u8]) -> bool {
+    /// The descriptor of the socket, at which one can wait for frames.
+    pub fn descriptor(&self) -> RawFd {
+        self.socket.descriptor()
+    }
+
+    /// Sends all of a payload in a frame, or returns why it isn't sent.
+    fn send_all(&self, payload: &[u8]) -> Result<(), Trouble> {
         if payload.len() > MAX_FRAME_LEN {
-            return false;
+            return Err(Trouble::Unmade);
         }
         let frame = framed(self.own, payload);
-        self.socket.has_sent(&frame, None)
+        self.socket.send(&frame, None)
+    }
+
+    /// Counts a fault, and keeps why it was one.
+    fn fail(&mut self, trouble: Trouble)
+        ensures { self.new ≡ failed_again self.old }
+    {
+        self.failures = self.failures.saturating_add(1);
+        self.trouble = trouble;
     }
 
     /// Reads frames until one is handed on, with the patience that is left after `waited`. Returns how many bytes of its payload are in
@@ -111,18 +126,21 @@ impl Wire for CardWire {
         self.failures
     }
 
+    fn trouble(&self) -> Trouble {
+        self.trouble
+    }
+
     fn send(&mut self, payload: &[u8]) {
-        let failures = self.failures;
-        if !self.has_sent(payload) {
-            self.failures = failures.saturating_add(1);
+        if let Err(trouble) = self.send_all(payload) {
+            self.fail(trouble);
         }
     }
 
     fn recv(&mut self, buffer: &mut [u8]) -> usize {
         match self.await_payload(Duration::ZERO, buffer) {
             Ok(count) => count,
-            Err(_) => {
-                self.failures = self.failures.saturating_add(1);
+            Err(error) => {
+                self.fail(Trouble::of(&error));
                 0
             }
         }
@@ -132,12 +150,21 @@ impl Wire for CardWire {
         match self.await_payload(waited, buffer) {
             Ok(count) => Some(count),
             Err(error) if error.kind() == ErrorKind::WouldBlock => None,
-            Err(_) => {
-                self.failures = self.failures.saturating_add(1);
+            Err(error) => {
+                self.fail(Trouble::of(&error));
                 None
             }
         }
     }
+}
+
+/// Whether a descriptor is that of a socket. It stays open.
+pub fn is_socket(descriptor: u16) -> bool {
+    // SAFETY: as in `CardWire::of_descriptor`; the descriptor is given back at once.
+    let socket = unsafe { UdpSocket::from_raw_fd(i32::from(descriptor)) };
+    let is_socket = socket.read_timeout().is_ok();
+    let _ = socket.into_raw_fd();
+    is_socket
 }
 
 /// The most frames that one receive reads.

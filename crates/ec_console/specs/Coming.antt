@@ -1,5 +1,5 @@
 -- Lines that are taken from an input and done as they come (this project's profile). `read` is what line n is, by its bytes with its end.
-use Rattle.std.specs.Prelude.{◌≡◌, ◌⊎◌, ℕ, ◌+◌, ◌<◌, List, [], ◌∷◌, ◌++◌, length, replicate, if◌then◌else◌, Bool, Option, codes}
+use Rattle.std.specs.Prelude.{◌≡◌, ◌⊎◌, ℕ, ◌+◌, ◌<◌, List, [], ◌∷◌, ◌++◌, length, replicate, if◌then◌else◌, Bool, Option, Some, None, codes}
 use Rattle.std.specs.Fmt.{decimal}
 use Rattle.ec_lines.specs.Taking.{TakesLine, TakesLines, is_text_line, without_end}
 use Rattle.ec_table.specs.Contents.{Contents}
@@ -37,6 +37,19 @@ SaysFrom {S} one read s n [] new printed unmet = (new ≡ s) × (printed ≡ [])
 SaysFrom {S} one read s n (line ∷ lines) new printed unmet = (mid : S) × (text : List ℕ) × (more : List ℕ) × (first : ℕ) × (rest : ℕ)
     × SaysReading one s n (read n line) mid text first × SaysFrom one read mid (n + 1) lines new more rest × (printed ≡ text ++ more) × (unmet ≡ first + rest)
 
+-- ---- one line
+
+-- what a line is; at the end of an input there is none
+abbrev pub reading_if : (List ℕ → Reading) → List ℕ → Option Reading
+reading_if read [] = None
+reading_if read (b ∷ bs) = Some (read (b ∷ bs))
+
+-- a line that was taken is done, and its text printed; at the end of an input nothing is done
+abbrev pub DoesTaken : {S : Type 0} → (S → Line → S → List ℕ → ℕ → Type 0) → (read : ℕ → List ℕ → Reading) → S → ℕ → List ℕ → S → (unmet : ℕ) → (old new : OutputState) → Type 0
+DoesTaken {S} one read s n [] t unmet old new = (t ≡ s) × (unmet ≡ 0) × (new ≡ old)
+DoesTaken {S} one read s n (b ∷ bs) t unmet old new =
+    (printed : List ℕ) × SaysReading one s n (read n (b ∷ bs)) t printed unmet × IsPrinted old new printed
+
 -- ---- a run
 
 -- a run so far: so many lines are taken from the input and done, and their texts are printed
@@ -61,6 +74,10 @@ abbrev pub PartOf : {S : Type 0} → (S → Line → S → List ℕ → ℕ → 
 PartOf {S} one s n reading.Empty last old new = (last ≡ s) × (new ≡ old)
 PartOf {S} one s n reading.Bad last old new = (last ≡ s) × IsPartPrinted old new (bad_text n)
 PartOf {S} one s n (reading.Line line) last old new = PrintsPart one s (replicate line.times line) last old new
+
+-- a line that was taken is cut short: nothing of it is done, or a part
+abbrev pub StopsIn : {S : Type 0} → (S → Line → S → List ℕ → ℕ → Type 0) → (read : ℕ → List ℕ → Reading) → S → ℕ → List ℕ → S → (old new : OutputState) → Type 0
+StopsIn {S} one read s n line t old new = ((t ≡ s) × (new ≡ old)) ⊎ PartOf one s n (read n line) t old new
 
 -- a run that is cut short: some first lines are done and printed, and nothing of the next one, or a part of it, once it is taken
 pub record ComesPart {S : Type 0} (one : S → Line → S → List ℕ → ℕ → Type 0) (read : ℕ → List ℕ → Reading) (s : S) (given : Option (List ℕ)) (last : S) (old new : OutputState) : Type 0 where

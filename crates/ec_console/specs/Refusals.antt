@@ -13,12 +13,17 @@ refusal_row (Table error) = table_row error
 refusal_row (Link error) = link_row error
 refusal_row (Start error) = start_row error
 refusal_row (Run error) = plain_row (run_number error) (run_name error)
-refusal_row Socket = plain_row 43 (codes "Socket")
+refusal_row (Socket trouble) = plain_row 43 (codes "Socket")
 refusal_row (Script error) = script.error_row error
 refusal_row BadHex = plain_row 40 (codes "BadHex")
 refusal_row Output = plain_row 41 (codes "Output")
 refusal_row Input = plain_row 42 (codes "Input")
 refusal_row (Unmet count) = record { number = 45; name = codes "Unmet"; values = count ∷ [] }
+
+-- the refusal of a socket, whatever the system said
+abbrev pub IsSocket : Refusal → Type 0
+IsSocket (Socket trouble) = Unit {0}
+IsSocket _ = ⊥
 
 abbrev pub number_of : Refusal → ℕ
 number_of refusal = (refusal_row refusal).number

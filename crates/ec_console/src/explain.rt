@@ -6,6 +6,7 @@ use crate::remarks::remarks_text;
 use crate::{Refusal, Source};
 use ec_script::split_script;
 use ec_table::{Fault, TableError};
+use ec_wire::Trouble;
 use std::alloc::{AllocError, Global};
 use std::marker::Model;
 
@@ -62,7 +63,12 @@ impl Explanation {
     pub fn explain_stream(&mut self, alloc: Global, ended: &Result<(), Refusal>)
         ensures { IsLeft self.old self.new }
     {
-        if let (true, Some(text)) = (self.is_wanted && self.text.is_empty(), stream_text(ended)) {
+        if !self.is_wanted || !self.text.is_empty() {
+            return;
+        }
+        if let Err(Refusal::Socket(trouble)) = ended {
+            self.keep(socket_text(alloc, *trouble));
+        } else if let Some(text) = stream_text(ended) {
             self.keep(String::from_str(alloc, text));
         }
     }
@@ -75,8 +81,22 @@ impl Explanation {
     }
 }
 
-/// What a fault of the input, the output or a socket means, and what to do. `None` for other refusals, which have a text at
-/// fault.
+/// What a fault of a socket means, by what the system said, and what to do.
+fn socket_text(alloc: Global, trouble: Trouble) -> Result<String, AllocError> {
+    let todo = match trouble {
+        Trouble::Silence => "start the other side in time, or wait longer with `--idle`",
+        Trouble::System(98) => "end what listens there, or take another `--port`",
+        Trouble::System(1 | 13) => "run it with the right to open this socket",
+        Trouble::System(_) | Trouble::Unmade => {
+            "see the address and the port, and open a card as `tools/with_card` does"
+        }
+    };
+    format!(in alloc;
+        "There is no such socket, or a call on it failed: {trouble}.\nTo do: {todo}.\n"
+    )
+}
+
+/// What a fault of the input or the output means, and what to do. `None` for other refusals.
 fn stream_text(ended: &Result<(), Refusal>) -> Option<&'static str> {
     match ended {
         Err(Refusal::Output) => Some(
@@ -86,11 +106,6 @@ fn stream_text(ended: &Result<(), Refusal>) -> Option<&'static str> {
         Err(Refusal::Input) => Some(
             "The input couldn't be read, isn't text in UTF-8, or is longer than 1048576 bytes.\n\
             To do: see where standard input comes from, and save the text as UTF-8.\n",
-        ),
-        Err(Refusal::Socket) => Some(
-            "There is no socket as it is asked for: its port is in use or its address isn't this system's, its \
-            descriptor is no open socket, or no payload came in time.\n\
-            To do: take another port, open the card as `tools/with_card` does, or start the other side in time.\n",
         ),
         _ => None,
     }

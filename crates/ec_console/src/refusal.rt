@@ -9,7 +9,7 @@ use ec_script::ScriptError;
 use ec_start::StartError;
 use ec_table::TableError;
 use ec_text::{Refused, Values, listed, refusal_text};
-use ec_wire::{RunError, SocketFault};
+use ec_wire::{RunError, SocketFault, Trouble};
 use std::alloc::{AllocError, AllocFailed};
 use std::error::Error;
 use std::fmt;
@@ -30,8 +30,8 @@ pub enum Refusal {
     Start(StartError),
     /// A cycle that took nothing.
     Run(RunError),
-    /// A socket couldn't be opened, or a call on it was a fault.
-    Socket,
+    /// A socket couldn't be opened, or a call on it was a fault: what the system said.
+    Socket(Trouble),
     /// A script with a bad line, with the number of the first one.
     Script(ScriptError),
     /// A text that isn't pairs of hex digits.
@@ -57,7 +57,7 @@ impl Refused for Refusal {
             Refusal::Link(error) => Refused::number(error),
             Refusal::Start(error) => Refused::number(error),
             Refusal::Run(error) => error.number(),
-            Refusal::Socket => SocketFault.number(),
+            Refusal::Socket(trouble) => SocketFault(*trouble).number(),
             Refusal::Script(error) => Refused::number(error),
             Refusal::BadHex => 40,
             Refusal::Output => 41,
@@ -75,7 +75,7 @@ impl Refused for Refusal {
             Refusal::Link(error) => Refused::name(error),
             Refusal::Start(error) => Refused::name(error),
             Refusal::Run(error) => error.name(),
-            Refusal::Socket => SocketFault.name(),
+            Refusal::Socket(trouble) => SocketFault(*trouble).name(),
             Refusal::Script(error) => Refused::name(error),
             Refusal::BadHex => "BadHex",
             Refusal::Output => "Output",
@@ -94,7 +94,7 @@ impl Refused for Refusal {
             Refusal::Unmet(count) => listed(&[*count]),
             Refusal::Memory
             | Refusal::Run(_)
-            | Refusal::Socket
+            | Refusal::Socket(_)
             | Refusal::BadHex
             | Refusal::Output
             | Refusal::Input => Values::new(),
@@ -216,10 +216,10 @@ impl From<SocketFault> for Refusal {
     ghost use Rattle.std.specs.Prelude.{◌≡◌};
     ghost use Rattle.ec_console.specs.declared.refusal.Refusal.TheVariants.{Socket};
 
-    ghost from_gives = { λ _ refusal. refusal ≡ Socket };
+    ghost from_gives = { λ fault refusal. refusal ≡ Socket fault.0 };
 
-    fn from(_fault: SocketFault) -> Refusal {
-        Self::Socket
+    fn from(fault: SocketFault) -> Refusal {
+        Self::Socket(fault.0)
     }
 }
 

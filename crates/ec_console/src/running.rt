@@ -1,8 +1,9 @@
 //! Lines that a target obeys, one after another: those of a script, or those of an input as they come.
 ghost use Rattle.std.specs.Prelude.{◌≡◌, ◌∷◌, [], ℕ, List, IfErr, IfOk, OnErr, OnOk, false, replicate};
 ghost use Rattle.ec_lines.specs.Inputs.{bytes_left};
+ghost use Rattle.ec_lines.specs.Taking.{IsTaken};
 ghost use Rattle.ec_script.specs.Scripts.{repeated, taken_by};
-ghost use Rattle.ec_console.specs.Coming.{ComesOut, ComesPart, PartOf, SaysReading, bad_text, reading_at};
+ghost use Rattle.ec_console.specs.Coming.{ComesOut, ComesPart, DoesTaken, PartOf, SaysReading, StopsIn, bad_text, reading_at, reading_if};
 ghost use Rattle.ec_console.specs.Given.{IsReadRefusal};
 ghost use Rattle.ec_console.specs.Printing.{IsPartPrinted, IsPrinted};
 ghost use Rattle.ec_console.specs.Saying.{IsLate, PrintsAll, PrintsPart};
@@ -13,7 +14,7 @@ use crate::printing::print_text;
 use crate::{OutputStream, Refusal, Target};
 use ec_lines::{InputStream, NextLine, take_line};
 use ec_script::{Line, Reading, read_line};
-use std::alloc::Global;
+use std::alloc::{AllocError, Global};
 use std::io::{Read, Write};
 
 /// Does the lines of a script, each as many times as it says. The text of each is printed before the next one is done. Returns how often
@@ -74,6 +75,34 @@ pub fn run_input<T: Target, R: Read + Drop, W: Write + Drop>(
     }
     // There is no number for a further line.
     Err(Refusal::Memory)
+}
+
+/// Does a line of an input, line `number`, that was taken, and prints its text. One that can't be read, or whose action the target doesn't
+/// take, prints `bad` and its number, and does nothing. At the end of the input nothing is done. Returns how often what the line expects
+/// isn't so.
+///
+/// # Errors
+///
+/// `Refusal::Memory` or `Refusal::Output`. They cut the line short; what was printed until then stays.
+pub fn obey_taken<T: Target, W: Write + Drop>(
+    alloc: Global,
+    target: &mut T,
+    number: usize,
+    taken: NextLine,
+    output: &mut OutputStream<W>,
+) -> Result<u64, Refusal>
+    ensures all { IfOk result (λ count. (unmet : ℕ) × (count ≡ counted unmet)
+        × ((line : List ℕ) → IsTaken line taken.entry → DoesTaken T.says (reading_at T.takes (T.table target.old)) target.old number line
+        target.new unmet output.old output.new)) }
+    ensures part { OnErr result ((line : List ℕ) → IsTaken line taken.entry
+        → StopsIn T.says (reading_at T.takes (T.table target.old)) target.old number line target.new output.old output.new) }
+    ensures late { IfErr result (IsLate false output.new) }
+    ensures table { T.table target.new ≡ T.table target.old }
+{
+    match reading_of(alloc, target, number, taken)? {
+        None => Ok(0),
+        Some(reading) => obey_reading(alloc, target, number, reading, output),
+    }
 }
 
 /// Does what line `number` of an input is, and prints its text. Returns how often what it expects isn't so.
@@ -169,7 +198,21 @@ fn next_reading<T: Target, R: Read + Drop>(
         (bytes_left R.remaining input.old) (bytes_left R.remaining input.new)) }
     ensures late { IfErr result (IsReadRefusal input.new.is_refused) }
 {
-    match take_line(alloc, input)? {
+    let taken = take_line(alloc, input)?;
+    Ok(reading_of(alloc, target, number, taken)?)
+}
+
+/// What a line of an input, line `number`, is to a target. A line that isn't text is bad. `None` at the end of the input.
+fn reading_of<T: Target>(
+    alloc: Global,
+    target: &T,
+    number: usize,
+    taken: NextLine,
+) -> Result<Option<Reading>, AllocError>
+    ensures { IfOk result (λ found. (line : List ℕ) → IsTaken line taken.entry
+        → found ≡ reading_if (reading_at T.takes (T.table target.now) number) line) }
+{
+    match taken {
         NextLine::End => Ok(None),
         NextLine::Text(text) => {
             let reading = read_line(alloc, target.table(), number, text.as_str())?;

@@ -2,8 +2,8 @@
 use Rattle.std.proofs.Common.{◌≡◌, ◌≢◌, ◌∙◌, ◌⊎◌, inl, inr, ℕ, zero, suc, ◌<◌, All, List, [], ◌∷◌, ◌++◌, length, take, Bool, true, false, Option, None, Some, refl, sym, ap, subst, append_assoc, append-nil, arith, Result, Ok, Err, OnErr}
 use Rattle.std.specs.Io.KnownBytes.{Consumes, IsAtEnd, Keeps}
 use Rattle.std.proofs.lemmas.List.Elements.{All-append, All-nil, All-cons}
-use Rattle.ec_lines.specs.Kept.{TakesKept, TakesMore}
-use Rattle.ec_lines.specs.Taking.{TakesLine, TakesLines, TakesPart, TakesUndivided, TakesText, is_divider, joined}
+use Rattle.ec_lines.specs.Kept.{IsMore, TakesKept, TakesMore}
+use Rattle.ec_lines.specs.Taking.{IsSoFar, TakesLine, TakesLines, TakesPart, TakesUndivided, TakesText, is_divider, joined, max_kept}
 use Rattle.ec_lines.proofs.BlockLemmas.{keeps_more}
 
 -- ---- bytes of an input
@@ -25,13 +25,6 @@ consumes_kept (Some xs) (Some ys) None a first kept = absurd kept
 consumes_kept (Some xs) (Some ys) (Some zs) a first kept = first ∙ ap (λ s. a ++ s) (sym kept)
 
 -- ---- a line, part by part
-
--- the bytes of a line that were taken, none of which ends it, and those that are kept
-pub record IsSoFar (old now : Option (List ℕ)) (most : ℕ) (kept : List ℕ) : Type 0 where
-  pub front : List ℕ
-  pub unended : All (λ b. b ≢ 10) front
-  pub taken : Consumes old now front
-  pub keeps : kept ≡ take most front
 
 take_none : (n : ℕ) → take {A = ℕ} n [] ≡ []
 take_none zero = refl
@@ -78,6 +71,20 @@ input_ends old mid new most kept h same none = (
   record { front = h.front; unended = h.unended; taken = consumes_kept old mid new h.front h.taken same; ends = inr (refl, none) },
   h.keeps,
 )
+
+-- more bytes of it are taken, up to its end or not
+pub goes_more : (old mid new : Option (List ℕ)) (kept more : List ℕ) (is_ended : Bool) → IsSoFar old mid max_kept kept → TakesMore mid new max_kept kept more is_ended → IsMore old new more is_ended
+goes_more old mid new kept more true h m = line_ends old mid new max_kept kept more true refl h m
+goes_more old mid new kept more false h m = more_taken old mid new max_kept kept more false refl h m
+
+-- what became of the line, by whether it is whole
+pub stays_part : (old new : Option (List ℕ)) (kept : List ℕ) (is_whole : Bool) → is_whole ≡ false → IsMore old new kept is_whole → IsSoFar old new max_kept kept
+stays_part old new kept true not h = let bad : true ≡ false = not in cc
+stays_part old new kept false not h = h
+
+pub is_whole_now : (old new : Option (List ℕ)) (kept : List ℕ) (is_whole : Bool) → is_whole ≡ true → IsMore old new kept is_whole → TakesKept old new max_kept kept
+is_whole_now old new kept false whole h = let bad : false ≡ true = whole in cc
+is_whole_now old new kept true whole h = h
 
 -- ---- lines one after another
 

@@ -3,7 +3,7 @@ use Rattle.std.specs.Prelude.{◌≡◌, ◌≢◌, ℕ, ◌-◌, ◌<◌, ◌^�
 use Rattle.std.specs.Io.KnownBytes.{Consumes}
 use Rattle.ec_lines.specs.declared.error.LinesError.{LinesError}
 use Rattle.ec_lines.specs.declared.error.LinesError.TheVariants.{Memory, Unread, TooLong}
-use Rattle.ec_lines.specs.Taking.{TakesLine, TakesPart, TakesUndivided, is_divider}
+use Rattle.ec_lines.specs.Taking.{IsSoFar, TakesLine, TakesPart, TakesUndivided, is_divider, max_kept}
 
 -- a line is taken, and its first bytes are kept, `most` at most
 abbrev pub TakesKept : Option (List ℕ) → Option (List ℕ) → ℕ → List ℕ → Type 0
@@ -33,6 +33,11 @@ pub record TakesMore (old new : Option (List ℕ)) (most : ℕ) (before after : 
   pub taken : Consumes old new part
   pub is_part : IsPart is_ended part
   pub kept : after ≡ kept_more most before part
+
+-- more of a line is taken, up to its end or not
+abbrev pub IsMore : (old now : Option (List ℕ)) → (kept : List ℕ) → (is_whole : Bool) → Type 0
+IsMore old now kept true = TakesKept old now max_kept kept
+IsMore old now kept false = IsSoFar old now max_kept kept
 
 -- the last line that is taken of a text
 abbrev pub is_last : List ℕ → Bool

@@ -1,5 +1,5 @@
 -- The lines that an input gives, and the text before a line `%%` (choices of this project).
-use Rattle.std.specs.Prelude.{◌≡◌, ◌≢◌, ◌⊎◌, ℕ, ◌-◌, ◌^◌, ◌<◌, ◌==◌, ◌&&◌, ◌||◌, nat_le, All, List, [], ◌∷◌, ◌++◌, length, take, slice_index, Bool, true, false, if◌then◌else◌, Option, string_bytes}
+use Rattle.std.specs.Prelude.{◌≡◌, ◌≢◌, ◌⊎◌, ℕ, ◌-◌, ◌+◌, ◌^◌, ◌<◌, ◌==◌, ◌&&◌, ◌||◌, nat_le, All, List, [], ◌∷◌, ◌++◌, length, take, slice_index, Bool, true, false, if◌then◌else◌, Option, Some, None, string_bytes}
 use Rattle.std.specs.Io.KnownBytes.{Consumes, IsAtEnd}
 use Rattle.std.specs.Str.{IsUtf8, bytes_eq, is_utf8}
 use Rattle.std.specs.Str.Lines.{strip_carriage_return}
@@ -38,6 +38,24 @@ IsTaken line taken.NoText = (0 < length line) × (is_text_line line ≡ false)
 abbrev pub TakesLines : Option (List ℕ) → Option (List ℕ) → List (List ℕ) → Type 0
 TakesLines old new [] = new ≡ old
 TakesLines old new (line ∷ lines) = (mid : Option (List ℕ)) × TakesLine old mid line × (0 < length line) × TakesLines mid new lines
+
+-- ---- a line that comes in parts
+
+-- Bytes of a line were taken, none of which ends it. Of them the first are kept, at most so many.
+pub record IsSoFar (old now : Option (List ℕ)) (most : ℕ) (kept : List ℕ) : Type 0 where
+  pub front : List ℕ
+  pub unended : All (λ b. b ≢ 10) front
+  pub taken : Consumes old now front
+  pub keeps : kept ≡ take most front
+
+-- the most bytes that are kept of a line: one more than the longest line with its longest end
+abbrev pub max_kept : ℕ
+max_kept = 2 ^ 20 + 3
+
+-- The line that begins at `old` is whole, and none of the next one is kept; or more of it is to come.
+abbrev pub GoesOn : (old now : Option (List ℕ)) → (kept : List ℕ) → Option NextLine → Type 0
+GoesOn old now kept (Some next) = (line : List ℕ) × TakesLine old now line × IsTaken line next × (kept ≡ [])
+GoesOn old now kept None = IsSoFar old now max_kept kept
 
 -- ---- a text and a line behind it
 

@@ -6,5 +6,5 @@ mod lines;
 mod text;
 
 pub use crate::error::LinesError;
-pub use crate::lines::{InputStream, MAX_BYTES, NextLine, take_line};
+pub use crate::lines::{InputStream, LinePart, MAX_BYTES, NextLine, take_line, take_part};
 pub use crate::text::take_text;

@@ -1,15 +1,16 @@
 //! Lines of an input, each up to its end. The input is read by blocks, and keeps whether a read of it was refused.
-ghost use Rattle.std.specs.Prelude.{◌≡◌, ◌≢◌, ◌≤◌, ◌==◌, ◌||◌, ◌+◌, ◌++◌, [], List, ℕ, IfErr, IfOk, IfSome, OnErr, OnOk, drop, false, length, min, position, true, take};
+ghost use Rattle.std.specs.Prelude.{◌≡◌, ◌≢◌, ◌≤◌, ◌==◌, ◌||◌, ◌+◌, ◌++◌, [], List, ℕ, Option, IfErr, IfOk, IfSome, OnErr, OnOk, drop, false, length, min, nat_lt, position, true, take};
 ghost use Rattle.std.specs.Io.KnownBytes.{Consumes, IsAtEnd, Keeps};
 ghost use Rattle.std.specs.IoError.{error_kind};
 ghost use Rattle.ec_lines.specs.Inputs.{IsSpent, bytes_left, is_read_refused, one_more};
-ghost use Rattle.ec_lines.specs.Kept.{IsPart, TakesAhead, TakesKept, TakesMore, kept_more};
-ghost use Rattle.ec_lines.specs.Taking.{IsReadFault, IsTaken, TakesPart, TakesLine, without_end};
+ghost use Rattle.ec_lines.specs.Kept.{IsMore, IsPart, TakesAhead, TakesKept, TakesMore, kept_more};
+ghost use Rattle.ec_lines.specs.Taking.{GoesOn, IsReadFault, IsSoFar, IsTaken, TakesPart, TakesLine, max_kept, without_end};
 
 use crate::LinesError;
 use std::alloc::{AllocError, Global};
 use std::io::{self, ErrorKind, Read};
 use std::marker::Model;
+use std::os::fd::RawFd;
 
 /// The most bytes of a text, and of a line without its end.
 pub const MAX_BYTES: usize = 1 << 20;
@@ -38,6 +39,7 @@ pub enum NextLine {
 pub struct InputStream<R: Read + Drop> {
     ahead: Block,
     stream: R,
+    descriptor: Option<RawFd>,
     is_refused: bool,
     reads: u64,
 }
@@ -58,9 +60,32 @@ impl<R: Read + Drop> InputStream<R> {
         InputStream {
             ahead: Block::new(),
             stream,
+            descriptor: None,
             is_refused: false,
             reads: 0,
         }
+    }
+
+    /// An input from the stream of a descriptor, at which one can wait for bytes. Nothing is read yet.
+    pub fn watched(stream: R, descriptor: RawFd) -> InputStream<R>
+        ensures { result ≡ record { ahead = []; stream = stream; is_refused = false; reads = 0 } }
+    {
+        InputStream {
+            descriptor: Some(descriptor),
+            ..InputStream::new(stream)
+        }
+    }
+
+    /// The descriptor of the stream, if it has one at which one can wait for bytes.
+    pub fn descriptor(&self) -> Option<RawFd> {
+        self.descriptor
+    }
+
+    /// Whether bytes were read that aren't taken yet.
+    pub fn is_ahead(&self) -> bool
+        ensures { result ≡ nat_lt 0 (length self.now.ahead) }
+    {
+        !self.ahead.as_slice().is_empty()
     }
 
     /// Whether a read was ever refused, or the input was given up.
@@ -159,6 +184,57 @@ pub fn take_line<R: Read + Drop>(
     Ok(taken_of(alloc, &line)?)
 }
 
+/// The bytes so far of a line that comes in parts.
+#[derive(Drop)]
+pub struct LinePart {
+    bytes: Vec<u8>,
+}
+
+impl Model for LinePart {
+    ghost use Rattle.std.specs.Prelude.{ℕ, List};
+
+    ghost Value = { List ℕ };
+
+    ghost view = { λ p. p.bytes.items };
+}
+
+impl LinePart {
+    /// No bytes of a line.
+    pub fn new(alloc: Global) -> LinePart
+        ensures { result ≡ [] }
+    {
+        LinePart {
+            bytes: Vec::new(alloc),
+        }
+    }
+}
+
+/// Takes more of a line of an input: of the bytes that were read ahead, those up to a newline. If none are ahead, the stream is read
+/// once. Returns the line as [`take_line`] does, once it is whole; `None` if more of it is to come. So it never waits while bytes are
+/// ahead.
+///
+/// # Errors
+///
+/// `LinesError::Unread` if a read is refused, `Memory` if memory runs out. Some bytes of the line may be taken by then.
+pub fn take_part<R: Read + Drop>(
+    alloc: Global,
+    input: &mut InputStream<R>,
+    part: &mut LinePart,
+) -> Result<Option<NextLine>, LinesError>
+    ensures goes { (start : Option (List ℕ)) → IsSoFar start (bytes_left R.remaining input.old) max_kept part.old
+        → IfOk result (GoesOn start (bytes_left R.remaining input.new) part.new) }
+    ensures taken { TakesPart (bytes_left R.remaining input.old) (bytes_left R.remaining input.new) }
+    ensures refused { IfErr result (IsReadFault input.new.is_refused) }
+    ensures unchanged { OnOk result (input.new.is_refused ≡ input.old.is_refused) }
+{
+    if !take_more(input, &mut part.bytes)? {
+        return Ok(None);
+    }
+    let next = taken_of(alloc, &part.bytes)?;
+    part.bytes.clear();
+    Ok(Some(next))
+}
+
 /// Takes bytes of an input up to the end of a line, or all that are left. Returns the first of them, at most `most`. The stream is
 /// read, a block at a time, if no end of a line is ahead. An interrupted read is made again.
 pub(crate) fn take_bytes<R: Read + Drop>(
@@ -190,6 +266,29 @@ pub(crate) fn take_bytes<R: Read + Drop>(
     }
     input.give_up();
     Err(LinesError::Unread)
+}
+
+/// Takes bytes of a line from those that were read ahead, or from one read if none are. Returns whether the line is whole: its newline
+/// is taken, or the input has ended. An interrupted read takes nothing.
+fn take_more<R: Read + Drop>(
+    input: &mut InputStream<R>,
+    line: &mut Vec<u8>,
+) -> Result<bool, LinesError>
+    ensures more { (start : Option (List ℕ)) → IsSoFar start (bytes_left R.remaining input.old) max_kept line.old.items
+        → IfOk result (IsMore start (bytes_left R.remaining input.new) line.new.items) }
+    ensures taken { TakesPart (bytes_left R.remaining input.old) (bytes_left R.remaining input.new) }
+    ensures refused { IfErr result (IsReadFault input.new.is_refused) }
+    ensures unchanged { OnOk result (input.new.is_refused ≡ input.old.is_refused) }
+{
+    if input.is_ahead() {
+        return Ok(input.take_ahead(MAX_KEPT, line)?);
+    }
+    match input.read_ahead() {
+        Ok(0) => Ok(true),
+        Ok(_) => Ok(input.take_ahead(MAX_KEPT, line)?),
+        Err(error) if error.kind() == ErrorKind::Interrupted => Ok(false),
+        Err(error) => Err(LinesError::of_read(&error)),
+    }
 }
 
 /// The line that these bytes are, which have its end; no bytes are the end of the input.

@@ -27,7 +27,7 @@ use Rattle.ec_script.specs.declared.forms.ExpectForm.TheVariants as expected
 use Rattle.ec_script.specs.declared.forms.Form.{Form}
 use Rattle.ec_script.specs.declared.forms.Form.TheVariants as form
 use Rattle.ec_script.specs.declared.line.LineAction.{LineAction}
-use Rattle.ec_script.specs.declared.line.LineAction.TheVariants.{Start, Set, Begin, Pass, Lose, Return, Close, Serve, Put, Get, Fail, Reset, Input, Never, Expect, Ready, Cycle, Show, Report, States, Stop}
+use Rattle.ec_script.specs.declared.line.LineAction.TheVariants.{Start, Set, Begin, Pass, Lose, LosePart, Return, Close, Serve, Put, Get, Fail, Reset, Input, Never, Expect, Ready, Cycle, Show, Output, Report, States, Stop, Served}
 use Rattle.ec_script.specs.declared.line.Line.{Line}
 use Rattle.ec_script.specs.declared.read.Reading.TheVariants as reading
 use Rattle.ec_script.specs.declared.value.WrittenValue.{WrittenValue}
@@ -339,6 +339,13 @@ put_back t s i x h g b =
     ∙ (ap (option_and_then (λ i. option_and_then (λ x. Some (Put s i x)) (byte_of (decimal x)))) (number_back i g)
     ∙ ap (option_and_then (λ x. Some (Put s i x))) (byte_back x b)))
 
+lose_part_back : (t : Contents) (n k : ℕ) → n < 2 ^ 64 → k < 2 ^ 64 → IsBack t (LosePart n k) (codes "lose" ∷ decimal n ∷ codes "part" ∷ decimal k ∷ [])
+unfolding form_of
+lose_part_back t n k h g =
+    back t form.LosePart (LosePart n k) (codes "lose") _ refl refl refl (and _ _ (number_word n h) (two_words (codes "part") (decimal k) refl (number_word k g))) refl
+    (ap (option_and_then (λ n. option_and_then (λ k. Some (LosePart n k)) (number_of (decimal k)))) (number_back n h)
+    ∙ ap (option_and_then (λ k. Some (LosePart n k))) (number_back k g))
+
 -- ---- a variable and a value
 
 abbrev name_of : Contents → ℕ → Text
@@ -366,6 +373,10 @@ set_back t v word value r plain is = assigning t form.Set (codes "set") v word v
 input_back : (t : Contents) (v x : ℕ) → Row t v → x < 2 ^ 64 → IsBack t (Input v x) (codes "in" ∷ name_of t v ∷ decimal x ∷ [])
 unfolding form_of
 input_back t v x r h = assigning t form.Input (codes "in") v (decimal x) (Number x) input_action refl refl refl r (number_word x h) (value_for_back t v x r h) refl refl
+
+output_back : (t : Contents) (v : ℕ) → Row t v → IsBack t (Output v) (codes "out" ∷ name_of t v ∷ [])
+unfolding form_of
+output_back t v r = back t form.Output (Output v) (codes "out") _ refl refl refl (one_word (name_of t v) r.plain) refl (ap (option_and_then (λ k. Some (Output k))) r.named)
 
 -- ---- what is expected
 
@@ -492,6 +503,9 @@ action_back t (Set v x) sound h = let r = row_at t v sound h.0 in set_back t v (
 action_back t Begin sound h = back t form.Begin _ (codes "begin") [] refl refl refl refl refl refl
 action_back t (Pass k) sound h = place_back t form.Pass (codes "pass") k (λ k. Pass k) refl refl refl h refl refl
 action_back t (Lose k) sound h = place_back t form.Lose (codes "lose") k (λ k. Lose k) refl refl refl h refl refl
+action_back t (LosePart n k) sound h = lose_part_back t n k h.0 h.1
+action_back t (Output v) sound h = output_back t v (row_at t v sound h)
+action_back t Served sound h = back t form.Served _ (codes "served") [] refl refl refl refl refl refl
 action_back t (Return k) sound h = place_back t form.Return (codes "return") k (λ k. Return k) refl refl refl h refl refl
 action_back t Close sound h = back t form.Close _ (codes "close") [] refl refl refl refl refl refl
 action_back t (Serve s) sound h = by_slave t form.Serve (codes "serve") s (λ s. Serve s) refl refl refl h refl refl

@@ -8,11 +8,11 @@ use Rattle.ec_script.specs.declared.forms.ExpectForm.TheVariants as expected
 use Rattle.ec_script.specs.declared.forms.Form.{Form}
 use Rattle.ec_script.specs.declared.forms.Form.TheVariants as form
 use Rattle.ec_script.specs.declared.line.LineAction.{LineAction}
-use Rattle.ec_script.specs.declared.line.LineAction.TheVariants.{Start, Set, Begin, Pass, Lose, Return, Close, Serve, Put, Get, Fail, Reset, Input, Never, Expect, Ready, Cycle, Show, Report, States, Stop}
+use Rattle.ec_script.specs.declared.line.LineAction.TheVariants.{Start, Set, Begin, Pass, Lose, LosePart, Return, Close, Serve, Put, Get, Fail, Reset, Input, Never, Expect, Ready, Cycle, Show, Output, Report, States, Stop, Served}
 use Rattle.ec_script.specs.declared.value.WrittenValue.{WrittenValue}
 use Rattle.ec_script.specs.declared.value.WrittenValue.TheVariants.{Number, Outside}
 use Rattle.ec_script.specs.Forms.{form_of}
-use Rattle.ec_script.specs.Operands.{◌>>=◌, assignment_at, byte_at, code_at, number_at, slave_at, state_at}
+use Rattle.ec_script.specs.Operands.{◌>>=◌, assignment_at, byte_at, code_at, number_at, slave_at, state_at, variable_at}
 use Rattle.ec_script.specs.Words.{Text}
 
 -- ---- a variable and a value
@@ -48,6 +48,7 @@ action_of_form t words form.Start = Some Start
 action_of_form t words form.Set = assignment_at t words 1 2 >>= (λ a. Some (set_action a))
 action_of_form t words form.Begin = Some Begin
 action_of_form t words form.Pass = number_at words 1 >>= (λ k. Some (Pass k))
+action_of_form t words form.LosePart = number_at words 1 >>= (λ n. number_at words 3 >>= (λ k. Some (LosePart n k)))
 action_of_form t words form.Lose = number_at words 1 >>= (λ k. Some (Lose k))
 action_of_form t words form.Return = number_at words 1 >>= (λ k. Some (Return k))
 action_of_form t words form.Close = Some Close
@@ -57,12 +58,14 @@ action_of_form t words form.Get = slave_at t words 1 >>= (λ s. number_at words 
 action_of_form t words form.Fail = slave_at t words 1 >>= (λ s. Some (Fail s))
 action_of_form t words form.Reset = slave_at t words 1 >>= (λ s. Some (Reset s))
 action_of_form t words form.Input = assignment_at t words 1 2 >>= (λ a. Some (input_action a))
+action_of_form t words form.Output = variable_at t words 1 >>= (λ v. Some (Output v))
 action_of_form t words form.Ready = Some Ready
 action_of_form t words form.Cycle = Some Cycle
 action_of_form t words form.Show = Some Show
 action_of_form t words form.Report = Some Report
 action_of_form t words form.States = Some States
 action_of_form t words form.Stop = Some Stop
+action_of_form t words form.Served = Some Served
 action_of_form t words (form.Expect e) = expectation_of_form t words e >>= (λ x. Some (Expect x))
 
 -- ---- words

@@ -6,7 +6,7 @@ use Rattle.std.specs.List.{find, list_all, zip}
 use Rattle.std.specs.Str.{bytes_eq}
 use Rattle.ec_script.specs.declared.forms.ExpectForm.TheVariants as expects
 use Rattle.ec_script.specs.declared.forms.Form.{Form}
-use Rattle.ec_script.specs.declared.forms.Form.TheVariants.{Start, Set, Begin, Pass, Lose, Return, Close, Serve, Put, Get, Fail, Reset, Input, Ready, Cycle, Show, Report, States, Stop, Expect}
+use Rattle.ec_script.specs.declared.forms.Form.TheVariants.{Start, Set, Begin, Pass, LosePart, Lose, Return, Close, Serve, Put, Get, Fail, Reset, Input, Output, Ready, Cycle, Show, Report, States, Stop, Served, Expect}
 use Rattle.ec_script.specs.Words.{Text, words_of}
 
 abbrev pub forms : List (Form × Text)
@@ -15,6 +15,7 @@ forms =
     ∷ (Set, codes "set NAME VALUE")
     ∷ (Begin, codes "begin")
     ∷ (Pass, codes "pass K")
+    ∷ (LosePart, codes "lose NUMBER part P")
     ∷ (Lose, codes "lose K")
     ∷ (Return, codes "return K")
     ∷ (Close, codes "close")
@@ -24,12 +25,14 @@ forms =
     ∷ (Fail, codes "fault S")
     ∷ (Reset, codes "reset S")
     ∷ (Input, codes "in NAME VALUE")
+    ∷ (Output, codes "out NAME")
     ∷ (Ready, codes "ready")
     ∷ (Cycle, codes "cycle")
     ∷ (Show, codes "show")
     ∷ (Report, codes "report")
     ∷ (States, codes "states")
     ∷ (Stop, codes "stop")
+    ∷ (Served, codes "served")
     ∷ (Expect (expects.Unit true), codes "expect taken UNIT")
     ∷ (Expect (expects.Units true), codes "expect taken")
     ∷ (Expect (expects.Unit false), codes "expect untaken UNIT")

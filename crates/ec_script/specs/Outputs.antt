@@ -1,7 +1,7 @@
 -- The outputs of lines: what becomes of a line that is done once (this project's profile).
 use Rattle.std.specs.Prelude.{Bool, true, false}
 use Rattle.ec_script.specs.declared.output.LineOutput.{LineOutput}
-use Rattle.ec_script.specs.declared.output.LineOutput.TheVariants.{Nothing, No, Unmet, Byte, Ended, Report, Values, States, Fault}
+use Rattle.ec_script.specs.declared.output.LineOutput.TheVariants.{Nothing, No, Unmet, Byte, Ended, Report, Values, Fault, Value, States}
 
 -- all that the line asks for was done
 abbrev pub is_done : LineOutput → Bool
@@ -14,6 +14,7 @@ is_done Report = true
 is_done Values = true
 is_done States = true
 is_done Fault = false
+is_done (Value v x) = true
 
 abbrev pub is_unmet : LineOutput → Bool
 is_unmet Unmet = true

@@ -6,7 +6,7 @@ use Rattle.std.specs.Str.Lines.{lines}
 use Rattle.ec_table.specs.Contents.{Contents}
 use Rattle.ec_text.specs.RefusalText.{RefusalRow, one_value}
 use Rattle.ec_script.specs.declared.line.LineAction.{LineAction}
-use Rattle.ec_script.specs.declared.line.LineAction.TheVariants.{Report, Stop}
+use Rattle.ec_script.specs.declared.line.LineAction.TheVariants.{LosePart, Report, Served, Stop}
 use Rattle.ec_script.specs.declared.line.Line.{Line}
 use Rattle.ec_script.specs.declared.read.Reading.{Reading}
 use Rattle.ec_script.specs.declared.read.Reading.TheVariants as reading
@@ -80,10 +80,12 @@ taken_by takes reading.Empty = reading.Empty
 taken_by takes reading.Bad = reading.Bad
 taken_by takes (reading.Line line) = taken_if (takes line.action) line
 
--- a segment of simulated slaves takes all actions but `report` and `stop`
+-- a segment of simulated slaves takes all actions but `report`, `stop`, `lose N part P` and `served`
 abbrev pub is_simulated : LineAction → Bool
 is_simulated Report = false
 is_simulated Stop = false
+is_simulated (LosePart n k) = false
+is_simulated Served = false
 is_simulated _ = true
 
 -- what line n of a script is

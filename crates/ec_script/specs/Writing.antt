@@ -10,7 +10,7 @@ use Rattle.ec_table.specs.declared.rows.VariableRow.{VariableRow}
 use Rattle.ec_script.specs.declared.expectation.Expectation.{Expectation}
 use Rattle.ec_script.specs.declared.expectation.Expectation.TheVariants as expects
 use Rattle.ec_script.specs.declared.line.LineAction.{LineAction}
-use Rattle.ec_script.specs.declared.line.LineAction.TheVariants.{Start, Set, Begin, Pass, Lose, Return, Close, Serve, Put, Get, Fail, Reset, Input, Never, Expect, Ready, Cycle, Show, Report, States, Stop}
+use Rattle.ec_script.specs.declared.line.LineAction.TheVariants.{Start, Set, Begin, Pass, Lose, LosePart, Return, Close, Serve, Put, Get, Fail, Reset, Input, Never, Expect, Ready, Cycle, Show, Output, Served, Report, States, Stop}
 use Rattle.ec_script.specs.declared.line.Line.{Line}
 use Rattle.ec_script.specs.declared.read.Reading.TheVariants as reading
 use Rattle.ec_script.specs.Words.{Text}
@@ -63,6 +63,7 @@ words_for variables (Set v x) = codes "set" ∷ row_name (slice_get variables v)
 words_for variables Begin = codes "begin" ∷ []
 words_for variables (Pass k) = codes "pass" ∷ decimal k ∷ []
 words_for variables (Lose k) = codes "lose" ∷ decimal k ∷ []
+words_for variables (LosePart n k) = codes "lose" ∷ decimal n ∷ codes "part" ∷ decimal k ∷ []
 words_for variables (Return k) = codes "return" ∷ decimal k ∷ []
 words_for variables Close = codes "close" ∷ []
 words_for variables (Serve s) = codes "serve" ∷ decimal s ∷ []
@@ -76,6 +77,8 @@ words_for variables (Expect e) = codes "expect" ∷ words_expecting variables e
 words_for variables Ready = codes "ready" ∷ []
 words_for variables Cycle = codes "cycle" ∷ []
 words_for variables Show = codes "show" ∷ []
+words_for variables (Output v) = codes "out" ∷ row_name (slice_get variables v) ∷ []
+words_for variables Served = codes "served" ∷ []
 words_for variables Report = codes "report" ∷ []
 words_for variables States = codes "states" ∷ []
 words_for variables Stop = codes "stop" ∷ []
@@ -128,6 +131,7 @@ IsActionOf variables (Set v x) = (v < length variables) × IsWord64 x
 IsActionOf variables Begin = Unit {0}
 IsActionOf variables (Pass k) = IsWord64 k
 IsActionOf variables (Lose k) = IsWord64 k
+IsActionOf variables (LosePart n k) = IsWord64 n × IsWord64 k
 IsActionOf variables (Return k) = IsWord64 k
 IsActionOf variables Close = Unit {0}
 IsActionOf variables (Serve s) = IsWord64 s
@@ -141,6 +145,8 @@ IsActionOf variables (Expect e) = IsExpectationOf variables e
 IsActionOf variables Ready = Unit {0}
 IsActionOf variables Cycle = Unit {0}
 IsActionOf variables Show = Unit {0}
+IsActionOf variables (Output v) = v < length variables
+IsActionOf variables Served = Unit {0}
 IsActionOf variables Report = Unit {0}
 IsActionOf variables States = Unit {0}
 IsActionOf variables Stop = Unit {0}

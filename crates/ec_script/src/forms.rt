@@ -19,6 +19,7 @@ pub enum Form {
     Set,
     Begin,
     Pass,
+    LosePart,
     Lose,
     Return,
     Close,
@@ -28,12 +29,14 @@ pub enum Form {
     Fail,
     Reset,
     Input,
+    Output,
     Ready,
     Cycle,
     Show,
     Report,
     States,
     Stop,
+    Served,
     Expect(ExpectForm),
 }
 
@@ -56,11 +59,12 @@ pub enum ExpectForm {
 
 /// How the lines of a script are written, without `repeat`: a word in capitals stands for what it names, and any other for itself.
 /// Words that fit several forms have the first of them. A form stands before those that are its beginning.
-pub static FORMS: [(Form, &str); 29] = [
+pub static FORMS: [(Form, &str); 32] = [
     (Form::Start, "start"),
     (Form::Set, "set NAME VALUE"),
     (Form::Begin, "begin"),
     (Form::Pass, "pass K"),
+    (Form::LosePart, "lose NUMBER part P"),
     (Form::Lose, "lose K"),
     (Form::Return, "return K"),
     (Form::Close, "close"),
@@ -70,12 +74,14 @@ pub static FORMS: [(Form, &str); 29] = [
     (Form::Fail, "fault S"),
     (Form::Reset, "reset S"),
     (Form::Input, "in NAME VALUE"),
+    (Form::Output, "out NAME"),
     (Form::Ready, "ready"),
     (Form::Cycle, "cycle"),
     (Form::Show, "show"),
     (Form::Report, "report"),
     (Form::States, "states"),
     (Form::Stop, "stop"),
+    (Form::Served, "served"),
     (Form::Expect(ExpectForm::Unit(true)), "expect taken UNIT"),
     (Form::Expect(ExpectForm::Units(true)), "expect taken"),
     (Form::Expect(ExpectForm::Unit(false)), "expect untaken UNIT"),
@@ -138,6 +144,7 @@ fn action_of_form(form: Form, words: Operands<'_>) -> Option<LineAction>
         Form::Set => set_action(words.assignment(1, 2)?),
         Form::Begin => LineAction::Begin,
         Form::Pass => LineAction::Pass(words.index(1)?),
+        Form::LosePart => LineAction::LosePart(words.index(1)?, words.index(3)?),
         Form::Lose => LineAction::Lose(words.index(1)?),
         Form::Return => LineAction::Return(words.index(1)?),
         Form::Close => LineAction::Close,
@@ -147,12 +154,14 @@ fn action_of_form(form: Form, words: Operands<'_>) -> Option<LineAction>
         Form::Fail => LineAction::Fail(words.slave(1)?),
         Form::Reset => LineAction::Reset(words.slave(1)?),
         Form::Input => input_action(words.assignment(1, 2)?),
+        Form::Output => LineAction::Output(words.variable(1)?),
         Form::Ready => LineAction::Ready,
         Form::Cycle => LineAction::Cycle,
         Form::Show => LineAction::Show,
         Form::Report => LineAction::Report,
         Form::States => LineAction::States,
         Form::Stop => LineAction::Stop,
+        Form::Served => LineAction::Served,
         Form::Expect(form) => LineAction::Expect(expectation_of_form(form, words)?),
     })
 }

@@ -15,8 +15,10 @@ pub enum LineAction {
     Begin,
     /// The frame in this slot passes its next slave.
     Pass(usize),
-    /// The frame in this slot is lost.
+    /// The frame in this slot is lost; at a live segment, so many of the next frames are.
     Lose(usize),
+    /// So many of the next cyclic frames of a part are lost: how many, and the part.
+    LosePart(usize, usize),
     /// The frame in this slot comes back to the master.
     Return(usize),
     /// The cycle is closed, or a start-up that waits for its frame is given up.
@@ -43,6 +45,10 @@ pub enum LineAction {
     Cycle,
     /// The input variables are printed.
     Show,
+    /// The output variable at this place is printed, as slaves publish it.
+    Output(usize),
+    /// How many payloads a segment answered, and how many others came, is printed.
+    Served,
     /// The last report is printed.
     Report,
     /// The AL states of all slaves are printed.
@@ -61,9 +67,12 @@ pub struct Line {
     pub action: LineAction,
 }
 
-/// Whether a script of simulated slaves may have this action: it may have any but `Report` and `Stop`.
+/// Whether a script of simulated slaves may have this action: it may have any but `Report`, `Stop`, `LosePart` and `Served`.
 pub fn is_simulated(action: LineAction) -> bool
     ensures { result ≡ is_simulated action }
 {
-    !matches!(action, LineAction::Report | LineAction::Stop)
+    !matches!(
+        action,
+        LineAction::Report | LineAction::Stop | LineAction::LosePart(_, _) | LineAction::Served
+    )
 }

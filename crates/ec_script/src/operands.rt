@@ -45,7 +45,7 @@ impl WordKind {
             "NAME" => Some(WordKind::Variable),
             "VALUE" => Some(WordKind::Value),
             "S" => Some(WordKind::Slave),
-            "K" | "I" | "UNIT" | "NUMBER" => Some(WordKind::Number),
+            "K" | "I" | "P" | "UNIT" | "NUMBER" => Some(WordKind::Number),
             "BYTE" => Some(WordKind::Byte),
             "N" => Some(WordKind::Times),
             "STATE" => Some(WordKind::State),
@@ -63,6 +63,13 @@ impl<'l> Operands<'l> {
         let variable = variable_named(self.table.variables(), self.word(name)?)?;
         let value = value_for(self.table, variable, self.word(value)?)?;
         Some((variable, value))
+    }
+
+    /// The variable that the word at a place names.
+    pub fn variable(self, place: usize) -> Option<usize>
+        ensures { result ≡ variable_at self.entry.table.now (map (λ x. x.now) self.entry.words.now) place }
+    {
+        variable_named(self.table.variables(), self.word(place)?)
     }
 
     /// The slave that the word at a place names.

@@ -1,8 +1,8 @@
 //! The output of a line, and what it prints.
-ghost use Rattle.std.specs.Prelude.{◌≡◌, ◌++◌, IfOk, OnOk, string_bytes};
+ghost use Rattle.std.specs.Prelude.{◌≡◌, ◌++◌, IfOk, OnOk, slice_get, string_bytes};
 ghost use Rattle.ec_text.specs.ReportText.{report_if};
 ghost use Rattle.ec_script.specs.Outputs.{is_done, is_unmet};
-ghost use Rattle.ec_script.specs.Texts.{byte_text, output_text};
+ghost use Rattle.ec_script.specs.Texts.{byte_text, output_text, value_text};
 
 use crate::states::state_lines;
 use crate::view::MasterView;
@@ -33,6 +33,8 @@ pub enum LineOutput {
     States,
     /// A fault of the wire ended the cycle, and nothing of it was taken.
     Fault,
+    /// A variable and its value.
+    Value(usize, u64),
 }
 
 impl LineOutput {
@@ -48,7 +50,8 @@ impl LineOutput {
             | LineOutput::Ended
             | LineOutput::Report
             | LineOutput::Values
-            | LineOutput::States => true,
+            | LineOutput::States
+            | LineOutput::Value(_, _) => true,
         }
     }
 
@@ -87,8 +90,28 @@ pub fn output_text(
         LineOutput::Values => return input_lines(alloc, table, view.master),
         LineOutput::States => return state_lines(alloc, table, states),
         LineOutput::Fault => text.push_str("fault 37 Wire\n")?,
+        LineOutput::Value(variable, value) => write_value(&mut text, table, variable, value)?,
     }
     Ok(text)
+}
+
+/// Adds the line of a variable and its value, if there is such a variable.
+fn write_value(
+    text: &mut String,
+    table: &Table,
+    variable: usize,
+    value: u64,
+) -> Result<(), AllocError>
+    ensures { OnOk result (string_bytes text.new
+        ≡ string_bytes text.old ++ value_text value (slice_get table.now.variables variable)) }
+{
+    match table.variables().get(variable) {
+        None => Ok(()),
+        Some(row) => {
+            let name = row.name.as_str();
+            writeln!(text, "{name} {value}")
+        }
+    }
 }
 
 /// Adds the line of the byte that an application read, if one did.

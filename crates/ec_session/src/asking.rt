@@ -85,7 +85,7 @@ impl Session {
                 self.startup.begin_again(number);
                 Ok(())
             }
-            Err(SocketFault) => Err(RunError::Wire),
+            Err(_) => Err(RunError::Wire),
         }
     }
 

@@ -5,7 +5,7 @@ use Rattle.ec_world.specs.declared.event.Event.TheVariants.{StartNext, Begin, Cl
 use Rattle.ec_world.specs.World.{WorldState}
 use Rattle.ec_world.proofs.Runs.PlanLaw.{plan_stays}
 use Rattle.ec_script.specs.declared.line.LineAction.{LineAction}
-use Rattle.ec_script.specs.declared.line.LineAction.TheVariants.{Input, Never, Expect, Ready, Cycle, Show, Report, States, Stop}
+use Rattle.ec_script.specs.declared.line.LineAction.TheVariants.{Input, Never, Expect, Ready, Cycle, Show, Output, LosePart, Served, Report, States, Stop}
 use Rattle.ec_script.specs.declared.output.LineOutput.{LineOutput}
 use Rattle.ec_script.specs.declared.output.LineOutput.TheVariants.{No}
 use Rattle.ec_simulation.specs.Inputs.{input_events, is_input_of}
@@ -47,6 +47,9 @@ action_keeps (Expect e) old new word h = ap (λ w. w.plan) h.0
 action_keeps Ready old new word h = starts last_turn old new word h
 action_keeps Cycle old new word h =
     onward (is_done h.told) old h.mid new word h.told (one Begin old h.mid h.told h.begins) h.goes_on (all (rounds_found false h.mid ++ (Close ∷ [])) h.mid new word)
+action_keeps (Output v) old new word h = ap (λ w. w.plan) h.0
+action_keeps (LosePart n k) old new word h = ap (λ w. w.plan) h.0
+action_keeps Served old new word h = ap (λ w. w.plan) h.0
 action_keeps Show old new word h = ap (λ w. w.plan) h.0
 action_keeps Report old new word h = ap (λ w. w.plan) h.0
 action_keeps States old new word h = ap (λ w. w.plan) h.0

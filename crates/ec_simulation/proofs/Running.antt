@@ -9,7 +9,7 @@ use Rattle.ec_world.specs.Laws.{IsRun}
 use Rattle.ec_world.specs.World.{WorldState, IsStep, awaits, is_up}
 use Rattle.ec_world.proofs.Refinement.StepsRefine.{runs_join}
 use Rattle.ec_script.specs.declared.line.LineAction.{LineAction}
-use Rattle.ec_script.specs.declared.line.LineAction.TheVariants.{Input, Never, Expect, Ready, Cycle, Show, Report, States, Stop}
+use Rattle.ec_script.specs.declared.line.LineAction.TheVariants.{Input, Never, Expect, Ready, Cycle, Show, Output, LosePart, Served, Report, States, Stop}
 use Rattle.ec_script.specs.declared.output.LineOutput.{LineOutput}
 use Rattle.ec_script.specs.declared.line.Line.{Line}
 use Rattle.ec_script.specs.declared.output.LineOutput.TheVariants as output
@@ -180,6 +180,9 @@ pub lines_run : LinesRun
 lines_run (Input v x) old new word h = input_made (is_input_of x (slice_get old.plan.variables v)) (input_events old v x) old new word h
 lines_run (Never v) old new word h = (h.0, ap is_done h.1)
 lines_run (Expect e) old new word h = are_made [] old new (is_done word) (h.0, ap is_done h.1 ∙ said_done (is_met e old))
+lines_run (Output v) old new word h = h.0
+lines_run (LosePart n k) old new word h = (h.0, ap is_done h.1)
+lines_run Served old new word h = (h.0, ap is_done h.1)
 lines_run Ready old new word h = ready_made old new (is_done word) (starts_goes last_turn old new word h)
 lines_run Cycle old new word h = are_made (cycle_events old) old new (is_done word) (cycle_goes old new word h)
 lines_run Show old new word h = are_made [] old new (is_done word) (h.0, ap is_done h.1)
@@ -204,6 +207,9 @@ input_run false es old new all h = none_run old new h.0
 line_run : (action : LineAction) (old new : WorldState) (all : Bool) → RunsLine action old new all → HasRun old new
 line_run (Input v x) old new all h = input_run (is_input_of x (slice_get old.plan.variables v)) (input_events old v x) old new all h
 line_run (Never v) old new all h = none_run old new h.0
+line_run (Output v) old new all h = none_run old new h
+line_run (LosePart n k) old new all h = none_run old new h.0
+line_run Served old new all h = none_run old new h.0
 line_run Ready old new all h = made_run (turns_events old h.turns) old new all h.made
 line_run Cycle old new all h = made_run (cycle_events old) old new all h
 line_run action old new all h = made_run (alone (event_of action)) old new all h

@@ -7,7 +7,7 @@ use Rattle.ec_world.specs.Laws.{IsRun}
 use Rattle.ec_world.specs.Plain.{filled}
 use Rattle.ec_world.specs.World.{Flight, WorldState, can_happen, flights_from}
 use Rattle.ec_script.specs.declared.line.LineAction.{LineAction}
-use Rattle.ec_script.specs.declared.line.LineAction.TheVariants.{Input, Never, Ready, Cycle, Stop}
+use Rattle.ec_script.specs.declared.line.LineAction.TheVariants.{Input, LosePart, Never, Output, Ready, Cycle, Served, Stop}
 use Rattle.ec_script.specs.declared.line.Line.{Line}
 use Rattle.ec_script.specs.declared.output.LineOutput.{LineOutput}
 use Rattle.ec_simulation.specs.Inputs.{input_events, is_input_of}
@@ -74,16 +74,19 @@ pub record RunsReady (old new : WorldState) (all : Bool) : Type 0 where
 -- ---- a line
 
 -- Whether all of its events could be made. A line that expects or prints something has none. A line that gives a variable a value
--- that it can't have has none either, and can't be done; nor can `stop`.
+-- that it can't have has none either, and can't be done; nor can lines that a simulation doesn't take.
 abbrev pub RunsLine : LineAction → WorldState → WorldState → Bool → Type 0
 RunsLine (Input v x) old new all = Onward (is_input_of x (slice_get old.plan.variables v)) (AreMade (input_events old v x) old new all) ((new ≡ old) × (all ≡ false))
 RunsLine (Never v) old new all = (new ≡ old) × (all ≡ false)
+RunsLine (Output v) old new all = new ≡ old
+RunsLine (LosePart n k) old new all = (new ≡ old) × (all ≡ false)
+RunsLine Served old new all = (new ≡ old) × (all ≡ false)
 RunsLine Stop old new all = (new ≡ old) × (all ≡ false)
 RunsLine Ready old new all = RunsReady old new all
 RunsLine Cycle old new all = AreMade (cycle_events old) old new all
 RunsLine action old new all = AreMade (alone (event_of action)) old new all
 
--- What a line does is a run of its events; it says `no` exactly if one can't be made.
+-- What a line does is a run of its events; one that has events says `no` exactly if one can't be made.
 abbrev pub LinesRun : Type 0
 LinesRun = (action : LineAction) (old new : WorldState) (word : LineOutput) → Does action old new word → RunsLine action old new (is_done word)
 

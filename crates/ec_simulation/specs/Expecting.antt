@@ -17,13 +17,13 @@ use Rattle.ec_simulation.specs.Views.{view_of}
 
 -- ---- values
 
--- these published outputs have the link's bits, and they are the value's; 0x10000 bits are more than a slave's memory has room
--- for
+-- these published outputs have the link's bits; 0x10000 bits are more than a slave's memory has room for
+abbrev pub has_room : Link → List ℕ → Bool
+has_room l outputs = nat_le (l.object_bit + l.count) 0x10000 && nat_le (l.object_bit + l.count) (8 * length outputs)
+
+-- and they are the value's
 abbrev pub has_bits : Variable → ℕ → Link → List ℕ → Bool
-has_bits v x l outputs =
-    nat_le (l.object_bit + l.count) 0x10000
-    && (nat_le (l.object_bit + l.count) (8 * length outputs)
-    && (bits_number outputs l.object_bit l.count == bits_number (value_bytes x) (l.image - v.from) l.count))
+has_bits v x l outputs = has_room l outputs && (bits_number outputs l.object_bit l.count == bits_number (value_bytes x) (l.image - v.from) l.count)
 
 -- the slave of a link of the variable publishes the value's bits
 abbrev pub is_published : WorldState → Variable → ℕ → Link → Bool

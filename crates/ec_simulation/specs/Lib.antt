@@ -8,6 +8,8 @@ pub mod Statuses
 pub mod Inputs
 -- when what a line expects of a world holds
 pub mod Expecting
+-- an output variable as the slaves publish it
+pub mod Showing
 -- how frames go round, as events
 pub mod Rounds
 -- what a line does to a world, and its output

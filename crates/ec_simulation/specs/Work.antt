@@ -6,13 +6,14 @@ use Rattle.ec_world.specs.declared.event.Event.{Event}
 use Rattle.ec_world.specs.declared.event.Event.TheVariants as event
 use Rattle.ec_world.specs.World.{WorldState, IsStep}
 use Rattle.ec_script.specs.declared.line.LineAction.{LineAction}
-use Rattle.ec_script.specs.declared.line.LineAction.TheVariants.{Start, Set, Begin, Pass, Lose, Return, Close, Serve, Put, Get, Fail, Reset, Input, Never, Expect, Ready, Cycle, Show, Report, States, Stop}
+use Rattle.ec_script.specs.declared.line.LineAction.TheVariants.{Start, Set, Begin, Pass, Lose, Return, Close, Serve, Put, Get, Fail, Reset, Input, Never, Expect, Ready, Cycle, Show, Output, LosePart, Served, Report, States, Stop}
 use Rattle.ec_script.specs.declared.output.LineOutput.{LineOutput}
 use Rattle.ec_script.specs.declared.output.LineOutput.TheVariants as output
 use Rattle.ec_script.specs.Outputs.{is_done, output_if}
 use Rattle.ec_simulation.specs.Expecting.{is_met}
 use Rattle.ec_simulation.specs.Inputs.{input_events, is_input_of}
 use Rattle.ec_simulation.specs.Rounds.{rounds_found}
+use Rattle.ec_simulation.specs.Showing.{output_shown, said_value}
 
 -- ---- one event
 
@@ -121,6 +122,9 @@ Does (Expect e) old new word = (new ≡ old) × (word ≡ output_if (is_met e ol
 Does Ready old new word = Starts last_turn old new word
 Does Cycle old new word = RunsCycle old new word
 Does Show old new word = (new ≡ old) × (word ≡ output.Values)
+Does (Output v) old new word = (new ≡ old) × (word ≡ said_value v (output_shown old (slice_get old.plan.variables v)))
+Does (LosePart n k) old new word = (new ≡ old) × (word ≡ output.No)
+Does Served old new word = (new ≡ old) × (word ≡ output.No)
 Does Report old new word = (new ≡ old) × (word ≡ output.Report)
 Does States old new word = (new ≡ old) × (word ≡ output.States)
 Does Stop old new word = (new ≡ old) × (word ≡ output.No)

@@ -9,6 +9,7 @@ ghost use Rattle.ec_simulation.specs.Work.{Does, event_of};
 use crate::inputs::put_input;
 use crate::met::is_met;
 use crate::rounds::{make, run_cycle, start_up};
+use crate::showing::show_output;
 use ec_script::{Expectation, LineAction, LineOutput};
 use ec_world::{Event, Watcher, World};
 
@@ -51,6 +52,9 @@ pub fn event_of(action: LineAction) -> Option<Event>
         | LineAction::Ready
         | LineAction::Cycle
         | LineAction::Show
+        | LineAction::Output(_)
+        | LineAction::LosePart(_, _)
+        | LineAction::Served
         | LineAction::Report
         | LineAction::States
         | LineAction::Stop => None,
@@ -84,6 +88,8 @@ fn perform<S: Watcher>(world: &mut World<'_>, watcher: &mut S, action: LineActio
         LineAction::Ready => start_up(world, watcher),
         LineAction::Cycle => run_cycle(world, watcher),
         LineAction::Show => LineOutput::Values,
+        LineAction::Output(variable) => show_output(world, variable),
+        LineAction::LosePart(_, _) | LineAction::Served => LineOutput::No,
         LineAction::Report => LineOutput::Report,
         LineAction::States => LineOutput::States,
     }

@@ -1,6 +1,6 @@
 //! Whether what a line expects of a world holds.
 ghost use Rattle.std.specs.Prelude.{◌≡◌, ◌≤◌, true, slice_get};
-ghost use Rattle.ec_simulation.specs.Expecting.{has_bits, has_code, is_in_state, is_met, is_published, is_value};
+ghost use Rattle.ec_simulation.specs.Expecting.{has_bits, has_room, has_code, is_in_state, is_met, is_published, is_value};
 ghost use Rattle.ec_simulation.specs.Inputs.{is_of};
 ghost use Rattle.std.specs.List.{list_all};
 
@@ -92,17 +92,23 @@ fn is_published(world: &World<'_>, variable: Variable, value: u64, link: &Link) 
     link.slave < world.slaves() && has_bits(variable, value, link, world.outputs(link.slave))
 }
 
+/// Whether published outputs have all bits of a link.
+pub fn has_room(link: &Link, outputs: &[u8]) -> bool
+    ensures { result ≡ has_room link.now outputs.now }
+{
+    if link.object_bit > MAX_BITS || link.count > MAX_BITS - link.object_bit {
+        return false;
+    }
+    (link.object_bit + link.count + 7) / 8 <= outputs.len()
+}
+
 /// Whether published outputs have all bits of a link of a variable, and these are those of a value.
 fn has_bits(variable: Variable, value: u64, link: &Link, outputs: &[u8]) -> bool
     requires few { variable.bits ≤ 64 }
     requires linked { is_of variable link.now ≡ true }
     ensures { result ≡ has_bits variable value link.now outputs.now }
 {
-    if link.object_bit > MAX_BITS || link.count > MAX_BITS - link.object_bit {
-        return false;
-    }
-    let bytes = (link.object_bit + link.count + 7) / 8;
-    if bytes > outputs.len() {
+    if !has_room(link, outputs) {
         return false;
     }
     let from = link.image - variable.from;

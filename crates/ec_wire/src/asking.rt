@@ -32,7 +32,7 @@ pub fn ask<W: Wire, C: Clock>(
     let mut frame = Frame::new();
     write_question(question, count, &mut frame);
     if !send_on(wire, frame.as_slice()) {
-        return Err(SocketFault);
+        return Err(SocketFault(wire.trouble()));
     }
     hear_answer(wire, clock, question, count)
 }

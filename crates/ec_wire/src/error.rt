@@ -2,7 +2,9 @@
 ghost use Rattle.std.specs.Prelude.{◌≡◌, codes};
 ghost use Rattle.ec_wire.specs.Errors.{run_number, run_name};
 
+use crate::trouble::Trouble;
 use ec_cycle::CycleError;
+use std::io;
 use thiserror::Error;
 
 /// Why no input of a cycle over a wire was taken.
@@ -49,10 +51,10 @@ impl From<CycleError> for RunError {
     }
 }
 
-/// A socket couldn't be opened, or a call on one was a fault.
+/// A socket couldn't be opened, or a call on one was a fault: what the system said.
 #[derive(Clone, Copy, Debug, PartialEq, Eq, Drop, Error)]
 #[error("a fault of a socket")]
-pub struct SocketFault;
+pub struct SocketFault(pub Trouble);
 
 impl SocketFault {
     /// The number by which the program prints this error.
@@ -67,5 +69,11 @@ impl SocketFault {
         ensures { result.now ≡ codes "Socket" }
     {
         "Socket"
+    }
+}
+
+impl From<io::Error> for SocketFault {
+    fn from(error: io::Error) -> SocketFault {
+        SocketFault(Trouble::of(&error))
     }
 }

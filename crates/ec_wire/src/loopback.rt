@@ -4,6 +4,7 @@ ghost use Rattle.ec_wire.specs.Wires.{counted, max_failed, nothing_sent, one_mor
 
 use crate::application::{App, answer};
 use crate::error::SocketFault;
+use crate::trouble::Trouble;
 use crate::udp::UdpWire;
 use crate::wire::{Wire, listen_on, receive_on, send_on};
 use ec_frame::field::MAX_FRAME_LEN;
@@ -120,7 +121,7 @@ impl<A: App + Drop> Loopback<A> {
         let sockets = Sockets::bind(rt)?;
         let ports = (sockets.master.port(), sockets.segment.port());
         let Some(app) = self.app.take() else {
-            return Err(SocketFault);
+            return Err(SocketFault(Trouble::Unmade));
         };
         self.counts.slaves = ring.len();
         Ok(LoopWire {
@@ -251,6 +252,10 @@ impl<A: App + Drop> Wire for LoopWire<A> {
 
     fn failures(&self) -> u64 {
         self.counts.failed
+    }
+
+    fn trouble(&self) -> Trouble {
+        self.sockets.master.trouble()
     }
 
     fn send(&mut self, payload: &[u8]) {

@@ -4,6 +4,7 @@ ghost use Rattle.ec_wire.specs.Wires.{Carries, Payloads, WireState, failed_again
 
 use crate::application::{Echo, answer};
 use crate::payload::{Payload, frame_of};
+use crate::trouble::Trouble;
 use crate::wire::Wire;
 use ec_frame::field::MAX_FRAME_LEN;
 use ec_ring::Ring;
@@ -140,6 +141,10 @@ impl Wire for MemoryWire {
 
     fn failures(&self) -> u64 {
         self.failures
+    }
+
+    fn trouble(&self) -> Trouble {
+        Trouble::Unmade
     }
 
     fn send(&mut self, payload: &[u8]) {

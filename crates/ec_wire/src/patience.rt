@@ -3,9 +3,11 @@ ghost use Rattle.std.specs.Prelude.{◌≡◌, ◌==◌, ◌≤◌, ◌*◌, len
 ghost use Rattle.std.specs.Duration.{as_nanos};
 ghost use Rattle.ec_wire.specs.Waiting.{AreWithin, lasts, parts_left};
 
+use crate::trouble::Trouble;
 use std::io;
 use std::io::ErrorKind;
 use std::net::{SocketAddr, UdpSocket};
+use std::os::fd::{AsRawFd, RawFd};
 use std::time::Duration;
 
 /// The least number of parts of a patience that ends.
@@ -95,17 +97,29 @@ impl PatientSocket {
     ///
     /// # Errors
     ///
-    /// The socket itself, if it isn't a socket or the system refuses the patience, as it refuses 0.
-    pub fn new(socket: UdpSocket, patience: Patience) -> Result<PatientSocket, UdpSocket> {
+    /// The socket itself, and what the system says, if it isn't a socket or the system refuses the patience, as it refuses 0.
+    pub fn new(
+        socket: UdpSocket,
+        patience: Patience,
+    ) -> Result<PatientSocket, (UdpSocket, Trouble)> {
         let (part, parts) = patience.parts();
-        if socket.set_read_timeout(part).is_err() || socket.set_nonblocking(false).is_err() {
-            return Err(socket);
+        let refused = match socket.set_read_timeout(part) {
+            Ok(()) => socket.set_nonblocking(false).err(),
+            Err(error) => Some(error),
+        };
+        match refused {
+            Some(error) => Err((socket, Trouble::of(&error))),
+            None => Ok(PatientSocket {
+                socket,
+                part,
+                parts,
+            }),
         }
-        Ok(PatientSocket {
-            socket,
-            part,
-            parts,
-        })
+    }
+
+    /// The descriptor of the socket, at which one can wait.
+    pub fn descriptor(&self) -> RawFd {
+        self.socket.as_raw_fd()
     }
 
     /// The port of the socket.
@@ -118,17 +132,21 @@ impl PatientSocket {
         self.socket.connect(peer)
     }
 
-    /// Sends a datagram to the address `to`, or to the peer that the socket is connected with if that is `None`. Returns whether all
-    /// of it was sent.
-    pub fn has_sent(&self, datagram: &[u8], to: Option<SocketAddr>) -> bool {
+    /// Sends a datagram to the address `to`, or to the peer that the socket is connected with if that is `None`.
+    ///
+    /// # Errors
+    ///
+    /// What the system says; also if not all of it was sent.
+    pub fn send(&self, datagram: &[u8], to: Option<SocketAddr>) -> Result<(), Trouble> {
         for _ in 0..self.parts {
             match self.send_once(datagram, to) {
-                Ok(count) => return count == datagram.len(),
+                Ok(count) if count == datagram.len() => return Ok(()),
+                Ok(_) => return Err(Trouble::Unmade),
                 Err(error) if error.kind() == ErrorKind::Interrupted => {}
-                Err(_) => return false,
+                Err(error) => return Err(Trouble::of(&error)),
             }
         }
-        false
+        Err(Trouble::Silence)
     }
 
     /// Receives a datagram into `buffer`, cut to the room there, and returns how many bytes are there. When the patience is over, it

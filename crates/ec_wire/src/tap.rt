@@ -3,6 +3,7 @@ ghost use Rattle.std.specs.Prelude.{◌≡◌, ℕ, [], ◌∷◌};
 ghost use Rattle.ec_capture.specs.Recordings.{Notes};
 ghost use Rattle.ec_wire.specs.Taps.{has_passed, captured_of};
 
+use crate::trouble::Trouble;
 use crate::wire::{Wire, listen_on, receive_on, send_on};
 use ec_capture::{Packet, Recorder};
 use std::io::Write;
@@ -76,6 +77,10 @@ impl<'c, W: Wire + Drop, O: Write + Drop, C: Clock> Wire for CapturedWire<'c, W,
 
     fn failures(&self) -> u64 {
         self.wire.failures()
+    }
+
+    fn trouble(&self) -> Trouble {
+        self.wire.trouble()
     }
 
     fn send(&mut self, payload: &[u8]) {

@@ -1,15 +1,17 @@
 //! A wire over the system's UDP sockets.
 ghost use Rattle.std.specs.Prelude.{◌≡◌, ◌≤◌, length, IfOk};
-ghost use Rattle.ec_wire.specs.Wires.{IsOpened, silent};
+ghost use Rattle.ec_wire.specs.Wires.{IsOpened, one_more, silent};
 
 use crate::error::SocketFault;
 use crate::patience::{Patience, PatientSocket};
+use crate::trouble::Trouble;
 use crate::wire::Wire;
 use ec_frame::field::MAX_FRAME_LEN;
 use std::io;
 use std::io::ErrorKind;
 use std::marker::Model;
 use std::net::{Ipv4Addr, Net, SocketAddr, SocketAddrV4, UdpSocket};
+use std::os::fd::RawFd;
 use std::time::Duration;
 
 /// How long a master waits for a payload by default, in milliseconds.
@@ -34,6 +36,7 @@ pub struct UdpWire {
     port: u16,
     peer: Peer,
     failures: u64,
+    trouble: Trouble,
 }
 
 impl Model for UdpWire {
@@ -61,19 +64,44 @@ impl UdpWire {
     pub fn bind<R: Net>(rt: &R, port: u16) -> Result<UdpWire, SocketFault>
         ensures { IfOk result (IsOpened port) }
     {
-        UdpWire::bind_idle(rt, port, MAX_IDLE)
+        UdpWire::bind_at(
+            rt,
+            Ipv4Addr::LOCALHOST,
+            port,
+            Patience::of_seconds(MAX_IDLE),
+        )
     }
 
-    /// A segment's wire on a port of 127.0.0.1; with port 0 the system picks one. It sends to the sender of the last payload that it
-    /// received. A receive that gets nothing for `seconds` seconds is a fault; with 0 it waits without end.
+    /// A segment's wire on a port of an address; with port 0 the system picks one. It sends to the sender of the last payload that it
+    /// received. A receive that gets nothing with this patience is a fault.
     ///
     /// # Errors
     ///
     /// `SocketFault` if there is no such socket, for example because the port is in use.
-    pub fn bind_idle<R: Net>(rt: &R, port: u16, seconds: u32) -> Result<UdpWire, SocketFault>
+    pub fn bind_at<R: Net>(
+        rt: &R,
+        address: Ipv4Addr,
+        port: u16,
+        patience: Patience,
+    ) -> Result<UdpWire, SocketFault>
         ensures { IfOk result (IsOpened port) }
     {
-        UdpWire::new(rt, port, Patience::of_seconds(seconds))
+        let (socket, found) = open(rt, SocketAddr::from((address, port)), patience)?;
+        if port != 0 && found != port {
+            return Err(SocketFault(Trouble::Unmade));
+        }
+        Ok(UdpWire {
+            socket,
+            port: found,
+            peer: Peer::Last(None),
+            failures: 0,
+            trouble: Trouble::Silence,
+        })
+    }
+
+    /// The descriptor of the socket, at which one can wait for payloads.
+    pub fn descriptor(&self) -> RawFd {
+        self.socket.descriptor()
     }
 
     /// A wire on a port of 127.0.0.1 that the system picks. It sends to the sender of the last payload that it received. A receive that
@@ -81,7 +109,7 @@ impl UdpWire {
     pub(crate) fn bind_impatient<R: Net>(rt: &R) -> Result<UdpWire, SocketFault>
         ensures { IfOk result (λ w. w.failed ≡ 0) }
     {
-        UdpWire::new(rt, 0, Patience::of_millis(PATIENCE))
+        UdpWire::bind_at(rt, Ipv4Addr::LOCALHOST, 0, Patience::of_millis(PATIENCE))
     }
 
     /// A master's wire to the segment on a port of 127.0.0.1. It receives from that segment alone. A receive that gets nothing in half
@@ -116,6 +144,7 @@ impl UdpWire {
             port,
             peer: Peer::Last(None),
             failures: 0,
+            trouble: Trouble::Silence,
         };
         wire.connected_with(SocketAddr::V4(peer))
     }
@@ -137,36 +166,28 @@ impl UdpWire {
                 wire.peer = Peer::Connected;
                 Ok(wire)
             }
-            Err(_) => Err(SocketFault),
+            Err(error) => Err(error.into()),
         }
     }
 
-    /// A wire on a port of 127.0.0.1, which sends to the sender of the last payload that it received.
-    fn new<R: Net>(rt: &R, port: u16, patience: Patience) -> Result<UdpWire, SocketFault>
-        ensures { IfOk result (IsOpened port) }
-    {
-        let (socket, found) = open(rt, here(port), patience)?;
-        if port != 0 && found != port {
-            return Err(SocketFault);
-        }
-        Ok(UdpWire {
-            socket,
-            port: found,
-            peer: Peer::Last(None),
-            failures: 0,
-        })
-    }
-
-    /// Sends a payload to the peer. Returns whether all of it was sent.
-    fn has_sent(&self, payload: &[u8]) -> bool {
+    /// Sends all of a payload to the peer, or returns why it isn't sent.
+    fn send_all(&self, payload: &[u8]) -> Result<(), Trouble> {
         if payload.len() > MAX_FRAME_LEN {
-            return false;
+            return Err(Trouble::Unmade);
         }
         match self.peer {
-            Peer::Connected => self.socket.has_sent(payload, None),
-            Peer::Last(Some(peer)) => self.socket.has_sent(payload, Some(peer)),
-            Peer::Last(None) => false,
+            Peer::Connected => self.socket.send(payload, None),
+            Peer::Last(Some(peer)) => self.socket.send(payload, Some(peer)),
+            Peer::Last(None) => Err(Trouble::Unmade),
         }
+    }
+
+    /// Counts a fault, and keeps why it was one.
+    fn fail(&mut self, trouble: Trouble)
+        ensures { self.new ≡ record self.old { failed = one_more self.old.failed } }
+    {
+        self.failures = self.failures.saturating_add(1);
+        self.trouble = trouble;
     }
 
     /// Receives a payload, with the patience that is left after `waited`. Returns how many bytes of it are in `buffer`, and the peer to
@@ -194,21 +215,28 @@ impl Wire for UdpWire {
         self.failures
     }
 
+    fn trouble(&self) -> Trouble {
+        self.trouble
+    }
+
     fn send(&mut self, payload: &[u8]) {
-        let failures = self.failures;
-        if !self.has_sent(payload) {
-            self.failures = failures.saturating_add(1);
+        if let Err(trouble) = self.send_all(payload) {
+            self.fail(trouble);
         }
     }
 
     fn recv(&mut self, buffer: &mut [u8]) -> usize {
         let room = buffer.len().min(MAX_FRAME_LEN);
-        let Ok((count, peer)) = self.receive(Duration::ZERO, &mut buffer[..room]) else {
-            self.failures = self.failures.saturating_add(1);
-            return 0;
-        };
-        self.peer = peer;
-        count
+        match self.receive(Duration::ZERO, &mut buffer[..room]) {
+            Ok((count, peer)) => {
+                self.peer = peer;
+                count
+            }
+            Err(error) => {
+                self.fail(Trouble::of(&error));
+                0
+            }
+        }
     }
 
     fn recv_within(&mut self, waited: Duration, buffer: &mut [u8]) -> Option<usize> {
@@ -219,8 +247,8 @@ impl Wire for UdpWire {
                 Some(count)
             }
             Err(error) if error.kind() == ErrorKind::WouldBlock => None,
-            Err(_) => {
-                self.failures = self.failures.saturating_add(1);
+            Err(error) => {
+                self.fail(Trouble::of(&error));
                 None
             }
         }
@@ -233,16 +261,13 @@ fn open<R: Net>(
     at: SocketAddr,
     patience: Patience,
 ) -> Result<(PatientSocket, u16), SocketFault> {
-    let Ok(socket) = UdpSocket::bind(rt, at) else {
-        return Err(SocketFault);
+    let socket = UdpSocket::bind(rt, at)?;
+    let socket = match PatientSocket::new(socket, patience) {
+        Ok(socket) => socket,
+        Err((_, trouble)) => return Err(SocketFault(trouble)),
     };
-    let Ok(socket) = PatientSocket::new(socket, patience) else {
-        return Err(SocketFault);
-    };
-    match socket.port() {
-        Ok(port) => Ok((socket, port)),
-        Err(_) => Err(SocketFault),
-    }
+    let port = socket.port()?;
+    Ok((socket, port))
 }
 
 /// The address of a port on 127.0.0.1.

@@ -3,6 +3,7 @@ ghost use Rattle.std.specs.Prelude.{◌≡◌, ◌≤◌, [], ◌∷◌, true, f
 ghost use Rattle.ec_wire.specs.Wires.{WireState, Carries, is_fault};
 
 use crate::error::SocketFault;
+use crate::trouble::Trouble;
 use std::time::Duration;
 
 /// What carries payloads to a segment and back.
@@ -15,6 +16,9 @@ pub trait Wire {
     /// How many calls were faults.
     fn failures(&self) -> u64
         ensures { result ≡ (state self.now).failed };
+
+    /// Why the last call that was a fault was one. No clause says what: the system knows that.
+    fn trouble(&self) -> Trouble;
 
     /// Sends a payload. A call with more than 1472 bytes is a fault.
     fn send(&mut self, payload: &[u8])
@@ -88,7 +92,7 @@ pub fn listen_on<W: Wire>(
     if is_fine(before, wire.failures()) {
         Ok(heard)
     } else {
-        Err(SocketFault)
+        Err(SocketFault(wire.trouble()))
     }
 }
 

@@ -2,6 +2,8 @@
 pub mod Words
 -- lists of options, and tests of all elements
 pub mod Lists
+-- slaves that make a firmware step, one after another
+pub mod ServedAll
 -- frames in slots
 pub mod SlotLaws
 -- an event of a world that refines a plain state is one of the plain machine

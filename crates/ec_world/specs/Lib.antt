@@ -29,6 +29,8 @@ pub mod NewWorld
 pub mod AlWords
 -- what can be captured of its frames
 pub mod Watching
+-- frames of another master
+pub mod Outside
 -- Private: the rest serves the code and the proofs alone, and no public clause cites it.
 -- slots in use, and a frame in its slot as it passes its next slave
 pub mod Slots

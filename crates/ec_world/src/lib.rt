@@ -4,6 +4,7 @@
 mod event;
 pub mod laws;
 mod making;
+mod outside;
 mod progress;
 mod slot;
 mod slots;

@@ -6,10 +6,13 @@ use ec_app::{Console, InputStream, OutputStream, run_program};
 use std::env;
 use std::process::ExitCode;
 
+/// The descriptor of standard input.
+const STDIN: i32 = 0;
+
 fn main(rt: HostRuntime) -> ExitCode {
     let mut console = Console::new(
         rt.alloc(),
-        InputStream::new(rt.stdin()),
+        InputStream::watched(rt.stdin(), STDIN),
         OutputStream::new(rt.stdout()),
         OutputStream::new(rt.stderr()),
     );

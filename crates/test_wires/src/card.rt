@@ -10,7 +10,7 @@
 use crate::rows::{Line, assert_row, assert_same, bytes_of, line_of, number_of};
 use ec_card::{CardWire, Patience, Sender, framed, payload_of};
 use ec_frame::check;
-use ec_wire::{SocketFault, Wire};
+use ec_wire::{SocketFault, Trouble, Wire};
 use std::net::{Ipv4Addr, Net, SocketAddr, UdpSocket};
 use std::os::fd::IntoRawFd;
 use std::process::Abort;
@@ -244,6 +244,6 @@ failures > 0
 fn no_socket(rt: HostRuntime) {
     for patience in [soon(), Patience::Endless] {
         let wire = CardWire::of_descriptor(1000, Sender::Master, patience);
-        assert_same(&rt, &wire.err(), &Some(SocketFault), "");
+        assert_same(&rt, &wire.err(), &Some(SocketFault(Trouble::System(9))), "");
     }
 }

@@ -17,7 +17,7 @@ use self::sizes::expect_size;
 use self::tables::{FULL_TABLE, THREE_SLAVES};
 use self::trials::expect_trials;
 use ec_cycle::CycleError;
-use ec_wire::{RunError, SocketFault};
+use ec_wire::{RunError, SocketFault, Trouble};
 use std::fmt::Display;
 use std::process::Abort;
 
@@ -177,7 +177,29 @@ fn texts_of_errors(rt: HostRuntime) {
     let refusal = RunError::Refused(CycleError::NotReady);
     expect_said(&rt, &refusal, "no start-up has ended ready");
     expect_said(&rt, &RunError::Wire, "a fault of the wire");
-    expect_said(&rt, &SocketFault, "a fault of a socket");
-    let met = (SocketFault.number(), SocketFault.name());
-    assert_same(&rt, &met, &(43, "Socket"));
+    let fault = SocketFault(Trouble::Silence);
+    expect_said(&rt, &fault, "a fault of a socket");
+    assert_same(&rt, &(fault.number(), fault.name()), &(43, "Socket"));
+}
+
+// What the system says of a socket, by the numbers of its errors on Linux.
+#[test]
+fn texts_of_troubles(rt: HostRuntime) {
+    for (number, text) in [
+        (1, "it isn't permitted"),
+        (9, "the descriptor isn't open"),
+        (12, "there is no memory for it"),
+        (13, "it isn't permitted"),
+        (19, "there is no such interface, or it is gone"),
+        (88, "the descriptor is no socket"),
+        (98, "the address is in use"),
+        (99, "the address is none of this system's"),
+        (100, "the interface is down"),
+        (101, "there is no way to the address"),
+        (111, "nobody listens at the address"),
+        (2, "the system says error 2"),
+    ] {
+        expect_said(&rt, &Trouble::System(number), text);
+    }
+    expect_said(&rt, &Trouble::Silence, "nothing came in time");
 }

@@ -2,7 +2,7 @@
 use crate::wire::machines::{READ, assert_same, machine_of, ring_of, wire_to};
 use crate::wire::tables::THREE_SLAVES;
 use ec_ring::Ring;
-use ec_wire::{Echo, MemoryWire, SocketFault, UdpWire, Wire, serve_segment};
+use ec_wire::{Echo, MemoryWire, Patience, SocketFault, UdpWire, Wire, serve_segment};
 use std::net::{Ipv4Addr, Net, SocketAddr, SocketAddrV4, UdpSocket};
 use std::process::Abort;
 
@@ -190,7 +190,7 @@ fn expect_rows(rt: &(impl Net + Abort), ends: &mut Ends, rows: &[Row]) {
 /// A segment's wire on a port that the system picks: `idle` waits a second.
 fn segment_of(rt: &(impl Net + Abort), kind: &str) -> UdpWire {
     let segment = match kind {
-        "idle" => UdpWire::bind_idle(rt, 0, 1),
+        "idle" => UdpWire::bind_at(rt, Ipv4Addr::LOCALHOST, 0, Patience::of_seconds(1)),
         _ => UdpWire::bind(rt, 0),
     };
     segment.expect(rt, "a segment")

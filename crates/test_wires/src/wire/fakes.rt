@@ -1,6 +1,6 @@
 //! A wire that carries nothing.
 
-use ec_wire::Wire;
+use ec_wire::{Trouble, Wire};
 use std::time::Duration;
 
 /// Each `recv` brings a payload of up to so many bytes, `recv_within` nothing, and the count of faults stays as it is; at its last
@@ -20,6 +20,10 @@ impl Wire for Fake {
 
     fn failures(&self) -> u64 {
         self.failures
+    }
+
+    fn trouble(&self) -> Trouble {
+        Trouble::Unmade
     }
 
     fn send(&mut self, _payload: &[u8]) {}

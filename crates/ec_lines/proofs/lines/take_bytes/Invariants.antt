@@ -1,6 +1,6 @@
 use Rattle.std.proofs.Common.{◌≡◌, ◌≤◌, []}
 use Rattle.ec_lines.specs.Inputs.{bytes_left}
-use Rattle.ec_lines.proofs.TakeLemmas.{IsSoFar}
+use Rattle.ec_lines.specs.Taking.{IsSoFar}
 use Rattle.ec_lines.proofs.lines.take_bytes.Given as goal
 
 abbrev pub invariant-loop : goal.invariant-loop

@@ -1,6 +1,6 @@
 use Rattle.std.proofs.Common.{◌∙◌, ℕ, List, subst}
 use Rattle.ec_console.specs.Printing.{IsEprinted}
-use Rattle.cmd_segment.proofs.segment.eprint_listening.Goals as goal
+use Rattle.cmd_segment.proofs.opened.eprint_listening.Goals as goal
 
 pub returns : goal.returns
 returns g c =

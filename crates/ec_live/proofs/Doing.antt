@@ -1,0 +1,92 @@
+-- What a payload and a line do to a live segment.
+use Rattle.std.proofs.Common.{◌≡◌, ◌∙◌, inl, inr, ℕ, ◌≢◌, ◌<◌, List, [], ◌∷◌, ◌++◌, length, nat_lt, Bool, true, false, if◌then◌else◌, Option, Some, None, Result, Ok, Err, IfOk, OnErr, refl, sym, ap, subst, arith}
+use Rattle.std.specs.Prelude.{codes}
+use Rattle.std.proofs.lemmas.List.Elements.{All-cons, All-nil}
+use Rattle.ec_frame.specs.Frame.{IsFrame, Payload}
+use Rattle.ec_ring.specs.Rings.{IsNoFrame}
+use Rattle.ec_table.specs.Contents.{Contents}
+use Rattle.ec_world.specs.World.{WorldState}
+use Rattle.ec_world.specs.Outside.{IsCarried}
+use Rattle.ec_world.specs.declared.event.Event.{Event}
+use Rattle.ec_script.specs.declared.line.Line.{Line}
+use Rattle.ec_script.specs.declared.line.LineAction.{LineAction}
+use Rattle.ec_script.specs.declared.line.LineAction.TheVariants as act
+use Rattle.ec_script.specs.declared.output.LineOutput.TheVariants.{No}
+use Rattle.ec_console.specs.declared.wanted.Reasons.{Reasons}
+use Rattle.ec_console.specs.Reasons.{ReasonIf}
+use Rattle.ec_diagnostic.specs.Reason.{IsReason}
+use Rattle.cmd_sim.specs.Simulating.{Simulated, Simulates, is_reasoned}
+use Rattle.ec_live.specs.Cyclic.{cyclic_part}
+use Rattle.ec_live.specs.Doing.{Quietly, SaysAction, SaysInWorld, SaysNo}
+use Rattle.ec_live.specs.Drops.{DropState, dropping_part, is_dropped}
+use Rattle.ec_live.specs.Meeting.{DropsIt, Meets}
+use Rattle.ec_live.specs.Stages.{IsReturned, IsNoText}
+use Rattle.ec_live.specs.State.{LiveState, one_more}
+use Rattle.ec_live.proofs.Dropping.{nothing_dropped, undropped}
+
+-- ---- a payload
+
+-- a payload that isn't dropped is answered, if it is a frame
+pub meets_answered : (s t : LiveState) (payload answer : List ℕ) (world : WorldState) → IsReturned s payload → IsCarried s.world payload world answer → t ≡ record s { world = world; answered = one_more s.answered }
+    → Meets s payload t (answer ∷ [])
+meets_answered s t payload answer world kept carried is = inr (inr (record { kept = kept; world = world; answer = answer; carried = carried; is = is; answered = refl }))
+
+pub meets_refused : (s t : LiveState) (payload : List ℕ) → IsNoFrame payload → t ≡ record s { refused = one_more s.refused } → Meets s payload t []
+meets_refused s t payload none is = inl (record { none = none; is = is; silent = refl })
+
+-- no frame is to be dropped
+pub kept_none : (s : LiveState) (payload : List ℕ) → ((part : Option ℕ) → is_dropped s.drops part ≡ false) → IsReturned s payload
+kept_none s payload none frame spelled = none (cyclic_part s.world.plan.parts frame.datagrams)
+
+-- ---- a line
+
+-- a segment, by its parts
+abbrev pub live_of : {S : Type 0} → Simulated S → DropState → ℕ → ℕ → LiveState
+live_of {S} m drops answered refused = record { world = m.world; table = m.table; reasons = m.reasons; drops = drops; answered = answered; refused = refused }
+
+-- a line that its simulation obeys
+pub world_obeys : {S : Type 0} (observed : S → WorldState → Event → WorldState → S → Type 0) (a b : Simulated S) (drops : DropState) (answered refused : ℕ) (s : LiveState) (line : Line) (text : List ℕ) (unmet : ℕ)
+    → live_of a drops answered refused ≡ s → Simulates observed a line b text unmet → SaysInWorld s line (live_of b drops answered refused) text unmet
+world_obeys {S} observed a b drops answered refused s line text unmet is h =
+    subst (λ (x : LiveState). SaysInWorld x line (live_of b drops answered refused) text unmet) is (record {
+      says = h.says;
+      plan = h.plan;
+      is = ap (λ (t : Contents). record { world = b.world; table = t; reasons = b.reasons; drops = drops; answered = answered; refused = refused }) h.table
+          ∙ ap (λ (r : Reasons). record { world = b.world; table = a.table; reasons = r; drops = drops; answered = answered; refused = refused }) h.reasons;
+    })
+
+-- what an action says is what a line with it says
+pub says_as : (action other : LineAction) (s t : LiveState) (line : Line) (text : List ℕ) (unmet : ℕ) → action ≡ other → SaysAction other s line t text unmet → SaysAction action s line t text unmet
+says_as action other s t line text unmet is h = subst (λ (a : LineAction). SaysAction a s line t text unmet) (sym is) h
+
+-- frames of a part are dropped
+pub part_dropped : (n k : ℕ) (s t : LiveState) (line : Line) (text : List ℕ) (unmet : ℕ) → nat_lt k (length s.drops.parts) ≡ true → Quietly (record s { drops = dropping_part n k s.drops }) t text unmet
+    → SaysAction (act.LosePart n k) s line t text unmet
+part_dropped n k s t line text unmet there h = rw there h
+
+-- or there is no such part
+pub part_missing : (n k : ℕ) (s t : LiveState) (line : Line) (text : List ℕ) (unmet : ℕ) → nat_lt k (length s.drops.parts) ≡ false → SaysNo s line t text unmet → SaysAction (act.LosePart n k) s line t text unmet
+part_missing n k s t line text unmet none h = rw none h
+
+-- a text that may stand behind it
+some_words : 63 ∷ [] ≢ []
+some_words is = let e : 63 ∷ [] ≡ [] = is in cc
+
+no_end : (b : ℕ) → b ≡ 63 → b ≢ 10
+no_end b is end = absurd (omega arith)
+
+some_why : (b : Bool) → (why : List ℕ) × ReasonIf b why
+some_why false = ([], refl)
+some_why true = (
+  codes "  " ++ (63 ∷ [] ++ (10 ∷ [])),
+  record { words = 63 ∷ []; some = some_words; on_one_line = All-cons (λ b. b ≢ 10) 63 [] (no_end 63 refl) (All-nil (λ b. b ≢ 10)); is = refl },
+)
+
+pub says_no : (s t : LiveState) (line : Line) (text : List ℕ) (unmet : ℕ) → t ≡ s → IsNoText s.reasons line.number text → unmet ≡ 0 → SaysNo s line t text unmet
+says_no s t line text unmet same (why, reason, is) met = record { same = same; why = why; reason = reason; text = is; met = met }
+
+-- a text that it may have, if there is no memory for it
+pub some_no : (s t : LiveState) (line : Line) → t ≡ s → (text : List ℕ) × (unmet : ℕ) × SaysNo s line t text unmet
+some_no s t line same =
+    let why = some_why (is_reasoned s.reasons No) in
+    (_, 0, says_no s t line _ 0 same (why.0, why.1, refl) refl)

@@ -1,0 +1,411 @@
+-- A run of a live segment, step after step.
+use Rattle.std.proofs.Common.{◌≡◌, ◌≢◌, ◌∙◌, ◌⊎◌, inl, inr, ℕ, zero, suc, ◌+◌, ◌-◌, ◌^◌, ◌<◌, ◌==◌, List, [], ◌∷◌, ◌++◌, length, min, take, Bool, true, false, Option, Some, None, Result, Ok, Err, refl, sym, ap, subst, append-nil, add-zero, nat_tests, arith}
+use Rattle.std.specs.Result.{IsErrAnd}
+use Rattle.std.proofs.KnownBytes.{Consumes-nil, Consumes-trans}
+use Rattle.std.proofs.lemmas.List.Elements.{All-nil}
+use Rattle.ec_lines.specs.Taking.{IsSoFar, TakesLine, TakesPart, max_kept}
+use Rattle.ec_wire.specs.Wires.{Carries, Trace, Nothing, Number, Payloads, WireState, grown, is_fault}
+use Rattle.ec_wire.specs.declared.trouble.Trouble.{Trouble}
+use Rattle.ec_wire.specs.declared.trouble.Trouble.TheVariants.{Silence}
+use Rattle.ec_console.specs.declared.refusal.Refusal.{Refusal}
+use Rattle.ec_console.specs.declared.refusal.Refusal.TheVariants as refusal
+use Rattle.ec_console.specs.Coming.{DoesTaken, StopsIn}
+use Rattle.ec_console.specs.Printing.{IsCutOff, IsPrinted, OutputState}
+use Rattle.ec_console.specs.Saying.{IsLate}
+use Rattle.ec_console.specs.Unmet.{counted, ended_by}
+use Rattle.ec_live.specs.Doing.{SaysLive, served_line}
+use Rattle.ec_live.specs.Living.{AreAll, Came, EndsTurns, HasRun, IsCut, Line, LivesOn, MeetsOne, ObeysOne, Payload, RunState, Runs, RunsOut, Step, StopsInLine, line_read, payloads_of}
+use Rattle.ec_live.specs.Stages.{Closes, FitsLines, FramesLeft, HasCome, IsAt, LinesState, MeetsFault, MeetsSome, ObeysCut, ObeysSome, TurnsEnd, one_less_frame}
+use Rattle.ec_live.specs.Meeting.{Meets}
+use Rattle.ec_live.specs.State.{LiveState}
+
+-- ---- bytes of the input
+
+take_none : (n : ℕ) → take {A = ℕ} n [] ≡ []
+take_none zero = refl
+take_none (suc n) = refl
+
+none_so_far : (known : Option (List ℕ)) (most : ℕ) (kept : List ℕ) → kept ≡ [] → IsSoFar known known most kept
+none_so_far known most kept none = record { front = []; unended = All-nil (λ b. b ≢ 10); taken = Consumes-nil known; keeps = none ∙ sym (take_none most) }
+
+none_taken : (known : Option (List ℕ)) → TakesPart known known
+none_taken known = ([], Consumes-nil known)
+
+pub taken_more : (a b c : Option (List ℕ)) → TakesPart a b → TakesPart b c → TakesPart a c
+taken_more a b c (xs, first) (ys, next) = (xs ++ ys, Consumes-trans a b c xs ys first next)
+
+-- ---- a wire that carries nothing
+
+grown_none : (told : Trace) → grown told [] ≡ told
+grown_none Nothing = refl
+grown_none (Number n) = ap Number (add-zero n)
+grown_none (Payloads ps) = ap Payloads (append-nil ps)
+
+carries_none : (w v : WireState) → Carries w v [] [] → v.failed ≡ w.failed → v ≡ w
+carries_none w v h fine =
+    ap (λ (told : Trace). record { sent = told; received = v.received; failed = v.failed }) (h.sends ∙ grown_none w.sent)
+    ∙ (ap (λ (told : Trace). record { sent = w.sent; received = told; failed = v.failed }) (h.receives ∙ grown_none w.received)
+    ∙ ap (λ (n : ℕ). record { sent = w.sent; received = w.received; failed = n }) fine)
+
+-- ---- counts
+
+sum_counted : (a b c d : ℕ) → c ≡ counted a → d ≡ counted b → min (c + d) (2 ^ 64 - 1) ≡ counted (a + b)
+sum_counted a b c d h g = omega arith
+
+-- ---- bytes of a line come
+
+-- a run stays where it is, and the lines of which bytes are taken too
+fits_part : (t : RunState) (l m : LinesState) (old new : Option (List ℕ)) → FitsLines t l old → m.count ≡ l.count → m.unmet ≡ l.unmet → TakesPart old new
+    → (m.is_open ≡ true → IsSoFar t.left new max_kept m.part) → FitsLines t m new
+fits_part t l m old new h count unmet taken part = record {
+  number = count ∙ h.number;
+  unmet = unmet ∙ h.unmet;
+  rest = taken_more t.left old new h.rest taken;
+  part = part;
+}
+
+-- it goes on, or no more come
+pub goes_on : (s : RunState) (live : LiveState) (output : OutputState) (l m : LinesState) (old new : Option (List ℕ)) → s.live ≡ live → s.output ≡ output → FitsLines s l old → m.count ≡ l.count
+    → m.unmet ≡ l.unmet → TakesPart old new → (m.is_open ≡ true → IsSoFar s.left new max_kept m.part) → ObeysSome s live m new output
+goes_on s live output l m old new a b h count unmet taken part = inl (sym a, sym b, fits_part s l m old new h count unmet taken part)
+
+-- a line is whole, and done
+pub obeys_line : (s : RunState) (live next : LiveState) (before after : OutputState) (l m : LinesState) (old new : Option (List ℕ)) (line : List ℕ) (more unmet : ℕ) → s.live ≡ live → s.output ≡ before
+    → FitsLines s l old → TakesLine s.left new line → 0 < length line → DoesTaken SaysLive (line_read live.table) live m.count line next unmet before after → m.count ≡ l.count + 1
+    → more ≡ counted unmet → m.unmet ≡ min (l.unmet + more) (2 ^ 64 - 1) → m.part ≡ [] → ObeysSome s next m new after
+obeys_line s live next before after l m old new line more unmet a b h taken some does one counts sum none = by line taken some here
+  where
+    number : m.count ≡ s.number + 1
+    number = one ∙ ap (λ (n : ℕ). n + 1) h.number
+
+    here : DoesTaken SaysLive (line_read s.live.table) s.live (s.number + 1) line next unmet s.output after
+    here =
+        subst (λ (o : OutputState). DoesTaken SaysLive (line_read s.live.table) s.live (s.number + 1) line next unmet o after) (sym b)
+        (subst (λ (n : ℕ). DoesTaken SaysLive (line_read s.live.table) s.live n line next unmet before after) number
+        (subst (λ (x : LiveState). DoesTaken SaysLive (line_read x.table) x m.count line next unmet before after) (sym a) does))
+
+    then : RunState
+    then = record { live = next; wire = s.wire; left = new; number = s.number + 1; unmet = s.unmet + unmet; output = after }
+
+    fits : FitsLines then m new
+    fits = record {
+      number = number;
+      unmet = sum ∙ sum_counted s.unmet unmet l.unmet more h.unmet counts;
+      rest = none_taken new;
+      part = λ is. none_so_far new max_kept m.part none;
+    }
+
+    by : (x : List ℕ) → TakesLine s.left new x → 0 < length x → DoesTaken SaysLive (line_read s.live.table) s.live (s.number + 1) x next unmet s.output after → ObeysSome s next m new after
+    by [] taken some does = absurd (omega arith)
+    by (c ∷ cs) taken some (printed, says, prints) =
+        inr (c ∷ cs, then, record { taken = taken; some = some; printed = printed; unmet = unmet; says = says; prints = prints; is = refl }, refl, refl, fits)
+
+-- or it is cut short
+pub cuts_line : (s : RunState) (live next : LiveState) (before after : OutputState) (l : LinesState) (old new : Option (List ℕ)) (n : ℕ) (line : List ℕ) (x : Refusal) → s.live ≡ live → s.output ≡ before
+    → FitsLines s l old → TakesLine s.left new line → StopsIn SaysLive (line_read live.table) live n line next before after → n ≡ l.count + 1 → IsLate false after x → ObeysCut s next after x
+cuts_line s live next before after l old new n line x a b h taken stops one late = (then, by x late, refl, refl)
+  where
+    number : n ≡ s.number + 1
+    number = one ∙ ap (λ (k : ℕ). k + 1) h.number
+
+    here : StopsIn SaysLive (line_read s.live.table) s.live (s.number + 1) line next s.output after
+    here =
+        subst (λ (o : OutputState). StopsIn SaysLive (line_read s.live.table) s.live (s.number + 1) line next o after) (sym b)
+        (subst (λ (k : ℕ). StopsIn SaysLive (line_read s.live.table) s.live k line next before after) number
+        (subst (λ (y : LiveState). StopsIn SaysLive (line_read y.table) y n line next before after) (sym a) stops))
+
+    then : RunState
+    then = record s { live = next; left = new; output = after }
+
+    in_line : StopsInLine s then
+    in_line = record { line = line; taken = taken; stops = here; is = refl }
+
+    by : (y : Refusal) → IsLate false after y → IsCut s then y
+    by refusal.Memory late = inr in_line
+    by refusal.Output late = (in_line, late)
+    by refusal.Input late = let bad : false ≡ true = late in cc
+    by (refusal.Frame e) late = absurd late
+    by (refusal.Table e) late = absurd late
+    by (refusal.Link e) late = absurd late
+    by (refusal.Start e) late = absurd late
+    by (refusal.Run e) late = absurd late
+    by (refusal.Socket trouble) late = absurd late
+    by (refusal.Script e) late = absurd late
+    by refusal.BadHex late = absurd late
+    by (refusal.Unmet n) late = absurd late
+
+-- there is no memory for its bytes
+pub cuts_before : (s : RunState) (live : LiveState) (output : OutputState) → s.live ≡ live → s.output ≡ output → ObeysCut s live output refusal.Memory
+cuts_before s live output a b = (s, inl refl, a, b)
+
+-- ---- one step more
+
+runs_push : (s : RunState) (cs : List Came) (t : RunState) (c : Came) (u : RunState) → Runs s cs t → Step t c u → Runs s (cs ++ (c ∷ [])) u
+runs_push s [] t c u h step = (u, subst (λ (x : RunState). Step x c u) h step, refl)
+runs_push s (d ∷ ds) t c u (mid, first, rest) step = (mid, first, runs_push mid ds t c u rest step)
+
+payload_more : (cs : List Came) (p : List ℕ) → length (payloads_of (cs ++ (Payload p ∷ []))) ≡ length (payloads_of cs) + 1
+payload_more [] p = refl
+payload_more (Payload q ∷ cs) p = let more = payload_more cs p in omega (arith, more)
+payload_more (Line l ∷ cs) p = payload_more cs p
+
+line_more : (cs : List Came) (l : List ℕ) → length (payloads_of (cs ++ (Line l ∷ []))) ≡ length (payloads_of cs)
+line_more [] l = refl
+line_more (Payload q ∷ cs) l = let more = line_more cs l in omega (arith, more)
+line_more (Line k ∷ cs) l = line_more cs l
+
+one_less : (j k m : ℕ) → (Some j ≡ Some 0 → ⊥) → j + k ≡ m → j - 1 + (k + 1) ≡ m
+one_less 0 k m some is = absurd (some refl)
+one_less (suc i) k m some is = omega arith
+
+frame_less : (frames now : Option ℕ) (k : ℕ) → (now ≡ Some 0 → ⊥) → FramesLeft frames k now → FramesLeft frames (k + 1) (one_less_frame now)
+frame_less None None k some h = tt
+frame_less None (Some n) k some h = absurd h
+frame_less (Some m) None k some h = absurd h
+frame_less (Some m) (Some n) k some h = one_less n k m some h
+
+-- ---- a run so far
+
+pub none_come : (frames : Option ℕ) (s : RunState) (live : LiveState) (wire : WireState) (lines : LinesState) (left : Option (List ℕ)) (output : OutputState) → IsAt s live wire lines left output
+    → HasCome frames s live wire lines left output frames
+none_come frames s live wire lines left output at = record { came = []; last = s; runs = refl; at = at; frames = all frames }
+  where
+    all : (f : Option ℕ) → FramesLeft f 0 f
+    all None = tt
+    all (Some n) = add-zero n
+
+-- a payload comes, or nothing
+pub frame_comes : (frames now later : Option ℕ) (s : RunState) (live next : LiveState) (w v : WireState) (lines : LinesState) (left : Option (List ℕ)) (output : OutputState)
+    → HasCome frames s live w lines left output now → (now ≡ Some 0 → ⊥) → MeetsSome live next w v now later → HasCome frames s next v lines left output later
+frame_comes frames now later s live next w v lines left output h some (inl (nothing, same)) = record {
+  came = h.came;
+  last = h.last;
+  runs = h.runs;
+  at = record {
+    live = h.at.live ∙ sym nothing.same;
+    wire = h.at.wire ∙ sym (carries_none w v nothing.carried nothing.fine);
+    output = h.at.output;
+    lines = h.at.lines;
+  };
+  frames = subst (FramesLeft frames (length (payloads_of h.came))) (sym same) h.frames;
+}
+frame_comes frames now later s live next w v lines left output h some (inr (payload, meets, less)) = record {
+  came = h.came ++ (Payload payload ∷ []);
+  last = then;
+  runs = runs_push s h.came h.last (Payload payload) then h.runs one;
+  at = record { live = refl; wire = refl; output = h.at.output; lines = fits };
+  frames = subst (λ (n : ℕ). FramesLeft frames n later) (sym (payload_more h.came payload))
+      (subst (FramesLeft frames (length (payloads_of h.came) + 1)) (sym less) (frame_less frames now (length (payloads_of h.came)) some h.frames));
+}
+  where
+    then : RunState
+    then = record h.last { live = next; wire = v }
+
+    one : MeetsOne h.last payload then
+    one = record {
+      answers = meets.answers;
+      carried = subst (λ (x : WireState). Carries x v meets.answers (payload ∷ [])) (sym h.at.wire) meets.carried;
+      fine = meets.fine ∙ sym (ap (λ (x : WireState). x.failed) h.at.wire);
+      meets = subst (λ (x : LiveState). Meets x payload next meets.answers) (sym h.at.live) meets.meets;
+      is = refl;
+    }
+
+    fits : FitsLines then lines left
+    fits = record { number = h.at.lines.number; unmet = h.at.lines.unmet; rest = h.at.lines.rest; part = h.at.lines.part }
+
+-- bytes of a line come
+pub line_comes : (frames now : Option ℕ) (s : RunState) (live next : LiveState) (w : WireState) (l m : LinesState) (old new : Option (List ℕ)) (before after : OutputState)
+    → HasCome frames s live w l old before now → ((t : RunState) → t.live ≡ live → t.output ≡ before → FitsLines t l old → ObeysSome t next m new after)
+    → HasCome frames s next w m new after now
+line_comes frames now s live next w l m old new before after h does = by (does h.last h.at.live h.at.output h.at.lines)
+  where
+    by : ObeysSome h.last next m new after → HasCome frames s next w m new after now
+    by (inl (a, b, fits)) = record { came = h.came; last = h.last; runs = h.runs; at = record { live = sym a; wire = h.at.wire; output = sym b; lines = fits }; frames = h.frames }
+    by (inr (line, t, one, a, b, fits)) = record {
+      came = h.came ++ (Line line ∷ []);
+      last = t;
+      runs = runs_push s h.came h.last (Line line) t h.runs one;
+      at = record { live = a; wire = ap (λ (x : RunState). x.wire) one.is ∙ h.at.wire; output = b; lines = fits };
+      frames = subst (λ (n : ℕ). FramesLeft frames n now) (sym (line_more h.came line)) h.frames;
+    }
+
+-- ---- how it ends
+
+-- an error that a call passed on
+pub passed_on : (P : Result Unit Refusal → Type 0) (r : Result Unit Refusal) (x : Refusal) → IsErrAnd r (λ e. e ≡ x) → P (Err x) → P r
+passed_on P (Ok done) x is h = absurd is
+passed_on P (Err e) x is h = subst (λ (y : Refusal). P (Err y)) (sym is) h
+
+-- all payloads came
+pub all_came : (frames now : Option ℕ) (s : RunState) (live : LiveState) (w : WireState) (lines : LinesState) (left : Option (List ℕ)) (output : OutputState) → now ≡ Some 0
+    → HasCome frames s live w lines left output now → TurnsEnd frames s live left output lines.unmet (Ok tt)
+all_came frames now s live w lines left output none h = record {
+  last = h.last;
+  ends = (h.came, record { runs = h.runs; rest = h.at.lines.rest }, all frames (subst (FramesLeft frames (length (payloads_of h.came))) none h.frames));
+  live = h.at.live;
+  output = h.at.output;
+  expects = λ is. h.at.lines.unmet;
+}
+  where
+    all : (f : Option ℕ) → FramesLeft f (length (payloads_of h.came)) (Some 0) → AreAll f h.came
+    all None is = tt
+    all (Some m) is = is
+
+-- a call was refused, and nothing else was done
+pub stops : (frames now : Option ℕ) (s : RunState) (live : LiveState) (w : WireState) (lines : LinesState) (left : Option (List ℕ)) (output : OutputState) (trouble : Trouble)
+    → HasCome frames s live w lines left output now → TurnsEnd frames s live left output lines.unmet (Err (refusal.Socket trouble))
+stops frames now s live w lines left output trouble h = record {
+  last = h.last;
+  ends = (h.came, h.last, record { runs = h.runs; rest = h.at.lines.rest }, inl refl);
+  live = h.at.live;
+  output = h.at.output;
+  expects = λ is. let bad : false ≡ true = is in cc;
+}
+
+-- the patience for payloads is over
+pub closes : (frames now : Option ℕ) (s : RunState) (live : LiveState) (w : WireState) (lines : LinesState) (left : Option (List ℕ)) (output : OutputState) (ended : Result Unit Refusal)
+    → HasCome frames s live w lines left output now → Closes now ended → TurnsEnd frames s live left output lines.unmet ended
+closes frames None s live w lines left output ended h is = subst (TurnsEnd frames s live left output lines.unmet) (sym is) (record {
+  last = h.last;
+  ends = (h.came, record { runs = h.runs; rest = h.at.lines.rest }, all frames h.frames);
+  live = h.at.live;
+  output = h.at.output;
+  expects = λ is. h.at.lines.unmet;
+})
+  where
+    all : (f : Option ℕ) → FramesLeft f (length (payloads_of h.came)) None → AreAll f h.came
+    all None is = tt
+    all (Some m) is = absurd is
+closes frames (Some n) s live w lines left output ended h is =
+    subst (TurnsEnd frames s live left output lines.unmet) (sym is) (stops frames (Some n) s live w lines left output Silence h)
+
+-- a call of the wire was a fault
+pub frame_cut : (frames now : Option ℕ) (s : RunState) (live next : LiveState) (w v : WireState) (lines : LinesState) (left : Option (List ℕ)) (output : OutputState) (trouble : Trouble) (unmet : ℕ)
+    → HasCome frames s live w lines left output now → MeetsFault live next w v → TurnsEnd frames s next left output unmet (Err (refusal.Socket trouble))
+frame_cut frames now s live next w v lines left output trouble unmet h (inl (same, carried, fault)) = record {
+  last = record h.last { wire = v };
+  ends = (
+    h.came,
+    h.last,
+    record { runs = h.runs; rest = h.at.lines.rest },
+    inr (inl (record {
+      carried = subst (λ (x : WireState). Carries x v [] []) (sym h.at.wire) carried;
+      fault = subst (λ (x : WireState). is_fault x v ≡ true) (sym h.at.wire) fault;
+      is = refl;
+    })),
+  );
+  live = h.at.live ∙ sym same;
+  output = h.at.output;
+  expects = λ is. let bad : false ≡ true = is in cc;
+}
+frame_cut frames now s live next w v lines left output trouble unmet h (inr lost) = record {
+  last = record h.last { live = next; wire = v };
+  ends = (
+    h.came,
+    h.last,
+    record { runs = h.runs; rest = h.at.lines.rest },
+    inr (inr (record {
+      payload = lost.payload;
+      answer = lost.answer;
+      carried = subst (λ (x : WireState). Carries x v [] (lost.payload ∷ [])) (sym h.at.wire) lost.carried;
+      fault = subst (λ (x : WireState). is_fault x v ≡ true) (sym h.at.wire) lost.fault;
+      meets = subst (λ (x : LiveState). Meets x lost.payload next (lost.answer ∷ [])) (sym h.at.live) lost.meets;
+      is = refl;
+    })),
+  );
+  live = refl;
+  output = h.at.output;
+  expects = λ is. let bad : false ≡ true = is in cc;
+}
+
+-- a line was cut short
+pub line_cut : (frames now : Option ℕ) (s : RunState) (live next : LiveState) (w : WireState) (lines : LinesState) (old new : Option (List ℕ)) (before after : OutputState) (x : Refusal) (unmet : ℕ)
+    → HasCome frames s live w lines old before now → TakesPart old new → ((t : RunState) → t.live ≡ live → t.output ≡ before → FitsLines t lines old → ObeysCut t next after x)
+    → TurnsEnd frames s next new after unmet (Err x)
+line_cut frames now s live next w lines old new before after x unmet h taken cuts = by (cuts h.last h.at.live h.at.output h.at.lines)
+  where
+    by : ObeysCut h.last next after x → TurnsEnd frames s next new after unmet (Err x)
+    by (t, cut, a, b) = record {
+      last = t;
+      ends = (h.came, h.last, record { runs = h.runs; rest = taken_more h.last.left old new h.at.lines.rest taken }, cut);
+      live = a;
+      output = b;
+      expects = λ is. let bad : false ≡ true = is in cc;
+    }
+
+-- ---- the counts are printed
+
+-- they are those of the run's last state
+prints_last : (t : RunState) (live : LiveState) (before after : OutputState) → t.live ≡ live → t.output ≡ before → IsPrinted before after (served_line live.answered live.refused)
+    → IsPrinted t.output after (served_line t.live.answered t.live.refused)
+prints_last t live before after a b h =
+    subst (λ (o : OutputState). IsPrinted o after (served_line t.live.answered t.live.refused)) (sym b)
+    (subst (λ (l : LiveState). IsPrinted before after (served_line l.answered l.refused)) (sym a) h)
+
+cut_last : (t : RunState) (live : LiveState) (before after : OutputState) → t.live ≡ live → t.output ≡ before → IsCutOff before after (served_line live.answered live.refused)
+    → IsCutOff t.output after (served_line t.live.answered t.live.refused)
+cut_last t live before after a b h =
+    subst (λ (o : OutputState). IsCutOff o after (served_line t.live.answered t.live.refused)) (sym b)
+    (subst (λ (l : LiveState). IsCutOff before after (served_line l.answered l.refused)) (sym a) h)
+
+by_count : (b : Bool) (r : Result Unit Refusal) (frames : Option ℕ) (s : RunState) (left : Option (List ℕ)) (new : OutputState) (count unmet : ℕ) → (count == 0) ≡ b → r ≡ ended_by count → count ≡ counted unmet
+    → RunsOut frames s left new unmet → LivesOn frames s left new r
+by_count true r frames s left new count unmet is ended counts out =
+    let none : count ≡ 0 = grind (arith, nat_tests) in
+    let zero : unmet ≡ 0 = omega arith in
+    subst (LivesOn frames s left new) (sym (ended ∙ rw is refl)) (subst (RunsOut frames s left new) zero out)
+by_count false r frames s left new count unmet is ended counts out =
+    let more : 0 < count = grind (arith, nat_tests) in
+    let some : 0 < unmet = omega arith in
+    subst (LivesOn frames s left new) (sym (ended ∙ rw is refl)) (inl (unmet, some, ap refusal.Unmet counts, out))
+
+-- the run came to its end
+pub lives_out : (r ended : Result Unit Refusal) (frames : Option ℕ) (s : RunState) (left : Option (List ℕ)) (live : LiveState) (before after : OutputState) (count : ℕ) → ended ≡ Ok tt
+    → TurnsEnd frames s live left before count ended → IsPrinted before after (served_line live.answered live.refused) → r ≡ ended_by count → LivesOn frames s left after r
+lives_out r ended frames s left live before after count is h prints end =
+    by_count (count == 0) r frames s left after count h.last.unmet refl end (h.expects (rw is refl)) (record {
+      last = h.last;
+      ends = subst (EndsTurns frames s h.last left) is h.ends;
+      expects = refl;
+      prints = prints_last h.last live before after h.live h.output prints;
+    })
+
+-- or was cut short
+pub lives_short : (r ended : Result Unit Refusal) (x : Refusal) (frames : Option ℕ) (s : RunState) (left : Option (List ℕ)) (live : LiveState) (before after : OutputState) (count : ℕ)
+    → IsErrAnd r (λ e. e ≡ x) → ended ≡ Err x → TurnsEnd frames s live left before count ended → IsPrinted before after (served_line live.answered live.refused) → LivesOn frames s left after r
+lives_short r ended x frames s left live before after count passed is h prints = passed_on (LivesOn frames s left after) r x passed (inr (inl (record {
+  last = h.last;
+  ends = subst (EndsTurns frames s h.last left) is h.ends;
+  prints = prints_last h.last live before after h.live h.output prints;
+})))
+
+-- or they can't be printed as a whole
+pub lives_unprinted : (r ended : Result Unit Refusal) (x : Refusal) (frames : Option ℕ) (s : RunState) (left : Option (List ℕ)) (live : LiveState) (before after : OutputState) (count : ℕ)
+    → IsErrAnd r (λ e. e ≡ x) → x ≡ refusal.Output → TurnsEnd frames s live left before count ended → IsCutOff before after (served_line live.answered live.refused) → LivesOn frames s left after r
+lives_unprinted r ended x frames s left live before after count passed is h prints = passed_on (LivesOn frames s left after) r x passed (inr (inr (record {
+  last = h.last;
+  ended = ended;
+  ends = h.ends;
+  refused = is;
+  prints = cut_last h.last live before after h.live h.output prints;
+})))
+
+-- nothing came yet
+unserved : (frames : Option ℕ) (s : RunState) (trouble : Trouble) → TurnsEnd frames s s.live s.left s.output 0 (Err (refusal.Socket trouble))
+unserved frames s trouble = record {
+  last = s;
+  ends = ([], s, record { runs = refl; rest = none_taken s.left }, inl refl);
+  live = refl;
+  output = refl;
+  expects = λ is. let bad : false ≡ true = is in cc;
+}
+
+pub lives_unserved : (r : Result Unit Refusal) (trouble : Trouble) (frames : Option ℕ) (s : RunState) (after : OutputState) → IsErrAnd r (λ e. e ≡ refusal.Socket trouble)
+    → IsPrinted s.output after (served_line s.live.answered s.live.refused) → LivesOn frames s s.left after r
+lives_unserved r trouble frames s after passed prints =
+    lives_short r (Err (refusal.Socket trouble)) (refusal.Socket trouble) frames s s.left s.live s.output after 0 passed refl (unserved frames s trouble) prints
+
+pub unserved_unprinted : (r : Result Unit Refusal) (x : Refusal) (frames : Option ℕ) (s : RunState) (after : OutputState) → IsErrAnd r (λ e. e ≡ x) → x ≡ refusal.Output
+    → IsCutOff s.output after (served_line s.live.answered s.live.refused) → LivesOn frames s s.left after r
+unserved_unprinted r x frames s after passed is prints =
+    lives_unprinted r (Err (refusal.Socket Silence)) x frames s s.left s.live s.output after 0 passed is (unserved frames s Silence) prints

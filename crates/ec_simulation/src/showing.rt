@@ -1,0 +1,75 @@
+//! An output variable as the slaves publish it.
+ghost use Rattle.std.specs.Prelude.{◌≡◌, ◌≤◌, if◌then◌else◌, length, slice_get, Some, None};
+ghost use Rattle.ec_bits.specs.Bits.{zeros};
+ghost use Rattle.ec_simulation.specs.Showing.{output_shown, said_value, value_shown, with_identity};
+
+use crate::inputs::is_of;
+use crate::met::has_room;
+use ec_bits::{copy_bits, read_bits};
+use ec_link::{Link, Variable};
+use ec_script::LineOutput;
+use ec_table::Direction;
+use ec_world::World;
+
+/// The output of `out`: a variable and its value as slaves publish it. `No` if it is no output, or if the slave of one of its links
+/// publishes none of the link's bits.
+pub fn show_output(world: &World<'_>, place: usize) -> LineOutput
+    ensures { result ≡ said_value place (output_shown world.now (slice_get world.now.plan.variables place)) }
+{
+    match output_shown(world, place) {
+        Some(value) => LineOutput::Value(place, value),
+        None => LineOutput::No,
+    }
+}
+
+/// The value of the output variable at a place, as slaves publish it.
+fn output_shown(world: &World<'_>, place: usize) -> Option<u64>
+    ensures { result ≡ output_shown world.now (slice_get world.now.plan.variables place) }
+{
+    let variables = world.plan().variables();
+    if place >= variables.len() {
+        return None;
+    }
+    let variable = variables[place];
+    match variable.direction {
+        Direction::Out => value_shown(world, variable),
+        Direction::In => None,
+    }
+}
+
+/// The value of a variable, of the bits that the slaves of its links publish.
+#[tactic(auto, using(crate::proofs::Shown::shown_end, crate::proofs::Shown::shown_more, crate::proofs::Shown::shown_none))]
+fn value_shown(world: &World<'_>, variable: Variable) -> Option<u64>
+    requires { variable.bits ≤ 64 }
+    ensures { result ≡ value_shown world.now variable }
+{
+    let mut bytes = [0; 8];
+    for link in world.plan().out_links() {
+        if !add_shown(world, variable, link, &mut bytes) {
+            return None;
+        }
+    }
+    Some(read_bits(&bytes, 0, 64))
+}
+
+/// Adds to the bytes of a variable's value the bits that the slave of a link publishes, if it is one of the variable. Returns whether
+/// the slave publishes them.
+fn add_shown(world: &World<'_>, variable: Variable, link: &Link, bytes: &mut [u8]) -> bool
+    requires few { variable.bits ≤ 64 }
+    requires eight { length bytes.old ≡ 8 }
+    ensures { with_identity world.now variable link.now bytes.old ≡ (if result then Some bytes.new else None) }
+{
+    if !is_of(variable, link) {
+        return true;
+    }
+    if link.slave >= world.slaves() {
+        return false;
+    }
+    let outputs = world.outputs(link.slave);
+    if !has_room(link, outputs) {
+        return false;
+    }
+    let to = link.image - variable.from;
+    copy_bits(bytes, to, outputs, link.object_bit, link.count);
+    true
+}
