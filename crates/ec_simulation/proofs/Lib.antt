@@ -18,6 +18,8 @@ pub mod Readying
 pub mod Running
 -- runs that a watcher saw, one after the other
 pub mod Seeing
+-- an output variable as the slaves publish it, link after link
+pub mod Shown
 -- where frames are that were sent
 pub mod SlotsSent
 -- turn after turn of a start-up

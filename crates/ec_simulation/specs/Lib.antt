@@ -4,6 +4,8 @@
 pub mod Views
 -- an input variable as the plant sets it, as events
 pub mod Inputs
+-- an output variable as the slaves publish it
+pub mod Showing
 -- when what a line expects of a world holds
 pub mod Expecting
 -- how frames go round, as events

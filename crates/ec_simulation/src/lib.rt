@@ -7,6 +7,7 @@ pub mod laws;
 mod met;
 mod rounds;
 mod run;
+mod showing;
 mod view;
 
 pub use crate::action::{event_of, watch_action};
