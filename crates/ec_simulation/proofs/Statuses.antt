@@ -3,7 +3,7 @@ use Rattle.std.proofs.Common.{◌≡◌, ◌∙◌, ℕ, List, Option, Result, O
 use Rattle.ec_table.specs.Contents.{Contents}
 use Rattle.ec_asking.specs.declared.answer.AlStatus.{AlStatus}
 use Rattle.ec_script.specs.declared.output.LineOutput.{LineOutput}
-use Rattle.ec_script.specs.declared.output.LineOutput.TheVariants.{Nothing, No, Unmet, Byte, Ended, Report, Values, States, Fault}
+use Rattle.ec_script.specs.declared.output.LineOutput.TheVariants.{Nothing, No, Unmet, Byte, Ended, Report, Values, States, Fault, Value}
 use Rattle.ec_script.specs.Texts.{output_text}
 use Rattle.ec_script.specs.Views.{ViewState}
 use Rattle.ec_world.specs.World.{WorldState}
@@ -19,6 +19,7 @@ same_text t n view w Report = refl
 same_text t n view w Values = refl
 same_text t n view w States = refl
 same_text t n view w Fault = refl
+same_text t n view w (Value v x) = refl
 
 pub printed_as : {E : Type 0} (r : Result _ E) (t : Contents) (n : ℕ) (view here : ViewState) (w : WorldState) (states : List (Option AlStatus)) (said : LineOutput) → view ≡ here → states ≡ states_for w said
     → IfOk r (λ text. string_bytes text ≡ output_text t n view states said) → IfOk r (λ text. string_bytes text ≡ output_text t n here (statuses w) said)
