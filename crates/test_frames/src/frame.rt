@@ -10,7 +10,7 @@ ghost use Rattle.ec_frame.specs.FieldChanges.{IsDatagram-with_adp, IsDatagram-wi
 ghost use Rattle.ec_frame.specs.FieldChanges.{IsDatagram-with_data};
 
 use ec_frame::{
-    Builder, Command, DatagramCursor, Frame, FrameError, Full, Handler, Header, Sent, check,
+    Builder, Command, Datagrams, Frame, FrameError, Full, Handler, Header, Sent, check,
     cut_counter, cut_heading, pass, read_counter, read_data, write_address, write_adp,
     write_counter, write_pair,
 };
@@ -162,8 +162,8 @@ fn pass_hands_each_datagram_over(rt: HostRuntime) -> Result<(), Fail> {
 fn fields_are_read_and_written(rt: HostRuntime) -> Result<(), Fail> {
     let mut frame = bytes_of(&rt, CYCLE)?;
     check(&frame)?;
-    let mut places = DatagramCursor::new(&frame);
-    let first = places.next(&frame).ok_or("no datagram")?;
+    let mut places = Datagrams::new(&frame);
+    let first = places.next_place(&frame).ok_or("no datagram")?;
     let part = &mut frame[first.from..first.to];
     let header = Header::read(part);
     let expected = Header {

@@ -88,6 +88,9 @@ fn write_only_one(rt: &impl Abort, frame: &mut [u8]) {
     let mut datagrams = Datagrams::new(frame);
     assert!(rt; datagrams.has_next());
     let mut datagram = datagrams.next(frame);
+    let length = datagram.data().len();
+    assert!(rt; length == 2);
+    datagram.set_data(&[8, 0]);
     datagram.set_command(Command::Fprd);
     datagram.set_index(2);
     datagram.set_address(0x0110_1001);
