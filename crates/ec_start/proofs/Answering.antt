@@ -61,6 +61,14 @@ pub is_pair : (payload name answer : List ℕ) (places one : Datagrams) (p : Pay
     → IsPair payload name answer
 is_pair payload name answer places one p f two ahead first others second = pair_of payload name answer places one p p.datagrams refl f two ahead first others second
 
+-- where two datagrams are ahead, the second is behind the first
+pub second_ahead : (payload : List ℕ) (places one : Datagrams) (ds : List Datagram) → length ds ≡ 2 → IsAhead payload places ds
+    → ((d : Datagram) (es : List Datagram) → IsAhead payload places (d ∷ es) → IsAhead payload one es) → (e : Datagram) × IsAhead payload one (e ∷ [])
+second_ahead payload places one [] two ahead others = absurd (omega (arith, two))
+second_ahead payload places one (d ∷ []) two ahead others = absurd (omega (arith, two))
+second_ahead payload places one (d ∷ e ∷ x ∷ xs) two ahead others = absurd (omega (arith, two))
+second_ahead payload places one (d ∷ e ∷ []) two ahead others = (e, others d (e ∷ []) ahead)
+
 -- ---- the number
 
 pub number_read : (bytes : List ℕ) (name : FrameName) (number : ℕ) → bytes ≡ name_bytes name.number name.part → name.number < 2 ^ 64 → number < 2 ^ 64

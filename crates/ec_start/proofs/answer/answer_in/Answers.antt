@@ -1,7 +1,13 @@
-use Rattle.std.proofs.Common.{true, false, ap}
+use Rattle.std.proofs.Common.{◌≡◌, [], true, false, ap}
 use Rattle.ec_start.specs.Running.{Shape}
-use Rattle.ec_start.proofs.Answering.{is_pair, answer_at, of_answer, no_truth}
+use Rattle.ec_start.proofs.Answering.{is_pair, second_ahead, answer_at, of_answer, no_truth}
 use Rattle.ec_start.proofs.answer.answer_in.Goals as goal
+
+pub returns-in_err-answer : goal.returns-in_err-answer
+returns-in_err-answer c =
+    let a = c.is_pair-has_two.ensures.0 c.if-not-has_two.false in
+    let t = second_ahead c.args.payload.now c.new-datagrams.result c.next_part.new.self a.0.datagrams a.2 (c.new-datagrams.ensures.ahead a.0 a.1) c.in_ok-name.ensures.others in
+    absurd (let e : false ≡ true = c.in_err-answer.ensures.some t.0 [] t.1 in cc)
 
 pub returns-then-not-is_named : goal.returns-then-not-is_named
 returns-then-not-is_named c = λ p f h.
