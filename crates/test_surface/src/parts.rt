@@ -68,7 +68,7 @@ fn frames(rt: HostRuntime) {
 }
 
 /// The same with other fields.
-const REWRITTEN: [u8; 16] = [14, 16, 4, 2, 1, 0x10, 0x10, 1, 2, 0, 4, 0, 0, 0, 3, 0];
+const REWRITTEN: [u8; 16] = [14, 16, 4, 2, 1, 0x10, 0x10, 1, 2, 0, 4, 0, 8, 0, 3, 0];
 
 /// The header, the data and the working counter of the one datagram of a frame.
 fn read_only_one(rt: &impl Abort, frame: &mut [u8]) -> (Header, [u8; 2], u16) {
