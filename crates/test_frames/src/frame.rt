@@ -11,7 +11,7 @@ ghost use Rattle.ec_frame.specs.FieldChanges.{IsDatagram-with_data};
 
 use crate::compare::{bytes_of, expect_row, expect_same};
 use ec_frame::{
-    Builder, Command, DatagramCursor, Frame, Handler, Header, Sent, check, cut_counter,
+    Builder, Command, Datagrams, Frame, Handler, Header, Sent, check, cut_counter,
     cut_heading, pass, read_counter, read_data, write_address, write_adp, write_counter,
     write_pair,
 };
@@ -175,8 +175,8 @@ const FIRST: Header = Header {
 /// Reads the fields of a frame's first datagram, and writes its address.
 fn expect_fields(rt: &impl Abort, frame: &mut [u8]) {
     check(frame).expect(rt, "a frame");
-    let first = DatagramCursor::new(frame)
-        .next(frame)
+    let first = Datagrams::new(frame)
+        .next_place(frame)
         .expect(rt, "a datagram");
     let part = &mut frame[first.from..first.to];
     let header = Header::read(part);

@@ -1,5 +1,5 @@
 use Rattle.ec_frame.proofs.Lending.{ends, more}
-use Rattle.ec_frame.proofs.datagrams.Datagrams.has_next.Goals as goal
+use Rattle.ec_frame.proofs.cursor.Datagrams.has_next.Goals as goal
 
 pub returns-clause-ahead : goal.returns-clause-ahead
 returns-clause-ahead c = λ bytes p past rest h. ends bytes c.args.self.now p past rest h

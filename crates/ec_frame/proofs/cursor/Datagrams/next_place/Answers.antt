@@ -1,7 +1,7 @@
 use Rattle.std.proofs.Common.{ap, ◌∙◌, arith}
 use Rattle.ec_frame.specs.Datagram.{is_followed, data_length}
 use Rattle.ec_frame.proofs.DatagramsAhead.{begins, has_first, step_taken, ahead_first, ahead_rest}
-use Rattle.ec_frame.proofs.cursor.DatagramCursor.next.Goals as goal
+use Rattle.ec_frame.proofs.cursor.Datagrams.next_place.Goals as goal
 
 pub split_at-requires : goal.split_at-requires
 split_at-requires c =
