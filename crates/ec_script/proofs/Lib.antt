@@ -7,9 +7,10 @@ pub mod Hex
 -- one line of a script, and the end
 pub mod LineReading
 -- the names of a script's refusals are short
-pub mod Names
 -- what `parse` returns is the number of a word that doesn't begin with a plus
 pub mod Numbers
+-- what stands before and behind two dots
+pub mod Ranges
 -- what is written for a line is read back
 pub mod ReadingBack
 -- what words write as values

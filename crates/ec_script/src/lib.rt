@@ -1,7 +1,6 @@
 //! The language of `ecat sim` and `ecat master`: what lines stand for, and what they print.
 #![tactic(auto)]
 
-mod error;
 mod expectation;
 mod forms;
 mod halves;
@@ -13,10 +12,10 @@ mod output;
 mod read;
 mod states;
 mod value;
+mod value_test;
 mod view;
 mod words;
 
-pub use crate::error::ScriptError;
 pub use crate::expectation::Expectation;
 pub use crate::forms::{ExpectForm, FORMS, Form, REPEAT};
 pub use crate::halves::split_script;
@@ -25,6 +24,8 @@ pub use crate::met::{is_failed, is_met};
 pub use crate::operands::{WordKind, slave_named, state_named, variable_named};
 pub use crate::output::{LineOutput, output_text};
 pub use crate::read::{Reading, read_line, read_script, uncommented};
-pub use crate::value::hex_of;
+pub use crate::value::{bounds_of, hex_of};
+pub use crate::value_test::{Comparison, ValueTest};
 pub use crate::view::MasterView;
 pub use crate::words::{byte_of, code_of, number_of, times_of};
+pub use ec_decode::DecodeError as ScriptError;
