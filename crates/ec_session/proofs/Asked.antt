@@ -110,10 +110,12 @@ begun_again s start number same is most =
     (is ∙ (ap (λ (n : ℕ). begun s.startup.plan n) most ∙ ap (λ (ps : List SlavePlan). begun ps (max s.startup.next s.master.next)) same))
 
 -- the cycle had a fault, and nothing is asked
-pub stop_cut : (s empty mid : SessionState) (w v : WireState) (error : RunError) → empty ≡ cleared s → (run_refusal empty ≡ None → LosesAndCycles empty w mid v (Err error)) → run_refusal s ≡ None → Stops s w mid v (Err error)
-stop_cut s empty mid w v error is ran free =
+pub stop_cut : (s empty mid : SessionState) (w v : WireState) (r : Result Unit RunError) (error : RunError) → IsErrAnd r (λ e. e ≡ error) → empty ≡ cleared s
+    → (run_refusal empty ≡ None → LosesAndCycles empty w mid v (Err error)) → run_refusal s ≡ None → Stops s w mid v r
+stop_cut s empty mid w v (Ok done) error why is ran free = absurd why
+stop_cut s empty mid w v (Err e) error why is ran free =
     let cycles : LosesAndCycles (cleared s) w mid v (Err error) = subst (λ (x : SessionState). run_refusal x ≡ None → LosesAndCycles x w mid v (Err error)) is ran (cleared_refusal s ∙ free) in
-    record { mid = mid; between = v; ran = Err error; cycles = cycles; goes_on = (refl, refl, refl) }
+    record { mid = mid; between = v; ran = Err e; cycles = subst (λ (x : RunError). LosesAndCycles (cleared s) w mid v (Err x)) (sym why) cycles; goes_on = (refl, refl, refl) }
 
 -- or all slaves are asked
 pub stop_on : (s empty mid t : SessionState) (w x v : WireState) (answer : Result Unit RunError) → empty ≡ cleared s → (run_refusal empty ≡ None → LosesAndCycles empty w mid x (Ok tt)) → AsksInit mid x t v answer → run_refusal s ≡ None
