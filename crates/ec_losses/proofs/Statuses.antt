@@ -1,11 +1,11 @@
 -- AL states that are read by frames are those of the world.
-use Rattle.std.proofs.Common.{◌≡◌, ◌≢◌, ◌∙◌, ◌<◌, ◌==◌, ℕ, ◌+◌, List, length, Bool, true, false, Some, None, inl, inr, refl, sym, ap, subst, arith, nat_lt}
+use Rattle.std.proofs.Common.{◌≡◌, ◌∙◌, ◌==◌, ℕ, length, true, false, Some, None, inl, inr, refl, sym, ap, subst, arith}
 use Rattle.std.specs.Prelude.{slice_get}
 use Rattle.std.proofs.lemmas.Bool.{cases_eq, eq-eqb, lt-ltb, ne_eqb}
 use Rattle.std.proofs.lemmas.Option.{get_or_from_slice_get, slice_get-get_or, slice_get_within}
-use Rattle.ec_slave.specs.State.{SlaveState, station_of}
+use Rattle.ec_slave.specs.State.{station_of}
 use Rattle.ec_start.specs.Actions.{station}
-use Rattle.ec_world.specs.World.{WorldState, is_slave, no_slave, slave_of}
+use Rattle.ec_world.specs.World.{is_slave, no_slave, slave_of}
 use Rattle.ec_simulation.specs.Statuses.{status_of}
 use Rattle.ec_asking.specs.Laws.{register_word}
 use Rattle.ec_asking.proofs.Reading.{nobody_is_nothing, status_is_the_slaves}

@@ -1,6 +1,6 @@
-use Rattle.std.proofs.Common.{◌≡◌, ◌∙◌, ap, arith, length}
+use Rattle.std.proofs.Common.{◌∙◌, ap, arith}
 use Rattle.ec_cycle.specs.Master.{MasterState}
-use Rattle.ec_session.proofs.Asked.{all_zero, next_zero, zeros_plan}
+use Rattle.ec_session.proofs.Asked.{next_zero, zeros_plan}
 use Rattle.ec_session.proofs.session.clear_outputs.Goals as goal
 
 pub loop-variable-preserved : goal.loop-variable-preserved

@@ -1,4 +1,4 @@
-use Rattle.std.proofs.Common.{◌≡◌, ◌≤◌, ◌<◌, ◌∙◌, arith, length, sym}
+use Rattle.std.proofs.Common.{◌≤◌, ◌<◌, ◌∙◌, arith, length, sym}
 use Rattle.std.proofs.lemmas.List.{length-set}
 use Rattle.ec_session.proofs.Asked.{part_read, read_all, read_cut, read_on}
 use Rattle.ec_session.proofs.session.Session.read_states.Goals as goal
