@@ -1,14 +1,10 @@
 //! A question over a wire.
-ghost use Rattle.std.specs.Prelude.{◌≡◌, ◌≤◌, List, ℕ, [], length, Ok, Err, IfOk};
-ghost use Rattle.ec_wire.specs.Losing.{max_heard};
-ghost use Rattle.ec_wire.specs.Wires.{Carries, is_fault};
-ghost use Rattle.ec_wire.specs.Asked.{AreHeard, Asks, Hears};
+ghost use Rattle.ec_wire.specs.Asked.{Asks, Hears};
 ghost use Rattle.ec_asking.specs.Questions.{IsAskable};
 
 use crate::error::SocketFault;
 use crate::lossy::MAX_HEARD;
-use crate::watch::Watch;
-use crate::wire::{Wire, listen_on, send_on};
+use crate::wire::{Watch, Wire, listen_on, send_on};
 use ec_asking::{AlStatus, Question, take_answer, write_question};
 use ec_frame::Frame;
 use ec_frame::field::MAX_FRAME_LEN;
