@@ -1,6 +1,6 @@
 -- A run of a live segment, step after step.
 use Rattle.std.proofs.Common.{◌≡◌, ◌≢◌, ◌∙◌, ◌⊎◌, inl, inr, ℕ, zero, suc, ◌+◌, ◌-◌, ◌^◌, ◌<◌, ◌==◌, List, [], ◌∷◌, ◌++◌, length, min, take, Bool, true, false, Option, Some, None, Result, Ok, Err, IfErr, OnOk, refl, sym, ap, subst, add-zero, arith}
-use Rattle.std.specs.Result.{IsErr, IsErrAnd}
+use Rattle.std.specs.Result.{IsErrAnd}
 use Rattle.std.proofs.KnownBytes.{Consumes-nil, Consumes-trans}
 use Rattle.std.proofs.lemmas.Bool.Decides.{nat_tests}
 use Rattle.std.proofs.lemmas.List.Elements.{All-nil}
@@ -166,8 +166,8 @@ whole_obeyed s live next before after l part kept count unmet n more sum is_open
     next_one = omega arith
 
     by : GoesOn s.left new kept (Some took) → ObeysSome s next (lines_of kept n sum is_open) new after
-    by (line, takes, as, none) =
-        obeys_line s live next before after (lines_of part count unmet is_open) (lines_of kept n sum is_open) old new line more u a b fits takes (some_taken line took as some) (does line as) next_one counts sums none
+    by (line, takes, fit, none) =
+        obeys_line s live next before after (lines_of part count unmet is_open) (lines_of kept n sum is_open) old new line more u a b fits takes (some_taken line took fit some) (does line fit) next_one counts sums none
 
 pub whole_cut : (s : RunState) (live next : LiveState) (before after : OutputState) (l : LinesState) (part kept : List ℕ) (count unmet n : ℕ) (is_open : Bool) (old new : Option (List ℕ)) (took : NextLine) (x : Refusal)
     → lines_of part count unmet is_open ≡ l → is_open ≡ true → count < 2 ^ 64 - 1 → n ≡ min (count + 1) (2 ^ 64 - 1)
@@ -183,12 +183,12 @@ whole_cut s live next before after l part kept count unmet n is_open old new too
     next_one = omega arith
 
     by : GoesOn s.left new kept (Some took) → ObeysCut s next after x
-    by (line, takes, as, none) = cuts_line s live next before after (lines_of part count unmet is_open) old new n line x a b fits takes (stops line as) next_one late
+    by (line, takes, fit, none) = cuts_line s live next before after (lines_of part count unmet is_open) old new n line x a b fits takes (stops line fit) next_one late
 
 -- what is said of an end that is an error
-pub no_done : {P : Type 0} (r : Result Unit Refusal) → IsErr r → OnOk r P
-no_done {P} (Ok done) is = absurd is
-no_done {P} (Err e) is = tt
+pub no_done : (P : Type 0) (r : Result Unit Refusal) (x : Refusal) → IsErrAnd r (λ e. e ≡ x) → OnOk r P
+no_done P (Ok done) x is = absurd is
+no_done P (Err e) x is = tt
 
 pub known_err : (P : Refusal → Type 0) (r : Result Unit Refusal) (x : Refusal) → IsErrAnd r (λ e. e ≡ x) → P x → IfErr r P
 known_err P (Ok done) x is h = tt
@@ -233,6 +233,17 @@ none_come frames s live wire lines left output at = record { came = []; last = s
     all : (f : Option ℕ) → FramesLeft f 0 f
     all None = tt
     all (Some n) = add-zero n
+
+-- by the same parts
+pub come_as : (frames : Option ℕ) (s : RunState) (live live2 : LiveState) (w w2 : WireState) (l l2 : LinesState) (left left2 : Option (List ℕ)) (output output2 : OutputState) (now now2 : Option ℕ)
+    → live2 ≡ live → w2 ≡ w → l2 ≡ l → left2 ≡ left → output2 ≡ output → now2 ≡ now → HasCome frames s live w l left output now → HasCome frames s live2 w2 l2 left2 output2 now2
+come_as frames s live live2 w w2 l l2 left left2 output output2 now now2 a b c d e f h =
+    subst (λ (x : LiveState). HasCome frames s x w2 l2 left2 output2 now2) (sym a)
+    (subst (λ (x : WireState). HasCome frames s live x l2 left2 output2 now2) (sym b)
+    (subst (λ (x : LinesState). HasCome frames s live w x left2 output2 now2) (sym c)
+    (subst (λ (x : Option (List ℕ)). HasCome frames s live w l x output2 now2) (sym d)
+    (subst (λ (x : OutputState). HasCome frames s live w l left x now2) (sym e)
+    (subst (λ (x : Option ℕ). HasCome frames s live w l left output x) (sym f) h)))))
 
 -- a payload comes, or nothing
 pub frame_comes : (frames now later : Option ℕ) (s : RunState) (live next : LiveState) (w v : WireState) (lines : LinesState) (left : Option (List ℕ)) (output : OutputState)
