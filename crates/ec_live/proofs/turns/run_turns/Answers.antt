@@ -1,4 +1,5 @@
-use Rattle.std.proofs.Common.{◌≡◌, ap, arith}
+use Rattle.std.proofs.Common.{◌≡◌, ◌∙◌, ap, sym, arith}
+use Rattle.std.proofs.lemmas.Bool.{false≢true}
 use Rattle.ec_lines.specs.Inputs.{bytes_left}
 use Rattle.ec_console.specs.declared.refusal.Refusal.TheVariants as refusal
 use Rattle.ec_live.specs.Stages.{LinesState, TurnsEnd}
@@ -41,7 +42,7 @@ loop-preserved g c =
             before.output now.output w.meet_one.new.station.frames now.station.frames w.live-is (ap (λ x. g.W.Wire.state x.wire) w.station-is) w.lines-is (ap (bytes_left g.R.Read.remaining) w.input-is) w.output-is
             (ap (λ x. x.frames) w.station-is)
             (frame_comes frames before.station.frames w.meet_one.new.station.frames s before.live w.meet_one.new.live wire (g.W.Wire.state w.meet_one.new.station.wire) before.lines left before.output
-            (before.invariant.0 s at) (λ is. let e = c.eq.ensures in let none = c.if-eq.false in cc) w.in_ok-meet_one-in-Frame.ensures.met)
+            (before.invariant.0 s at) (λ is. false≢true (sym c.if-eq.false ∙ (rw is at c.eq.ensures))) w.in_ok-meet_one-in-Frame.ensures.met)
         | in-Line+in_ok-obey_part-in-Line w ↦
             come_as frames s w.obey_part.new.live now.live wire (g.W.Wire.state now.station.wire) w.obey_part.new.lines now.lines (bytes_left g.R.Read.remaining w.obey_part.new.input)
             (bytes_left g.R.Read.remaining now.input) w.obey_part.new.output now.output before.station.frames now.station.frames w.live-is (ap (λ x. g.W.Wire.state x.wire) w.station-is) w.lines-is
