@@ -4,7 +4,7 @@ ghost use Rattle.ec_script.specs.declared.expectation.Expectation.TheVariants.{S
 ghost use Rattle.ec_script.specs.declared.line.LineAction.TheVariants.{Cycle, Expect, Ready, Set, States, Stop};
 ghost use Rattle.ec_script.specs.Expecting.{is_met};
 ghost use Rattle.ec_script.specs.Outputs.{output_if};
-ghost use Rattle.cmd_master.specs.Doing.{Does, is_in_state, last_report, output_of_run, output_of_stop, view_of};
+ghost use Rattle.cmd_master.specs.Doing.{Does, is_in_state, last_report, output_of_read, output_of_run, output_of_stop, view_of};
 ghost use Rattle.cmd_master.specs.Mastering.{begun_over};
 ghost use Rattle.cmd_master.specs.Saying.{is_reasoned, plain_text};
 ghost use Rattle.cmd_master.specs.Stages.{IsLineText, IsReasonedText};
@@ -81,9 +81,6 @@ impl<'c, W: Wire + Drop, C: Clock> Mastered<'c, W, C> {
             LineAction::Set(variable, value) => self.set(variable, value),
             LineAction::States => self.read_states(),
             LineAction::Stop => self.stop(),
-            LineAction::Expect(Expectation::State(slave, state, code)) => {
-                self.expect_state(slave, state, code)
-            }
             LineAction::Expect(expected) => self.expect(expected),
             LineAction::Show => LineOutput::Values,
             LineAction::Report => self.last_report(),
@@ -126,13 +123,10 @@ impl<'c, W: Wire + Drop, C: Clock> Mastered<'c, W, C> {
     fn read_states(&mut self) -> LineOutput
         ensures { Does States self.old self.new result }
     {
-        match self
+        let read = self
             .session
-            .read_states(&mut self.wire, self.clock, &mut self.states)
-        {
-            Ok(()) => LineOutput::States,
-            Err(_) => LineOutput::Fault,
-        }
+            .read_states(&mut self.wire, self.clock, &mut self.states);
+        output_of_read(read)
     }
 
     /// Stops the machine. `No`, and nothing changes, if no cycle can be run.
@@ -164,8 +158,18 @@ impl<'c, W: Wire + Drop, C: Clock> Mastered<'c, W, C> {
         LineOutput::Nothing
     }
 
-    /// `Nothing` if what is expected holds, else `Unmet`.
-    fn expect(&self, expected: Expectation) -> LineOutput
+    /// `Nothing` if what is expected holds, else `Unmet`. If it is an AL state of a slave, that is read.
+    fn expect(&mut self, expected: Expectation) -> LineOutput
+        ensures { Does (Expect expected) self.old self.new result }
+    {
+        match expected {
+            Expectation::State(slave, state, code) => self.expect_state(slave, state, code),
+            _ => self.expect_here(expected),
+        }
+    }
+
+    /// `Nothing` if the session by itself shows what is expected, else `Unmet`.
+    fn expect_here(&self, expected: Expectation) -> LineOutput
         ensures { result ≡ output_if (is_met expected (view_of self.now.session)) }
     {
         if is_met(&view_of(&self.session), expected) {
@@ -231,14 +235,13 @@ impl<W: Wire + Drop, C: Clock> Target for Mastered<'_, W, C> {
 
     fn obey(&mut self, alloc: Global, line: &Line) -> Result<Said, AllocError> {
         let output = self.act(line.action);
-        let text = said_text(
-            alloc,
-            &self.session,
-            &self.states,
-            self.reasons,
-            line,
+        let why = Why {
+            session: &self.session,
+            action: line.action,
             output,
-        )?;
+            trouble: self.wire.trouble(),
+        };
+        let text = said_text(alloc, &why, &self.states, self.reasons, line.number)?;
         Ok(Said {
             text,
             is_unmet: output.is_unmet(),
@@ -265,6 +268,16 @@ fn output_of_stop(stopped: Result<(), RunError>) -> LineOutput
         Ok(()) => LineOutput::Nothing,
         Err(RunError::Wire) => LineOutput::Fault,
         Err(RunError::Refused(_)) => LineOutput::No,
+    }
+}
+
+/// The output of `states`: what was read, or that the wire had a fault.
+fn output_of_read(read: Result<(), SocketFault>) -> LineOutput
+    ensures { result ≡ output_of_read read }
+{
+    match read {
+        Ok(()) => LineOutput::States,
+        Err(_) => LineOutput::Fault,
     }
 }
 
@@ -307,42 +320,38 @@ fn is_input(table: &Table, place: usize) -> bool
     }
 }
 
-/// The text that a line prints for its output, by the session behind it. With reasons, behind that stands why the line can't be done
-/// or has failed.
+/// The text that line `number` prints for its output, by the session behind it. With reasons, behind that stands why the line can't be
+/// done or has failed.
 ///
 /// # Errors
 ///
 /// `AllocError` if memory ran out.
 fn said_text(
     alloc: Global,
-    session: &Session,
+    why: &Why<'_>,
     states: &[Option<AlStatus>],
     reasons: Reasons,
-    line: &Line,
-    output: LineOutput,
+    number: usize,
 ) -> Result<String, AllocError>
-    ensures { IfOk result (λ text. IsLineText reasons session.now states.now line.now.number output (string_bytes text)) }
+    ensures { IfOk result (λ text. IsLineText reasons why.now.session.now states.now number why.now.output (string_bytes text)) }
 {
-    if is_reasoned(reasons, session, output) {
-        reasoned_text(alloc, session, states, line, output)
+    if is_reasoned(reasons, why.session, why.output) {
+        reasoned_text(alloc, why, states, number)
     } else {
-        plain_text(alloc, session, states, line.number, output)
+        plain_text(alloc, why.session, states, number, why.output)
     }
 }
 
 /// The text of a line's output, and behind it why the line can't be done or has failed.
 fn reasoned_text(
     alloc: Global,
-    session: &Session,
+    why: &Why<'_>,
     states: &[Option<AlStatus>],
-    line: &Line,
-    output: LineOutput,
+    number: usize,
 ) -> Result<String, AllocError>
-    ensures { IfOk result (λ text. IsReasonedText session.now states.now line.now.number output (string_bytes text)) }
+    ensures { IfOk result (λ text. IsReasonedText why.now.session.now states.now number why.now.output (string_bytes text)) }
 {
-    let mut text = plain_text(alloc, session, states, line.number, output)?;
-    let action = line.action;
-    let why = Why { session, action };
+    let mut text = plain_text(alloc, why.session, states, number, why.output)?;
     let words = format!(in alloc; "{why}")?;
     text.push_str(reason_line(alloc, words.as_str())?.as_str())?;
     Ok(text)
@@ -386,7 +395,7 @@ fn is_reasoned(reasons: Reasons, session: &Session, output: LineOutput) -> bool
     ensures { result ≡ is_reasoned reasons session.now output }
 {
     match (reasons, output) {
-        (Reasons::Added, LineOutput::No) => true,
+        (Reasons::Added, LineOutput::No | LineOutput::Fault) => true,
         (Reasons::Added, LineOutput::Ended) => is_failed(None, session.outcome()),
         _ => false,
     }
