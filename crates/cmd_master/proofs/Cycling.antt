@@ -125,6 +125,7 @@ holds_done act.Cycle s t said h held = holds_cycled s t said (is_none (run_refus
 holds_done (act.Never v) s t said h held = holds_told s t output.No said h held
 holds_done (act.Expect (expects.State slave state code)) s t said h held = holds_one slave state code s t said h held
 holds_done (act.Expect (expects.Is v x)) s t said h held = subst (λ (m : MasteredState). Holds m.session) (sym h.same) held
+holds_done (act.Expect (expects.Holds v x)) s t said h held = subst (λ (m : MasteredState). Holds m.session) (sym h.same) held
 holds_done (act.Expect (expects.Never v)) s t said h held = subst (λ (m : MasteredState). Holds m.session) (sym h.same) held
 holds_done (act.Expect (expects.Units taken)) s t said h held = subst (λ (m : MasteredState). Holds m.session) (sym h.same) held
 holds_done (act.Expect (expects.Unit u taken)) s t said h held = subst (λ (m : MasteredState). Holds m.session) (sym h.same) held

@@ -154,6 +154,7 @@ table_stays act.States s t said h = ap (λ (x : SessionState). x.table) (reads_k
 table_stays (act.Never v) s t said h = told_table s t output.No said h
 table_stays (act.Expect (expects.State slave state code)) s t said h = one_table slave state code s t said h
 table_stays (act.Expect (expects.Is v x)) s t said h = ap (λ (m : MasteredState). m.session.table) h.same
+table_stays (act.Expect (expects.Holds v x)) s t said h = ap (λ (m : MasteredState). m.session.table) h.same
 table_stays (act.Expect (expects.Never v)) s t said h = ap (λ (m : MasteredState). m.session.table) h.same
 table_stays (act.Expect (expects.Units taken)) s t said h = ap (λ (m : MasteredState). m.session.table) h.same
 table_stays (act.Expect (expects.Unit u taken)) s t said h = ap (λ (m : MasteredState). m.session.table) h.same

@@ -86,6 +86,7 @@ untold_does act.Cycle s t said h = untold_cycle s t said (is_none (run_refusal s
 untold_does (act.Never v) s t said h = untold_tells s t output.No said h
 untold_does (act.Expect (expects.State slave state code)) s t said h = record { told = h.told; reads = h.reads; rest = (refl, h.rest.1); is = h.is }
 untold_does (act.Expect (expects.Is v x)) s t said h = record { same = ap untold h.same; is = h.is }
+untold_does (act.Expect (expects.Holds v x)) s t said h = record { same = ap untold h.same; is = h.is }
 untold_does (act.Expect (expects.Never v)) s t said h = record { same = ap untold h.same; is = h.is }
 untold_does (act.Expect (expects.Units taken)) s t said h = record { same = ap untold h.same; is = h.is }
 untold_does (act.Expect (expects.Unit u taken)) s t said h = record { same = ap untold h.same; is = h.is }

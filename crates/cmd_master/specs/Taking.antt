@@ -21,6 +21,7 @@ is_input (Some row) = is_toward_master row.direction
 -- A master sees its inputs, its report and its start-up, and reads AL states. It doesn't see what slaves publish of its outputs.
 abbrev pub is_observable : List VariableRow → Expectation → Bool
 is_observable rows (expects.Is v x) = is_input (slice_get rows v)
+is_observable rows (expects.Holds v test) = is_input (slice_get rows v)
 is_observable rows (expects.Never v) = is_input (slice_get rows v)
 is_observable rows (expects.Units taken) = true
 is_observable rows (expects.Unit u taken) = true

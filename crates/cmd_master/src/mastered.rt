@@ -298,7 +298,9 @@ fn is_observable(table: &Table, expected: Expectation) -> bool
     ensures { result ≡ is_observable table.now.variables expected }
 {
     match expected {
-        Expectation::Is(variable, _) | Expectation::Never(variable) => is_input(table, variable),
+        Expectation::Is(variable, _)
+        | Expectation::Holds(variable, _)
+        | Expectation::Never(variable) => is_input(table, variable),
         Expectation::State(_, _, _)
         | Expectation::Units(_)
         | Expectation::Unit(_, _)

@@ -227,6 +227,10 @@ Lines of a script:
 Lines that change nothing, and print something only if what they expect doesn't hold:
   expect NAME VALUE           an input variable of the image is VALUE; for an output variable, the
                               slaves publish VALUE in its linked bits
+  expect NAME == VALUE        its value is VALUE; also with !=, <, <=, >, >=. A value has no sign,
+                              and one that the variable can't hold is never met
+  expect NAME & MASK == VALUE its bits in MASK are VALUE; also with !=
+  expect NAME LOW..HIGH       its value lies between LOW and HIGH, or is one of them
   expect taken, expect untaken
                               the last report has all sync units as taken, or as untaken; with a
                               number behind it, that unit
@@ -444,7 +448,8 @@ Lines:
   stop            sets all outputs to 0, runs a cycle, and asks all slaves for INIT. Then only
                   `ready` goes on
   expect NAME VALUE
-                  an input variable of the image is VALUE
+                  an input variable of the image is VALUE. Also with ==, !=, <, <=, >, >= or
+                  `& MASK ==` before it, or LOW..HIGH in its place, as `ecat sim --help` says
   expect taken, expect untaken
                   the last report has all sync units as taken, or as untaken; with a number behind
                   it, that unit

@@ -1,7 +1,7 @@
 //! The form that a line begins as.
 use crate::word::Line;
-use ec_diagnostic::{Nearest, Diagnosis};
-use ec_script::{FORMS, Form, REPEAT, WordKind};
+use ec_diagnostic::{Diagnosis, Nearest};
+use ec_script::{FORMS, Form, REPEAT, WordKind, bounds_of};
 
 /// The form that a line of a script begins as. `is_variable` says whether it is an `expect` of three words whose second is the
 /// name of a variable: then it has a form of three words.
@@ -20,17 +20,28 @@ fn is_scripted(form: Form) -> bool {
     !matches!(form, Form::Report | Form::Stop)
 }
 
-/// Whether a line begins as a form does.
+/// Whether a line begins as a form does: all words of the form that stand for themselves are in their places, and a range is a word
+/// with `..` in it.
 fn begins(line: Line<'_>, form: &str) -> bool {
     for (place, part) in form.split(' ').enumerate() {
-        if WordKind::of(part).is_some() {
-            return true;
-        }
-        if !line.has(place, part) {
+        let fits = match WordKind::of(part) {
+            None => line.has(place, part),
+            Some(WordKind::Range) => has_range(line, place),
+            Some(_) => true,
+        };
+        if !fits {
             return false;
         }
     }
     true
+}
+
+/// Whether the word at a place has `..` in it.
+fn has_range(line: Line<'_>, place: usize) -> bool {
+    match line.word(place) {
+        Some(word) => bounds_of(word.text).is_some(),
+        None => false,
+    }
 }
 
 /// The first word of a script's line that may have been meant.

@@ -2,7 +2,7 @@
 use crate::word::Word;
 use ec_diagnostic::{Diagnosis, Meant, Nearest, Printable};
 use ec_script::{
-    WordKind, byte_of, code_of, hex_of, number_of, slave_named, state_named, times_of,
+    WordKind, bounds_of, byte_of, code_of, hex_of, number_of, slave_named, state_named, times_of,
     variable_named,
 };
 use ec_table::Table;
@@ -139,12 +139,15 @@ fn fault_of(kind: WordKind, word: &str) -> Option<(&'static str, &'static str)> 
 
 /// What is wrong with a word that isn't of a kind, if 64 bits hold its number, and what to do.
 fn misfit_of(kind: WordKind, word: &str) -> Option<(&'static str, &'static str)> {
-    let (digits, base, _) = digits_of(kind, word);
     let (fits, fault) = match kind {
         WordKind::Variable | WordKind::Slave => return None,
         WordKind::Value => (
-            number_in(base, digits).is_some(),
+            is_value(word),
             "is no value: it is decimal, `0x` and hex digits, or `-` and decimal",
+        ),
+        WordKind::Range => (
+            is_range(word),
+            "is no range: it is two values with `..` between them",
         ),
         WordKind::Number => (
             number_of(word).is_some(),
@@ -172,6 +175,20 @@ fn misfit_of(kind: WordKind, word: &str) -> Option<(&'static str, &'static str)>
         _ => SEE_HELP,
     };
     if fits { None } else { Some((fault, advice)) }
+}
+
+/// Whether a word is two values with `..` between them.
+fn is_range(word: &str) -> bool {
+    match bounds_of(word) {
+        Some((low, high)) => is_value(low) && is_value(high),
+        None => false,
+    }
+}
+
+/// Whether a word writes a value.
+fn is_value(word: &str) -> bool {
+    let (digits, base, _) = digits_of(WordKind::Value, word);
+    number_in(base, digits).is_some()
 }
 
 /// The digits of the number that a word writes, their base, and what 64 bits hold of such numbers.

@@ -32,6 +32,7 @@ is_output (Some row) = is_from_master row.direction
 -- It sees what slaves publish of a master's outputs, and their AL states. It doesn't see the master.
 abbrev pub is_seen : List VariableRow → Expectation → Bool
 is_seen rows (expects.Is v x) = is_output (slice_get rows v)
+is_seen rows (expects.Holds v test) = is_output (slice_get rows v)
 is_seen rows (expects.Never v) = is_output (slice_get rows v)
 is_seen rows (expects.State s state code) = true
 is_seen rows _ = false

@@ -238,7 +238,9 @@ fn is_seen(table: &Table, expected: Expectation) -> bool
     ensures { result ≡ is_seen table.now.variables expected }
 {
     match expected {
-        Expectation::Is(variable, _) | Expectation::Never(variable) => is_output(table, variable),
+        Expectation::Is(variable, _)
+        | Expectation::Holds(variable, _)
+        | Expectation::Never(variable) => is_output(table, variable),
         Expectation::State(_, _, _) => true,
         Expectation::Units(_)
         | Expectation::Unit(_, _)

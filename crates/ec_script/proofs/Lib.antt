@@ -10,6 +10,8 @@ pub mod LineReading
 pub mod Names
 -- what `parse` returns is the number of a word that doesn't begin with a plus
 pub mod Numbers
+-- what stands before and behind two dots
+pub mod Ranges
 -- what is written for a line is read back
 pub mod ReadingBack
 -- what words write as values

@@ -1,5 +1,5 @@
 -- What is written for a line is read back.
-use Rattle.std.proofs.Common.{◌≡◌, ◌≢◌, ◌∙◌, ℕ, ◌+◌, ◌-◌, ◌*◌, ◌/◌, ◌%◌, ◌<◌, ◌≤◌, ◌^◌, ◌==◌, ◌&&◌, List, [], ◌∷◌, ◌++◌, length, take, get_or, Bool, true, false, not, nat_lt, nat_le, position, Option, Some, None, All, AllPairs, slice_get, codes, option_and_then, if◌then◌else◌, refl, sym, ap, subst, arith}
+use Rattle.std.proofs.Common.{◌≡◌, ◌≢◌, ◌∙◌, ℕ, ◌+◌, ◌-◌, ◌*◌, ◌/◌, ◌%◌, ◌<◌, ◌≤◌, ◌^◌, ◌==◌, ◌&&◌, List, [], ◌∷◌, ◌++◌, length, take, get_or, Bool, true, false, not, nat_lt, nat_le, position, Option, Some, None, is_some, bit_and, All, AllPairs, slice_get, codes, option_and_then, if◌then◌else◌, refl, sym, ap, subst, arith}
 use Rattle.std.specs.Fmt.{decimal}
 use Rattle.std.specs.List.{list_all, position_or_len}
 use Rattle.std.specs.Char.{digit_char, digit_value, is_ascii_digit}
@@ -30,15 +30,21 @@ use Rattle.ec_script.specs.declared.line.LineAction.{LineAction}
 use Rattle.ec_script.specs.declared.line.LineAction.TheVariants.{Start, Set, Begin, Pass, Lose, LosePart, Return, Close, Serve, Put, Get, Fail, Reset, Input, Never, Expect, Ready, Cycle, Show, Output, Report, States, Stop, Served}
 use Rattle.ec_script.specs.declared.line.Line.{Line}
 use Rattle.ec_script.specs.declared.read.Reading.TheVariants as reading
+use Rattle.ec_script.specs.declared.value_test.Comparison.{Comparison}
+use Rattle.ec_script.specs.declared.value_test.Comparison.TheVariants.{Equal, Unequal, Less, LessEqual, Greater, GreaterEqual}
+use Rattle.ec_script.specs.declared.value_test.ValueTest.{ValueTest}
+use Rattle.ec_script.specs.declared.value_test.ValueTest.TheVariants.{Compared, Masked, Between}
 use Rattle.ec_script.specs.declared.value.WrittenValue.{WrittenValue}
 use Rattle.ec_script.specs.declared.value.WrittenValue.TheVariants.{Number, Outside}
-use Rattle.ec_script.specs.Actions.{action_of_form, action_of_words, expectation_of_form, input_action, set_action, value_expected}
+use Rattle.ec_script.specs.Actions.{action_of_form, action_of_words, expectation_of_form, input_action, set_action, test_expected, value_expected}
 use Rattle.ec_script.specs.Forms.{form_of}
-use Rattle.ec_script.specs.Operands.{assignment_at, slave_in, state_named, value_for, variable_named}
+use Rattle.ec_script.specs.Operands.{assignment_at, bounds_for, held_for, slave_in, state_named, value_for, variable_named}
 use Rattle.ec_script.specs.Scripts.{found_line, line_of_words, line_on, reading_of, reading_without}
-use Rattle.ec_script.specs.Words.{Text, byte_of, code_of, hex_of, is_number, number_of, plain_of, times_of, uncommented, value_of, words_of}
-use Rattle.ec_script.specs.Writing.{IsActionOf, IsCode, IsExpectationOf, IsLineOf, IsNumber, IsOtherWord, LinesReadBack, below_all, code_word, code_words, joined_words, number_words, row_name, state_name, taken_word, words_expecting, words_for}
+use Rattle.ec_script.specs.Tests.{between_test, compared_test, masked_test}
+use Rattle.ec_script.specs.Words.{Text, bounds_of, byte_of, code_of, hex_of, is_number, is_range, number_of, plain_of, times_of, uncommented, value_of, words_of}
+use Rattle.ec_script.specs.Writing.{IsActionOf, IsCode, IsExpectationOf, IsLineOf, IsNumber, IsOtherWord, IsTestOf, LinesReadBack, below_all, code_word, code_words, joined_words, masked_word, number_words, range_word, row_bits, row_name, sign_word, state_name, taken_word, test_words, words_expecting, words_for}
 use Rattle.ec_script.proofs.Numbers.{by_test, both, digits, is_true}
+use Rattle.ec_script.proofs.Ranges.{is_undotted, no_range, range_is}
 use Rattle.ec_script.proofs.Values.{often}
 use Rattle.ec_script.proofs.Verbs.{differ, false_from}
 
@@ -212,6 +218,7 @@ record Row (t : Contents) (v : ℕ) : Type 0 where
   named : variable_named t.variables (row_name (slice_get t.variables v)) ≡ Some v
   some : 1 ≤ row.bits
   few : row.bits ≤ 64
+  bits : row_bits (slice_get t.variables v) ≡ row.bits
 
 row_from : (t : Contents) (v : ℕ) → table.IsSound t → (r : (row : VariableRow) × (slice_get t.variables v ≡ Some row)) → Row t v
 row_from t v sound (row, at) =
@@ -223,6 +230,7 @@ row_from t v sound (row, at) =
       named = rw at (named t.variables v row sound.variables.once at);
       some = is.least;
       few = is.most;
+      bits = ap row_bits at;
     }
 
 row_at : (t : Contents) (v : ℕ) → table.IsSound t → v < length t.variables → Row t v
@@ -385,15 +393,155 @@ expect_back : (t : Contents) (f : ExpectForm) (e : Expectation) (rest : List Tex
 expect_back t f e rest plain fits reads =
     back t (form.Expect f) (Expect e) (codes "expect") rest refl refl refl plain fits (ap (option_and_then (λ x. Some (Expect x))) reads)
 
-value_form : (name word : Text) → IsOtherWord name → form_of (codes "expect" ∷ name ∷ word ∷ []) ≡ Some (form.Expect expected.Value)
+value_form : (name word : Text) → IsOtherWord name → is_range word ≡ false → form_of (codes "expect" ∷ name ∷ word ∷ []) ≡ Some (form.Expect expected.Value)
 unfolding form_of
-value_form name word free = rw (differ _ _ free.0, differ _ _ free.1, differ _ _ free.2) refl
+value_form name word free one = rw (differ _ _ free.0, differ _ _ free.1, differ _ _ free.2, one) refl
 
-value_of_name : (t : Contents) (v : ℕ) (word : Text) (value : WrittenValue) → Row t v → IsOtherWord (name_of t v) → is_word word ≡ true
+value_of_name : (t : Contents) (v : ℕ) (word : Text) (value : WrittenValue) → Row t v → IsOtherWord (name_of t v) → is_word word ≡ true → is_range word ≡ false
     → value_for t.variables v word ≡ Some value → IsBack t (Expect (value_expected (v, value))) (codes "expect" ∷ name_of t v ∷ word ∷ [])
-value_of_name t v word value r free plain is =
-    expect_back t expected.Value (value_expected (v, value)) _ (two_words (name_of t v) word r.plain plain) (value_form (name_of t v) word free)
+value_of_name t v word value r free plain one is =
+    expect_back t expected.Value (value_expected (v, value)) _ (two_words (name_of t v) word r.plain plain) (value_form (name_of t v) word free one)
     (ap (option_and_then (λ a. Some (value_expected a))) (assigned t (codes "expect") v word value r is))
+
+-- ---- what is tested
+
+-- digits alone have no dot among them, and are no sign
+undotted : (word : Text) → list_all is_ascii_digit word ≡ true → is_undotted word ≡ true
+undotted [] h = refl
+undotted (b ∷ bs) h =
+    let p = both_of (is_ascii_digit b) (list_all is_ascii_digit bs) h in
+    and _ _ (not_false _ (other_byte is_ascii_digit 46 refl b p.0)) (undotted bs p.1)
+
+no_bounds : (n : ℕ) → n < 2 ^ 64 → is_range (decimal n) ≡ false
+no_bounds n h = ap (λ o. is_some o) (no_range (decimal n) (undotted (decimal n) (number_digits n h)))
+
+no_sign_word : (word sign : Text) → list_all is_ascii_digit word ≡ true → list_all is_ascii_digit sign ≡ false → bytes_eq word sign ≡ false
+no_sign_word word sign h g = differ word sign (λ e.
+    let bad : true ≡ false = sym h ∙ (ap (list_all is_ascii_digit) e ∙ g) in
+    cc)
+
+-- a number that the variable's bits hold
+below_64 : (n bits : ℕ) → n < 2 ^ bits → bits ≤ 64 → n < 2 ^ 64
+below_64 n bits h few = let most : 2 ^ bits ≤ 2 ^ 64 = pow_mono few in omega (arith, h, most)
+
+bits_hold : (t : Contents) (v n : ℕ) (r : Row t v) → n < 2 ^ row_bits (slice_get t.variables v) → n < 2 ^ r.row.bits
+bits_hold t v n r h = subst (λ (bits : ℕ). n < 2 ^ bits) r.bits h
+
+word_holds : (t : Contents) (v n : ℕ) (r : Row t v) → n < 2 ^ row_bits (slice_get t.variables v) → n < 2 ^ 64
+word_holds t v n r h = below_64 n r.row.bits (bits_hold t v n r h) r.few
+
+held_back : (t : Contents) (v n : ℕ) → Row t v → n < 2 ^ row_bits (slice_get t.variables v) → held_for t.variables v (decimal n) ≡ Some (Some n)
+held_back t v n r h =
+    let less : nat_lt n (2 ^ r.row.bits) ≡ true = is_true n (2 ^ r.row.bits) (bits_hold t v n r h) in
+    rw (r.at, value_back r.row.bits n (word_holds t v n r h), less) refl
+
+-- a variable, and a number for it
+abbrev numbered : ℕ → Option (Option ℕ) → Option (ℕ × Option ℕ)
+numbered v o = option_and_then (λ n. Some (v, n)) o
+
+abbrev with_held : Contents → Text → ℕ → Option (ℕ × Option ℕ)
+with_held t word v = numbered v (held_for t.variables v word)
+
+-- wherever their words stand
+held_pair : (t : Contents) (v : ℕ) (word : Text) (n : Option ℕ) → Row t v → held_for t.variables v word ≡ Some n
+    → option_and_then (with_held t word) (variable_named t.variables (name_of t v)) ≡ Some (v, n)
+held_pair t v word n r is = ap (option_and_then (with_held t word)) r.named ∙ ap (numbered v) is
+
+compared_form : (name word : Text) (c : Comparison) → form_of (codes "expect" ∷ name ∷ sign_word c ∷ word ∷ []) ≡ Some (form.Expect (expected.Compared c))
+unfolding form_of
+compared_form name word Equal = refl
+compared_form name word Unequal = refl
+compared_form name word Less = refl
+compared_form name word LessEqual = refl
+compared_form name word Greater = refl
+compared_form name word GreaterEqual = refl
+
+sign_plain : (c : Comparison) → is_word (sign_word c) ≡ true
+sign_plain Equal = refl
+sign_plain Unequal = refl
+sign_plain Less = refl
+sign_plain LessEqual = refl
+sign_plain Greater = refl
+sign_plain GreaterEqual = refl
+
+compared_back : (t : Contents) (v : ℕ) (c : Comparison) (n : ℕ) → Row t v → n < 2 ^ row_bits (slice_get t.variables v)
+    → IsBack t (Expect (expects.Holds v (Compared c n))) (codes "expect" ∷ name_of t v ∷ sign_word c ∷ decimal n ∷ [])
+compared_back t v c n r h =
+    expect_back t (expected.Compared c) (expects.Holds v (Compared c n)) _
+    (and _ _ r.plain (two_words (sign_word c) (decimal n) (sign_plain c) (number_word n (word_holds t v n r h)))) (compared_form (name_of t v) (decimal n) c)
+    (ap (option_and_then (λ (a : ℕ × Option ℕ). Some (test_expected a.0 (compared_test c a.1)))) (held_pair t v (decimal n) (Some n) r (held_back t v n r h)))
+
+masked_form : (name mask word : Text) (is : Bool) → form_of (codes "expect" ∷ name ∷ codes "&" ∷ mask ∷ masked_word is ∷ word ∷ []) ≡ Some (form.Expect (expected.Masked is))
+unfolding form_of
+masked_form name mask word true = refl
+masked_form name mask word false = refl
+
+masked_plain : (is : Bool) → is_word (masked_word is) ≡ true
+masked_plain true = refl
+masked_plain false = refl
+
+within_mask : (is : Bool) (mask n : ℕ) → bit_and n mask ≡ n → masked_test is (Some mask) (Some n) ≡ Some (Masked mask is n)
+within_mask is mask n h = let yes : (bit_and n mask == n) ≡ true = grind (arith, nat_tests) in rw yes refl
+
+masked_back : (t : Contents) (v mask : ℕ) (is : Bool) (n : ℕ) → Row t v → mask < 2 ^ row_bits (slice_get t.variables v) → n < 2 ^ row_bits (slice_get t.variables v) → bit_and n mask ≡ n
+    → IsBack t (Expect (expects.Holds v (Masked mask is n))) (codes "expect" ∷ name_of t v ∷ codes "&" ∷ decimal mask ∷ masked_word is ∷ decimal n ∷ [])
+masked_back t v mask is n r h g inside =
+    expect_back t (expected.Masked is) (expects.Holds v (Masked mask is n)) _
+    (and _ _ r.plain (and _ _ refl (and _ _ (number_word mask (word_holds t v mask r h)) (two_words (masked_word is) (decimal n) (masked_plain is) (number_word n (word_holds t v n r g))))))
+    (masked_form (name_of t v) (decimal mask) (decimal n) is)
+    (ap (option_and_then (λ (m : ℕ × Option ℕ). option_and_then (λ (a : ℕ × Option ℕ). Some (test_expected m.0 (masked_test is m.1 a.1)))
+    (option_and_then (with_held t (decimal n)) (variable_named t.variables (name_of t v))))) (held_pair t v (decimal mask) (Some mask) r (held_back t v mask r h))
+    ∙ (ap (option_and_then (λ (a : ℕ × Option ℕ). Some (test_expected v (masked_test is (Some mask) a.1)))) (held_pair t v (decimal n) (Some n) r (held_back t v n r g))
+    ∙ ap (λ o. Some (test_expected v o)) (within_mask is mask n inside)))
+
+range_form : (name word : Text) → IsOtherWord name → is_range word ≡ true → form_of (codes "expect" ∷ name ∷ word ∷ []) ≡ Some (form.Expect expected.Range)
+unfolding form_of
+range_form name word free two = rw (differ _ _ free.0, differ _ _ free.1, differ _ _ free.2, two) refl
+
+range_plain : (low high : ℕ) → low < 2 ^ 64 → high < 2 ^ 64 → is_word (range_word low high) ≡ true
+range_plain low high h g = all_joined is_plain (decimal low) (46 ∷ 46 ∷ decimal high) (number_word low h) (and _ _ refl (and _ _ refl (number_word high g)))
+
+range_bounds : (low high : ℕ) → low < 2 ^ 64 → bounds_of (range_word low high) ≡ Some (decimal low, decimal high)
+range_bounds low high h = range_is (decimal low) (decimal high) (undotted (decimal low) (number_digits low h))
+
+abbrev Bounds : Type 0
+Bounds = Option ℕ × Option ℕ
+
+abbrev both_held : Option ℕ → Option (Option ℕ) → Option Bounds
+both_held m o = option_and_then (λ n. Some (m, n)) o
+
+abbrev bounded : ℕ → Option Bounds → Option (ℕ × Bounds)
+bounded v o = option_and_then (λ b. Some (v, b)) o
+
+abbrev with_words : Contents → ℕ → Option (Text × Text) → Option (ℕ × Bounds)
+with_words t v o = bounded v (option_and_then (bounds_for t.variables v) o)
+
+abbrev with_bounds : Contents → Text → ℕ → Option (ℕ × Bounds)
+with_bounds t word v = with_words t v (bounds_of word)
+
+bounds_back : (t : Contents) (v low high : ℕ) → Row t v → low < 2 ^ row_bits (slice_get t.variables v) → high < 2 ^ row_bits (slice_get t.variables v)
+    → bounds_for t.variables v (decimal low, decimal high) ≡ Some (Some low, Some high)
+bounds_back t v low high r h g =
+    ap (option_and_then (λ m. both_held m (held_for t.variables v (decimal high)))) (held_back t v low r h) ∙ ap (both_held (Some low)) (held_back t v high r g)
+
+range_back : (t : Contents) (v low high : ℕ) → Row t v → IsOtherWord (name_of t v) → low < 2 ^ row_bits (slice_get t.variables v) → high < 2 ^ row_bits (slice_get t.variables v)
+    → IsBack t (Expect (expects.Holds v (Between low high))) (codes "expect" ∷ name_of t v ∷ range_word low high ∷ [])
+range_back t v low high r free h g =
+    let word = range_word low high in
+    let bounds = range_bounds low high (word_holds t v low r h) in
+    expect_back t expected.Range (expects.Holds v (Between low high)) _
+    (two_words (name_of t v) word r.plain (range_plain low high (word_holds t v low r h) (word_holds t v high r g)))
+    (range_form (name_of t v) word free (ap (λ o. is_some o) bounds))
+    (ap (option_and_then (λ (b : ℕ × Bounds). Some (test_expected b.0 (between_test b.1.0 b.1.1))))
+    (ap (option_and_then (with_bounds t word)) r.named ∙ (ap (with_words t v) bounds ∙ ap (bounded v) (bounds_back t v low high r h g))))
+
+test_back : (t : Contents) (v : ℕ) (test : ValueTest) → Row t v → IsTestOf (name_of t v) (row_bits (slice_get t.variables v)) test
+    → IsBack t (Expect (expects.Holds v test)) (codes "expect" ∷ name_of t v ∷ test_words test)
+test_back t v (Compared c n) r h = compared_back t v c n r h
+test_back t v (Masked mask is n) r h = masked_back t v mask is n r h.0 h.1 h.2
+test_back t v (Between low high) r h = range_back t v low high r h.0 h.1 h.2
+
+-- ---- sync units and start-ups
 
 units_back : (t : Contents) (taken : Bool) → IsBack t (Expect (expects.Units taken)) (codes "expect" ∷ taken_word taken ∷ [])
 unfolding form_of
@@ -474,20 +622,33 @@ code_plain n h =
     let a : n / 4096 < 16 = omega arith in
     rw (digit_plain (n / 4096) a, digit_plain (n / 256 % 16) (omega arith), digit_plain (n / 16 % 16) (omega arith), digit_plain (n % 16) (omega arith)) refl
 
+state_form : (word state : Text) → list_all is_ascii_digit word ≡ true → form_of (codes "expect" ∷ codes "state" ∷ word ∷ state ∷ []) ≡ Some (form.Expect expected.State)
+unfolding form_of
+state_form word state h =
+    rw (
+      no_sign_word word (codes "==") h refl,
+      no_sign_word word (codes "!=") h refl,
+      no_sign_word word (codes "<") h refl,
+      no_sign_word word (codes "<=") h refl,
+      no_sign_word word (codes ">") h refl,
+      no_sign_word word (codes ">=") h refl,
+    ) refl
+
 in_state : (t : Contents) (s : ℕ) (state : State) (code : Option ℕ) → s < 2 ^ 64 → IsCode code
     → IsBack t (Expect (expects.State s state code)) (codes "expect" ∷ codes "state" ∷ decimal s ∷ state_name state ∷ code_words code)
 unfolding form_of
 in_state t s state None h g =
-    expect_back t expected.State _ _ (and _ _ refl (two_words (decimal s) (state_name state) (number_word s h) (state_plain state))) refl (rw (slave_back t s h, state_back state) refl)
+    expect_back t expected.State _ _ (and _ _ refl (two_words (decimal s) (state_name state) (number_word s h) (state_plain state))) (state_form (decimal s) (state_name state) (number_digits s h)) (rw (slave_back t s h, state_back state) refl)
 in_state t s state (Some code) h g =
     expect_back t expected.Code _ _ (and _ _ refl (and _ _ (number_word s h) (two_words (state_name state) (code_word code) (state_plain state) (code_plain code g)))) refl
     (rw (slave_back t s h, state_back state, code_back code g) refl)
 
 expectation_back : (t : Contents) (e : Expectation) → table.IsSound t → IsExpectationOf t.variables e → IsBack t (Expect e) (codes "expect" ∷ words_expecting t.variables e)
 expectation_back t (expects.Is v x) sound h =
-    let r = row_at t v sound h.0.0 in value_of_name t v (decimal x) (Number x) r h.0.1 (number_word x h.1) (value_for_back t v x r h.1)
+    let r = row_at t v sound h.0.0 in value_of_name t v (decimal x) (Number x) r h.0.1 (number_word x h.1) (no_bounds x h.1) (value_for_back t v x r h.1)
+expectation_back t (expects.Holds v test) sound h = test_back t v test (row_at t v sound h.0) h.1
 expectation_back t (expects.Never v) sound h =
-    let r = row_at t v sound h.0 in value_of_name t v below_all Outside r h.1 refl (below_for_back t v r)
+    let r = row_at t v sound h.0 in value_of_name t v below_all Outside r h.1 refl refl (below_for_back t v r)
 expectation_back t (expects.Units taken) sound h = units_back t taken
 expectation_back t (expects.Unit u taken) sound h = unit_back t u taken h
 expectation_back t (expects.State s state code) sound h = in_state t s state code h.0 h.1

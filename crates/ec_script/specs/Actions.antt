@@ -9,10 +9,12 @@ use Rattle.ec_script.specs.declared.forms.Form.{Form}
 use Rattle.ec_script.specs.declared.forms.Form.TheVariants as form
 use Rattle.ec_script.specs.declared.line.LineAction.{LineAction}
 use Rattle.ec_script.specs.declared.line.LineAction.TheVariants.{Start, Set, Begin, Pass, Lose, LosePart, Return, Close, Serve, Put, Get, Fail, Reset, Input, Never, Expect, Ready, Cycle, Show, Output, Report, States, Stop, Served}
+use Rattle.ec_script.specs.declared.value_test.ValueTest.{ValueTest}
 use Rattle.ec_script.specs.declared.value.WrittenValue.{WrittenValue}
 use Rattle.ec_script.specs.declared.value.WrittenValue.TheVariants.{Number, Outside}
 use Rattle.ec_script.specs.Forms.{form_of}
-use Rattle.ec_script.specs.Operands.{◌>>=◌, assignment_at, byte_at, code_at, number_at, slave_at, state_at, variable_at}
+use Rattle.ec_script.specs.Operands.{◌>>=◌, assignment_at, bounds_at, byte_at, code_at, held_at, number_at, slave_at, state_at, variable_at}
+use Rattle.ec_script.specs.Tests.{between_test, compared_test, masked_test}
 use Rattle.ec_script.specs.Words.{Text}
 
 -- ---- a variable and a value
@@ -29,6 +31,11 @@ abbrev pub value_expected : ℕ × WrittenValue → Expectation
 value_expected (v, Number x) = expects.Is v x
 value_expected (v, Outside) = expects.Never v
 
+-- a test with a number that the variable's bits can't hold is none, and never holds
+abbrev pub test_expected : ℕ → Option ValueTest → Expectation
+test_expected v None = expects.Never v
+test_expected v (Some test) = expects.Holds v test
+
 -- ---- forms
 
 -- what is expected; word 0 is `expect`
@@ -40,6 +47,9 @@ expectation_of_form t words expected.Refusal = number_at words 2 >>= (λ n. Some
 expectation_of_form t words expected.Failed = Some (expects.Failed None)
 expectation_of_form t words expected.Code = slave_at t words 2 >>= (λ s. state_at words 3 >>= (λ a. code_at words 4 >>= (λ c. Some (expects.State s a (Some c)))))
 expectation_of_form t words expected.State = slave_at t words 2 >>= (λ s. state_at words 3 >>= (λ a. Some (expects.State s a None)))
+expectation_of_form t words (expected.Compared c) = held_at t words 1 3 >>= (λ a. Some (test_expected a.0 (compared_test c a.1)))
+expectation_of_form t words (expected.Masked is) = held_at t words 1 3 >>= (λ m. held_at t words 1 5 >>= (λ a. Some (test_expected m.0 (masked_test is m.1 a.1))))
+expectation_of_form t words expected.Range = bounds_at t words 1 2 >>= (λ b. Some (test_expected b.0 (between_test b.1.0 b.1.1)))
 expectation_of_form t words expected.Value = assignment_at t words 1 2 >>= (λ a. Some (value_expected a))
 
 -- word 0 is the verb; `pass`, `lose` and `return` have the slot of a frame, `put` and `get` a slave and a place among its bytes

@@ -6,7 +6,8 @@ use Rattle.ec_start.specs.declared.error.StartError.{StartError}
 use Rattle.ec_start.specs.Errors.{error_number}
 use Rattle.ec_text.specs.InputText.{value_of_variable}
 use Rattle.ec_script.specs.declared.expectation.Expectation.{Expectation}
-use Rattle.ec_script.specs.declared.expectation.Expectation.TheVariants.{Is, Never, Units, Unit as OneUnit, State as InState, Ready, Failed}
+use Rattle.ec_script.specs.declared.expectation.Expectation.TheVariants.{Is, Holds, Never, Units, Unit as OneUnit, State as InState, Ready, Failed}
+use Rattle.ec_script.specs.Tests.{holds}
 use Rattle.ec_script.specs.Views.{ViewState}
 
 -- ---- sync units
@@ -45,6 +46,7 @@ is_failed number _ = false
 -- a variable by the process image; a master alone sees no state of a slave
 abbrev pub is_met : Expectation → ViewState → Bool
 is_met (Is v x) view = value_of_variable view.master v == x
+is_met (Holds v test) view = holds test (value_of_variable view.master v)
 is_met (Never v) view = false
 is_met (Units taken) view = of_report (all_units taken) view.report
 is_met (OneUnit u taken) view = of_report (is_unit u taken) view.report

@@ -1,13 +1,14 @@
 -- How lines are written (this project's profile), without `repeat`. A word of a form in capitals stands for what it names, and any
 -- other for itself.
-use Rattle.std.specs.Prelude.{◌==◌, ◌&&◌, ◌||◌, List, [], ◌∷◌, length, Bool, true, false, Option, option_map, codes}
+use Rattle.std.specs.Prelude.{◌==◌, ◌&&◌, ◌||◌, List, [], ◌∷◌, length, Bool, true, false, if◌then◌else◌, Option, option_map, codes}
 use Rattle.std.specs.Char.{is_ascii_uppercase}
 use Rattle.std.specs.List.{find, list_all, zip}
 use Rattle.std.specs.Str.{bytes_eq}
 use Rattle.ec_script.specs.declared.forms.ExpectForm.TheVariants as expects
 use Rattle.ec_script.specs.declared.forms.Form.{Form}
 use Rattle.ec_script.specs.declared.forms.Form.TheVariants.{Start, Set, Begin, Pass, LosePart, Lose, Return, Close, Serve, Put, Get, Fail, Reset, Input, Output, Ready, Cycle, Show, Report, States, Stop, Served, Expect}
-use Rattle.ec_script.specs.Words.{Text, words_of}
+use Rattle.ec_script.specs.declared.value_test.Comparison.TheVariants.{Equal, Unequal, Less, LessEqual, Greater, GreaterEqual}
+use Rattle.ec_script.specs.Words.{Text, is_range, words_of}
 
 abbrev pub forms : List (Form × Text)
 forms =
@@ -33,6 +34,14 @@ forms =
     ∷ (States, codes "states")
     ∷ (Stop, codes "stop")
     ∷ (Served, codes "served")
+    ∷ (Expect (expects.Compared Equal), codes "expect NAME == VALUE")
+    ∷ (Expect (expects.Compared Unequal), codes "expect NAME != VALUE")
+    ∷ (Expect (expects.Compared Less), codes "expect NAME < VALUE")
+    ∷ (Expect (expects.Compared LessEqual), codes "expect NAME <= VALUE")
+    ∷ (Expect (expects.Compared Greater), codes "expect NAME > VALUE")
+    ∷ (Expect (expects.Compared GreaterEqual), codes "expect NAME >= VALUE")
+    ∷ (Expect (expects.Masked true), codes "expect NAME & MASK == VALUE")
+    ∷ (Expect (expects.Masked false), codes "expect NAME & MASK != VALUE")
     ∷ (Expect (expects.Unit true), codes "expect taken UNIT")
     ∷ (Expect (expects.Units true), codes "expect taken")
     ∷ (Expect (expects.Unit false), codes "expect untaken UNIT")
@@ -42,12 +51,13 @@ forms =
     ∷ (Expect expects.Failed, codes "expect failed")
     ∷ (Expect expects.Code, codes "expect state S STATE CODE")
     ∷ (Expect expects.State, codes "expect state S STATE")
+    ∷ (Expect expects.Range, codes "expect NAME LOW..HIGH")
     ∷ (Expect expects.Value, codes "expect NAME VALUE")
     ∷ []
 
--- a word of a form fits a word of a line
+-- a word of a form stands for a word of a line; one with `..` in it stands for those with `..` in them
 abbrev pub stands_for : Text → Text → Bool
-stands_for part word = list_all is_ascii_uppercase part || bytes_eq word part
+stands_for part word = if is_range part then is_range word else (list_all is_ascii_uppercase part || bytes_eq word part)
 
 -- as far as both have words
 abbrev pub agree : List Text → List Text → Bool

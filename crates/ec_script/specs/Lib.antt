@@ -6,6 +6,8 @@ pub mod Words
 pub mod Forms
 -- where a script begins
 pub mod Halves
+-- tests of the value of a variable
+pub mod Tests
 -- what single words and whole lines stand for
 pub mod Operands
 pub mod Actions

@@ -1,5 +1,5 @@
 -- What single words of a line stand for (this project's profile).
-use Rattle.std.specs.Prelude.{ℕ, List, if◌then◌else◌, Option, Some, None, option_and_then, slice_get, codes}
+use Rattle.std.specs.Prelude.{ℕ, List, if◌then◌else◌, Option, Some, None, option_and_then, option_map, slice_get, codes}
 use Rattle.std.specs.Char.{is_ascii_digit}
 use Rattle.std.specs.List.{list_all}
 use Rattle.std.specs.Str.{bytes_eq}
@@ -10,7 +10,7 @@ use Rattle.ec_table.specs.declared.rows.SlaveRow.{SlaveRow}
 use Rattle.ec_table.specs.declared.rows.VariableRow.{VariableRow}
 use Rattle.ec_table.specs.Names.{index_named}
 use Rattle.ec_script.specs.declared.value.WrittenValue.{WrittenValue}
-use Rattle.ec_script.specs.Words.{Text, number_of, byte_of, code_of, value_of}
+use Rattle.ec_script.specs.Words.{Text, bounds_of, held_in, number_of, byte_of, code_of, value_of}
 
 infixl 10 ◌>>=◌
 abbrev pub ◌>>=◌ : {A B : Type 0} → Option A → (A → Option B) → Option B
@@ -47,6 +47,14 @@ row_value word (Some row) = value_of row.bits word
 abbrev pub value_for : List VariableRow → ℕ → Text → Option WrittenValue
 value_for variables v word = row_value word (slice_get variables v)
 
+abbrev pub row_held : Text → Option VariableRow → Option (Option ℕ)
+row_held word None = None
+row_held word (Some row) = option_map (held_in row.bits) (value_of row.bits word)
+
+-- the number that a word writes for the variable at a place, if its bits hold it
+abbrev pub held_for : List VariableRow → ℕ → Text → Option (Option ℕ)
+held_for variables v word = row_held word (slice_get variables v)
+
 -- ---- by the place of the word in its line, from 0 on
 
 abbrev pub variable_at : Contents → List Text → ℕ → Option ℕ
@@ -55,6 +63,17 @@ variable_at t words i = slice_get words i >>= variable_named t.variables
 -- a variable by its name, and a value for it
 abbrev pub assignment_at : Contents → List Text → ℕ → ℕ → Option (ℕ × WrittenValue)
 assignment_at t words i j = variable_at t words i >>= (λ v. slice_get words j >>= value_for t.variables v >>= (λ x. Some (v, x)))
+
+-- a variable by its name, and a number for it
+abbrev pub held_at : Contents → List Text → ℕ → ℕ → Option (ℕ × Option ℕ)
+held_at t words i j = variable_at t words i >>= (λ v. slice_get words j >>= held_for t.variables v >>= (λ n. Some (v, n)))
+
+-- two numbers, with `..` between them
+abbrev pub bounds_for : List VariableRow → ℕ → Text × Text → Option (Option ℕ × Option ℕ)
+bounds_for variables v (low, high) = held_for variables v low >>= (λ m. held_for variables v high >>= (λ n. Some (m, n)))
+
+abbrev pub bounds_at : Contents → List Text → ℕ → ℕ → Option (ℕ × (Option ℕ × Option ℕ))
+bounds_at t words i j = variable_at t words i >>= (λ v. slice_get words j >>= bounds_of >>= bounds_for t.variables v >>= (λ b. Some (v, b)))
 
 abbrev pub slave_at : Contents → List Text → ℕ → Option ℕ
 slave_at t words i = slice_get words i >>= slave_in t

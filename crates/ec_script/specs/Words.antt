@@ -1,5 +1,5 @@
 -- The words of a line, and the numbers and values that words write (this project's profile).
-use Rattle.std.specs.Prelude.{ℕ, ◌-◌, ◌^◌, ◌==◌, ◌&&◌, List, [], ◌∷◌, length, take, drop, nat_lt, nat_le, position, slice_index, Bool, true, if◌then◌else◌, Option, Some, None, option_and_then, option_map, codes}
+use Rattle.std.specs.Prelude.{ℕ, ◌+◌, ◌-◌, ◌^◌, ◌==◌, ◌&&◌, List, [], ◌∷◌, length, take, drop, nat_lt, nat_le, position, slice_index, Bool, true, if◌then◌else◌, Option, Some, None, is_some, option_and_then, option_map, codes}
 use Rattle.std.specs.Char.{digit_value}
 use Rattle.std.specs.List.{slice_split}
 use Rattle.std.specs.Str.{all_ascii_digits, bytes_eq}
@@ -67,6 +67,23 @@ hex_of word = if is_hex word then Some (digits_value 16 word) else None
 unfoldable pub code_of : Text → Option ℕ
 code_of word = if length word == 4 then option_and_then (λ n. if nat_lt n (2 ^ 16) then Some n else None) (hex_of word) else None
 
+-- ---- two words in one
+
+abbrev pub behind_dot : Text → Text → Option (Text × Text)
+behind_dot low [] = None
+behind_dot low (c ∷ cs) = if c == 46 then Some (low, cs) else None
+
+abbrev pub round_dots : Text → Option ℕ → Option (Text × Text)
+round_dots word None = None
+round_dots word (Some place) = behind_dot (take place word) (drop (place + 1) word)
+
+-- what stands before and behind the first `.` of a word, if it is two of them
+abbrev pub bounds_of : Text → Option (Text × Text)
+bounds_of word = round_dots word (position (λ b. b == 46) word)
+
+abbrev pub is_range : Text → Bool
+is_range word = is_some (bounds_of word)
+
 -- ---- values
 
 -- a number without a sign: decimal, or `0x` and hex digits
@@ -80,3 +97,8 @@ negative_of bits n = if n == 0 then Number 0 else (if nat_le n (2 ^ (bits - 1)) 
 -- the value that a word writes for this many bits
 unfoldable pub value_of : ℕ → Text → Option WrittenValue
 value_of bits word = if slice_index word 0 == 45 then option_map (negative_of bits) (number_of (drop 1 word)) else option_map Number (plain_of word)
+
+-- the number that is written, if this many bits hold it
+abbrev pub held_in : ℕ → WrittenValue → Option ℕ
+held_in bits (Number n) = if nat_lt n (2 ^ bits) then Some n else None
+held_in bits Outside = None

@@ -1,5 +1,5 @@
 -- How a line is written, and that it is read back (this project's profile).
-use Rattle.std.specs.Prelude.{ℕ, ◌<◌, ◌≤◌, ◌≡◌, ◌≢◌, ◌/◌, ◌%◌, ◌^◌, ◌==◌, List, [], ◌∷◌, ◌++◌, length, Bool, true, false, if◌then◌else◌, Option, Some, None, slice_get, codes}
+use Rattle.std.specs.Prelude.{ℕ, ◌<◌, ◌≤◌, ◌≡◌, ◌≢◌, ◌/◌, ◌%◌, ◌^◌, ◌==◌, List, [], ◌∷◌, ◌++◌, length, Bool, true, false, if◌then◌else◌, Option, Some, None, bit_and, slice_get, codes}
 use Rattle.std.specs.Char.{digit_char}
 use Rattle.std.specs.Fmt.{decimal}
 use Rattle.ec_al.specs.declared.state.State.{State}
@@ -9,6 +9,10 @@ use Rattle.ec_table.specs.Sound as table
 use Rattle.ec_table.specs.declared.rows.VariableRow.{VariableRow}
 use Rattle.ec_script.specs.declared.expectation.Expectation.{Expectation}
 use Rattle.ec_script.specs.declared.expectation.Expectation.TheVariants as expects
+use Rattle.ec_script.specs.declared.value_test.Comparison.{Comparison}
+use Rattle.ec_script.specs.declared.value_test.Comparison.TheVariants.{Equal, Unequal, Less, LessEqual, Greater, GreaterEqual}
+use Rattle.ec_script.specs.declared.value_test.ValueTest.{ValueTest}
+use Rattle.ec_script.specs.declared.value_test.ValueTest.TheVariants.{Compared, Masked, Between}
 use Rattle.ec_script.specs.declared.line.LineAction.{LineAction}
 use Rattle.ec_script.specs.declared.line.LineAction.TheVariants.{Start, Set, Begin, Pass, Lose, LosePart, Return, Close, Serve, Put, Get, Fail, Reset, Input, Never, Expect, Ready, Cycle, Show, Output, Served, Report, States, Stop}
 use Rattle.ec_script.specs.declared.line.Line.{Line}
@@ -48,8 +52,33 @@ abbrev pub number_words : Option ℕ → List Text
 number_words None = []
 number_words (Some n) = decimal n ∷ []
 
+-- ---- tests
+
+abbrev pub sign_word : Comparison → Text
+sign_word Equal = codes "=="
+sign_word Unequal = codes "!="
+sign_word Less = codes "<"
+sign_word LessEqual = codes "<="
+sign_word Greater = codes ">"
+sign_word GreaterEqual = codes ">="
+
+abbrev pub masked_word : Bool → Text
+masked_word true = codes "=="
+masked_word false = codes "!="
+
+abbrev pub range_word : ℕ → ℕ → Text
+range_word low high = decimal low ++ (46 ∷ 46 ∷ decimal high)
+
+abbrev pub test_words : ValueTest → List Text
+test_words (Compared c n) = sign_word c ∷ decimal n ∷ []
+test_words (Masked mask is n) = codes "&" ∷ decimal mask ∷ masked_word is ∷ decimal n ∷ []
+test_words (Between low high) = range_word low high ∷ []
+
+-- ---- actions
+
 abbrev pub words_expecting : List VariableRow → Expectation → List Text
 words_expecting variables (expects.Is v x) = row_name (slice_get variables v) ∷ decimal x ∷ []
+words_expecting variables (expects.Holds v test) = row_name (slice_get variables v) ∷ test_words test
 words_expecting variables (expects.Never v) = row_name (slice_get variables v) ∷ below_all ∷ []
 words_expecting variables (expects.Units taken) = taken_word taken ∷ []
 words_expecting variables (expects.Unit u taken) = taken_word taken ∷ decimal u ∷ []
@@ -115,8 +144,19 @@ abbrev pub IsNumber : Option ℕ → Type 0
 IsNumber None = Unit {0}
 IsNumber (Some n) = IsWord64 n
 
+abbrev pub row_bits : Option VariableRow → ℕ
+row_bits None = 0
+row_bits (Some row) = row.bits
+
+-- numbers that a variable's bits hold, with no bit outside a mask; and by its name, as `expect` has words of its own
+abbrev pub IsTestOf : (name : Text) → (bits : ℕ) → ValueTest → Type 0
+IsTestOf name bits (Compared c n) = n < 2 ^ bits
+IsTestOf name bits (Masked mask is n) = (mask < 2 ^ bits) × (n < 2 ^ bits) × (bit_and n mask ≡ n)
+IsTestOf name bits (Between low high) = IsOtherWord name × (low < 2 ^ bits) × (high < 2 ^ bits)
+
 abbrev pub IsExpectationOf : List VariableRow → Expectation → Type 0
 IsExpectationOf variables (expects.Is v x) = IsExpectedVariable variables v × IsWord64 x
+IsExpectationOf variables (expects.Holds v test) = (v < length variables) × IsTestOf (row_name (slice_get variables v)) (row_bits (slice_get variables v)) test
 IsExpectationOf variables (expects.Never v) = IsExpectedVariable variables v
 IsExpectationOf variables (expects.Units taken) = Unit {0}
 IsExpectationOf variables (expects.Unit u taken) = IsWord64 u

@@ -1,4 +1,5 @@
 //! What `expect` looks at.
+use crate::value_test::ValueTest;
 use ec_al::State;
 
 /// What a line expects of the world that it finds.
@@ -7,7 +8,10 @@ pub enum Expectation {
     /// The variable at this place has this value: an input in the process image, an output in the bits
     /// that slaves publish.
     Is(usize, u64),
-    /// The variable at this place has a value that its bits can't hold: this never holds.
+    /// The value of the variable at this place meets this test: of an input the value in the process image, of an output the one
+    /// that slaves publish.
+    Holds(usize, ValueTest),
+    /// The variable at this place is compared with a value that its bits can't hold: this never holds.
     Never(usize),
     /// Every sync unit of the last report was taken; or with false, none was.
     Units(bool),

@@ -2,14 +2,15 @@
 ghost use Rattle.std.specs.Prelude.{◌≡◌, map};
 ghost use Rattle.std.specs.Char.{is_ascii_uppercase};
 ghost use Rattle.std.specs.List.{list_all};
-ghost use Rattle.ec_script.specs.Actions.{action_of_form, action_of_words, expectation_of_form, input_action, set_action, value_expected};
-ghost use Rattle.ec_script.specs.Forms.{agree, fits, form_of};
+ghost use Rattle.ec_script.specs.Actions.{action_of_form, action_of_words, expectation_of_form, input_action, set_action, test_expected, value_expected};
+ghost use Rattle.ec_script.specs.Forms.{agree, fits, form_of, stands_for};
 ghost use Rattle.ec_script.specs.Words.{words_of};
 
 use crate::expectation::Expectation;
 use crate::line::LineAction;
 use crate::operands::Operands;
-use crate::value::WrittenValue;
+use crate::value::{WrittenValue, is_range};
+use crate::value_test::{Comparison, ValueTest, between_test, compared_test, masked_test};
 use ec_table::Table;
 
 /// The form of a line, named for the action that it asks for.
@@ -54,12 +55,18 @@ pub enum ExpectForm {
     /// An AL state with an AL status code.
     Code,
     State,
+    /// A variable's value, compared so.
+    Compared(Comparison),
+    /// A variable's masked value: it is, or with false, it isn't.
+    Masked(bool),
+    /// A variable's value, between two others.
+    Range,
     Value,
 }
 
 /// How the lines of a script are written, without `repeat`: a word in capitals stands for what it names, and any other for itself.
 /// Words that fit several forms have the first of them. A form stands before those that are its beginning.
-pub static FORMS: [(Form, &str); 32] = [
+pub static FORMS: [(Form, &str); 41] = [
     (Form::Start, "start"),
     (Form::Set, "set NAME VALUE"),
     (Form::Begin, "begin"),
@@ -82,6 +89,38 @@ pub static FORMS: [(Form, &str); 32] = [
     (Form::States, "states"),
     (Form::Stop, "stop"),
     (Form::Served, "served"),
+    (
+        Form::Expect(ExpectForm::Compared(Comparison::Equal)),
+        "expect NAME == VALUE",
+    ),
+    (
+        Form::Expect(ExpectForm::Compared(Comparison::Unequal)),
+        "expect NAME != VALUE",
+    ),
+    (
+        Form::Expect(ExpectForm::Compared(Comparison::Less)),
+        "expect NAME < VALUE",
+    ),
+    (
+        Form::Expect(ExpectForm::Compared(Comparison::LessEqual)),
+        "expect NAME <= VALUE",
+    ),
+    (
+        Form::Expect(ExpectForm::Compared(Comparison::Greater)),
+        "expect NAME > VALUE",
+    ),
+    (
+        Form::Expect(ExpectForm::Compared(Comparison::GreaterEqual)),
+        "expect NAME >= VALUE",
+    ),
+    (
+        Form::Expect(ExpectForm::Masked(true)),
+        "expect NAME & MASK == VALUE",
+    ),
+    (
+        Form::Expect(ExpectForm::Masked(false)),
+        "expect NAME & MASK != VALUE",
+    ),
     (Form::Expect(ExpectForm::Unit(true)), "expect taken UNIT"),
     (Form::Expect(ExpectForm::Units(true)), "expect taken"),
     (Form::Expect(ExpectForm::Unit(false)), "expect untaken UNIT"),
@@ -91,6 +130,7 @@ pub static FORMS: [(Form, &str); 32] = [
     (Form::Expect(ExpectForm::Failed), "expect failed"),
     (Form::Expect(ExpectForm::Code), "expect state S STATE CODE"),
     (Form::Expect(ExpectForm::State), "expect state S STATE"),
+    (Form::Expect(ExpectForm::Range), "expect NAME LOW..HIGH"),
     (Form::Expect(ExpectForm::Value), "expect NAME VALUE"),
 ];
 
@@ -125,7 +165,18 @@ fn agree(words: &[&str], form: &str) -> bool
 {
     form.split(' ')
         .zip(words)
-        .all(|(part, word)| is_placeholder(part) || *word == part)
+        .all(|(part, word)| stands_for(part, word))
+}
+
+/// Whether a word of a form stands for a word of a line.
+fn stands_for(part: &str, word: &str) -> bool
+    ensures { result ≡ stands_for part.now word.now }
+{
+    if is_range(part) {
+        is_range(word)
+    } else {
+        is_placeholder(part) || word == part
+    }
 }
 
 /// Whether a word of a form stands for what it names.
@@ -180,6 +231,18 @@ fn expectation_of_form(form: ExpectForm, words: Operands<'_>) -> Option<Expectat
             Expectation::State(words.slave(2)?, words.state(3)?, Some(words.code(4)?))
         }
         ExpectForm::State => Expectation::State(words.slave(2)?, words.state(3)?, None),
+        ExpectForm::Compared(comparison) => {
+            let (variable, number) = words.held(1, 3)?;
+            test_expected(variable, compared_test(comparison, number))
+        }
+        ExpectForm::Masked(is) => {
+            let ((variable, mask), (_, number)) = (words.held(1, 3)?, words.held(1, 5)?);
+            test_expected(variable, masked_test(is, mask, number))
+        }
+        ExpectForm::Range => {
+            let (variable, (low, high)) = words.bounds(1, 2)?;
+            test_expected(variable, between_test(low, high))
+        }
         ExpectForm::Value => value_expected(words.assignment(1, 2)?),
     })
 }
@@ -211,5 +274,15 @@ fn value_expected(assignment: (usize, WrittenValue)) -> Expectation
     match assignment {
         (variable, WrittenValue::Number(value)) => Expectation::Is(variable, value),
         (variable, WrittenValue::Outside) => Expectation::Never(variable),
+    }
+}
+
+/// The expectation that a variable's value meets a test. One with a number that its bits can't hold is no test, and never holds.
+fn test_expected(variable: usize, test: Option<ValueTest>) -> Expectation
+    ensures { result ≡ test_expected variable test }
+{
+    match test {
+        Some(test) => Expectation::Holds(variable, test),
+        None => Expectation::Never(variable),
     }
 }

@@ -13,6 +13,7 @@ mod output;
 mod read;
 mod states;
 mod value;
+mod value_test;
 mod view;
 mod words;
 
@@ -25,6 +26,7 @@ pub use crate::met::{is_failed, is_met};
 pub use crate::operands::{WordKind, slave_named, state_named, variable_named};
 pub use crate::output::{LineOutput, output_text};
 pub use crate::read::{Reading, read_line, read_script, uncommented};
-pub use crate::value::hex_of;
+pub use crate::value::{bounds_of, hex_of};
+pub use crate::value_test::{Comparison, ValueTest};
 pub use crate::view::MasterView;
 pub use crate::words::{byte_of, code_of, number_of, times_of};

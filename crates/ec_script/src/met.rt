@@ -15,6 +15,7 @@ pub fn is_met(view: &MasterView<'_, '_>, expected: Expectation) -> bool
 {
     match expected {
         Expectation::Is(variable, value) => value_of(view.master, variable) == value,
+        Expectation::Holds(variable, test) => test.holds(value_of(view.master, variable)),
         Expectation::Never(_) | Expectation::State(_, _, _) => false,
         Expectation::Units(taken) => are_units(view, taken),
         Expectation::Unit(number, taken) => has_unit(view, number, taken),

@@ -2,10 +2,11 @@
 ghost use Rattle.std.specs.Prelude.{◌≡◌, ◌<◌, IfSome, length, map};
 ghost use Rattle.std.specs.Char.{is_ascii_digit};
 ghost use Rattle.std.specs.List.{list_all, slice_get};
-ghost use Rattle.std.specs.Option.{option_map};
-ghost use Rattle.ec_script.specs.Operands.{assignment_at, byte_at, code_at, number_at, slave_at, slave_in, slave_named, state_at, state_named, value_for, variable_at, variable_named};
+ghost use Rattle.std.specs.Option.{option_and_then, option_map};
+ghost use Rattle.ec_script.specs.Words.{bounds_of};
+ghost use Rattle.ec_script.specs.Operands.{assignment_at, bounds_at, bounds_for, byte_at, code_at, held_at, held_for, number_at, slave_at, slave_in, slave_named, state_at, state_named, value_for, variable_at, variable_named};
 
-use crate::value::{WrittenValue, value_of};
+use crate::value::{WrittenValue, bounds_of, held_in, value_of};
 use crate::words::{byte_of, code_of, number_of};
 use ec_al::State;
 use ec_table::{SlaveRow, Table, VariableRow};
@@ -17,6 +18,8 @@ pub enum WordKind {
     Variable,
     /// A value of a variable.
     Value,
+    /// Two values of a variable, with `..` between them.
+    Range,
     /// A slave, by its number or its name.
     Slave,
     /// A number in decimal.
@@ -43,7 +46,8 @@ impl WordKind {
     pub fn of(part: &str) -> Option<WordKind> {
         match part {
             "NAME" => Some(WordKind::Variable),
-            "VALUE" => Some(WordKind::Value),
+            "VALUE" | "MASK" => Some(WordKind::Value),
+            "LOW..HIGH" => Some(WordKind::Range),
             "S" => Some(WordKind::Slave),
             "K" | "I" | "P" | "UNIT" | "NUMBER" => Some(WordKind::Number),
             "BYTE" => Some(WordKind::Byte),
@@ -70,6 +74,25 @@ impl<'l> Operands<'l> {
         ensures { result ≡ variable_at self.entry.table.now (map (λ x. x.now) self.entry.words.now) place }
     {
         variable_named(self.table.variables(), self.word(place)?)
+    }
+
+    /// The variable that the word at the place `name` names, and the number that the word at the place `value` writes for it, if the
+    /// variable's bits hold it.
+    pub fn held(self, name: usize, value: usize) -> Option<(usize, Option<u64>)>
+        ensures { result ≡ held_at self.entry.table.now (map (λ x. x.now) self.entry.words.now) name value }
+    {
+        let variable = variable_named(self.table.variables(), self.word(name)?)?;
+        let number = held_for(self.table, variable, self.word(value)?)?;
+        Some((variable, number))
+    }
+
+    /// As [`held`](Operands::held), for the two numbers of a range.
+    pub fn bounds(self, name: usize, range: usize) -> Option<(usize, (Option<u64>, Option<u64>))>
+        ensures { result ≡ bounds_at self.entry.table.now (map (λ x. x.now) self.entry.words.now) name range }
+    {
+        let variable = variable_named(self.table.variables(), self.word(name)?)?;
+        let bounds = bounds_for(self.table, variable, self.word(range)?)?;
+        Some((variable, bounds))
     }
 
     /// The slave that the word at a place names.
@@ -171,6 +194,29 @@ fn value_for(table: &Table, variable: usize, word: &str) -> Option<WrittenValue>
     ensures { result ≡ value_for table.now.variables variable word.now }
 {
     value_of(table.variables()[variable].bits, word)
+}
+
+/// The number that a word writes for the variable at a place, if its bits hold it; `None` if the word writes no value.
+fn held_for(table: &Table, variable: usize, word: &str) -> Option<Option<u64>>
+    requires { variable < length table.now.variables }
+    ensures { result ≡ held_for table.now.variables variable word.now }
+{
+    let bits = table.variables()[variable].bits;
+    Some(held_in(bits, value_of(bits, word)?))
+}
+
+/// The numbers before and behind the `..` of a word, for the variable at a place; `None` if it isn't two values.
+fn bounds_for(table: &Table, variable: usize, word: &str) -> Option<(Option<u64>, Option<u64>)>
+    requires { variable < length table.now.variables }
+    ensures { result ≡ option_and_then (bounds_for table.now.variables variable) (bounds_of word.now) }
+{
+    match bounds_of(word) {
+        Some((low, high)) => {
+            let low = held_for(table, variable, low)?;
+            Some((low, held_for(table, variable, high)?))
+        }
+        None => None,
+    }
 }
 
 /// Whether a word has digits alone.

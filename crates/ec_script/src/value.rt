@@ -1,8 +1,10 @@
 //! Values of variables as words of a line write them.
 ghost use Rattle.std.specs.Prelude.{◌≡◌, ◌≤◌};
-ghost use Rattle.ec_script.specs.Words.{hex_of, negative_of, plain_of, value_of};
+ghost use Rattle.std.specs.Option.{option_map};
+ghost use Rattle.ec_script.specs.Words.{bounds_of, held_in, hex_of, is_range, negative_of, plain_of, value_of};
 
 use crate::words::number_of;
+use ec_bits::is_short;
 
 /// What a word writes as the value of a variable.
 #[derive(Clone, Copy, Debug, PartialEq, Eq, Drop)]
@@ -60,4 +62,35 @@ fn plain_of(word: &str) -> Option<u64>
         Some(digits) => hex_of(digits),
         None => number_of(word),
     }
+}
+
+/// The number that is written, if this many bits hold it.
+pub fn held_in(bits: u8, value: WrittenValue) -> Option<u64>
+    requires { bits ≤ 64 }
+    ensures { result ≡ held_in bits value }
+{
+    match value {
+        WrittenValue::Number(number) if is_short(number, bits) => Some(number),
+        WrittenValue::Number(_) | WrittenValue::Outside => None,
+    }
+}
+
+/// What stands before and behind the first `.` of a word, if it is two of them; else `None`.
+pub fn bounds_of(word: &str) -> Option<(&str, &str)>
+    ensures { option_map (λ x. (x.0.now, x.1.now)) result ≡ bounds_of word.now }
+{
+    match word.split_once('.') {
+        Some((low, rest)) => match rest.strip_prefix('.') {
+            Some(high) => Some((low, high)),
+            None => None,
+        },
+        None => None,
+    }
+}
+
+/// Whether a word is two with `..` between them.
+pub fn is_range(word: &str) -> bool
+    ensures { result ≡ is_range word.now }
+{
+    bounds_of(word).is_some()
 }

@@ -1,6 +1,6 @@
 -- When what a line expects of a world holds (this project's profile): what its slaves have, and else what its master shows.
-use Rattle.std.specs.Prelude.{ℕ, ◌+◌, ◌-◌, ◌*◌, ◌%◌, ◌==◌, ◌&&◌, List, length, nat_le, slice_get, Bool, true, false, if◌then◌else◌, Option, Some, None}
-use Rattle.std.specs.List.{list_all}
+use Rattle.std.specs.Prelude.{ℕ, ◌+◌, ◌-◌, ◌*◌, ◌%◌, ◌==◌, ◌&&◌, List, slice_get, Bool, true, false, if◌then◌else◌, Option, Some, None}
+use Rattle.std.specs.List.{list_all, list_any}
 use Rattle.ec_al.specs.declared.state.State.{State}
 use Rattle.ec_al.specs.States.{state_number}
 use Rattle.ec_bits.specs.Bits.{bits_number}
@@ -10,18 +10,17 @@ use Rattle.ec_link.specs.LinkRuns.{is_out}
 use Rattle.ec_slave.specs.Application.{outputs_shown}
 use Rattle.ec_world.specs.World.{WorldState, is_slave, slave_of}
 use Rattle.ec_script.specs.declared.expectation.Expectation.{Expectation}
-use Rattle.ec_script.specs.declared.expectation.Expectation.TheVariants.{Is, State as InState}
+use Rattle.ec_script.specs.declared.expectation.Expectation.TheVariants.{Is, Holds, State as InState}
+use Rattle.ec_script.specs.declared.value_test.ValueTest.{ValueTest}
 use Rattle.ec_script.specs.Expecting as master
+use Rattle.ec_script.specs.Tests.{holds}
 use Rattle.ec_simulation.specs.Inputs.{is_of, is_short, slave_byte, value_bytes}
+use Rattle.ec_simulation.specs.Showing.{has_room, value_shown}
 use Rattle.ec_simulation.specs.Views.{view_of}
 
 -- ---- values
 
--- these published outputs have the link's bits; 0x10000 bits are more than a slave's memory has room for
-abbrev pub has_room : Link → List ℕ → Bool
-has_room l outputs = nat_le (l.object_bit + l.count) 0x10000 && nat_le (l.object_bit + l.count) (8 * length outputs)
-
--- and they are the value's
+-- these published outputs have the link's bits, and they are the value's
 abbrev pub has_bits : Variable → ℕ → Link → List ℕ → Bool
 has_bits v x l outputs = has_room l outputs && (bits_number outputs l.object_bit l.count == bits_number (value_bytes x) (l.image - v.from) l.count)
 
@@ -35,6 +34,16 @@ is_value w n x None = false
 is_value w n x (Some v) =
     if is_out v.direction then is_short v.bits x && list_all (is_published w v x) w.plan.out_links
     else master.is_met (Is n x) (view_of w)
+
+-- a value that slaves publish of an output meets the test: the variable has a link, and the slave of each publishes its bits of the value
+abbrev pub is_so : WorldState → Variable → ValueTest → Option ℕ → Bool
+is_so w v test None = false
+is_so w v test (Some x) = list_any (is_of v) w.plan.out_links && (list_all (is_published w v x) w.plan.out_links && holds test x)
+
+-- an input by the process image, and an output as slaves publish it; its bits that aren't linked are 0
+abbrev pub is_tested : WorldState → ℕ → ValueTest → Option Variable → Bool
+is_tested w n test None = false
+is_tested w n test (Some v) = if is_out v.direction then is_so w v test (value_shown w v) else master.is_met (Holds n test) (view_of w)
 
 -- ---- AL states, by the slave's registers
 
@@ -51,5 +60,6 @@ has_code w s (Some code) = slave_byte w s 0x0134 + 256 * slave_byte w s 0x0135 =
 
 abbrev pub is_met : Expectation → WorldState → Bool
 is_met (Is v x) w = is_value w v x (slice_get w.plan.variables v)
+is_met (Holds v test) w = is_tested w v test (slice_get w.plan.variables v)
 is_met (InState s state code) w = is_in_state w s state && has_code w s code
 is_met expected w = master.is_met expected (view_of w)

@@ -6,10 +6,10 @@ pub mod Views
 pub mod Statuses
 -- an input variable as the plant sets it, as events
 pub mod Inputs
--- when what a line expects of a world holds
-pub mod Expecting
 -- an output variable as the slaves publish it
 pub mod Showing
+-- when what a line expects of a world holds
+pub mod Expecting
 -- how frames go round, as events
 pub mod Rounds
 -- what a line does to a world, and its output

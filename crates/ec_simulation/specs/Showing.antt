@@ -1,5 +1,5 @@
 -- An output variable as the slaves publish it (this project's profile).
-use Rattle.std.specs.Prelude.{ℕ, ◌-◌, ◌&&◌, List, [], ◌∷◌, if◌then◌else◌, Option, Some, None, option_and_then, option_map}
+use Rattle.std.specs.Prelude.{ℕ, ◌+◌, ◌-◌, ◌*◌, ◌&&◌, List, [], ◌∷◌, length, nat_le, Bool, if◌then◌else◌, Option, Some, None, option_and_then, option_map}
 use Rattle.ec_bits.specs.Bits.{bits_number, copied, zeros}
 use Rattle.ec_link.specs.declared.image.Variable.{Variable}
 use Rattle.ec_link.specs.declared.plan.Link.{Link}
@@ -8,12 +8,15 @@ use Rattle.ec_slave.specs.Application.{outputs_shown}
 use Rattle.ec_world.specs.World.{WorldState, is_slave, slave_of}
 use Rattle.ec_script.specs.declared.output.LineOutput.{LineOutput}
 use Rattle.ec_script.specs.declared.output.LineOutput.TheVariants as output
-use Rattle.ec_simulation.specs.Expecting.{has_room}
 use Rattle.ec_simulation.specs.Inputs.{is_of}
 
+-- these published outputs have the link's bits; 0x10000 bits are more than a slave's memory has room for
+abbrev pub has_room : Link → List ℕ → Bool
+has_room l outputs = nat_le (l.object_bit + l.count) 0x10000 && nat_le (l.object_bit + l.count) (8 * length outputs)
+
 -- the bytes of a variable's value, with the bits that the slave of a link of the variable publishes; none if it publishes none of them
-abbrev pub with_identity : WorldState → Variable → Link → List ℕ → Option (List ℕ)
-with_identity w v l bytes =
+abbrev pub with_shown : WorldState → Variable → Link → List ℕ → Option (List ℕ)
+with_shown w v l bytes =
     if is_of v l
     then (if is_slave w l.slave && has_room l (outputs_shown (slave_of w l.slave))
     then Some (copied bytes (l.image - v.from) (outputs_shown (slave_of w l.slave)) l.object_bit l.count)
@@ -23,7 +26,7 @@ with_identity w v l bytes =
 -- link after link
 unfoldable pub with_all_shown : WorldState → Variable → List Link → List ℕ → Option (List ℕ)
 with_all_shown w v [] bytes = Some bytes
-with_all_shown w v (l ∷ ls) bytes = option_and_then (with_all_shown w v ls) (with_identity w v l bytes)
+with_all_shown w v (l ∷ ls) bytes = option_and_then (with_all_shown w v ls) (with_shown w v l bytes)
 
 -- the value that slaves publish; bits that no link takes to a slave are 0
 abbrev pub value_shown : WorldState → Variable → Option ℕ

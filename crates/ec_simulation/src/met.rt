@@ -1,21 +1,20 @@
 //! Whether what a line expects of a world holds.
 ghost use Rattle.std.specs.Prelude.{◌≡◌, ◌≤◌, true, slice_get};
-ghost use Rattle.ec_simulation.specs.Expecting.{has_bits, has_room, has_code, is_in_state, is_met, is_published, is_value};
+ghost use Rattle.ec_simulation.specs.Expecting.{has_bits, has_code, is_in_state, is_met, is_published, is_so, is_tested, is_value};
 ghost use Rattle.ec_simulation.specs.Inputs.{is_of};
-ghost use Rattle.std.specs.List.{list_all};
+ghost use Rattle.ec_simulation.specs.Showing.{value_shown};
+ghost use Rattle.std.specs.List.{list_all, list_any};
 
 use crate::inputs::{is_of, is_short, slave_byte};
+use crate::showing::{has_room, value_shown};
 use crate::view::view_of;
 use ec_al::State;
 use ec_bits::read_bits;
 use ec_link::{Link, Variable};
 use ec_regs::registers::{AL_STATUS, AL_STATUS_CODE};
-use ec_script::Expectation;
+use ec_script::{Expectation, ValueTest};
 use ec_table::Direction;
 use ec_world::World;
-
-/// More bits than the memory of a slave has room for.
-const MAX_BITS: usize = 0x10000;
 
 /// Whether what a line expects of a world holds.
 pub fn is_met(world: &World<'_>, expected: Expectation) -> bool
@@ -23,6 +22,7 @@ pub fn is_met(world: &World<'_>, expected: Expectation) -> bool
 {
     match expected {
         Expectation::Is(variable, value) => is_value(world, variable, value),
+        Expectation::Holds(variable, test) => is_tested(world, variable, test),
         Expectation::State(slave, state, code) => {
             is_in_state(world, slave, state) && has_code(world, slave, code)
         }
@@ -69,6 +69,45 @@ fn is_value(world: &World<'_>, index: usize, value: u64) -> bool
     }
 }
 
+/// Whether the value of a variable meets a test: that of an input in the process image, that of an output as slaves publish it.
+fn is_tested(world: &World<'_>, index: usize, test: ValueTest) -> bool
+    ensures { result ≡ is_tested world.now index test (slice_get world.now.plan.variables index) }
+{
+    let variables = world.plan().variables();
+    if index >= variables.len() {
+        return false;
+    }
+    let variable = variables[index];
+    match variable.direction {
+        Direction::Out => is_so(world, variable, test),
+        Direction::In => ec_script::is_met(&view_of(world), Expectation::Holds(index, test)),
+    }
+}
+
+/// Whether slaves publish a value of a variable that meets a test.
+fn is_so(world: &World<'_>, variable: Variable, test: ValueTest) -> bool
+    requires { variable.bits ≤ 64 }
+    ensures { result ≡ is_so world.now variable test (value_shown world.now variable) }
+{
+    match value_shown(world, variable) {
+        Some(value) => {
+            has_link(world, variable) && is_output(world, variable, value) && test.holds(value)
+        }
+        None => false,
+    }
+}
+
+/// Whether an output variable has a link.
+fn has_link(world: &World<'_>, variable: Variable) -> bool
+    ensures { result ≡ list_any (is_of variable) world.now.plan.out_links }
+{
+    world
+        .plan()
+        .out_links()
+        .iter()
+        .any(|link| is_of(variable, link))
+}
+
 /// Whether slaves publish a value in all linked bits of a variable.
 fn is_output(world: &World<'_>, variable: Variable, value: u64) -> bool
     requires { variable.bits ≤ 64 }
@@ -90,16 +129,6 @@ fn is_published(world: &World<'_>, variable: Variable, value: u64, link: &Link) 
         return true;
     }
     link.slave < world.slaves() && has_bits(variable, value, link, world.outputs(link.slave))
-}
-
-/// Whether published outputs have all bits of a link.
-pub fn has_room(link: &Link, outputs: &[u8]) -> bool
-    ensures { result ≡ has_room link.now outputs.now }
-{
-    if link.object_bit > MAX_BITS || link.count > MAX_BITS - link.object_bit {
-        return false;
-    }
-    (link.object_bit + link.count + 7) / 8 <= outputs.len()
 }
 
 /// Whether published outputs have all bits of a link of a variable, and these are those of a value.

@@ -1,15 +1,17 @@
 //! An output variable as the slaves publish it.
 ghost use Rattle.std.specs.Prelude.{◌≡◌, ◌≤◌, if◌then◌else◌, length, slice_get, Some, None};
 ghost use Rattle.ec_bits.specs.Bits.{zeros};
-ghost use Rattle.ec_simulation.specs.Showing.{output_shown, said_value, value_shown, with_identity};
+ghost use Rattle.ec_simulation.specs.Showing.{has_room, output_shown, said_value, value_shown, with_shown};
 
 use crate::inputs::is_of;
-use crate::met::has_room;
 use ec_bits::{copy_bits, read_bits};
 use ec_link::{Link, Variable};
 use ec_script::LineOutput;
 use ec_table::Direction;
 use ec_world::World;
+
+/// More bits than the memory of a slave has room for.
+const MAX_BITS: usize = 0x10000;
 
 /// The output of `out`: a variable and its value as slaves publish it. `No` if it is no output, or if the slave of one of its links
 /// publishes none of the link's bits.
@@ -37,9 +39,10 @@ fn output_shown(world: &World<'_>, place: usize) -> Option<u64>
     }
 }
 
-/// The value of a variable, of the bits that the slaves of its links publish.
+/// The value of a variable, of the bits that the slaves of its links publish. `None` if the slave of one of its links publishes none of
+/// the link's bits.
 #[tactic(auto, using(crate::proofs::Shown::shown_end, crate::proofs::Shown::shown_more, crate::proofs::Shown::shown_none))]
-fn value_shown(world: &World<'_>, variable: Variable) -> Option<u64>
+pub fn value_shown(world: &World<'_>, variable: Variable) -> Option<u64>
     requires { variable.bits ≤ 64 }
     ensures { result ≡ value_shown world.now variable }
 {
@@ -52,12 +55,22 @@ fn value_shown(world: &World<'_>, variable: Variable) -> Option<u64>
     Some(read_bits(&bytes, 0, 64))
 }
 
+/// Whether published outputs have all bits of a link.
+pub fn has_room(link: &Link, outputs: &[u8]) -> bool
+    ensures { result ≡ has_room link.now outputs.now }
+{
+    if link.object_bit > MAX_BITS || link.count > MAX_BITS - link.object_bit {
+        return false;
+    }
+    (link.object_bit + link.count + 7) / 8 <= outputs.len()
+}
+
 /// Adds to the bytes of a variable's value the bits that the slave of a link publishes, if it is one of the variable. Returns whether
 /// the slave publishes them.
 fn add_shown(world: &World<'_>, variable: Variable, link: &Link, bytes: &mut [u8]) -> bool
     requires few { variable.bits ≤ 64 }
     requires eight { length bytes.old ≡ 8 }
-    ensures { with_identity world.now variable link.now bytes.old ≡ (if result then Some bytes.new else None) }
+    ensures { with_shown world.now variable link.now bytes.old ≡ (if result then Some bytes.new else None) }
 {
     if !is_of(variable, link) {
         return true;
