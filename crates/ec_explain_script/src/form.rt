@@ -17,7 +17,10 @@ pub fn form_of(line: Line<'_>, is_variable: bool) -> Option<&'static str> {
 
 /// Whether a script of simulated slaves has lines of this form.
 fn is_scripted(form: Form) -> bool {
-    !matches!(form, Form::Report | Form::Stop)
+    !matches!(
+        form,
+        Form::Report | Form::Stop | Form::LosePart | Form::Served
+    )
 }
 
 /// Whether a line begins as a form does: all words of the form that stand for themselves are in their places, and a range is a word

@@ -49,6 +49,7 @@ fn states_for(
 }
 
 /// The AL states of all slaves; none of a slave that doesn't answer.
+#[tactic(auto, using(crate::proofs::Statuses::statuses_more))]
 fn statuses(alloc: Global, world: &World<'_>) -> Result<Vec<Option<AlStatus>>, AllocError>
     ensures { IfOk result (λ states. states.items ≡ statuses world.now) }
 {
