@@ -1,13 +1,19 @@
 -- What a session asks over a wire.
-use Rattle.std.proofs.Common.{ℕ, zero, suc, ◌+◌, ◌≡◌, ◌∙◌, List, [], ◌∷◌, ◌++◌, length, nat_lt, Bool, true, false, if◌then◌else◌, Option, None, Result, Ok, Err, refl, sym, ap, subst, arith}
+use Rattle.std.proofs.Common.{ℕ, zero, suc, ◌+◌, ◌≡◌, ◌∙◌, ◌<◌, ◌≤◌, List, [], ◌∷◌, ◌++◌, length, set, take, max, nat_lt, Bool, true, false, if◌then◌else◌, Option, None, Result, Ok, Err, refl, sym, ap, subst, arith}
 use Rattle.std.specs.Prelude.{slice_get}
+use Rattle.std.proofs.lemmas.List.{length-take, take_all, take_more_set}
+use Rattle.ec_link.specs.declared.settings.SlavePlan.{SlavePlan}
+use Rattle.ec_start.specs.Running.{StartState, begun}
 use Rattle.ec_cycle.specs.Master.{MasterState, holds_value, variable_set}
+use Rattle.ec_wire.specs.declared.error.RunError.{RunError}
 use Rattle.ec_wire.specs.declared.error.SocketFault.{SocketFault}
 use Rattle.ec_wire.specs.Wires.{WireState}
 use Rattle.ec_asking.specs.declared.answer.AlStatus.{AlStatus}
-use Rattle.ec_session.specs.Asking.{AreRead, ReadsBy, ReadsStates, ReadsStatus}
+use Rattle.ec_asking.specs.declared.question.Question.TheVariants.{Init}
+use Rattle.ec_session.specs.Asking.{AreRead, AsksInit, IsQuestioned, IsReadPart, ReadsBy, ReadsStates, ReadsStatus, Stops, cleared}
 use Rattle.ec_session.specs.Laws.{ClearingKeepsTheRest, ReadsKeepTheRest, StatusReadsKeepTheRest}
 use Rattle.ec_session.specs.Sessions.{SessionState, outputs_cleared, zero_set, zeros_set}
+use Rattle.ec_session.specs.Wired.{LosesAndCycles, run_refusal, start_again}
 
 -- ---- the outputs become 0
 
@@ -67,3 +73,49 @@ read_push k s mid t w x v [] one (same, still) h =
 read_push k s mid t w x v (o ∷ told) one (next, between, first, rest) h =
     let at : k + length (o ∷ told) ≡ k + 1 + length told = omega arith in
     (next, between, first, read_push (k + 1) next mid t between x v told one rest (subst (λ (n : ℕ). ReadsStatus n mid x t v (Ok one)) at h))
+
+-- the states of the first slaves are read, and then one more
+pub read_on : (s mid t : SessionState) (w x v : WireState) (states : List (Option AlStatus)) (k : ℕ) (one : Option AlStatus) → k < length states → AreRead 0 s w (take k states) mid x → ReadsStatus k mid x t v (Ok one)
+    → AreRead 0 s w (take (k + 1) (set states k one)) t v
+read_on s mid t w x v states k one inside read h =
+    let here : 0 + length (take k states) ≡ k = let l = length-take k states in omega (arith, l) in
+    subst (λ (told : List (Option AlStatus)). AreRead 0 s w told t v) (sym (take_more_set states k one inside))
+    (read_push 0 s mid t w x v (take k states) one read (subst (λ (n : ℕ). ReadsStatus n mid x t v (Ok one)) (sym here) h))
+
+-- or a call of the wire was a fault
+pub read_cut : (s mid t : SessionState) (w x v : WireState) (states : List (Option AlStatus)) (k : ℕ) (fault : SocketFault) → k < length states → AreRead 0 s w (take k states) mid x → ReadsStatus k mid x t v (Err fault)
+    → IsReadPart s w t v
+read_cut s mid t w x v states k fault inside read h =
+    let here : length (take k states) ≡ k = let l = length-take k states in omega (arith, l) in
+    record { told = take k states; mid = mid; between = x; read = read; fault = fault; cut = subst (λ (n : ℕ). ReadsStatus n mid x t v (Err fault)) (sym here) h }
+
+-- all of them
+pub read_all : (s t : SessionState) (w v : WireState) (states : List (Option AlStatus)) (k : ℕ) → length states ≤ k → AreRead 0 s w (take k states) t v → AreRead 0 s w states t v
+read_all s t w v states k all read = subst (λ (told : List (Option AlStatus)). AreRead 0 s w told t v) (take_all k states all) read
+
+-- ---- the machine is stopped
+
+-- cleared outputs refuse no cycle
+pub cleared_refusal : (s : SessionState) → run_refusal (cleared s) ≡ run_refusal s
+cleared_refusal s = ap (λ (m : MasterState). run_refusal (record s { master = m })) (clearing_keeps_the_rest s.master)
+
+-- no call of the wire was a fault as all slaves were asked: a start-up begins again
+pub init_asked : (s mid : SessionState) (w v : WireState) (told : Option AlStatus) (start : StartState) (number : ℕ) → IsQuestioned Init s w mid v (Ok told) → start ≡ begun mid.startup.plan number
+    → number ≡ max mid.startup.next mid.master.next → mid.startup.plan ≡ mid.master.plan.slaves → AsksInit s w (record mid { startup = start }) v (Ok tt)
+init_asked s mid w v told start number asked is most same =
+    let again : start ≡ start_again mid =
+    is ∙ (ap (λ (n : ℕ). begun mid.startup.plan n) most ∙ ap (λ (ps : List SlavePlan). begun ps (max mid.startup.next mid.master.next)) same) in
+    record { told = Ok told; mid = mid; asked = asked; ends = (ap (λ (x : StartState). record mid { startup = x }) again, refl) }
+
+-- the cycle had a fault, and nothing is asked
+pub stop_cut : (s empty mid : SessionState) (w v : WireState) (error : RunError) → empty ≡ cleared s → (run_refusal empty ≡ None → LosesAndCycles empty w mid v (Err error)) → run_refusal s ≡ None → Stops s w mid v (Err error)
+stop_cut s empty mid w v error is ran free =
+    let cycles : LosesAndCycles (cleared s) w mid v (Err error) = subst (λ (x : SessionState). run_refusal x ≡ None → LosesAndCycles x w mid v (Err error)) is ran (cleared_refusal s ∙ free) in
+    record { mid = mid; between = v; ran = Err error; cycles = cycles; goes_on = (refl, refl, refl) }
+
+-- or all slaves are asked
+pub stop_on : (s empty mid t : SessionState) (w x v : WireState) (answer : Result Unit RunError) → empty ≡ cleared s → (run_refusal empty ≡ None → LosesAndCycles empty w mid x (Ok tt)) → AsksInit mid x t v answer → run_refusal s ≡ None
+    → Stops s w t v answer
+stop_on s empty mid t w x v answer is ran asks free =
+    let cycles : LosesAndCycles (cleared s) w mid x (Ok tt) = subst (λ (y : SessionState). run_refusal y ≡ None → LosesAndCycles y w mid x (Ok tt)) is ran (cleared_refusal s ∙ free) in
+    record { mid = mid; between = x; ran = Ok tt; cycles = cycles; goes_on = asks }

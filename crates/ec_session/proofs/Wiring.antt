@@ -95,19 +95,38 @@ pub cycled : (s t : SessionState) (w v : WireState) (r : Result ReportState RunE
     → t ≡ with_run s r after → answer ≡ without_report r → run_refusal s ≡ None → Cycles s w t v answer
 cycled s t w v r after answer up run is answers free = record { ended = r; after = after; run = run (sym (refusal_up s up) ∙ free); is = is; answers = answers }
 
+-- what is returned of it is a fault of the wire exactly if there was one
+wire_ended : (r : Result ReportState RunError) (answer : Result Unit RunError) → answer ≡ without_report r → answer ≡ Err Wire → r ≡ Err Wire
+wire_ended (Ok report) answer is wire = absurd (let e : without_report (Ok report) ≡ Err Wire = sym is ∙ wire in cc)
+wire_ended (Err error) answer is wire = let e : without_report (Err error) ≡ Err Wire = sym is ∙ wire in let f : error ≡ Wire = cc in ap (λ (x : RunError). Err x) f
+
 -- after a fault of the wire only a number is used up
-pub faulted : (s : SessionState) (w v : WireState) (r : Result ReportState RunError) (error : RunError) (after : MasterState) → is_up s.startup.phase ≡ true → (begin_refusal s.master ≡ None → IsRun s.master w v r after)
-    → ((e : CycleError) → begin_refusal s.master ≡ Some e → r ≡ Err (Refused e)) → r ≡ Err error → error ≡ Wire → record s { master = after } ≡ with_number_used s
-faulted s w v r error after up run refused is wire = by (begin_refusal s.master) refl
+pub faulted : (s t : SessionState) (w v : WireState) (r : Result ReportState RunError) (after : MasterState) (answer : Result Unit RunError) → is_up s.startup.phase ≡ true → (begin_refusal s.master ≡ None → IsRun s.master w v r after)
+    → ((e : CycleError) → begin_refusal s.master ≡ Some e → r ≡ Err (Refused e)) → t ≡ with_run s r after → answer ≡ without_report r → answer ≡ Err Wire → t ≡ with_number_used s
+faulted s t w v r after answer up run refused is answers wire = by (begin_refusal s.master) refl
   where
     ended : r ≡ Err Wire
-    ended = subst (λ (e : RunError). r ≡ Err e) wire is
+    ended = wire_ended r answer answers wire
 
-    by : (o : Option CycleError) → begin_refusal s.master ≡ o → record s { master = after } ≡ with_number_used s
+    kept : t ≡ record s { master = after }
+    kept = is ∙ ap (λ (x : Result ReportState RunError). with_run s x after) ended
+
+    by : (o : Option CycleError) → begin_refusal s.master ≡ o → t ≡ with_number_used s
     by None free =
         let ran : IsRun s.master w v (Err Wire) after = subst (λ (x : Result ReportState RunError). IsRun s.master w v x after) ended (run free) in
-        ap (λ (m : MasterState). record s { master = m }) (fault_keeps s.master w v after (none_open s.master free) ran)
+        kept ∙ ap (λ (m : MasterState). record s { master = m }) (fault_keeps s.master w v after (none_open s.master free) ran)
     by (Some e) was = absurd (let f : Err Wire ≡ Err (Refused e) = sym ended ∙ refused e was in cc)
+
+-- what can't be run leaves all
+pub refused_answer : (s : SessionState) (r : Result ReportState RunError) (answer : Result Unit RunError) (e : CycleError) → is_up s.startup.phase ≡ true → ((x : CycleError) → begin_refusal s.master ≡ Some x → r ≡ Err (Refused x)) → answer ≡ without_report r
+    → run_refusal s ≡ Some e → answer ≡ Err (Refused e)
+refused_answer s r answer e up refused answers was = answers ∙ ap without_report (refused e (sym (refusal_up s up) ∙ was))
+
+pub refused_keeps : (s t : SessionState) (r : Result ReportState RunError) (after : MasterState) (e : CycleError) → is_up s.startup.phase ≡ true → ((x : CycleError) → begin_refusal s.master ≡ Some x → r ≡ Err (Refused x))
+    → ((x : CycleError) → begin_refusal s.master ≡ Some x → after ≡ s.master) → t ≡ with_run s r after → run_refusal s ≡ Some e → t ≡ s
+refused_keeps s t r after e up refused same is was =
+    let why : begin_refusal s.master ≡ Some e = sym (refusal_up s up) ∙ was in
+    is ∙ (ap (λ (x : Result ReportState RunError). with_run s x after) (refused e why) ∙ ap (λ (m : MasterState). record s { master = m }) (same e why))
 
 -- ---- a cycle on which frames may be lost
 
@@ -135,17 +154,20 @@ pub lossy_cycled : (s t : SessionState) (w v : WireState) (r : Result ReportStat
     → t ≡ with_run s r after → answer ≡ without_report r → run_refusal s ≡ None → LosesAndCycles s w t v answer
 lossy_cycled s t w v r after answer up run is answers free = record { ended = r; after = after; run = run (sym (refusal_up s up) ∙ free); is = is; answers = answers }
 
-pub lossy_faulted : (s : SessionState) (w v : WireState) (r : Result ReportState RunError) (error : RunError) (after : MasterState) → is_up s.startup.phase ≡ true → (begin_refusal s.master ≡ None → IsLossyRun s.master w v r after)
-    → ((e : CycleError) → begin_refusal s.master ≡ Some e → r ≡ Err (Refused e)) → r ≡ Err error → error ≡ Wire → record s { master = after } ≡ with_number_used s
-lossy_faulted s w v r error after up run refused is wire = by (begin_refusal s.master) refl
+pub lossy_faulted : (s t : SessionState) (w v : WireState) (r : Result ReportState RunError) (after : MasterState) (answer : Result Unit RunError) → is_up s.startup.phase ≡ true → (begin_refusal s.master ≡ None → IsLossyRun s.master w v r after)
+    → ((e : CycleError) → begin_refusal s.master ≡ Some e → r ≡ Err (Refused e)) → t ≡ with_run s r after → answer ≡ without_report r → answer ≡ Err Wire → t ≡ with_number_used s
+lossy_faulted s t w v r after answer up run refused is answers wire = by (begin_refusal s.master) refl
   where
     ended : r ≡ Err Wire
-    ended = subst (λ (e : RunError). r ≡ Err e) wire is
+    ended = wire_ended r answer answers wire
 
-    by : (o : Option CycleError) → begin_refusal s.master ≡ o → record s { master = after } ≡ with_number_used s
+    kept : t ≡ record s { master = after }
+    kept = is ∙ ap (λ (x : Result ReportState RunError). with_run s x after) ended
+
+    by : (o : Option CycleError) → begin_refusal s.master ≡ o → t ≡ with_number_used s
     by None free =
         let ran : IsLossyRun s.master w v (Err Wire) after = subst (λ (x : Result ReportState RunError). IsLossyRun s.master w v x after) ended (run free) in
-        ap (λ (m : MasterState). record s { master = m }) (lossy-fault-keeps s.master w v after (none_open s.master free) ran)
+        kept ∙ ap (λ (m : MasterState). record s { master = m }) (lossy-fault-keeps s.master w v after (none_open s.master free) ran)
     by (Some e) was = absurd (let f : Err Wire ≡ Err (Refused e) = sym ended ∙ refused e was in cc)
 
 -- ---- a start-up

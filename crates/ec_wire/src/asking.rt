@@ -7,8 +7,7 @@ ghost use Rattle.ec_asking.specs.Questions.{IsAskable};
 
 use crate::error::SocketFault;
 use crate::lossy::MAX_HEARD;
-use crate::watch::Watch;
-use crate::wire::{Wire, listen_on, send_on};
+use crate::wire::{Watch, Wire, listen_on, send_on};
 use ec_asking::{AlStatus, Question, take_answer, write_question};
 use ec_frame::Frame;
 use ec_frame::field::MAX_FRAME_LEN;

@@ -1,5 +1,5 @@
 //! One cycle over a wire.
-ghost use Rattle.std.specs.Prelude.{◌≡◌, ◌≤◌, ◌<◌, ◌⊎◌, ℕ, List, [], Some, None, true, false, take, length, not, is_some, IsErr, Err};
+ghost use Rattle.std.specs.Prelude.{◌≡◌, ◌≤◌, ◌<◌, ◌⊎◌, ℕ, List, [], Some, None, true, false, length, not, is_some, IsErr, Err};
 ghost use Rattle.ec_cycle.specs.declared.error.CycleError.{CycleError};
 ghost use Rattle.ec_cycle.specs.Master.{begin_refusal, missing_of};
 ghost use Rattle.ec_wire.specs.declared.error.RunError.TheVariants.{Refused};
@@ -7,7 +7,8 @@ ghost use Rattle.ec_wire.specs.Wires.{Carries, is_fault};
 ghost use Rattle.ec_wire.specs.Running.{AreTaken, IsExchanged, IsRun, frames_of, max_received};
 
 use crate::error::RunError;
-use crate::wire::{Wire, receive_on, send_on};
+use crate::lossy::send_parts;
+use crate::wire::{Wire, receive_on};
 use ec_cycle::{Master, Report};
 use ec_frame::field::MAX_FRAME_LEN;
 
@@ -62,23 +63,6 @@ fn receive_parts<W: Wire>(master: &mut Master<'_>, wire: &mut W) -> bool
             return false;
         };
         master.take(&buffer[..count]);
-    }
-    true
-}
-
-/// Sends the frames of the open cycle in order, up to the first fault. Returns whether there was none.
-pub(crate) fn send_parts<W: Wire>(master: &Master<'_>, wire: &mut W) -> bool
-    requires open { is_some master.now.cycle ≡ true }
-    requires count { length (frames_of master.now.cycle) ≡ length master.now.plan.parts }
-    ensures sent { (n : ℕ) × Carries (W.state wire.old) (W.state wire.new) (take n (frames_of master.now.cycle)) []
-        × (n ≤ length master.now.plan.parts) × (result ≡ true → n ≡ length master.now.plan.parts) }
-    ensures fault { result ≡ not (is_fault (W.state wire.old) (W.state wire.new)) }
-{
-    master.is_sound();
-    for part in 0..master.parts() {
-        if !send_on(wire, master.frame(part)) {
-            return false;
-        }
     }
     true
 }

@@ -19,7 +19,6 @@ mod startup;
 mod tap;
 mod trouble;
 mod udp;
-mod watch;
 mod wire;
 
 pub use crate::application::{App, Echo};

@@ -1,10 +1,10 @@
-//! What a wire is.
+//! What a wire is, and how long one waits at it.
 ghost use Rattle.std.specs.Prelude.{◌≡◌, ◌≤◌, [], ◌∷◌, true, false, take, length, not, is_ok, is_some, IfErr, IfOk, IfSome, IfNone};
 ghost use Rattle.ec_wire.specs.Wires.{WireState, Carries, is_fault};
 
 use crate::error::SocketFault;
 use crate::trouble::Trouble;
-use std::time::Duration;
+use std::time::{Clock, Duration, Instant};
 
 /// What carries payloads to a segment and back.
 ///
@@ -66,6 +66,32 @@ pub fn receive_on<W: Wire>(wire: &mut W, buffer: &mut [u8]) -> Option<usize>
         Some(count)
     } else {
         None
+    }
+}
+
+/// A wait that began at a time of a clock.
+#[derive(Drop)]
+pub(crate) struct Watch<'c, C: Clock> {
+    clock: &'c C,
+    // none if the clock couldn't be read
+    began: Option<Instant>,
+}
+
+impl<'c, C: Clock> Watch<'c, C> {
+    /// A wait that begins now.
+    pub fn start(clock: &'c C) -> Watch<'c, C> {
+        Watch {
+            clock,
+            began: Instant::now(clock).ok(),
+        }
+    }
+
+    /// How long the wait has lasted; no time at all if the clock can't be read.
+    pub fn waited(&self) -> Duration {
+        match (self.began, Instant::now(self.clock)) {
+            (Some(began), Ok(now)) => now.duration_since(began),
+            _ => Duration::ZERO,
+        }
     }
 }
 

@@ -1,7 +1,7 @@
 use Rattle.std.proofs.Common.{◌≡◌, ◌<◌, take, [], false, length}
 use Rattle.ec_wire.specs.Wires.{Carries, is_fault}
 use Rattle.ec_wire.specs.Running.{frames_of}
-use Rattle.ec_wire.proofs.cycle.send_parts.Given as goal
+use Rattle.ec_wire.proofs.lossy.send_parts.Given as goal
 
 abbrev pub invariant-loop-part : goal.invariant-loop-part
 invariant-loop-part g l = record {
