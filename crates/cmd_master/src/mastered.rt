@@ -20,7 +20,7 @@ use ec_script::{
 };
 use ec_session::{AlStatus, Session};
 use ec_table::{Direction, Table};
-use ec_wire::{RunError, SocketFault, Wire};
+use ec_wire::{RunError, SocketFault, Trouble, Wire};
 use std::alloc::{AllocError, Global};
 use std::marker::Model;
 use std::time::Clock;
@@ -239,7 +239,7 @@ impl<W: Wire + Drop, C: Clock> Target for Mastered<'_, W, C> {
             session: &self.session,
             action: line.action,
             output,
-            trouble: self.wire.trouble(),
+            trouble: trouble_of(&self.wire),
         };
         let text = said_text(alloc, &why, &self.states, self.reasons, line.number)?;
         Ok(Said {
@@ -247,6 +247,14 @@ impl<W: Wire + Drop, C: Clock> Target for Mastered<'_, W, C> {
             is_unmet: output.is_unmet(),
         })
     }
+}
+
+/// Why the last call of a wire that was a fault was one; none if no call was.
+fn trouble_of<W: Wire>(wire: &W) -> Option<Trouble> {
+    if wire.failures() == 0 {
+        return None;
+    }
+    Some(wire.trouble())
 }
 
 /// The output of a cycle.

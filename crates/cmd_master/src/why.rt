@@ -9,14 +9,14 @@ use ec_table::Direction;
 use ec_wire::Trouble;
 use std::fmt;
 
-/// What came of an action of a line: the session that it left, its output, and why a call of the wire was last a fault. If the action
-/// can't be done or has failed, this prints why, else nothing.
+/// What came of an action of a line: the session that it left, its output, and why the last call of the wire that was a fault was one;
+/// `None` if none was. If the action can't be done or has failed, this prints why, else nothing.
 #[derive(Clone, Copy)]
 pub(crate) struct Why<'s> {
     pub session: &'s Session,
     pub action: LineAction,
     pub output: LineOutput,
-    pub trouble: Trouble,
+    pub trouble: Option<Trouble>,
 }
 
 impl Why<'_> {
@@ -63,11 +63,24 @@ impl Why<'_> {
         }
     }
 
-    /// Writes what the last start-up failed by, and nothing if it hasn't failed.
+    /// Writes what the last start-up failed by, and nothing if it hasn't failed. If it was lost, that may be by a fault of the wire.
     fn write_failed<W: fmt::Write>(&self, f: &mut fmt::Formatter<W>) -> fmt::Result {
-        match self.session.outcome() {
-            Some(Err(error)) => f.write(Failed::new(self.session, error)),
-            _ => Ok(()),
+        let Some(Err(error)) = self.session.outcome() else {
+            return Ok(());
+        };
+        f.write(Failed::new(self.session, error))?;
+        if matches!(error, StartError::Lost) && self.trouble.is_some() {
+            f.write_str("; ")?;
+            self.write_fault(f)?;
+        }
+        Ok(())
+    }
+
+    /// Writes why the wire had a fault, and nothing if it had none.
+    fn write_fault<W: fmt::Write>(&self, f: &mut fmt::Formatter<W>) -> fmt::Result {
+        match self.trouble {
+            Some(trouble) => write!(f, "a call on the socket failed: {trouble}"),
+            None => Ok(()),
         }
     }
 }
@@ -77,7 +90,7 @@ impl fmt::Display for Why<'_> {
         match self.output {
             LineOutput::No => self.write_undone(f),
             LineOutput::Ended => self.write_failed(f),
-            LineOutput::Fault => write!(f, "a call on the socket failed: {}", self.trouble),
+            LineOutput::Fault => self.write_fault(f),
             _ => Ok(()),
         }
     }

@@ -190,7 +190,7 @@ const REASONED: [Run; 4] = [
         "ready\ncycle\nexpect ready\nready\ncycle\n",
         0,
         1,
-        "failed 32\n  32 Lost: given up\n\
+        "failed 32\n  32 Lost: given up; a call on the socket failed: there is no such address, or a payload is too long\n\
          no 2\n  the last start-up failed, 32 Lost: given up; `ready` makes one more\n\
          unmet 3\nready\nreport taken missing 0 counters 6 al 0008\n",
     ),
@@ -199,7 +199,7 @@ const REASONED: [Run; 4] = [
         "ready\ncycle\nready\ncycle\nreport\n",
         152,
         0,
-        "ready\nreport taken missing 0 counters 6 al 0008\nfailed 32\n  32 Lost: given up\n\
+        "ready\nreport taken missing 0 counters 6 al 0008\nfailed 32\n  32 Lost: given up; a call on the socket failed: there is no such address, or a payload is too long\n\
          no 4\n  the last start-up failed, 32 Lost: given up; `ready` makes one more\n\
          report taken missing 0 counters 6 al 0008\n",
     ),
