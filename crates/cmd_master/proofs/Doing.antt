@@ -1,5 +1,6 @@
 -- What the calls of a session make of a master over a wire.
-use Rattle.std.proofs.Common.{◌≡◌, ◌∙◌, ℕ, List, length, nat_lt, Bool, true, false, Option, Some, None, Result, Ok, Err, refl, sym, ap, subst}
+use Rattle.std.proofs.Common.{◌≡◌, ◌++◌, ◌∙◌, ℕ, List, length, nat_lt, take, Bool, true, false, Option, Some, None, Result, Ok, Err, refl, sym, ap, subst}
+use Rattle.std.proofs.Math.Seq.{take-append_seam}
 use Rattle.std.specs.Prelude.{is_none, slice_get}
 use Rattle.ec_al.specs.declared.state.State.{State}
 use Rattle.ec_cycle.specs.Closing.{ReportState}
@@ -87,6 +88,10 @@ stopped s t w v reasons states r said is stops refused same_session same_wire = 
     })
 
 -- ---- AL states
+
+-- what a vector has behind writes to all its elements
+pub front_of : {X : Type 0} (xs ys : List X) (n : ℕ) → length xs ≡ n → take n (xs ++ ys) ≡ xs
+front_of xs ys n e = ap (λ m. take m (xs ++ ys)) (sym e) ∙ take-append_seam xs ys
 
 pub read_all : (s t : SessionState) (w v : WireState) (reasons : Reasons) (states told : List (Option AlStatus)) (r : Result Unit SocketFault) (said : LineOutput) → said ≡ output_of_read r → length told ≡ length states → ReadsStates s w told t v r
     → Does act.States (state_of s w reasons states) (state_of t v reasons told) said
