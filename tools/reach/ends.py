@@ -37,8 +37,8 @@ def free_port():
 class Segment:
     """A segment of the three slaves, or of another table, that is started, and says on standard error where it listens."""
 
-    def __init__(self, program, *words, frames=1000000, table=TABLE, **how):
-        self.port = free_port()
+    def __init__(self, program, *words, frames=1000000, table=TABLE, port=None, **how):
+        self.port = port or free_port()
         words = ["segment", "--frames", str(frames), "--port", str(self.port), *words]
         pipes = dict.fromkeys(("stdin", "stdout", "stderr"), subprocess.PIPE)
         self.process = subprocess.Popen([program, *words], text=True, **pipes, **how)
@@ -106,6 +106,16 @@ def start_master(program, to, *words, table=TABLE):
     process.stdin.write(table + "%%\n")
     process.stdin.flush()
     return process
+
+
+def ask(master, line, *wanted):
+    """Has a master do a line, and wants what it prints of it."""
+    master.stdin.write(f"{line}\n")
+    master.stdin.flush()
+    ready, _, _ = select.select([master.stdout] if wanted else [], [], [], 10 if wanted else 0)
+    want(ready or not wanted, f"nothing is printed for `{line}`")
+    printed = [master.stdout.readline().rstrip("\n") for _ in wanted]
+    want(printed == [*wanted], f"for `{line}` it prints {printed}")
 
 
 def run_master(program, to, lines, *words):

@@ -1,5 +1,6 @@
 -- What the calls of a session make of a master over a wire.
-use Rattle.std.proofs.Common.{◌≡◌, ◌∙◌, ℕ, List, length, nat_lt, Bool, true, false, Option, Some, None, Result, Ok, Err, refl, sym, ap, subst}
+use Rattle.std.proofs.Common.{◌≡◌, ◌++◌, ◌∙◌, ℕ, List, length, nat_lt, take, Bool, true, false, Option, Some, None, Result, Ok, Err, refl, sym, ap, subst}
+use Rattle.std.proofs.Math.Seq.{take-append_seam}
 use Rattle.std.specs.Prelude.{is_none, slice_get}
 use Rattle.ec_al.specs.declared.state.State.{State}
 use Rattle.ec_cycle.specs.Closing.{ReportState}
@@ -14,15 +15,17 @@ use Rattle.ec_session.specs.Asking.{AsksInit, EndsAsked, GoesOn, ReadsStates, Re
 use Rattle.ec_session.specs.Sessions.{SessionState, outputs_cleared}
 use Rattle.ec_session.specs.Wired.{LosesAndCycles, Starts, run_refusal, with_number_used}
 use Rattle.ec_session.proofs.Asked.{reads_keep_the_rest, status_reads_keep_the_rest}
+use Rattle.ec_script.specs.declared.expectation.Expectation.{Expectation}
 use Rattle.ec_script.specs.declared.expectation.Expectation.TheVariants as expects
 use Rattle.ec_script.specs.declared.line.LineAction.{LineAction}
 use Rattle.ec_script.specs.declared.line.LineAction.TheVariants as act
 use Rattle.ec_script.specs.declared.output.LineOutput.{LineOutput}
 use Rattle.ec_script.specs.declared.output.LineOutput.TheVariants as output
+use Rattle.ec_script.specs.Expecting.{is_met}
 use Rattle.ec_script.specs.Outputs.{output_if}
 use Rattle.ec_console.specs.declared.wanted.Reasons.{Reasons}
 use Rattle.cmd_master.specs.State.{MasteredState}
-use Rattle.cmd_master.specs.Doing.{Does, Either, ReadsOne, RunsCycle, Sets, StopsMachine, Tells, is_in_state, output_of_read, output_of_run, output_of_stop}
+use Rattle.cmd_master.specs.Doing.{Does, Either, ReadsOne, RunsCycle, Sets, StopsMachine, Tells, is_in_state, output_of_read, output_of_run, output_of_stop, view_of}
 
 -- a master over a wire, by its parts
 abbrev pub state_of : SessionState → WireState → Reasons → List (Option AlStatus) → MasteredState
@@ -86,6 +89,10 @@ stopped s t w v reasons states r said is stops refused same_session same_wire = 
 
 -- ---- AL states
 
+-- what a vector has behind writes to all its elements
+pub front_of : {X : Type 0} (xs ys : List X) (n : ℕ) → length xs ≡ n → take n (xs ++ ys) ≡ xs
+front_of xs ys n e = ap (λ m. take m (xs ++ ys)) (sym e) ∙ take-append_seam xs ys
+
 pub read_all : (s t : SessionState) (w v : WireState) (reasons : Reasons) (states told : List (Option AlStatus)) (r : Result Unit SocketFault) (said : LineOutput) → said ≡ output_of_read r → length told ≡ length states → ReadsStates s w told t v r
     → Does act.States (state_of s w reasons states) (state_of t v reasons told) said
 read_all s t w v reasons states told r said is count reads = record { result = r; count = count; reads = reads; reasons = refl; is = is }
@@ -93,6 +100,12 @@ read_all s t w v reasons states told r said is count reads = record { result = r
 pub read_one : (slave : ℕ) (state : State) (code : Option ℕ) (s t : SessionState) (w v : WireState) (reasons : Reasons) (states : List (Option AlStatus)) (told : Result (Option AlStatus) SocketFault) (said : LineOutput)
     → ReadsStatus slave s w t v told → said ≡ output_if (is_in_state state code told) → Does (act.Expect (expects.State slave state code)) (state_of s w reasons states) (state_of t v reasons states) said
 read_one slave state code s t w v reasons states told said reads is = record { told = told; reads = reads; rest = (refl, refl); is = is }
+
+-- what else is expected
+pub expected_here : (e : Expectation) (s t : MasteredState) (said : LineOutput) → ((slave : ℕ) (state : State) (code : Option ℕ) → e ≡ expects.State slave state code → ⊥) → t ≡ s → said ≡ output_if (is_met e (view_of s.session))
+    → Does (act.Expect e) s t said
+expected_here (expects.State slave state code) s t said none same is = absurd (none slave state code refl)
+expected_here _ s t said none same is = record { same = same; is = is }
 
 -- ---- a variable
 

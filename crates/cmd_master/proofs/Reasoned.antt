@@ -51,10 +51,11 @@ some_line s line t said does =
     let why = some_why (is_reasoned t.reasons t.session said) in
     (plain_text t.session t.states line.number said ++ why.0, unmet_of (is_unmet said), record { said = said; does = does; why = why.0; reason = why.1; text = refl; count = refl })
 
--- a text that it has, by the session behind it
-pub one_line : (s : MasteredState) (line : Line) (t now : MasteredState) (said : LineOutput) (text : List ℕ) (is_one : Bool) → Does line.action s t said → now ≡ t → IsLineText now.reasons now.session now.states line.number said text → is_one ≡ is_unmet said
-    → SaysLine s line t text (unmet_of is_one)
-one_line s line t now said text is_one does same prints counts = by (subst (λ (m : MasteredState). IsLineText m.reasons m.session m.states line.number said text) same prints)
+-- a text that it has, by the session behind it and the states that were read
+pub one_line : (s : MasteredState) (line : Line) (t now : MasteredState) (states : List (Option AlStatus)) (said : LineOutput) (text : List ℕ) (is_one : Bool) → Does line.action s t said → now ≡ t → states ≡ now.states
+    → IsLineText now.reasons now.session states line.number said text → is_one ≡ is_unmet said → SaysLine s line t text (unmet_of is_one)
+one_line s line t now states said text is_one does same read prints counts =
+    by (subst (λ (m : MasteredState). IsLineText m.reasons m.session m.states line.number said text) same (subst (λ (x : List (Option AlStatus)). IsLineText now.reasons now.session x line.number said text) read prints))
   where
     by : IsLineText t.reasons t.session t.states line.number said text → SaysLine s line t text (unmet_of is_one)
     by (why, reason, is) = record { said = said; does = does; why = why; reason = reason; text = is; count = ap unmet_of counts }

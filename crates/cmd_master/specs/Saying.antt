@@ -5,7 +5,7 @@ use Rattle.ec_asking.specs.declared.answer.AlStatus.{AlStatus}
 use Rattle.ec_session.specs.Sessions.{SessionState}
 use Rattle.ec_script.specs.declared.line.Line.{Line}
 use Rattle.ec_script.specs.declared.output.LineOutput.{LineOutput}
-use Rattle.ec_script.specs.declared.output.LineOutput.TheVariants.{No, Ended}
+use Rattle.ec_script.specs.declared.output.LineOutput.TheVariants.{No, Ended, Fault}
 use Rattle.ec_script.specs.Expecting.{is_failed}
 use Rattle.ec_script.specs.Outputs.{is_unmet}
 use Rattle.ec_script.specs.Texts.{output_text}
@@ -16,9 +16,11 @@ use Rattle.ec_console.specs.Unmet.{unmet_of}
 use Rattle.cmd_master.specs.State.{MasteredState}
 use Rattle.cmd_master.specs.Doing.{Does, view_of}
 
--- the outputs that a reason follows, if reasons are wanted: that a line can't be done, and that a start-up has failed
+-- the outputs that a reason follows, if reasons are wanted: that a line can't be done, that a start-up has failed, and that a call of the
+-- wire was a fault
 abbrev pub is_reasoned : Reasons → SessionState → LineOutput → Bool
 is_reasoned Added s No = true
+is_reasoned Added s Fault = true
 is_reasoned Added s Ended = is_failed None (outcome_of s.startup.phase)
 is_reasoned _ s _ = false
 

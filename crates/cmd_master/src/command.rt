@@ -84,7 +84,7 @@ fn run_tapped<H: AllocGlobal + Files + Clock, W: Wire + Drop, R: Read + Drop, O:
 ) -> Result<(), Refusal>
     requires sent { IsTraceOf mastered.wire.sent [] }
     requires received { IsTraceOf mastered.wire.received [] }
-    ensures runs { (last : MasteredState) × RunsOver mastered.session.table mastered last (given_by R.remaining input.old input.new)
+    ensures runs { (last : MasteredState) × RunsOver mastered.entry.session.table mastered.entry last (given_by R.remaining input.old input.new)
         output.old output.new result }
     ensures still_open { is_some capture.new ≡ is_some capture.old }
 {

@@ -4,7 +4,7 @@ ghost use Rattle.ec_script.specs.declared.expectation.Expectation.TheVariants.{S
 ghost use Rattle.ec_script.specs.declared.line.LineAction.TheVariants.{Cycle, Expect, Ready, Set, States, Stop};
 ghost use Rattle.ec_script.specs.Expecting.{is_met};
 ghost use Rattle.ec_script.specs.Outputs.{output_if};
-ghost use Rattle.cmd_master.specs.Doing.{Does, is_in_state, last_report, output_of_run, output_of_stop, view_of};
+ghost use Rattle.cmd_master.specs.Doing.{Does, is_in_state, last_report, output_of_read, output_of_run, output_of_stop, view_of};
 ghost use Rattle.cmd_master.specs.Mastering.{begun_over};
 ghost use Rattle.cmd_master.specs.Saying.{is_reasoned, plain_text};
 ghost use Rattle.cmd_master.specs.Stages.{IsLineText, IsReasonedText};
@@ -20,7 +20,7 @@ use ec_script::{
 };
 use ec_session::{AlStatus, Session};
 use ec_table::{Direction, Table};
-use ec_wire::{RunError, SocketFault, Wire};
+use ec_wire::{RunError, SocketFault, Trouble, Wire};
 use std::alloc::{AllocError, Global};
 use std::marker::Model;
 use std::time::Clock;
@@ -70,8 +70,8 @@ impl<'c, W: Wire + Drop, C: Clock> Mastered<'c, W, C> {
         })
     }
 
-    /// Does an action once, and returns its output. It allocates nothing. After [`LineOutput::Fault`] only the number of the next cycle
-    /// has changed.
+    /// Does an action once, and returns its output. It allocates nothing. If a cycle ends with [`LineOutput::Fault`], only the number of the
+    /// next one has changed.
     fn act(&mut self, action: LineAction) -> LineOutput
         ensures { Does action self.old self.new result }
     {
@@ -81,9 +81,6 @@ impl<'c, W: Wire + Drop, C: Clock> Mastered<'c, W, C> {
             LineAction::Set(variable, value) => self.set(variable, value),
             LineAction::States => self.read_states(),
             LineAction::Stop => self.stop(),
-            LineAction::Expect(Expectation::State(slave, state, code)) => {
-                self.expect_state(slave, state, code)
-            }
             LineAction::Expect(expected) => self.expect(expected),
             LineAction::Show => LineOutput::Values,
             LineAction::Report => self.last_report(),
@@ -126,13 +123,10 @@ impl<'c, W: Wire + Drop, C: Clock> Mastered<'c, W, C> {
     fn read_states(&mut self) -> LineOutput
         ensures { Does States self.old self.new result }
     {
-        match self
+        let read = self
             .session
-            .read_states(&mut self.wire, self.clock, &mut self.states)
-        {
-            Ok(()) => LineOutput::States,
-            Err(_) => LineOutput::Fault,
-        }
+            .read_states(&mut self.wire, self.clock, &mut self.states);
+        output_of_read(read)
     }
 
     /// Stops the machine. `No`, and nothing changes, if no cycle can be run.
@@ -147,11 +141,7 @@ impl<'c, W: Wire + Drop, C: Clock> Mastered<'c, W, C> {
         ensures { Does (Expect (InState slave state code)) self.old self.new result }
     {
         let told = self.session.read_status(&mut self.wire, self.clock, slave);
-        if is_in_state(state, code, told) {
-            LineOutput::Nothing
-        } else {
-            LineOutput::Unmet
-        }
+        output_if(is_in_state(state, code, told))
     }
 
     /// Sets an output variable to a value. `No`, and nothing changes, if it is no output or can't hold the value.
@@ -164,15 +154,21 @@ impl<'c, W: Wire + Drop, C: Clock> Mastered<'c, W, C> {
         LineOutput::Nothing
     }
 
-    /// `Nothing` if what is expected holds, else `Unmet`.
-    fn expect(&self, expected: Expectation) -> LineOutput
+    /// `Nothing` if what is expected holds, else `Unmet`. If it is an AL state of a slave, that is read.
+    fn expect(&mut self, expected: Expectation) -> LineOutput
+        ensures { Does (Expect expected) self.old self.new result }
+    {
+        match expected {
+            Expectation::State(slave, state, code) => self.expect_state(slave, state, code),
+            _ => self.expect_here(expected),
+        }
+    }
+
+    /// `Nothing` if the session by itself shows what is expected, else `Unmet`.
+    fn expect_here(&self, expected: Expectation) -> LineOutput
         ensures { result ≡ output_if (is_met expected (view_of self.now.session)) }
     {
-        if is_met(&view_of(&self.session), expected) {
-            LineOutput::Nothing
-        } else {
-            LineOutput::Unmet
-        }
+        output_if(is_met(&view_of(&self.session), expected))
     }
 
     /// The output of `report`: the last report, or `No` before the first one.
@@ -231,19 +227,26 @@ impl<W: Wire + Drop, C: Clock> Target for Mastered<'_, W, C> {
 
     fn obey(&mut self, alloc: Global, line: &Line) -> Result<Said, AllocError> {
         let output = self.act(line.action);
-        let text = said_text(
-            alloc,
-            &self.session,
-            &self.states,
-            self.reasons,
-            line,
+        let why = Why {
+            session: &self.session,
+            action: line.action,
             output,
-        )?;
+            trouble: trouble_of(&self.wire),
+        };
+        let text = said_text(alloc, &why, &self.states, self.reasons, line.number)?;
         Ok(Said {
             text,
             is_unmet: output.is_unmet(),
         })
     }
+}
+
+/// Why the last call of a wire that was a fault was one; none if no call was.
+fn trouble_of<W: Wire>(wire: &W) -> Option<Trouble> {
+    if wire.failures() == 0 {
+        return None;
+    }
+    Some(wire.trouble())
 }
 
 /// The output of a cycle.
@@ -265,6 +268,27 @@ fn output_of_stop(stopped: Result<(), RunError>) -> LineOutput
         Ok(()) => LineOutput::Nothing,
         Err(RunError::Wire) => LineOutput::Fault,
         Err(RunError::Refused(_)) => LineOutput::No,
+    }
+}
+
+/// The output of `states`: what was read, or that the wire had a fault.
+fn output_of_read(read: Result<(), SocketFault>) -> LineOutput
+    ensures { result ≡ output_of_read read }
+{
+    match read {
+        Ok(()) => LineOutput::States,
+        Err(_) => LineOutput::Fault,
+    }
+}
+
+/// The output of an expectation, by whether it holds.
+fn output_if(holds: bool) -> LineOutput
+    ensures { result ≡ output_if holds }
+{
+    if holds {
+        LineOutput::Nothing
+    } else {
+        LineOutput::Unmet
     }
 }
 
@@ -309,42 +333,38 @@ fn is_input(table: &Table, place: usize) -> bool
     }
 }
 
-/// The text that a line prints for its output, by the session behind it. With reasons, behind that stands why the line can't be done
-/// or has failed.
+/// The text that line `number` prints for its output, by the session behind it. With reasons, behind that stands why the line can't be
+/// done or has failed.
 ///
 /// # Errors
 ///
 /// `AllocError` if memory ran out.
 fn said_text(
     alloc: Global,
-    session: &Session,
+    why: &Why<'_>,
     states: &[Option<AlStatus>],
     reasons: Reasons,
-    line: &Line,
-    output: LineOutput,
+    number: usize,
 ) -> Result<String, AllocError>
-    ensures { IfOk result (λ text. IsLineText reasons session.now states.now line.now.number output (string_bytes text)) }
+    ensures { IfOk result (λ text. IsLineText reasons why.now.session.now states.now number why.now.output (string_bytes text)) }
 {
-    if is_reasoned(reasons, session, output) {
-        reasoned_text(alloc, session, states, line, output)
+    if is_reasoned(reasons, why.session, why.output) {
+        reasoned_text(alloc, why, states, number)
     } else {
-        plain_text(alloc, session, states, line.number, output)
+        plain_text(alloc, why.session, states, number, why.output)
     }
 }
 
 /// The text of a line's output, and behind it why the line can't be done or has failed.
 fn reasoned_text(
     alloc: Global,
-    session: &Session,
+    why: &Why<'_>,
     states: &[Option<AlStatus>],
-    line: &Line,
-    output: LineOutput,
+    number: usize,
 ) -> Result<String, AllocError>
-    ensures { IfOk result (λ text. IsReasonedText session.now states.now line.now.number output (string_bytes text)) }
+    ensures { IfOk result (λ text. IsReasonedText why.now.session.now states.now number why.now.output (string_bytes text)) }
 {
-    let mut text = plain_text(alloc, session, states, line.number, output)?;
-    let action = line.action;
-    let why = Why { session, action };
+    let mut text = plain_text(alloc, why.session, states, number, why.output)?;
     let words = format!(in alloc; "{why}")?;
     text.push_str(reason_line(alloc, words.as_str())?.as_str())?;
     Ok(text)
@@ -388,7 +408,7 @@ fn is_reasoned(reasons: Reasons, session: &Session, output: LineOutput) -> bool
     ensures { result ≡ is_reasoned reasons session.now output }
 {
     match (reasons, output) {
-        (Reasons::Added, LineOutput::No) => true,
+        (Reasons::Added, LineOutput::No | LineOutput::Fault) => true,
         (Reasons::Added, LineOutput::Ended) => is_failed(None, session.outcome()),
         _ => false,
     }

@@ -1,19 +1,22 @@
-//! Why a line can't be done, or its start-up has failed: in words, with names of the table.
+//! Why a line can't be done or has failed: in words, with names of the table.
 use ec_console::{Misfit, Refusal};
 use ec_diagnostic::Printable;
 use ec_explain_start::StartFault;
-use ec_script::LineAction;
+use ec_script::{LineAction, LineOutput};
 use ec_session::Session;
 use ec_start::StartError;
 use ec_table::Direction;
+use ec_wire::Trouble;
 use std::fmt;
 
-/// Why an action can't be done, or its start-up has failed, by the session that it left. It is printed in words, and as nothing for
-/// every other action.
+/// What came of an action of a line: the session that it left, its output, and why the last call of the wire that was a fault was one;
+/// `None` if none was. If the action can't be done or has failed, this prints why, else nothing.
 #[derive(Clone, Copy)]
 pub(crate) struct Why<'s> {
     pub session: &'s Session,
     pub action: LineAction,
+    pub output: LineOutput,
+    pub trouble: Option<Trouble>,
 }
 
 impl Why<'_> {
@@ -48,24 +51,46 @@ impl Why<'_> {
         }
     }
 
-    /// Writes what the last start-up failed by, and nothing if it hasn't failed.
-    fn write_failed<W: fmt::Write>(&self, f: &mut fmt::Formatter<W>) -> fmt::Result {
-        match self.session.outcome() {
-            Some(Err(error)) => f.write(Failed::new(self.session, error)),
+    /// Writes why an action can't be done.
+    fn write_undone<W: fmt::Write>(&self, f: &mut fmt::Formatter<W>) -> fmt::Result {
+        match self.action {
+            LineAction::Cycle | LineAction::Stop => self.write_no_cycle(f),
+            LineAction::Set(variable, _) | LineAction::Never(variable) => {
+                self.write_unset(f, variable)
+            }
+            LineAction::Report => f.write_str("no cycle has ended with a report yet"),
             _ => Ok(()),
+        }
+    }
+
+    /// Writes what the last start-up failed by, and nothing if it hasn't failed. If it was lost, that may be by a fault of the wire.
+    fn write_failed<W: fmt::Write>(&self, f: &mut fmt::Formatter<W>) -> fmt::Result {
+        let Some(Err(error)) = self.session.outcome() else {
+            return Ok(());
+        };
+        f.write(Failed::new(self.session, error))?;
+        if matches!(error, StartError::Lost) && self.trouble.is_some() {
+            f.write_str("; ")?;
+            self.write_fault(f)?;
+        }
+        Ok(())
+    }
+
+    /// Writes why the wire had a fault, and nothing if it had none.
+    fn write_fault<W: fmt::Write>(&self, f: &mut fmt::Formatter<W>) -> fmt::Result {
+        match self.trouble {
+            Some(trouble) => write!(f, "a call on the socket failed: {trouble}"),
+            None => Ok(()),
         }
     }
 }
 
 impl fmt::Display for Why<'_> {
     fn fmt<W: fmt::Write>(&self, f: &mut fmt::Formatter<W>) -> fmt::Result {
-        match self.action {
-            LineAction::Ready => self.write_failed(f),
-            LineAction::Cycle | LineAction::Stop => self.write_no_cycle(f),
-            LineAction::Set(variable, _) | LineAction::Never(variable) => {
-                self.write_unset(f, variable)
-            }
-            LineAction::Report => f.write_str("no cycle has ended with a report yet"),
+        match self.output {
+            LineOutput::No => self.write_undone(f),
+            LineOutput::Ended => self.write_failed(f),
+            LineOutput::Fault => self.write_fault(f),
             _ => Ok(()),
         }
     }

@@ -13,6 +13,8 @@ pub mod Numbers
 pub mod Ranges
 -- what is written for a line is read back
 pub mod ReadingBack
+-- the lines of slaves, one after another
+pub mod SlaveLines
 -- what words write as values
 pub mod Values
 -- words that aren't equal

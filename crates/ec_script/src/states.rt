@@ -27,6 +27,7 @@ pub(crate) fn state_lines(
 }
 
 /// Adds the line of each slave.
+#[tactic(auto, using(crate::proofs::SlaveLines::slave_steps))]
 fn write_states(
     alloc: Global,
     text: &mut String,

@@ -5,8 +5,8 @@ ghost use Rattle.ec_link.specs.Plan.{plan_of};
 use crate::compare::{expect, expect_same};
 use crate::machines::{machine_of, make_ready, master_of, ring_of, startup_of};
 use ec_app::{
-    App, Line, MemoryWire, UdpWire, Wire, bring_up_wire, pass_hex, plan_text, read_script,
-    run_command, run_cycle, run_line, serve_segment,
+    App, Line, MemoryWire, UdpWire, Wire, bring_up_resting, bring_up_wire, pass_hex, plan_text,
+    read_script, run_command, run_cycle, run_line, run_lossy_cycle, serve_segment,
 };
 use ec_cycle::Master;
 use ec_link::Machine;
@@ -170,31 +170,42 @@ fn scripts(rt: HostRuntime) {
 
 // ---- wires
 
-/// The slaves of a machine come up over a wire, and its master runs a cycle.
-fn expect_cycle(rt: &impl Abort, machine: &Machine, master: &mut Master<'_>, wire: &mut MemoryWire)
+/// The slaves of a machine come up over a wire. Its master runs a cycle, and one on which answers may be lost.
+fn expect_cycles<H: Abort + Clock>(
+    rt: &H,
+    machine: &Machine,
+    master: &mut Master<'_>,
+    wire: &mut MemoryWire,
+)
     requires { master.old.plan ≡ plan_of machine.now }
 {
     let mut startup = startup_of(rt, machine);
     bring_up_wire(&mut startup, wire);
     make_ready(rt, &startup, master);
     let report = run_cycle(master, wire).expect(rt, "a cycle");
-    expect(rt, report.is_taken() && wire.failures() == 0, "a cycle");
+    let next = run_lossy_cycle(master, wire, rt).expect(rt, "a cycle");
+    expect(rt, report.is_taken() && next.is_taken(), "two cycles");
+}
+
+/// They come up as well if the start-up may rest.
+fn expect_start<H: Abort + Clock>(rt: &H, machine: &Machine, wire: &mut MemoryWire) {
+    let mut startup = startup_of(rt, machine);
+    bring_up_resting(&mut startup, wire, rt);
+    let is_up = matches!(startup.outcome(), Some(Ok(())));
+    expect(rt, is_up && wire.failures() == 0, "a start-up");
 }
 
 /// The same over memory.
-fn expect_cycle_of(rt: &(impl AllocGlobal + Abort), machine: &Machine) {
+fn expect_cycles_of<H: AllocGlobal + Abort + Clock>(rt: &H, machine: &Machine) {
     let wire = MemoryWire::new(rt.alloc(), ring_of(rt, machine), 100, u64::MAX);
-    expect_cycle(
-        rt,
-        machine,
-        &mut master_of(rt, machine),
-        &mut wire.expect(rt, "memory"),
-    );
+    let mut wire = wire.expect(rt, "memory");
+    expect_cycles(rt, machine, &mut master_of(rt, machine), &mut wire);
+    expect_start(rt, machine, &mut wire);
 }
 
 #[test]
 fn cycles_over_memory(rt: HostRuntime) {
-    expect_cycle_of(&rt, &machine_of(&rt));
+    expect_cycles_of(&rt, &machine_of(&rt));
 }
 
 /// The bytes of a broadcast read of the AL status, and as it comes back.

@@ -2,10 +2,10 @@
 //! `tools/cases/data/masters.cases`.
 
 use crate::compare::expect_same;
+use cmd_master::Mastered;
 use ec_bringup::slaves_of_machine;
 use ec_console::{InputStream, OutputStream, Reasons, Refusal, run_input};
 use ec_link::Machine;
-use cmd_master::Mastered;
 use ec_wire::MemoryWire;
 use std::alloc::Global;
 use std::process::Abort;
@@ -190,7 +190,7 @@ const REASONED: [Run; 4] = [
         "ready\ncycle\nexpect ready\nready\ncycle\n",
         0,
         1,
-        "failed 32\n  32 Lost: given up\n\
+        "failed 32\n  32 Lost: given up; a call on the socket failed: there is no such address, or a payload is too long\n\
          no 2\n  the last start-up failed, 32 Lost: given up; `ready` makes one more\n\
          unmet 3\nready\nreport taken missing 0 counters 6 al 0008\n",
     ),
@@ -199,16 +199,17 @@ const REASONED: [Run; 4] = [
         "ready\ncycle\nready\ncycle\nreport\n",
         152,
         0,
-        "ready\nreport taken missing 0 counters 6 al 0008\nfailed 32\n  32 Lost: given up\n\
+        "ready\nreport taken missing 0 counters 6 al 0008\nfailed 32\n  32 Lost: given up; a call on the socket failed: there is no such address, or a payload is too long\n\
          no 4\n  the last start-up failed, 32 Lost: given up; `ready` makes one more\n\
          report taken missing 0 counters 6 al 0008\n",
     ),
-    // A fault of the wire has none, nor have bad lines, and what is expected.
+    // A fault of the wire has one. Bad lines have none, nor has what is expected.
     (
         "ready\ncycle\nreport\nbegin\nexpect taken\nshow\n",
         150,
         1,
-        "ready\nfault 37 Wire\nno 3\n  no cycle has ended with a report yet\nbad 4\nunmet 5\nc 0\nd 0\n",
+        "ready\nfault 37 Wire\n  a call on the socket failed: there is no such address, or a payload is too long\n\
+         no 3\n  no cycle has ended with a report yet\nbad 4\nunmet 5\nc 0\nd 0\n",
     ),
 ];
 
@@ -271,7 +272,7 @@ fn other_slaves(rt: &(impl AllocGlobal + Abort), old: &str, new: &str) -> Machin
 }
 
 /// Runs `ready` of the three slaves over other ones, with reasons.
-fn ready_over(rt: &(impl AllocGlobal + Abort), slaves: &Machine) -> Vec<u8> {
+fn ready_over(rt: &(impl AllocGlobal + Abort + Clock), slaves: &Machine) -> Vec<u8> {
     let mut mastered = mastered_over(rt, wire_of(rt, slaves, NEVER), Reasons::Added);
     let mut output = OutputStream::new(Vec::new(rt.alloc()));
     let ended = run_all(rt.alloc(), &mut mastered, "ready\n", &mut output);
@@ -280,7 +281,7 @@ fn ready_over(rt: &(impl AllocGlobal + Abort), slaves: &Machine) -> Vec<u8> {
 }
 
 /// Compares what is printed of a start-up over other slaves.
-fn expect_failure(rt: &(impl AllocGlobal + Abort), failure: &Failure) {
+fn expect_failure(rt: &(impl AllocGlobal + Abort + Clock), failure: &Failure) {
     let (old, new, number, words) = *failure;
     let output = ready_over(rt, &other_slaves(rt, old, new));
     let wanted = format!(in rt.alloc(); "failed {number}\n  {words}\n").expect(rt, "memory");

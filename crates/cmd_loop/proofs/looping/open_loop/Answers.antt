@@ -6,4 +6,4 @@ pub returns-in_err-slaves-clause-refused : goal.returns-in_err-slaves-clause-ref
 returns-in_err-slaves-clause-refused g c = if_unbound _ _ c.from_residual.ensures.1 (inl refl)
 
 pub returns-in_err-wire-clause-refused : goal.returns-in_err-wire-clause-refused
-returns-in_err-wire-clause-refused g c = if_unbound _ _ c.from_residual-in_err-wire.ensures.1 (inr refl)
+returns-in_err-wire-clause-refused g c = if_unbound _ _ c.from_residual-in_err-wire.ensures.1 (inr tt)

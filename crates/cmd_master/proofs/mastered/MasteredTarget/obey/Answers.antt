@@ -11,7 +11,7 @@ returns-in_err-text-clause-table g c = table_stays c.args.line.now.action c.args
 
 pub returns-clause-said : goal.returns-clause-said
 returns-clause-said g c =
-    one_line c.args.self.now c.args.line.now c.act-output.new.self _ c.act-output.result _ c.is_unmet.result c.act-output.ensures c.self.view_is c.in_ok-text.ensures c.is_unmet.ensures
+    one_line c.args.self.now c.args.line.now c.act-output.new.self _ _ c.act-output.result _ c.is_unmet.result c.act-output.ensures c.self.view_is c.deref.ensures.value c.in_ok-text.ensures c.is_unmet.ensures
 
 pub returns-clause-table : goal.returns-clause-table
 returns-clause-table g c = table_stays c.args.line.now.action c.args.self.now c.act-output.new.self c.act-output.result c.act-output.ensures
