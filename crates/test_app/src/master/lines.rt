@@ -2,10 +2,10 @@
 //! `tools/cases/data/masters.cases`.
 
 use crate::compare::expect_same;
+use cmd_master::Mastered;
 use ec_bringup::slaves_of_machine;
 use ec_console::{InputStream, OutputStream, Reasons, Refusal, run_input};
 use ec_link::Machine;
-use cmd_master::Mastered;
 use ec_wire::MemoryWire;
 use std::alloc::Global;
 use std::process::Abort;

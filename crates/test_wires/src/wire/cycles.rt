@@ -9,9 +9,7 @@ use crate::wire::machines::{bring_up, brought_up, ring_of, set, startup_of, valu
 use ec_cycle::{Master, Report};
 use ec_link::{ExpectedCounters, Machine};
 use ec_ring::Ring;
-use ec_wire::{
-    Echo, LoopWire, Loopback, MemoryWire, RunError, Wire, run_cycle, run_lossy_cycle,
-};
+use ec_wire::{Echo, LoopWire, Loopback, MemoryWire, RunError, Wire, run_cycle, run_lossy_cycle};
 use std::net::{Ipv4Addr, Net, SocketAddr, UdpSocket};
 use std::process::Abort;
 use std::time::Clock;
@@ -144,7 +142,7 @@ pub fn expect_silence<H: AllocGlobal + Clock + Abort>(
 {
     brought_up(rt, machine, master, 0);
     let seen = seen_in_silence(rt, master);
-    assert_same(rt, &seen, &(1, false, 0));
+    assert_same(rt, &seen, &(1, false, 0), "silence");
 }
 
 /// Whether a cycle was taken by a counter of 6.

@@ -4,9 +4,7 @@ ghost use Rattle.std.specs.Prelude.{◌≡◌};
 ghost use Rattle.ec_link.specs.Plan.{plan_of};
 
 use crate::rows::expect;
-use crate::wire::cycles::{
-    expect_error, expect_faults, expect_loop, expect_silence, expect_spent,
-};
+use crate::wire::cycles::{expect_error, expect_faults, expect_loop, expect_silence, expect_spent};
 use crate::wire::machines::{machine_of, master_of};
 use crate::wire::startups::expect_ends;
 use ec_cycle::{CycleError, Master};
@@ -52,10 +50,6 @@ fn expect_trials_of(
 }
 
 /// Trials of a table.
-pub fn expect_trials(
-    rt: &(impl Net + AllocGlobal + Abort + Clock),
-    text: &str,
-    trials: &str,
-) {
+pub fn expect_trials(rt: &(impl Net + AllocGlobal + Abort + Clock), text: &str, trials: &str) {
     expect_trials_of(rt, &machine_of(rt, text), trials);
 }
