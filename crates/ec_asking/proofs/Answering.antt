@@ -3,16 +3,16 @@ use Rattle.std.proofs.Common.{◌≡◌, ◌≤◌, ◌↔◌, ℕ, List, [], �
 use Rattle.ec_frame.specs.declared.command.Command.{Command}
 use Rattle.ec_frame.specs.declared.command.Command.TheVariants.{Nop}
 use Rattle.ec_frame.specs.declared.cursor.DatagramSpan.{DatagramSpan}
-use Rattle.ec_frame.specs.declared.cursor.DatagramCursor.{DatagramCursor}
+use Rattle.ec_frame.specs.declared.cursor.Datagrams.{Datagrams}
 use Rattle.ec_frame.specs.Building.{new_datagram}
 use Rattle.ec_frame.specs.Cursor.{IsAhead}
 use Rattle.ec_frame.specs.Datagram.{Datagram, IsDatagram, is_followed, spelling}
 use Rattle.ec_frame.specs.Frame.{Payload, IsFrame}
 use Rattle.ec_frame.proofs.FrameLaws.{frames_are_decoded}
-use Rattle.ec_start.specs.Running.{Shape, shape}
+use Rattle.ec_frame.specs.Names.{Shape, name_of, shape}
 use Rattle.ec_asking.specs.declared.question.Question.{Question}
 use Rattle.ec_asking.specs.declared.question.Question.TheVariants.{Status, Init}
-use Rattle.ec_asking.specs.Questions.{IsAnswerTo, datagram_of, name_told, question_frame}
+use Rattle.ec_asking.specs.Questions.{IsAnswerTo, datagram_of, question_frame}
 use Rattle.ec_asking.specs.Answered.{IsAnswerAt, question_name}
 
 -- a frame of two datagrams, which stand at two places
@@ -27,7 +27,7 @@ pub record IsPair (payload : List ℕ) (name answer : DatagramSpan) : Type 0 whe
   pub there_first : slice_range payload name.from name.to ≡ spelling true first
   pub there : slice_range payload answer.from answer.to ≡ spelling false datagram
 
-pair_of : (payload : List ℕ) (name answer : DatagramSpan) (places one : DatagramCursor) (p : Payload) (ds : List Datagram) → p.datagrams ≡ ds → IsFrame payload p → length ds ≡ 2
+pair_of : (payload : List ℕ) (name answer : DatagramSpan) (places one : Datagrams) (p : Payload) (ds : List Datagram) → p.datagrams ≡ ds → IsFrame payload p → length ds ≡ 2
     → IsAhead payload places ds
     → ((d : Datagram) (es : List Datagram) → IsAhead payload places (d ∷ es) → slice_range payload name.from name.to ≡ spelling (is_followed es) d)
     → ((d : Datagram) (es : List Datagram) → IsAhead payload places (d ∷ es) → IsAhead payload one es)
@@ -50,7 +50,7 @@ pair_of payload name answer places one p (d ∷ e ∷ []) is f two ahead first o
       there = second e [] rest;
     }
 
-pub is_pair : (payload : List ℕ) (name answer : DatagramSpan) (places one : DatagramCursor) (p : Payload) → IsFrame payload p → length p.datagrams ≡ 2
+pub is_pair : (payload : List ℕ) (name answer : DatagramSpan) (places one : Datagrams) (p : Payload) → IsFrame payload p → length p.datagrams ≡ 2
     → IsAhead payload places p.datagrams
     → ((d : Datagram) (es : List Datagram) → IsAhead payload places (d ∷ es) → slice_range payload name.from name.to ≡ spelling (is_followed es) d)
     → ((d : Datagram) (es : List Datagram) → IsAhead payload places (d ∷ es) → IsAhead payload one es)
@@ -106,12 +106,12 @@ pub record AreOf (q : Question) (count : ℕ) (d e : Datagram) : Type 0 where
 seconds : (q : Question) (count : ℕ) (ds : List Datagram) (d e : Datagram) → ds ≡ d ∷ e ∷ [] → IsAnswerTo q count ds → AreOf q count d e
 seconds q count ds d e both h =
     let shapes : shape d ∷ shape e ∷ [] ≡ name_shape ∷ asking_shape q ∷ [] = ap (map shape) (sym both) ∙ (h.shapes ∙ shapes_are q count) in
-    record { name = ap first_in shapes; told = ap name_told (sym both) ∙ h.named; asking = ap second_in shapes }
+    record { name = ap first_in shapes; told = ap name_of (sym both) ∙ h.named; asking = ap second_in shapes }
 
 answers : (q : Question) (count : ℕ) (ds : List Datagram) (d e : Datagram) → ds ≡ d ∷ e ∷ [] → AreOf q count d e → IsAnswerTo q count ds
 answers q count ds d e both h = record {
   shapes = ap (map shape) both ∙ (ap (λ (s : Shape). s ∷ shape e ∷ []) h.name ∙ (ap (λ (s : Shape). name_shape ∷ s ∷ []) h.asking ∙ sym (shapes_are q count)));
-  named = ap name_told both ∙ h.told;
+  named = ap name_of both ∙ h.told;
 }
 
 -- the second shape by what the code compares

@@ -14,7 +14,8 @@ use Rattle.ec_slave.proofs.Commands.CommandLaws.{datagrams_stay, goes_on, logica
 use Rattle.ec_slave.proofs.Memory.RegisterLaws.{registers_open, registers_read}
 use Rattle.ec_ring.specs.Rings.{RingPassed, passes_ring}
 use Rattle.ec_ring.proofs.AddressLaws.{station_means_one}
-use Rattle.ec_start.specs.Actions.{numbered, station}
+use Rattle.ec_frame.specs.Names.{name_datagram}
+use Rattle.ec_start.specs.Actions.{station}
 use Rattle.ec_start.specs.Running.{last_number}
 use Rattle.ec_asking.specs.declared.question.Question.TheVariants.{Status}
 use Rattle.ec_asking.specs.Questions.{datagram_of, told_by, told_in}
@@ -95,7 +96,7 @@ only_read (s ∷ ss) d r =
 
 pub status_is_only_read : StatusIsOnlyRead
 status_is_only_read ss slave count few =
-    ap (λ (r : RingPassed). r.slaves) (nop_aside ss (numbered last_number count) (datagram_of (Status slave) ∷ []) refl) ∙ only_read ss (datagram_of (Status slave)) (sent_reads slave few)
+    ap (λ (r : RingPassed). r.slaves) (nop_aside ss (name_datagram last_number count) (datagram_of (Status slave) ∷ []) refl) ∙ only_read ss (datagram_of (Status slave)) (sent_reads slave few)
 
 -- ---- what it brings
 
@@ -131,7 +132,7 @@ told_there s d r e none =
 pub status_is_the_slaves : StatusIsTheSlaves
 status_is_the_slaves ss slave count k s few is own others =
     let d = datagram_of (Status slave) in
-    let n = numbered last_number count in
+    let n = name_datagram last_number count in
     let r = sent_reads slave few in
     let adp = sent_adp slave few in
     ap (λ (x : RingPassed). told_in x.datagrams) (nop_aside ss n (d ∷ []) refl)
@@ -149,7 +150,7 @@ nobody (s ∷ ss) d r ne =
 pub nobody_is_nothing : NobodyIsNothing
 nobody_is_nothing ss slave count few none =
     let d = datagram_of (Status slave) in
-    let n = numbered last_number count in
+    let n = name_datagram last_number count in
     let r = sent_reads slave few in
     let adp = sent_adp slave few in
     ap (λ (x : RingPassed). told_in x.datagrams) (nop_aside ss n (d ∷ []) refl)

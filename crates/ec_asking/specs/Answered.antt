@@ -3,14 +3,14 @@ use Rattle.std.specs.Prelude.{ℕ, ◌≡◌, ◌≤◌, List, [], ◌∷◌, le
 use Rattle.ec_frame.specs.Datagram.{Datagram, IsDatagram, spelling}
 use Rattle.ec_frame.specs.Frame.{Payload, IsFrame}
 use Rattle.ec_frame.specs.declared.cursor.DatagramSpan.{DatagramSpan}
-use Rattle.ec_start.specs.Actions.{numbered}
+use Rattle.ec_frame.specs.Names.{name_datagram}
 use Rattle.ec_start.specs.Running.{last_number}
 use Rattle.ec_asking.specs.declared.question.Question.{Question}
 use Rattle.ec_asking.specs.Questions.{IsAnswerTo}
 
 -- the data of the first datagram of question number `count`
 abbrev pub question_name : ℕ → List ℕ
-question_name count = (numbered last_number count).data_bytes
+question_name count = (name_datagram last_number count).data_bytes
 
 pub record IsAnswerAt (payload : List ℕ) (q : Question) (count : ℕ) (span : DatagramSpan) : Type 0 where
   pub frame : Payload

@@ -4,8 +4,9 @@ use Rattle.ec_bits.specs.Bits.{zeros}
 use Rattle.ec_regs.specs.Memory.{al_control, al_status}
 use Rattle.ec_frame.specs.declared.command.Command.TheVariants.{Bwr, Fprd}
 use Rattle.ec_frame.specs.Datagram.{Datagram}
-use Rattle.ec_start.specs.Actions.{numbered, sent, station}
-use Rattle.ec_start.specs.Running.{last_number, shape, second}
+use Rattle.ec_start.specs.Actions.{sent, station}
+use Rattle.ec_frame.specs.Names.{name_datagram, name_of, shape}
+use Rattle.ec_start.specs.Running.{last_number, second}
 use Rattle.ec_start.specs.Verdicts.{word_at}
 use Rattle.ec_asking.specs.declared.answer.AlStatus.{AlStatus}
 use Rattle.ec_asking.specs.declared.question.Question.{Question}
@@ -25,19 +26,14 @@ datagram_of Init = sent Bwr 0 al_control (0x11 ∷ 0 ∷ []) last_number
 
 -- question number `count`
 abbrev pub question_frame : Question → ℕ → List Datagram
-question_frame q count = numbered last_number count ∷ datagram_of q ∷ []
+question_frame q count = name_datagram last_number count ∷ datagram_of q ∷ []
 
 -- ---- the answer
-
--- the data of the first datagram
-abbrev pub name_told : List Datagram → List ℕ
-name_told [] = []
-name_told (d ∷ ds) = d.data_bytes
 
 -- commands, Idx, lengths, order and name are those of the frame that was sent
 pub record IsAnswerTo (q : Question) (count : ℕ) (ds : List Datagram) : Type 0 where
   pub shapes : map shape ds ≡ map shape (question_frame q count)
-  pub named : name_told ds ≡ (numbered last_number count).data_bytes
+  pub named : name_of ds ≡ (name_datagram last_number count).data_bytes
 
 -- the AL status, and at 4 its code, if one slave answered
 abbrev pub told_by : Datagram → Option AlStatus

@@ -2,7 +2,7 @@
 ghost use Rattle.std.specs.Prelude.{◌≡◌, ◌↔◌, Bool, true, length, MatchOption};
 ghost use Rattle.ec_frame.specs.Datagram.{Datagram, IsDatagram, IsSpelling, spelling};
 ghost use Rattle.ec_frame.specs.Frame.{Payload, IsFrame};
-ghost use Rattle.ec_start.specs.Running.{shape};
+ghost use Rattle.ec_frame.specs.Names.{shape};
 ghost use Rattle.ec_asking.specs.Answered.{IsAnswerAt, question_name};
 ghost use Rattle.ec_asking.specs.Questions.{IsAnswerTo, told_by, told_in};
 
@@ -10,7 +10,7 @@ use crate::question::{NUMBER, Question};
 use byteorder::{ByteOrder, LittleEndian};
 use ec_frame::field::NAME_LEN;
 use ec_frame::{
-    Command, DatagramCursor, DatagramSpan, Header, check, index_of, name_of, read_counter,
+    Command, DatagramSpan, Datagrams, FrameName, Header, check, index_of, read_counter,
     read_data,
 };
 use ec_regs::registers::{AL_STATUS, AL_STATUS_CODE};
@@ -54,9 +54,9 @@ fn answer_to(payload: &[u8], question: Question, count: u16) -> Option<DatagramS
     if !has_two {
         return None;
     }
-    let mut places = DatagramCursor::new(payload);
-    let name = places.next(payload)?;
-    let answer = places.next(payload)?;
+    let mut places = Datagrams::new(payload);
+    let name = places.next_place(payload)?;
+    let answer = places.next_place(payload)?;
     let first = &payload[name.from..name.to];
     let second = &payload[answer.from..answer.to];
     let command = question.command();
@@ -92,7 +92,11 @@ fn is_name(part: &[u8], count: u16) -> bool
     ensures { (more : Bool) (d : Datagram) → IsDatagram d → part.now ≡ spelling more d
         → (result ≡ true) ↔ (d.data_bytes ≡ question_name count) }
 {
-    read_data(part) == name_of(NUMBER, count).as_slice()
+    let name = FrameName {
+        number: NUMBER,
+        part: count,
+    };
+    read_data(part) == name.bytes().as_slice()
 }
 
 /// Whether a datagram has the index of a question, this command, and so many bytes of data.

@@ -5,7 +5,7 @@ ghost use Rattle.ec_frame.specs.Frame.{IsFrame};
 ghost use Rattle.ec_start.specs.Actions.{station};
 ghost use Rattle.ec_asking.specs.Questions.{IsAskable, datagram_of, question_frame};
 
-use ec_frame::{Command, Frame, Sent, address_of, index_of, name_of, write_pair};
+use ec_frame::{Command, Frame, FrameName, Sent, address_of, index_of, write_pair};
 use ec_regs::registers::{AL_CONTROL, AL_STATUS};
 
 /// The number of each question's frame: no start-up and no cycle has a frame with this number.
@@ -69,7 +69,11 @@ pub fn write_question(question: Question, count: u16, frame: &mut Frame)
     ensures { IsFrame frame.new.items (bare_payload (question_frame question count)) }
 {
     let index = index_of(NUMBER);
-    let name = name_of(NUMBER, count);
+    let name = FrameName {
+        number: NUMBER,
+        part: count,
+    }
+    .bytes();
     let naming = Sent {
         command: Command::Nop,
         index,

@@ -60,7 +60,7 @@ pub use Rattle.ec_start.specs.declared.phase.Phase.{Phase}
 pub use Rattle.ec_start.specs.declared.phase.Phase.TheVariants.{Idle, Sent, Ready, Failed}
 pub use Rattle.ec_start.specs.declared.verdict.Verdict.{Verdict}
 pub use Rattle.ec_start.specs.declared.verdict.Verdict.TheVariants.{Next, Word, Again, Fails}
-pub use Rattle.ec_start.specs.Interface.{requests, downloads, entries_read, pdo_read, slots_written, assignment_written, IsStartable, script, verdict, StartState, action_of, type_of, judged, taken, given_up_by, max_polls, settings_at, fmmu_at, named, identified, mailbox_set, raised, exchanged, talked, manager_set, fmmu_set, mapped, each_slave, cleared, phases, AreMailboxes, datagram_of, frame_of, counted, word_verdict, state_verdict, reply_verdict, word_at, long_at, is_device, with_word, asked, asked_by, next_frame, next_frame_by, sending, second, is_ended, is_sent, last_number, IsStartTaken, request_command, request_value, message_verdict, IsRequest, IsTransfer, advanced, with_identity, station, word_address_of, IsFmmu, at, AreRequests, filled, request_bytes, request_message, sent, uploads, upload_verdict, numbered, Shape, shape, IsStartAnswer}
+pub use Rattle.ec_start.specs.Interface.{requests, downloads, entries_read, pdo_read, slots_written, assignment_written, IsStartable, script, verdict, StartState, action_of, type_of, judged, taken, given_up_by, max_polls, settings_at, fmmu_at, named, identified, mailbox_set, raised, exchanged, talked, manager_set, fmmu_set, mapped, each_slave, cleared, phases, AreMailboxes, datagram_of, frame_of, counted, word_verdict, state_verdict, reply_verdict, word_at, long_at, is_device, with_word, asked, asked_by, next_frame, next_frame_by, sending, second, is_ended, is_sent, last_number, IsStartTaken, request_command, request_value, message_verdict, IsRequest, IsTransfer, advanced, with_identity, station, word_address_of, IsFmmu, at, AreRequests, filled, request_bytes, request_message, sent, uploads, upload_verdict, name_datagram, Shape, shape, IsStartAnswer}
 unfoldable pub use Rattle.ec_start.specs.Running.{begun}
 pub use Rattle.ec_start.proofs.LawLemmas.{taken_plan}
 pub use Rattle.ec_start.proofs.Startable.{startable}

@@ -12,7 +12,7 @@ use Rattle.ec_bringup.specs.Standing.{IsOfKind}
 pub record Carried : Type 0 where
   pub number : ℕ
   pub passed : ℕ
-  -- its second datagram; its bytes spell `numbered number 0` and this one
+  -- its second datagram; its bytes spell `name_datagram number 0` and this one
   pub datagram : Datagram
 
 -- as much of a world as a start-up touches

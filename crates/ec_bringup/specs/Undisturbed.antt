@@ -9,7 +9,8 @@ use Rattle.ec_ring.specs.Rings.{passes_ring}
 use Rattle.ec_slave.specs.Serving.{served}
 use Rattle.ec_link.specs.declared.settings.SlavePlan.{SlavePlan}
 use Rattle.ec_link.specs.Meaning as meant
-use Rattle.ec_start.specs.Actions.{datagram_of, frame_of, numbered}
+use Rattle.ec_frame.specs.Names.{name_datagram}
+use Rattle.ec_start.specs.Actions.{datagram_of, frame_of}
 use Rattle.ec_start.specs.Running.{StartState, action_of, sending, taken, IsStartAnswer}
 use Rattle.ec_bringup.specs.Standing.{IsOfKind}
 use Rattle.ec_start.specs.Planned.{IsStartable}
@@ -84,7 +85,7 @@ pub record ArePlans (ps : List SlavePlan) : Type 0 where
 
 -- A start-up's frame past all slaves is an answer, its second datagram is what it is here, and so are the slaves.
 pub record IsRound (s : StartState) (number : ℕ) (ss : List SlaveState) : Type 0 where
-  pub datagrams : (passes_ring ss (frame_of (action_of s) number)).datagrams ≡ numbered number 0 ∷ all_passed ss (datagram_of (action_of s) number) ∷ []
+  pub datagrams : (passes_ring ss (frame_of (action_of s) number)).datagrams ≡ name_datagram number 0 ∷ all_passed ss (datagram_of (action_of s) number) ∷ []
   pub slaves : (passes_ring ss (frame_of (action_of s) number)).slaves ≡ all_met ss (datagram_of (action_of s) number)
   pub answer : IsStartAnswer s number (passes_ring ss (frame_of (action_of s) number)).datagrams
 

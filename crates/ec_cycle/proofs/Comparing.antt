@@ -1,8 +1,10 @@
 -- To be the same from the first datagram on is to have the same shapes, the same name and the same process addresses.
-use Rattle.std.proofs.Common.{ℕ, ◌+◌, ◌*◌, ◌^◌, ◌<◌, ◌≤◌, ◌≡◌, Option, Some, None, refl, sym, ◌∙◌, ap, arith, List, [], ◌∷◌, ◌++◌, length, map, get_or, slice_get}
-use Rattle.std.specs.Int.{to_le_bytes, w16, w64}
+use Rattle.std.proofs.Common.{ℕ, ◌+◌, ◌*◌, ◌^◌, ◌<◌, ◌≤◌, ◌≡◌, Option, Some, None, refl, sym, ◌∙◌, ap, arith, List, [], ◌∷◌, length, map, get_or, slice_get}
+use Rattle.std.specs.Option.{option_map_or}
+use Rattle.ec_frame.specs.declared.name.FrameName.{FrameName}
 use Rattle.ec_frame.specs.Datagram.{Datagram}
-use Rattle.ec_cycle.specs.Master.{shape, name_of, process_addresses}
+use Rattle.ec_frame.specs.Names.{name_bytes, name_of, shape}
+use Rattle.ec_cycle.specs.Master.{process_addresses}
 use Rattle.ec_cycle.specs.Matching.{SameFrom, Names}
 
 tail_same : (n : ℕ) (ds es : List Datagram) → 2 ≤ n → SameFrom n ds es → (map shape ds ≡ map shape es) × (map (λ (d : Datagram). d.address) ds ≡ map (λ (d : Datagram). d.address) es)
@@ -52,19 +54,35 @@ answers_same (d ∷ g ∷ ds) (e ∷ f ∷ es) a b c =
 
 -- ---- the name
 
-pub name_read : (number k : ℕ) → k < 2 ^ 16 → get_or (to_le_bytes w64 number ++ to_le_bytes w16 k) 8 0 + 256 * get_or (to_le_bytes w64 number ++ to_le_bytes w16 k) 9 0 ≡ k
+-- its last two bytes
+abbrev last_two : List ℕ → ℕ
+last_two xs = get_or xs 8 0 + 256 * get_or xs 9 0
+
+name_read : (number k : ℕ) → k < 2 ^ 16 → last_two (name_bytes number k) ≡ k
 name_read number k l = omega arith
 
-pub names_part : (number k : ℕ) (ds : List Datagram) (r : Option ℕ) → k < 2 ^ 16 → name_of ds ≡ to_le_bytes w64 number ++ to_le_bytes w16 k → Names (slice_get ds 0) r → r ≡ Some k
+one_part : (number other k j : ℕ) → k < 2 ^ 16 → j < 2 ^ 16 → name_bytes number k ≡ name_bytes other j → k ≡ j
+one_part number other k j l m e = sym (name_read number k l) ∙ (ap last_two e ∙ name_read other j m)
+
+pub names_part : (number k : ℕ) (ds : List Datagram) (r : Option ℕ) → k < 2 ^ 16 → name_of ds ≡ name_bytes number k → Names (slice_get ds 0) r → r ≡ Some k
 names_part number k [] r l e h = absurd (let z = ap length e in omega arith)
 names_part number k (d ∷ ds) None l e h = absurd (h (ap length e))
-names_part number k (d ∷ ds) (Some j) l e h = ap (λ n. Some n) (h.1 ∙ (ap (λ (xs : List ℕ). get_or xs 8 0 + 256 * get_or xs 9 0) e ∙ name_read number k l))
+names_part number k (d ∷ ds) (Some j) l e h = ap (λ n. Some n) (one_part h.0 number j k h.1 l (sym h.2 ∙ e))
 
-pub named_of : (number k : ℕ) (ds : List Datagram) → k < 2 ^ 16 → name_of ds ≡ to_le_bytes w64 number ++ to_le_bytes w16 k → Names (slice_get ds 0) (Some k)
+pub named_of : (number k : ℕ) (ds : List Datagram) → k < 2 ^ 16 → name_of ds ≡ name_bytes number k → Names (slice_get ds 0) (Some k)
 named_of number k [] l e = absurd (let z = ap length e in omega arith)
-named_of number k (d ∷ ds) l e = (ap length e, sym (ap (λ (xs : List ℕ). get_or xs 8 0 + 256 * get_or xs 9 0) e ∙ name_read number k l))
+named_of number k (d ∷ ds) l e = (number, l, e)
 
 -- one name
 pub names_one : (o : Option Datagram) (k j : ℕ) → Names o (Some k) → Names o (Some j) → k ≡ j
 names_one None k j a b = absurd (let e : Some k ≡ None = a in cc)
-names_one (Some d) k j a b = a.1 ∙ sym b.1
+names_one (Some d) k j a b = one_part a.0 b.0 k j a.1 b.1 (sym a.2 ∙ b.2)
+
+-- data that spell a name, or none
+pub reads_name : (o : Option Datagram) (bytes : List ℕ) (name : FrameName) → bytes ≡ option_map_or (λ (d : Datagram). d.data_bytes) o [] → bytes ≡ name_bytes name.number name.part → name.part < 2 ^ 16 → Names o (Some name.part)
+reads_name None bytes name e is l = absurd (let z = ap length (sym e ∙ is) in omega arith)
+reads_name (Some d) bytes name e is l = (name.number, l, sym e ∙ is)
+
+pub reads_none : (o : Option Datagram) (bytes : List ℕ) → bytes ≡ option_map_or (λ (d : Datagram). d.data_bytes) o [] → (length bytes ≡ 10 → ⊥) → Names o None
+reads_none None bytes e h = refl
+reads_none (Some d) bytes e h = λ ten. h (ap length e ∙ ten)

@@ -2,7 +2,7 @@
 use Rattle.std.proofs.Common.{ℕ, zero, suc, ◌+◌, ◌<◌, ◌≤◌, ◌≡◌, ◌↔◌, ◌⊎◌, Bool, true, false, Option, Some, None, refl, sym, ◌∙◌, ap, subst, inl, inr, arith, List, [], ◌∷◌, length, get_or, set, drop, slice_get, slice_range, nat_eq, add-one, eq-eqb, get_or-set_same, get_or-set_other}
 use Rattle.std.proofs.lemmas.Bool.{cases_eq, eqb-true}
 use Rattle.std.proofs.lemmas.List.{drop_all}
-use Rattle.ec_frame.specs.declared.cursor.DatagramCursor.{DatagramCursor}
+use Rattle.ec_frame.specs.declared.cursor.Datagrams.{Datagrams}
 use Rattle.ec_frame.specs.declared.cursor.DatagramSpan.{DatagramSpan}
 use Rattle.ec_frame.specs.Cursor.{IsAhead, StepsTo}
 use Rattle.ec_frame.specs.Datagram.{Datagram, IsDatagram, IsSpelling, is_followed, spelling}
@@ -24,7 +24,7 @@ ends_or_goes (suc n) (d ∷ ds) = ends_or_goes n ds
 
 -- ---- one step
 
-pub stepped_on : (payload : List ℕ) (old new : DatagramCursor) (s : DatagramSpan) (ds : List Datagram) → IsAhead payload old ds → StepsTo old new (Some s) ds
+pub stepped_on : (payload : List ℕ) (old new : Datagrams) (s : DatagramSpan) (ds : List Datagram) → IsAhead payload old ds → StepsTo old new (Some s) ds
     → (s.from ≤ s.to) × (s.to ≤ length payload)
     → ((d : Datagram) (xs : List Datagram) → IsAhead payload old (d ∷ xs) → slice_range payload s.from s.to ≡ spelling (is_followed xs) d)
     → ((d : Datagram) (xs : List Datagram) → IsAhead payload old (d ∷ xs) → IsAhead payload new xs) → StepsOn payload new s ds
@@ -37,23 +37,23 @@ stepped_on payload old new s (d ∷ xs) h steps within first others =
       others d xs h,
     )
 
-pub stepped_off : (payload : List ℕ) (old new : DatagramCursor) (ds : List Datagram) → IsAhead payload old ds → StepsTo old new None ds → StepsOn payload new nowhere ds
-stepped_off payload old new [] h steps = (refl, subst (λ (q : DatagramCursor). IsAhead payload q []) (sym steps.1) h)
+pub stepped_off : (payload : List ℕ) (old new : Datagrams) (ds : List Datagram) → IsAhead payload old ds → StepsTo old new None ds → StepsOn payload new nowhere ds
+stepped_off payload old new [] h steps = (refl, subst (λ (q : Datagrams). IsAhead payload q []) (sym steps.1) h)
 stepped_off payload old new (d ∷ xs) h steps = absurd (let e = steps.0 in cc)
 
 -- after it some datagrams are ahead
-pub ahead_after : (payload : List ℕ) (new : DatagramCursor) (s : DatagramSpan) (ds : List Datagram) → StepsOn payload new s ds → (xs : List Datagram) × IsAhead payload new xs
+pub ahead_after : (payload : List ℕ) (new : Datagrams) (s : DatagramSpan) (ds : List Datagram) → StepsOn payload new s ds → (xs : List Datagram) × IsAhead payload new xs
 ahead_after payload new s [] h = ([], h.1)
 ahead_after payload new s (d ∷ xs) h = (xs, h.1)
 
 -- a place has a spelling
-pub spells : (payload : List ℕ) (new : DatagramCursor) (s : DatagramSpan) (ds : List Datagram) → StepsOn payload new s ds → 0 < s.to → IsSpelling (slice_range payload s.from s.to) × (s.from ≤ s.to) × (s.to ≤ length payload)
+pub spells : (payload : List ℕ) (new : Datagrams) (s : DatagramSpan) (ds : List Datagram) → StepsOn payload new s ds → 0 < s.to → IsSpelling (slice_range payload s.from s.to) × (s.from ≤ s.to) × (s.to ≤ length payload)
 spells payload new s [] h l = absurd (let e = ap (λ (q : DatagramSpan). q.to) h.0 in omega arith)
 spells payload new s (d ∷ xs) h l = let at = h.0 in ((at.more, d, at.is_datagram, at.spelled), (let o = at.order in omega arith), at.within)
 
 -- ---- the first places
 
-pub stood : (payload : List ℕ) (new : DatagramCursor) (s : DatagramSpan) (spans : List DatagramSpan) (n : ℕ) (ds : List Datagram) → n < length spans
+pub stood : (payload : List ℕ) (new : Datagrams) (s : DatagramSpan) (spans : List DatagramSpan) (n : ℕ) (ds : List Datagram) → n < length spans
     → StepsOn payload new s (drop n ds) → ((k : ℕ) → k < n → StandsFor payload (get_or spans k nowhere) (slice_get ds k))
     → IsAhead payload new (drop (n + 1) ds) × ((k : ℕ) → k < n + 1 → StandsFor payload (get_or (set spans n s) k nowhere) (slice_get ds k))
 stood payload new s spans n ds l h before = elim (ends_or_goes n ds) [
@@ -73,7 +73,7 @@ stood payload new s spans n ds l h before = elim (ends_or_goes n ds) [
 
 -- ---- two cursors
 
-pub next_are : (n : ℕ) (payload : List ℕ) (new : DatagramCursor) (sent : List ℕ) (sent_new : DatagramCursor) (here there : DatagramSpan) (ds es : List Datagram) (r : Bool)
+pub next_are : (n : ℕ) (payload : List ℕ) (new : Datagrams) (sent : List ℕ) (sent_new : Datagrams) (here there : DatagramSpan) (ds es : List Datagram) (r : Bool)
     → StepsOn payload new here ds → StepsOn sent sent_new there es → 0 < here.to → 0 < there.to
     → ((m : Bool) (d : Datagram) (k : Bool) (e : Datagram) → IsDatagram d → IsDatagram e → slice_range payload here.from here.to ≡ spelling m d → slice_range sent there.from there.to ≡ spelling k e → (r ≡ true) ↔ SameAt n d e)
     → NextAre n payload new sent sent_new ds es r
@@ -84,7 +84,7 @@ next_are n payload new sent sent_new here there (d ∷ ds) (e ∷ es) true h i l
 next_are n payload new sent sent_new here there (d ∷ ds) (e ∷ es) false h i l m same =
     λ some all. (let x = (same h.0.more d i.0.more e h.0.is_datagram i.0.is_datagram h.0.spelled i.0.spelled).1 all.0 in cc)
 
-pub next_ends : (n : ℕ) (payload : List ℕ) (new : DatagramCursor) (sent : List ℕ) (sent_new : DatagramCursor) (here there : DatagramSpan) (ds es : List Datagram)
+pub next_ends : (n : ℕ) (payload : List ℕ) (new : Datagrams) (sent : List ℕ) (sent_new : Datagrams) (here there : DatagramSpan) (ds es : List Datagram)
     → StepsOn payload new here ds → StepsOn sent sent_new there es → (here.to ≡ 0) ⊎ (there.to ≡ 0) → NextAre n payload new sent sent_new ds es false
 next_ends n payload new sent sent_new here there [] es h i z = λ some all. absurd (omega (arith, some))
 next_ends n payload new sent sent_new here there (d ∷ ds) [] h i z = λ some all. all
@@ -94,16 +94,16 @@ next_ends n payload new sent sent_new here there (d ∷ ds) (e ∷ es) h i z = e
 ]
 
 -- both cursors are before datagram n, and what is left to compare decides
-pub record IsComparing (payload sent : List ℕ) (ds es : List Datagram) (n : ℕ) (places sent_places : DatagramCursor) : Type 0 where
+pub record IsComparing (payload sent : List ℕ) (ds es : List Datagram) (n : ℕ) (places sent_places : Datagrams) : Type 0 where
   pub ahead : IsAhead payload places (drop n ds)
   pub sent_ahead : IsAhead sent sent_places (drop n es)
   pub on : SameFrom n (drop n ds) (drop n es) → SameFrom 0 ds es
   pub back : SameFrom 0 ds es → SameFrom n (drop n ds) (drop n es)
 
-pub comparing : (payload sent : List ℕ) (ds es : List Datagram) (places sent_places : DatagramCursor) → IsAhead payload places ds → IsAhead sent sent_places es → IsComparing payload sent ds es 0 places sent_places
+pub comparing : (payload sent : List ℕ) (ds es : List Datagram) (places sent_places : Datagrams) → IsAhead payload places ds → IsAhead sent sent_places es → IsComparing payload sent ds es 0 places sent_places
 comparing payload sent ds es places sent_places h i = record { ahead = h; sent_ahead = i; on = λ s. s; back = λ s. s }
 
-pub compared : (payload sent : List ℕ) (ds es : List Datagram) (n : ℕ) (old sent_old new sent_new : DatagramCursor) → IsComparing payload sent ds es n old sent_old
+pub compared : (payload sent : List ℕ) (ds es : List Datagram) (n : ℕ) (old sent_old new sent_new : Datagrams) → IsComparing payload sent ds es n old sent_old
     → NextAre n payload new sent sent_new (drop n ds) (drop n es) true → IsComparing payload sent ds es (n + 1) new sent_new
 compared payload sent ds es n old sent_old new sent_new h next = elim (ends_or_goes n ds) [
   | inl e ↦ absurd (subst (λ (xs : List Datagram). NextAre n payload new sent sent_new xs (drop n es) true) e.0 next)
@@ -133,7 +133,7 @@ some_left n [] l = absurd (omega arith)
 some_left zero (d ∷ ds) l = l
 some_left (suc n) (d ∷ ds) l = some_left n ds (omega arith)
 
-pub differs : (payload sent : List ℕ) (ds es : List Datagram) (n : ℕ) (old sent_old new sent_new : DatagramCursor) → IsComparing payload sent ds es n old sent_old → n < length ds
+pub differs : (payload sent : List ℕ) (ds es : List Datagram) (n : ℕ) (old sent_old new sent_new : Datagrams) → IsComparing payload sent ds es n old sent_old → n < length ds
     → NextAre n payload new sent sent_new (drop n ds) (drop n es) false → (false ≡ true) ↔ SameFrom 0 ds es
 differs payload sent ds es n old sent_old new sent_new h l next = (λ e. absurd (cc), λ s. absurd (unfolded (drop n ds) next (some_left n ds l) (h.back s)))
   where
@@ -141,7 +141,7 @@ differs payload sent ds es n old sent_old new sent_new h l next = (λ e. absurd 
     unfolded [] f = f
     unfolded (x ∷ xs) f = f
 
-pub all_compared : (payload sent : List ℕ) (ds es : List Datagram) (n : ℕ) (places sent_places sent_new : DatagramCursor) (s : DatagramSpan) → IsComparing payload sent ds es n places sent_places → length ds ≤ n
+pub all_compared : (payload sent : List ℕ) (ds es : List Datagram) (n : ℕ) (places sent_places sent_new : Datagrams) (s : DatagramSpan) → IsComparing payload sent ds es n places sent_places → length ds ≤ n
     → StepsOn sent sent_new s (drop n es) → (nat_eq s.to 0 ≡ true) ↔ SameFrom 0 ds es
 all_compared payload sent ds es n places sent_places sent_new s h l steps = (
   (λ e. h.on (subst (λ (xs : List Datagram). SameFrom n xs (drop n es)) (sym none) (ends (drop n es) steps (eqb-true s.to 0 e)))),

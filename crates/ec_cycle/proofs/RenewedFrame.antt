@@ -12,6 +12,7 @@ use Rattle.ec_frame.specs.Commands.{number_of}
 use Rattle.ec_frame.specs.Datagram.{Datagram, IsDatagram, heading, is_followed, joined, spelling}
 use Rattle.ec_frame.specs.Fields.{with_data}
 use Rattle.ec_frame.specs.Frame.{IsByte, IsFrame}
+use Rattle.ec_frame.specs.Names.{name_bytes}
 use Rattle.ec_frame.proofs.Writes.{bare_length, heading-with_data}
 use Rattle.ec_link.specs.declared.plan.PartPlan.{PartPlan}
 use Rattle.ec_link.specs.Plan.{PlanState, part_at}
@@ -37,6 +38,16 @@ data_put bytes new back more d k e is same =
     ∙ (ap (λ (xs : List ℕ). heading more d ++ (new ++ xs)) behind
     ∙ (ap (λ (xs : List ℕ). heading more d ++ xs) (sym (append_assoc new counter back))
     ∙ ap (λ (xs : List ℕ). xs ++ ((new ++ counter) ++ back)) (sym (heading-with_data more d new same))))
+
+-- the first two datagrams: both indices and the name have the number
+pub front_renumbered : (front new : List ℕ) (a b v n x k : ℕ) (more : Bool) → v ≡ x % 256 → front ≡ a ∷ b ∷ front_bytes more n k
+    → (take 10 (drop 12 (set front 3 v)) ≡ name_bytes n k → new ≡ name_bytes x k)
+    → set (put_mid 12 10 (set front 3 v) new) 25 v ≡ a ∷ b ∷ front_bytes more x k
+front_renumbered front new a b v n x k more is e named =
+    let name = named (ap (λ (xs : List ℕ). take 10 (drop 12 (set xs 3 v))) e) in
+    ap (λ (xs : List ℕ). set (put_mid 12 10 (set xs 3 v) new) 25 v) e
+    ∙ (ap (λ (xs : List ℕ). set (put_mid 12 10 (set (a ∷ b ∷ front_bytes more n k) 3 v) xs) 25 v) name
+    ∙ ap (λ (w : ℕ). set (put_mid 12 10 (set (a ∷ b ∷ front_bytes more n k) 3 w) (name_bytes x k)) 25 w) is)
 
 -- ---- the process datagrams
 

@@ -1,14 +1,14 @@
 -- The cyclic frame of a part, a choice of this project: a NOP that names it, a broadcast read of the AL status, and the
 -- part's process data by an LRW, or by an LWR and an LRD if the part is split.
-use Rattle.std.specs.Prelude.{ℕ, ◌+◌, ◌-◌, ◌*◌, ◌%◌, ◌==◌, ◌&&◌, List, [], ◌∷◌, ◌++◌, if◌then◌else◌, Option, None, option_map}
-use Rattle.std.specs.Int.{to_le_bytes, w16, w64}
+use Rattle.std.specs.Prelude.{ℕ, ◌+◌, ◌-◌, ◌*◌, ◌%◌, ◌==◌, ◌&&◌, List, [], ◌∷◌, if◌then◌else◌, Option, None, option_map}
 use Rattle.ec_bits.specs.Bits.{bit, overlay, zeros, within}
 use Rattle.ec_regs.specs.Memory.{al_status}
 use Rattle.ec_frame.specs.declared.command.Command.{Command}
-use Rattle.ec_frame.specs.declared.command.Command.TheVariants.{Nop, Brd, Lrd, Lwr, Lrw}
+use Rattle.ec_frame.specs.declared.command.Command.TheVariants.{Brd, Lrd, Lwr, Lrw}
 use Rattle.ec_frame.specs.Datagram.{Datagram}
 use Rattle.ec_frame.specs.Fields.{with_counter}
 use Rattle.ec_frame.specs.Building.{new_datagram}
+pub use Rattle.ec_frame.specs.Names.{name_datagram}
 use Rattle.ec_link.specs.Shares.{Gave, sum_of, lwr_count, lrd_count, lrw_count}
 use Rattle.ec_link.specs.declared.plan.Link.{Link}
 use Rattle.ec_link.specs.Plan.{PlanState, part_at}
@@ -33,10 +33,6 @@ process_bytes p k image =
     overlay (zeros (part_at p.parts k).bytes) (λ i. option_map (bit image) (image_bit p.out_links k 0 p.slaves (8 * (part_at p.parts k).address + i)))
 
 -- ---- datagrams on their way: the counters say what the slaves gave so far
-
--- names the frame, by the cycle's number and the part
-abbrev pub name_datagram : ℕ → ℕ → Datagram
-name_datagram number part = new_datagram Nop (number % 256) 0 (to_le_bytes w64 number ++ to_le_bytes w16 part)
 
 -- the AL status of all slaves, joined by OR, after so many of them; a broadcast counts them in its ADP and in its working
 -- counter (ETG.1000.4, "BRD")

@@ -2,12 +2,12 @@
 use Rattle.std.specs.Prelude.{ℕ, ◌+◌, ◌-◌, ◌^◌, ◌<◌, ◌≡◌, ◌&&◌, List, [], ◌∷◌, length, map, get_or, set, Bool, true, false, if◌then◌else◌, nat_lt, Option, Some, None, is_some, Result, Ok, Err, slice_get, max}
 use Rattle.ec_link.specs.LinkRuns.{is_out}
 use Rattle.ec_bits.specs.Bits.{with_number, bits_number, zeros, bytes_of_bits}
-use Rattle.ec_frame.specs.declared.command.Command.{Command}
 use Rattle.ec_frame.specs.Datagram.{Datagram}
 use Rattle.ec_frame.specs.Frame.{Payload, IsFrame}
 use Rattle.ec_frame.specs.Building.{bare_payload}
 use Rattle.ec_link.specs.declared.image.Variable.{Variable}
 use Rattle.ec_link.specs.Plan.{PlanState, part_at}
+pub use Rattle.ec_frame.specs.Names.{Shape, shape, name_of}
 use Rattle.ec_cycle.specs.declared.error.CycleError.{CycleError}
 use Rattle.ec_cycle.specs.declared.error.CycleError.TheVariants.{NotReady, Open, NumbersSpent}
 use Rattle.ec_cycle.specs.Frames.{sent_datagrams}
@@ -90,20 +90,6 @@ frame_of None k = []
 frame_of (Some c) k = get_or c.frames k []
 
 -- ---- what comes back
-
--- what slaves leave of a datagram but its address, its data and its counter
-pub record Shape : Type 0 where
-  pub command : Command
-  pub index : ℕ
-  pub bytes : ℕ
-
-abbrev pub shape : Datagram → Shape
-shape d = record { command = d.command; index = d.index; bytes = length d.data_bytes }
-
--- the data of the first datagram names the frame
-abbrev pub name_of : List Datagram → List ℕ
-name_of [] = []
-name_of (d ∷ ds) = d.data_bytes
 
 -- the addresses of the process datagrams, which stand behind the first two
 abbrev pub process_addresses : List Datagram → List ℕ

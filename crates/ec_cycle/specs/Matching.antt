@@ -1,12 +1,12 @@
 -- How a payload's datagrams are compared with those of the frame that was sent, one after another.
-use Rattle.std.specs.Prelude.{ℕ, ◌+◌, ◌*◌, ◌≡◌, ◌≢◌, ◌<◌, ◌≤◌, Bool, true, false, List, [], ◌∷◌, length, get_or, slice_get, slice_range, Option, Some, None}
+use Rattle.std.specs.Prelude.{ℕ, ◌+◌, ◌^◌, ◌≡◌, ◌≢◌, ◌<◌, ◌≤◌, Bool, true, false, List, [], ◌∷◌, length, get_or, slice_get, slice_range, Option, Some, None}
 use Rattle.ec_frame.specs.declared.cursor.DatagramSpan.{DatagramSpan}
-use Rattle.ec_frame.specs.declared.cursor.DatagramCursor.{DatagramCursor}
+use Rattle.ec_frame.specs.declared.cursor.Datagrams.{Datagrams}
 use Rattle.ec_frame.specs.Cursor.{IsAhead}
 use Rattle.ec_frame.specs.Datagram.{Datagram, IsDatagram, spelling}
 use Rattle.ec_frame.specs.Frame.{Payload, IsFrame}
+use Rattle.ec_frame.specs.Names.{name_bytes, shape}
 use Rattle.ec_cycle.specs.Closing.{ReturnedPart}
-use Rattle.ec_cycle.specs.Master.{shape}
 
 -- Datagram n came back as d: of the same shape, the first one with the same data, and those behind the second with the same
 -- address.
@@ -41,12 +41,12 @@ StandsFor payload s None = s ≡ nowhere
 StandsFor payload s (Some d) = StandsAt payload s d
 
 -- a step of a cursor that has these datagrams ahead: the place of the first of them, or no place
-abbrev pub StepsOn : List ℕ → DatagramCursor → DatagramSpan → List Datagram → Type 0
+abbrev pub StepsOn : List ℕ → Datagrams → DatagramSpan → List Datagram → Type 0
 StepsOn payload new s [] = (s ≡ nowhere) × IsAhead payload new []
 StepsOn payload new s (d ∷ ds) = StandsAt payload s d × IsAhead payload new ds
 
 -- the next datagrams of two frames agree, and both cursors are past them; or the rest of the two doesn't agree
-abbrev pub NextAre : ℕ → List ℕ → DatagramCursor → List ℕ → DatagramCursor → List Datagram → List Datagram → Bool → Type 0
+abbrev pub NextAre : ℕ → List ℕ → Datagrams → List ℕ → Datagrams → List Datagram → List Datagram → Bool → Type 0
 NextAre n payload places sent sent_places [] es true = ⊥
 NextAre n payload places sent sent_places (d ∷ ds) [] true = ⊥
 NextAre n payload places sent sent_places (d ∷ ds) (e ∷ es) true = SameAt n d e × IsAhead payload places ds × IsAhead sent sent_places es
@@ -60,7 +60,7 @@ FirstStand payload spans ds = (n : ℕ) → n < 4 → StandsFor payload (get_or 
 abbrev pub Names : Option Datagram → Option ℕ → Type 0
 Names None r = r ≡ None
 Names (Some d) None = length d.data_bytes ≢ 10
-Names (Some d) (Some k) = (length d.data_bytes ≡ 10) × (k ≡ get_or d.data_bytes 8 0 + 256 * get_or d.data_bytes 9 0)
+Names (Some d) (Some k) = (number : ℕ) × (k < 2 ^ 16) × (d.data_bytes ≡ name_bytes number k)
 
 -- The payload's datagrams answer the frame of part k, which isn't kept yet: they name it, and all agree with it.
 pub record AnswersPart (ds : List Datagram) (frames : List (List ℕ)) (kept : List (Option ReturnedPart)) (k : ℕ) : Type 0 where

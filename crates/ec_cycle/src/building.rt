@@ -6,7 +6,7 @@ ghost use Rattle.ec_frame.specs.Datagram.{joined};
 ghost use Rattle.ec_frame.specs.Frame.{IsFrame};
 ghost use Rattle.ec_cycle.specs.Frames.{cyclic_datagrams, process_datagrams, returned_first};
 
-use ec_frame::{Builder, Command, Frame, address_of, index_of, name_of};
+use ec_frame::{Builder, Command, Frame, FrameName, address_of, index_of};
 use ec_link::{MAX_SPLIT_BYTES, PartPlan};
 use ec_regs::registers;
 
@@ -18,14 +18,12 @@ pub fn build(part: &PartPlan, number: u64, index: usize, sent: &[u8]) -> Frame
     requires small { (if part.now.split then 2 * part.now.bytes + 12 else part.now.bytes) ≤ 1422 }
     ensures { IsFrame result.items (bare_payload (cyclic_datagrams part.now number index 0 (zeros 2) sent.now (returned_first part.now sent.now) [])) }
 {
-    let mut builder = Builder::new();
-    append(
-        &mut builder,
-        Command::Nop,
+    let name = FrameName {
         number,
-        0,
-        &name_of(number, index as u16),
-    );
+        part: index as u16,
+    };
+    let mut builder = Builder::new();
+    append(&mut builder, Command::Nop, number, 0, &name.bytes());
     append(
         &mut builder,
         Command::Brd,

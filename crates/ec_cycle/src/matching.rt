@@ -8,15 +8,14 @@ ghost use Rattle.ec_cycle.specs.Matching.{Answered, SameAt, SameFrom, StandsFor,
 
 use crate::renewing::SentFrame;
 use crate::returned::Returned;
-use ec_frame::field::NAME_LEN;
-use ec_frame::{DatagramCursor, DatagramSpan, Header, read_counter, read_data};
+use ec_frame::{DatagramSpan, Datagrams, FrameName, Header, read_counter, read_data};
 
 /// The places of a frame's first four datagrams, in bytes; from 0 to 0 for each that isn't there.
 pub fn first_spans(payload: &[u8]) -> [DatagramSpan; 4]
     requires { (p : Payload) × IsFrame payload.now p }
     ensures { (p : Payload) → IsFrame payload.now p → FirstStand payload.now result p.datagrams }
 {
-    let mut places = DatagramCursor::new(payload);
+    let mut places = Datagrams::new(payload);
     let mut spans = [DatagramSpan { from: 0, to: 0 }; 4];
     for n in 0..4 {
         spans[n] = next_place(&mut places, payload);
@@ -57,8 +56,8 @@ fn answers(payload: &[u8], count: usize, sent: &[u8]) -> bool
     requires sent { (q : Payload) × IsFrame sent.now q }
     ensures { (p : Payload) (q : Payload) → IsFrame payload.now p → IsFrame sent.now q → (result ≡ true) ↔ SameFrom 0 p.datagrams q.datagrams }
 {
-    let mut places = DatagramCursor::new(payload);
-    let mut sent_places = DatagramCursor::new(sent);
+    let mut places = Datagrams::new(payload);
+    let mut sent_places = Datagrams::new(sent);
     for n in 0..count {
         if !next_is_same(n, &mut places, payload, &mut sent_places, sent) {
             return false;
@@ -89,24 +88,21 @@ pub fn counter_at(payload: &[u8], span: DatagramSpan) -> u16
     read_counter(&payload[span.from..span.to])
 }
 
-/// The part that a frame's first datagram names; none if its data aren't ten bytes.
+/// The part that a frame's first datagram names; none if its data are no name.
 fn named_part(payload: &[u8], span: DatagramSpan) -> Option<usize>
     requires { (o : Option Datagram) × StandsFor payload.now span o }
     ensures named { (o : Option Datagram) → StandsFor payload.now span o → Names o result }
 {
-    let name = data_at(payload, span);
-    if name.len() != NAME_LEN {
-        return None;
-    }
-    Some(usize::from(name[8]) + 256 * usize::from(name[9]))
+    let name = FrameName::read(data_at(payload, span))?;
+    Some(usize::from(name.part))
 }
 
 /// The place of the next datagram; from 0 to 0 after the last.
-fn next_place(places: &mut DatagramCursor, payload: &[u8]) -> DatagramSpan
+fn next_place(places: &mut Datagrams, payload: &[u8]) -> DatagramSpan
     requires { (ds : List Datagram) × IsAhead payload.now places.old ds }
     ensures { (ds : List Datagram) → IsAhead payload.now places.old ds → StepsOn payload.now places.new result ds }
 {
-    match places.next(payload) {
+    match places.next_place(payload) {
         Some(span) => span,
         None => DatagramSpan { from: 0, to: 0 },
     }
@@ -130,9 +126,9 @@ fn is_same(n: usize, part: &[u8], sent: &[u8]) -> bool
 /// Whether the next datagrams of a payload and of the frame that was sent agree.
 fn next_is_same(
     n: usize,
-    places: &mut DatagramCursor,
+    places: &mut Datagrams,
     payload: &[u8],
-    sent_places: &mut DatagramCursor,
+    sent_places: &mut Datagrams,
     sent: &[u8],
 ) -> bool
     requires payload { (ds : List Datagram) × IsAhead payload.now places.old ds }

@@ -14,7 +14,7 @@ ghost use Rattle.ec_cycle.specs.Renewing.{front_bytes, process_spelled};
 use crate::run::BitRun;
 use ec_bits::copy_by_words;
 use ec_frame::field::{FRAME_HEADER_LEN, HEADER_LEN, INDEX, NAME_LEN, OVERHEAD};
-use ec_frame::{Frame, index_of};
+use ec_frame::{Frame, FrameName, index_of};
 use ec_link::{PartPlan, Plan};
 use std::marker::Model;
 
@@ -119,7 +119,10 @@ fn renumber(front: &mut [u8], number: u64)
 {
     let index = index_of(number);
     front[NAME + INDEX] = index;
-    front[NAME + HEADER_LEN..NAME + HEADER_LEN + 8].copy_from_slice(&number.to_le_bytes());
+    FrameName::renumber(
+        &mut front[NAME + HEADER_LEN..NAME + HEADER_LEN + NAME_LEN],
+        number,
+    );
     front[STATUS + INDEX] = index;
 }
 

@@ -4,8 +4,7 @@ use Rattle.std.specs.List.{AllByRecursion}
 use Rattle.std.proofs.lemmas.List.{length-append, append-nil, drop_at, take-append-drop}
 use Rattle.byteorder.specs.Endian.{little_bytes}
 use Rattle.ec_frame.specs.declared.cursor.DatagramSpan.{DatagramSpan}
-use Rattle.ec_frame.specs.declared.cursor.DatagramCursor.{DatagramCursor}
-use Rattle.ec_frame.specs.declared.datagrams.Datagrams.{Datagrams}
+use Rattle.ec_frame.specs.declared.cursor.Datagrams.{Datagrams}
 use Rattle.ec_frame.specs.Datagram.{Datagram, heading, spelling, IsDatagram, is_followed, joined, opened}
 use Rattle.ec_frame.specs.Fields.{with_counter, with_data}
 use Rattle.ec_frame.specs.Frame.{IsByte, IsFrame, Payload, with_datagrams, length_field}
@@ -60,17 +59,17 @@ same_length past ahead d e same =
 
 -- ---- a step
 
-pub starts : (bytes : List ℕ) (l : Datagrams) (p : Payload) → IsFrame bytes p → l.places.at ≡ 2 → l.places.end ≡ 2 + length_field bytes → IsLending bytes l p [] p.datagrams
+pub starts : (bytes : List ℕ) (l : Datagrams) (p : Payload) → IsFrame bytes p → l.at ≡ 2 → l.end ≡ 2 + length_field bytes → IsLending bytes l p [] p.datagrams
 starts bytes l p h at end = record { frame = h; at = at; end = end ∙ ap (λ (n : ℕ). 2 + n) (area_is bytes p h).said }
 
-pub first : (bytes : List ℕ) (l : Datagrams) (p : Payload) → IsFrame bytes p → l.places.at ≡ 2 → l.places.end ≡ 2 + length_field bytes → HasNext bytes l
+pub first : (bytes : List ℕ) (l : Datagrams) (p : Payload) → IsFrame bytes p → l.at ≡ 2 → l.end ≡ 2 + length_field bytes → HasNext bytes l
 first bytes l p h at end = of_list p.datagrams h.some (starts bytes l p h at end)
   where
     of_list : (ds : List Datagram) → 0 < length ds → IsLending bytes l p [] ds → HasNext bytes l
     of_list [] some x = absurd (omega (arith, some))
     of_list (d ∷ others) some x = (record { payload = p; past = []; datagram = d; ahead = others }, x)
 
-pub ahead : (bytes : List ℕ) (l : Datagrams) (p : Payload) (past rest : List Datagram) → IsLending bytes l p past rest → IsAhead bytes l.places rest
+pub ahead : (bytes : List ℕ) (l : Datagrams) (p : Payload) (past rest : List Datagram) → IsLending bytes l p past rest → IsAhead bytes l rest
 ahead bytes l p past [] h =
     let all : List Datagram = past ++ [] in
     let at = h.at in let end = h.end in
@@ -96,36 +95,36 @@ ahead bytes l p past (d ∷ others) h =
       end = omega (arith, ap length (joined_split past d others), length-append (opened past) (joined (d ∷ others)));
     }
 
-pub ends : (bytes : List ℕ) (l : Datagrams) (p : Payload) (past rest : List Datagram) → IsLending bytes l p past rest → not (nat_eq l.places.at l.places.end) ≡ is_followed rest
+pub ends : (bytes : List ℕ) (l : Datagrams) (p : Payload) (past rest : List Datagram) → IsLending bytes l p past rest → not (nat_eq l.at l.end) ≡ is_followed rest
 ends bytes l p past rest h = at_end rest (ahead bytes l p past rest h)
   where
-    at_end : (ds : List Datagram) → IsAhead bytes l.places ds → not (nat_eq l.places.at l.places.end) ≡ is_followed ds
-    at_end [] a = let end = a.end in let same : l.places.at ≡ l.places.end = omega arith in ap not (eq-eqb l.places.at l.places.end same)
-    at_end (d ∷ ds) a = let end = a.end in ap not (ne_eqb l.places.at l.places.end (omega (arith, length-append (spelling (is_followed ds) d) (joined ds), bare_length (is_followed ds) d)))
+    at_end : (ds : List Datagram) → IsAhead bytes l ds → not (nat_eq l.at l.end) ≡ is_followed ds
+    at_end [] a = let end = a.end in let same : l.at ≡ l.end = omega arith in ap not (eq-eqb l.at l.end same)
+    at_end (d ∷ ds) a = let end = a.end in ap not (ne_eqb l.at l.end (omega (arith, length-append (spelling (is_followed ds) d) (joined ds), bare_length (is_followed ds) d)))
 
-pub more : (bytes : List ℕ) (l : Datagrams) (p : Payload) (past rest : List Datagram) → IsLending bytes l p past rest → not (nat_eq l.places.at l.places.end) ≡ true → HasNext bytes l
+pub more : (bytes : List ℕ) (l : Datagrams) (p : Payload) (past rest : List Datagram) → IsLending bytes l p past rest → not (nat_eq l.at l.end) ≡ true → HasNext bytes l
 more bytes l p past [] h on = absurd (true≢false (sym on ∙ ends bytes l p past [] h))
 more bytes l p past (d ∷ others) h on = (record { payload = p; past = past; datagram = d; ahead = others }, h)
 
 one_span : (a b : DatagramSpan) → ◌≡◌ {A = Option DatagramSpan} (Some a) (Some b) → a ≡ b
 one_span a b e = cc
 
-pub stepped : (bytes : List ℕ) (l : Datagrams) (places : DatagramCursor) (o : Option DatagramSpan) (span : DatagramSpan) (s : Among) → IsLending bytes l s.payload s.past (s.datagram ∷ s.ahead)
-    → StepsTo l.places places o (s.datagram ∷ s.ahead) → o ≡ Some span → IsAt bytes span s
+pub stepped : (bytes : List ℕ) (l places : Datagrams) (o : Option DatagramSpan) (span : DatagramSpan) (s : Among) → IsLending bytes l s.payload s.past (s.datagram ∷ s.ahead)
+    → StepsTo l places o (s.datagram ∷ s.ahead) → o ≡ Some span → IsAt bytes span s
 stepped bytes l places o span s h step some =
-    let is : span ≡ record { from = l.places.at; to = l.places.at + (12 + length s.datagram.data_bytes) } = one_span span _ (sym some ∙ step.0) in
+    let is : span ≡ record { from = l.at; to = l.at + (12 + length s.datagram.data_bytes) } = one_span span _ (sym some ∙ step.0) in
     let from = ap (λ (x : DatagramSpan). x.from) is in
     let to = ap (λ (x : DatagramSpan). x.to) is in
     record { frame = h.frame; from = from ∙ h.at; to = omega (arith, from, to) }
 
 -- whatever is written there
 pub passed : (bytes now : List ℕ) (l new : Datagrams) (o : Option DatagramSpan) (span : DatagramSpan) (s : Among) (e : Datagram) → IsLending bytes l s.payload s.past (s.datagram ∷ s.ahead)
-    → StepsTo l.places new.places o (s.datagram ∷ s.ahead) → o ≡ Some span → IsAt now span (written_as s e) → IsLending now new s.payload (s.past ++ e ∷ []) s.ahead
+    → StepsTo l new o (s.datagram ∷ s.ahead) → o ≡ Some span → IsAt now span (written_as s e) → IsLending now new s.payload (s.past ++ e ∷ []) s.ahead
 passed bytes now l new o span s e h step some there =
-    let first = stepped bytes l new.places o span s h step some in
+    let first = stepped bytes l new o span s h step some in
     let same : length e.data_bytes ≡ length s.datagram.data_bytes = omega (arith, there.to, first.to) in
-    let at = ap (λ (x : DatagramCursor). x.at) step.1 in
-    let end = ap (λ (x : DatagramCursor). x.end) step.1 in
+    let at = ap (λ (x : Datagrams). x.at) step.1 in
+    let end = ap (λ (x : Datagrams). x.end) step.1 in
     let join : (s.past ++ e ∷ []) ++ s.ahead ≡ s.past ++ e ∷ s.ahead = append_assoc s.past (e ∷ []) s.ahead in
     record {
       frame = subst (λ (ds : List Datagram). IsFrame now (with_datagrams s.payload ds)) (sym join) there.frame;
@@ -134,12 +133,12 @@ passed bytes now l new o span s e h step some there =
     }
 
 -- the cursor stays within the end, and moves on
-pub smaller : (bytes : List ℕ) (l : Datagrams) (places : DatagramCursor) (o : Option DatagramSpan) (s : Among) → IsLending bytes l s.payload s.past (s.datagram ∷ s.ahead) → StepsTo l.places places o (s.datagram ∷ s.ahead) → places.end - places.at < l.places.end - l.places.at
+pub smaller : (bytes : List ℕ) (l places : Datagrams) (o : Option DatagramSpan) (s : Among) → IsLending bytes l s.payload s.past (s.datagram ∷ s.ahead) → StepsTo l places o (s.datagram ∷ s.ahead) → places.end - places.at < l.end - l.at
 smaller bytes l places o s h step =
     let a = ahead bytes l s.payload s.past (s.datagram ∷ s.ahead) h in
     let end = a.end in
-    let at_next = ap (λ (x : DatagramCursor). x.at) step.1 in
-    let end_next = ap (λ (x : DatagramCursor). x.end) step.1 in
+    let at_next = ap (λ (x : Datagrams). x.at) step.1 in
+    let end_next = ap (λ (x : Datagrams). x.end) step.1 in
     omega (arith, length-append (spelling (is_followed s.ahead) s.datagram) (joined s.ahead), bare_length (is_followed s.ahead) s.datagram)
 
 -- ---- bytes

@@ -4,7 +4,7 @@ use Rattle.std.specs.List.{AllByRecursion}
 use Rattle.std.proofs.lemmas.List.{length-append, append-nil, drop_at, take_at}
 use Rattle.byteorder.specs.Endian.{little_bytes}
 use Rattle.ec_frame.specs.declared.cursor.DatagramSpan.{DatagramSpan}
-use Rattle.ec_frame.specs.declared.cursor.DatagramCursor.{DatagramCursor}
+use Rattle.ec_frame.specs.declared.cursor.Datagrams.{Datagrams}
 use Rattle.ec_frame.specs.Datagram.{Datagram, spelling, IsDatagram, is_followed, joined, opened}
 use Rattle.ec_frame.specs.Frame.{IsByte, IsFrame}
 use Rattle.ec_frame.specs.Walk.{handled_all, after_all, KeepsLength}
@@ -30,7 +30,7 @@ joined_length (d ∷ b) = omega (arith, length-append (spelling (is_followed b) 
 
 module _ {S : Type 0} (f : S → Datagram → Datagram) (g : S → Datagram → S) where
   -- some are handled, and the rest are ahead
-  pub record ProgressAt (first : S) (bit : Bool) (ds : List Datagram) (tail : List ℕ) (s : S) (frame : List ℕ) (p : DatagramCursor) (done rest : List Datagram) : Type 0 where
+  pub record ProgressAt (first : S) (bit : Bool) (ds : List Datagram) (tail : List ℕ) (s : S) (frame : List ℕ) (p : Datagrams) (done rest : List Datagram) : Type 0 where
     pub out : done ++ handled_all f g s rest ≡ handled_all f g first ds
     pub state : after_all f g s rest ≡ after_all f g first ds
     pub done_each : AllByRecursion IsDatagram done
@@ -41,15 +41,15 @@ module _ {S : Type 0} (f : S → Datagram → Datagram) (g : S → Datagram → 
     pub at : p.at ≡ 2 + length (opened done)
     pub end : p.end ≡ 2 + length (joined ds)
 
-  abbrev pub Progress : S → Bool → List Datagram → List ℕ → S → List ℕ → DatagramCursor → Type 0
+  abbrev pub Progress : S → Bool → List Datagram → List ℕ → S → List ℕ → Datagrams → Type 0
   Progress first bit ds tail s frame p = (done : List Datagram) × (rest : List Datagram) × ProgressAt first bit ds tail s frame p done rest
 
   module _ (first : S) (bit : Bool) (ds : List Datagram) (tail : List ℕ) where
-    pub starts : (frame : List ℕ) (p : DatagramCursor) → Spells frame bit ds tail → p.at ≡ 2 → p.end ≡ 2 + length (joined ds) → Progress first bit ds tail first frame p
+    pub starts : (frame : List ℕ) (p : Datagrams) → Spells frame bit ds tail → p.at ≡ 2 → p.end ≡ 2 + length (joined ds) → Progress first bit ds tail first frame p
     starts frame p h at end = ([], ds, record { out = refl; state = refl; done_each = tt; rest_each = h.each; size = refl; some = h.some; parts = h.parts; at = at; end = end })
 
     -- the first that is ahead, between what stands before it and after it
-    pub record Here (frame : List ℕ) (p : DatagramCursor) (done : List Datagram) (d : Datagram) (others : List Datagram) : Type 0 where
+    pub record Here (frame : List ℕ) (p : Datagrams) (done : List Datagram) (d : Datagram) (others : List Datagram) : Type 0 where
       pub front : List ℕ
       pub back : List ℕ
       pub front_is : front ≡ header (length (joined ds)) bit ++ opened done
@@ -57,7 +57,7 @@ module _ {S : Type 0} (f : S → Datagram → Datagram) (g : S → Datagram → 
       pub parts : frame ≡ front ++ (spelling (is_followed others) d ++ back)
       pub at : p.at ≡ length front
 
-    pub here : (s : S) (frame : List ℕ) (p : DatagramCursor) (done : List Datagram) (d : Datagram) (others : List Datagram) → ProgressAt first bit ds tail s frame p done (d ∷ others) → Here frame p done d others
+    pub here : (s : S) (frame : List ℕ) (p : Datagrams) (done : List Datagram) (d : Datagram) (others : List Datagram) → ProgressAt first bit ds tail s frame p done (d ∷ others) → Here frame p done d others
     here s frame p done d others h =
         let m : Bool = is_followed others in
         let head : List ℕ = header (length (joined ds)) bit in
@@ -73,7 +73,7 @@ module _ {S : Type 0} (f : S → Datagram → Datagram) (g : S → Datagram → 
           at = omega arith;
         }
 
-    pub ahead : (s : S) (frame : List ℕ) (p : DatagramCursor) (done rest : List Datagram) → ProgressAt first bit ds tail s frame p done rest → IsAhead frame p rest
+    pub ahead : (s : S) (frame : List ℕ) (p : Datagrams) (done rest : List Datagram) → ProgressAt first bit ds tail s frame p done rest → IsAhead frame p rest
     ahead s frame p done [] h =
         let at = h.at in let end = h.end in
         record {
@@ -107,7 +107,7 @@ pub part_is : (xs front mid back : List ℕ) (a k : ℕ) → xs ≡ front ++ (mi
 part_is xs front mid back a k e p q = ap (λ (zs : List ℕ). take k (drop a zs)) e ∙ ap (λ (zs : List ℕ). take k zs) (drop_at front (mid ++ back) a (sym p)) ∙ take_at mid back k (sym q)
 
 module _ {S : Type 0} (f : S → Datagram → Datagram) (g : S → Datagram → S) (keeps : KeepsLength f) (first : S) (bit : Bool) (ds : List Datagram) (tail : List ℕ) where
-  pub steps : (s : S) (frame : List ℕ) (p : DatagramCursor) (done : List Datagram) (d : Datagram) (others : List Datagram) (next : S) (frame_next : List ℕ) (q : DatagramCursor)
+  pub steps : (s : S) (frame : List ℕ) (p : Datagrams) (done : List Datagram) (d : Datagram) (others : List Datagram) (next : S) (frame_next : List ℕ) (q : Datagrams)
       → ProgressAt f g first bit ds tail s frame p done (d ∷ others)
       → (h : Here f g first bit ds tail frame p done d others)
       → frame_next ≡ h.front ++ (spelling (is_followed others) (f s d) ++ h.back)
@@ -121,8 +121,8 @@ module _ {S : Type 0} (f : S → Datagram → Datagram) (g : S → Datagram → 
       let join : (done ++ x ∷ []) ++ others ≡ done ++ x ∷ others = append_assoc done (x ∷ []) others in
       let spelled : joined ((done ++ x ∷ []) ++ others) ≡ opened done ++ (spelling m x ++ joined others) = ap joined join ∙ joined_split done x others in
       let at = r.at in let end = r.end in
-      let at_next = ap (λ (z : DatagramCursor). z.at) on in
-      let end_next = ap (λ (z : DatagramCursor). z.end) on in
+      let at_next = ap (λ (z : Datagrams). z.at) on in
+      let end_next = ap (λ (z : Datagrams). z.end) on in
       record {
         out = rw to (append_assoc done (x ∷ []) (handled_all f g (g s d) others) ∙ r.out);
         state = rw to r.state;
@@ -139,7 +139,7 @@ module _ {S : Type 0} (f : S → Datagram → Datagram) (g : S → Datagram → 
         end = omega arith;
       }
 
-  pub ends : (s : S) (frame : List ℕ) (p : DatagramCursor) (done : List Datagram) → length (joined ds) ≤ 1470 → AllByRecursion IsByte frame → ProgressAt f g first bit ds tail s frame p done [] → Spells frame bit (handled_all f g first ds) tail × (s ≡ after_all f g first ds)
+  pub ends : (s : S) (frame : List ℕ) (p : Datagrams) (done : List Datagram) → length (joined ds) ≤ 1470 → AllByRecursion IsByte frame → ProgressAt f g first bit ds tail s frame p done [] → Spells frame bit (handled_all f g first ds) tail × (s ≡ after_all f g first ds)
   ends s frame p done most bytes r =
       let all : done ≡ handled_all f g first ds = sym (append-nil done) ∙ r.out in
       let size : length (joined done) ≡ length (joined ds) = ap (λ (b : List Datagram). length (joined b)) (sym (append-nil done)) ∙ r.size in
@@ -154,7 +154,7 @@ module _ {S : Type 0} (f : S → Datagram → Datagram) (g : S → Datagram → 
       (subst (λ (b : List Datagram). Spells frame bit b tail) all spells, r.state)
 
   -- a turn of the loop: the cursor has given the span of the first that is ahead
-  pub record Turn (s : S) (frame : List ℕ) (p : DatagramCursor) (span : DatagramSpan) (q : DatagramCursor) : Type 0 where
+  pub record Turn (s : S) (frame : List ℕ) (p : Datagrams) (span : DatagramSpan) (q : Datagrams) : Type 0 where
     pub done : List Datagram
     pub datagram : Datagram
     pub others : List Datagram
@@ -168,7 +168,7 @@ module _ {S : Type 0} (f : S → Datagram → Datagram) (g : S → Datagram → 
   some_is : (a b : DatagramSpan) → ◌≡◌ {A = Option DatagramSpan} (Some a) (Some b) → a ≡ b
   some_is a b e = cc
 
-  pub turn_at : (s : S) (frame : List ℕ) (p : DatagramCursor) (span : DatagramSpan) (q : DatagramCursor) (r : Option DatagramSpan) (done rest : List Datagram) → ProgressAt f g first bit ds tail s frame p done rest → StepsTo p q r rest → r ≡ Some span → Turn s frame p span q
+  pub turn_at : (s : S) (frame : List ℕ) (p : Datagrams) (span : DatagramSpan) (q : Datagrams) (r : Option DatagramSpan) (done rest : List Datagram) → ProgressAt f g first bit ds tail s frame p done rest → StepsTo p q r rest → r ≡ Some span → Turn s frame p span q
   turn_at s frame p span q r done [] h step is = absurd (cc (step.0, is))
   turn_at s frame p span q r done (d ∷ others) h step is =
       let e : record { from = p.at; to = p.at + (12 + length d.data_bytes) } ≡ span = some_is _ span (sym step.0 ∙ is) in
@@ -188,14 +188,14 @@ module _ {S : Type 0} (f : S → Datagram → Datagram) (g : S → Datagram → 
         moved = step.1;
       }
 
-  pub turn : (s : S) (frame : List ℕ) (p : DatagramCursor) (span : DatagramSpan) (q : DatagramCursor) (r : Option DatagramSpan) → Progress f g first bit ds tail s frame p → ((rest : List Datagram) → IsAhead frame p rest → StepsTo p q r rest) → r ≡ Some span → Turn s frame p span q
+  pub turn : (s : S) (frame : List ℕ) (p : Datagrams) (span : DatagramSpan) (q : Datagrams) (r : Option DatagramSpan) → Progress f g first bit ds tail s frame p → ((rest : List Datagram) → IsAhead frame p rest → StepsTo p q r rest) → r ≡ Some span → Turn s frame p span q
   turn s frame p span q r h step is = turn_at s frame p span q r h.0 h.1 h.2 (step h.1 (ahead f g first bit ds tail s frame p h.0 h.1 h.2)) is
 
   -- the part that is handed over spells a datagram
-  pub part_spells : (s : S) (frame : List ℕ) (p : DatagramCursor) (span : DatagramSpan) (q : DatagramCursor) → (t : Turn s frame p span q) → take (span.to - span.from) (drop span.from frame) ≡ spelling (is_followed t.others) t.datagram
+  pub part_spells : (s : S) (frame : List ℕ) (p : Datagrams) (span : DatagramSpan) (q : Datagrams) → (t : Turn s frame p span q) → take (span.to - span.from) (drop span.from frame) ≡ spelling (is_followed t.others) t.datagram
   part_spells s frame p span q t = part_is frame t.place.front (spelling (is_followed t.others) t.datagram) t.place.back span.from (span.to - span.from) t.place.parts t.from t.size
 
-  pub turn_on : (s : S) (frame : List ℕ) (p : DatagramCursor) (span : DatagramSpan) (q : DatagramCursor) (next : S) (part : List ℕ) → (t : Turn s frame p span q)
+  pub turn_on : (s : S) (frame : List ℕ) (p : Datagrams) (span : DatagramSpan) (q : Datagrams) (next : S) (part : List ℕ) → (t : Turn s frame p span q)
       → part ≡ spelling (is_followed t.others) (f s t.datagram) → next ≡ g s t.datagram
       → Progress f g first bit ds tail next (take span.from frame ++ (part ++ drop (span.to - span.from) (drop span.from frame))) q
   turn_on s frame p span q next part t is to =
@@ -208,17 +208,17 @@ module _ {S : Type 0} (f : S → Datagram → Datagram) (g : S → Datagram → 
       )
 
   -- the cursor stays within the end, and moves on
-  pub turn_smaller : (s : S) (frame : List ℕ) (p : DatagramCursor) (span : DatagramSpan) (q : DatagramCursor) → (t : Turn s frame p span q) → q.end - q.at < p.end - p.at
+  pub turn_smaller : (s : S) (frame : List ℕ) (p : Datagrams) (span : DatagramSpan) (q : Datagrams) → (t : Turn s frame p span q) → q.end - q.at < p.end - p.at
   turn_smaller s frame p span q t =
       let a = ahead f g first bit ds tail s frame p t.done (t.datagram ∷ t.others) t.progress in
       let end = a.end in
-      let at_next = ap (λ (z : DatagramCursor). z.at) t.moved in
-      let end_next = ap (λ (z : DatagramCursor). z.end) t.moved in
+      let at_next = ap (λ (z : Datagrams). z.at) t.moved in
+      let end_next = ap (λ (z : Datagrams). z.end) t.moved in
       omega (arith, length-append (spelling (is_followed t.others) t.datagram) (joined t.others), bare_length (is_followed t.others) t.datagram)
 
-  pub none_at : (s : S) (frame : List ℕ) (p q : DatagramCursor) (r : Option DatagramSpan) (done rest : List Datagram) → length (joined ds) ≤ 1470 → AllByRecursion IsByte frame → ProgressAt f g first bit ds tail s frame p done rest → StepsTo p q r rest → ((span : DatagramSpan) → r ≡ Some span → ⊥) → Spells frame bit (handled_all f g first ds) tail × (s ≡ after_all f g first ds)
+  pub none_at : (s : S) (frame : List ℕ) (p q : Datagrams) (r : Option DatagramSpan) (done rest : List Datagram) → length (joined ds) ≤ 1470 → AllByRecursion IsByte frame → ProgressAt f g first bit ds tail s frame p done rest → StepsTo p q r rest → ((span : DatagramSpan) → r ≡ Some span → ⊥) → Spells frame bit (handled_all f g first ds) tail × (s ≡ after_all f g first ds)
   none_at s frame p q r done [] most bytes h step never = ends s frame p done most bytes h
   none_at s frame p q r done (d ∷ others) most bytes h step never = absurd (never _ step.0)
 
-  pub all_done : (s : S) (frame : List ℕ) (p q : DatagramCursor) (r : Option DatagramSpan) → length (joined ds) ≤ 1470 → AllByRecursion IsByte frame → Progress f g first bit ds tail s frame p → ((rest : List Datagram) → IsAhead frame p rest → StepsTo p q r rest) → ((span : DatagramSpan) → r ≡ Some span → ⊥) → Spells frame bit (handled_all f g first ds) tail × (s ≡ after_all f g first ds)
+  pub all_done : (s : S) (frame : List ℕ) (p q : Datagrams) (r : Option DatagramSpan) → length (joined ds) ≤ 1470 → AllByRecursion IsByte frame → Progress f g first bit ds tail s frame p → ((rest : List Datagram) → IsAhead frame p rest → StepsTo p q r rest) → ((span : DatagramSpan) → r ≡ Some span → ⊥) → Spells frame bit (handled_all f g first ds) tail × (s ≡ after_all f g first ds)
   all_done s frame p q r most bytes h step never = none_at s frame p q r h.0 h.1 most bytes h.2 (step h.1 (ahead f g first bit ds tail s frame p h.0 h.1 h.2)) never

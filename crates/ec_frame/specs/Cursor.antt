@@ -2,11 +2,11 @@
 use Rattle.std.specs.Prelude.{◌≡◌, ℕ, ◌+◌, List, [], ◌∷◌, ◌++◌, length, Option, Some, None}
 use Rattle.std.specs.List.{AllByRecursion}
 use Rattle.ec_frame.specs.declared.cursor.DatagramSpan.{DatagramSpan}
-use Rattle.ec_frame.specs.declared.cursor.DatagramCursor.{DatagramCursor}
+use Rattle.ec_frame.specs.declared.cursor.Datagrams.{Datagrams}
 use Rattle.ec_frame.specs.Datagram.{Datagram, IsDatagram, joined}
 
 -- the datagrams that a cursor has ahead of it: their spellings stand between its two places
-pub record IsAhead (frame : List ℕ) (places : DatagramCursor) (ds : List Datagram) : Type 0 where
+pub record IsAhead (frame : List ℕ) (places : Datagrams) (ds : List Datagram) : Type 0 where
   pub front : List ℕ
   pub back : List ℕ
   pub each : AllByRecursion IsDatagram ds
@@ -15,7 +15,7 @@ pub record IsAhead (frame : List ℕ) (places : DatagramCursor) (ds : List Datag
   pub end : places.end ≡ places.at + length (joined ds)
 
 -- a step of the cursor gives the place of the first of them and goes past it, or gives none
-abbrev pub StepsTo : DatagramCursor → DatagramCursor → Option DatagramSpan → List Datagram → Type 0
+abbrev pub StepsTo : Datagrams → Datagrams → Option DatagramSpan → List Datagram → Type 0
 StepsTo old new result [] = (result ≡ None) × (new ≡ old)
 StepsTo old new result (d ∷ ds) =
     (result ≡ Some (record { from = old.at; to = old.at + (12 + length d.data_bytes) }))

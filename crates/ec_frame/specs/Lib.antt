@@ -1,6 +1,6 @@
 -- To be believed, in this order: `Commands`, `Datagram` and `Frame` say which bytes are which frame, `Refusals` which are
 -- none, and why. `Decoded` reads a frame's datagrams from its bytes, `Fields` changes one field of a datagram, `Walk` handles
--- all datagrams of a frame in order, `Building` makes them. `Cursor` and `Parts` say where datagrams stand in a frame, and how
+-- all datagrams of a frame in order, `Building` makes them and `Names` says how they name their frame. `Cursor` and `Parts` say where datagrams stand in a frame, and how
 -- their parts are lent; `Lending` says what is known of a datagram that is lent, and of the others.
 pub mod Commands
 pub mod Datagram
@@ -10,6 +10,7 @@ pub mod Decoded
 pub mod Fields
 pub mod Walk
 pub mod Building
+pub mod Names
 pub mod Cursor
 pub mod Parts
 pub mod Lending

@@ -1,7 +1,8 @@
-//! A walk over the places of a frame's datagrams.
-ghost use Rattle.std.specs.Prelude.{◌≡◌, ◌+◌, ◌≤◌, ◌∷◌, List, length, slice_range, IfSome};
+//! The datagrams of a frame, one after another.
+ghost use Rattle.std.specs.Prelude.{◌≡◌, ◌+◌, ◌≤◌, ◌∷◌, [], List, length, slice_range, IfSome, IsSome, None};
 ghost use Rattle.ec_frame.specs.Datagram.{Datagram, IsSpelling, is_followed, spelling};
 ghost use Rattle.ec_frame.specs.Cursor.{IsAhead, StepsTo};
+ghost use Rattle.ec_frame.specs.Lending.{HasNext, IsLending};
 ghost use Rattle.ec_frame.specs.Frame.{Payload, IsFrame, length_field};
 
 use crate::checking::data_length;
@@ -17,33 +18,35 @@ pub struct DatagramSpan {
     pub to: usize,
 }
 
-/// A cursor over the places of a checked frame's datagrams, one after the other. It holds no
-/// reference: the frame stands beside it, and `pass` writes each datagram between two steps.
+/// The datagrams of a checked frame, one after another, each once. It holds no reference: the frame stands beside it and is
+/// passed to each step. [`Datagrams::next`] lends a datagram, [`Datagrams::next_part`] its bytes alone, and [`Datagrams::next_place`] returns its place.
 #[derive(Clone, Copy, Debug, PartialEq, Eq, Drop)]
-pub struct DatagramCursor {
+pub struct Datagrams {
     /// Where the next datagram begins.
     pub at: usize,
     /// Where the last one ends.
     pub end: usize,
 }
 
-impl DatagramCursor {
-    /// The places of all datagrams of a frame.
+impl Datagrams {
+    /// All datagrams of a frame. There is one at least.
     pub fn new(frame: &[u8]) -> Self
         requires { (p : Payload) × IsFrame frame.now p }
+        ensures first { HasNext frame.now result }
+        ensures lending { (p : Payload) → IsFrame frame.now p → IsLending frame.now result p [] p.datagrams }
         ensures ahead { (p : Payload) → IsFrame frame.now p → IsAhead frame.now result p.datagrams }
         ensures at { result.at ≡ 2 }
         ensures end { result.end ≡ 2 + length_field frame.now }
     {
         let header = LittleEndian::read_u16(frame);
-        DatagramCursor {
+        Datagrams {
             at: field::FRAME_HEADER_LEN,
             end: field::FRAME_HEADER_LEN + usize::from(field::length_in(header)),
         }
     }
 
     /// The place of the next datagram; none after the last.
-    pub fn next(&mut self, frame: &[u8]) -> Option<DatagramSpan>
+    pub fn next_place(&mut self, frame: &[u8]) -> Option<DatagramSpan>
         requires { (ds : List Datagram) × IsAhead frame.now self.old ds }
         ensures steps { (ds : List Datagram) → IsAhead frame.now self.old ds
             → StepsTo self.old self.new result ds }
@@ -64,5 +67,21 @@ impl DatagramCursor {
         let to = from + (OVERHEAD + data_length(rest));
         self.at = to;
         Some(DatagramSpan { from, to })
+    }
+
+    /// The bytes that spell the next datagram; none after the last.
+    pub fn next_part<'a>(&mut self, frame: &'a [u8]) -> Option<&'a [u8]>
+        requires { (ds : List Datagram) × IsAhead frame.now self.old ds }
+        ensures spelled { IfSome result (λ part. IsSpelling part.now) }
+        ensures first { (d : Datagram) (ds : List Datagram) → IsAhead frame.now self.old (d ∷ ds)
+            → IfSome result (λ part. part.now ≡ spelling (is_followed ds) d) }
+        ensures others { (d : Datagram) (ds : List Datagram) → IsAhead frame.now self.old (d ∷ ds)
+            → IsAhead frame.now self.new ds }
+        ensures some { (d : Datagram) (ds : List Datagram) → IsAhead frame.now self.old (d ∷ ds) → IsSome result }
+        ensures none { IsAhead frame.now self.old [] → result ≡ None }
+        ensures ahead { (ds : List Datagram) × IsAhead frame.now self.new ds }
+    {
+        let span = self.next_place(frame)?;
+        Some(&frame[span.from..span.to])
     }
 }

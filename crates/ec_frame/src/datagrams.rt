@@ -1,21 +1,14 @@
-//! The datagrams of a checked frame, lent one after another, with readers and writers of their fields.
+//! A datagram that is lent where it stands in its frame, with readers and writers of its fields.
 ghost use Rattle.std.specs.Prelude.{◌≡◌, ◌+◌, ◌<◌, ◌≤◌, ◌∷◌, ◌++◌, [], length, true};
 ghost use Rattle.ec_frame.specs.Datagram.{IsDatagram, is_followed, spelling};
 ghost use Rattle.ec_frame.specs.Fields.{header_of, with_address, with_command, with_counter, with_data, with_index, with_irq};
-ghost use Rattle.ec_frame.specs.Frame.{Payload, IsFrame};
-ghost use Rattle.ec_frame.specs.Lending.{Among, HasNext, IsAt, IsLending, IsLent, IsSomeLent, bytes_ahead, overwritten, written_as};
+ghost use Rattle.ec_frame.specs.Frame.{Payload};
+ghost use Rattle.ec_frame.specs.Lending.{Among, HasNext, IsAt, IsLending, IsLent, IsSomeLent, bytes_ahead, data_room, overwritten, written_as};
 
 use crate::command::Command;
-use crate::cursor::{DatagramCursor, DatagramSpan};
+use crate::cursor::{DatagramSpan, Datagrams};
 use crate::datagram::{Header, read_counter, read_data};
 use crate::field;
-
-/// The datagrams of a checked frame, which it lends one after another, in their order. The frame stands beside it, and
-/// nothing else is to change it while datagrams are ahead.
-#[derive(Clone, Copy, Debug, PartialEq, Eq, Drop)]
-pub struct Datagrams {
-    places: DatagramCursor,
-}
 
 /// A datagram where it stands in its frame. What is written into it stands there.
 #[derive(Drop)]
@@ -25,22 +18,12 @@ pub struct Datagram<'a> {
 }
 
 impl Datagrams {
-    /// All datagrams of a frame. There is one at least.
-    pub fn new(frame: &[u8]) -> Self
-        requires { (p : Payload) × IsFrame frame.now p }
-        ensures first { HasNext frame.now result }
-        ensures ahead { (p : Payload) → IsFrame frame.now p → IsLending frame.now result p [] p.datagrams }
-    {
-        let places = DatagramCursor::new(frame);
-        Datagrams { places }
-    }
-
     /// Whether there is another datagram.
     pub fn has_next(&self) -> bool
         ensures ahead { (bytes : _) (p : Payload) (past : _) (ahead : _) → IsLending bytes self.now p past ahead → result ≡ is_followed ahead }
         ensures more { (bytes : _) (p : Payload) (past : _) (ahead : _) → IsLending bytes self.now p past ahead → result ≡ true → HasNext bytes self.now }
     {
-        self.places.at != self.places.end
+        self.at != self.end
     }
 
     /// The next datagram.
@@ -53,7 +36,7 @@ impl Datagrams {
         ensures passed { (s : Among) (e : _) (bytes : _) → IsLending frame.entry.now self.old s.payload s.past (s.datagram ∷ s.ahead)
             → IsAt bytes result.span (written_as s e) → IsLending bytes self.new s.payload (s.past ++ e ∷ []) s.ahead }
     {
-        let span = self.places.next(frame).unwrap();
+        let span = self.next_place(frame).unwrap();
         Datagram { frame, span }
     }
 }
@@ -80,7 +63,8 @@ impl<'a> Datagram<'a> {
     /// Its data.
     pub fn data(&self) -> &[u8]
         requires { IsSomeLent self.now }
-        ensures { (s : Among) → IsLent self.now s → result.now ≡ s.datagram.data_bytes }
+        ensures value { (s : Among) → IsLent self.now s → result.now ≡ s.datagram.data_bytes }
+        ensures room { length result.now ≡ data_room self.now }
     {
         read_data(self.part())
     }
@@ -139,7 +123,8 @@ impl<'a> Datagram<'a> {
 
     /// Writes its data, which keep their length.
     pub fn set_data(&mut self, content: &[u8])
-        requires { (s : Among) × IsLent self.old s × (length content.now ≡ length s.datagram.data_bytes) }
+        requires lent { IsSomeLent self.old }
+        requires same_length { length content.now ≡ data_room self.old }
         ensures same_reference { self.new.frame.ghost_name ≡ self.old.frame.ghost_name }
         ensures same_place { self.new.span ≡ self.old.span }
         ensures some { IsSomeLent self.new }

@@ -17,12 +17,12 @@ mod walk;
 pub use crate::builder::{Builder, Frame, Full, Sent, write_pair};
 pub use crate::checking::check;
 pub use crate::command::Command;
-pub use crate::cursor::{DatagramCursor, DatagramSpan};
+pub use crate::cursor::{DatagramSpan, Datagrams};
 pub use crate::datagram::{
     Header, address_of, cut_counter, cut_heading, read_counter, read_data, write_address,
     write_adp, write_counter,
 };
-pub use crate::datagrams::{Datagram, Datagrams};
+pub use crate::datagrams::Datagram;
 pub use crate::error::FrameError;
-pub use crate::name::{index_of, name_of};
+pub use crate::name::{FrameName, index_of};
 pub use crate::walk::{Handler, pass};

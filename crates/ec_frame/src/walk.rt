@@ -4,7 +4,7 @@ ghost use Rattle.ec_frame.specs.Datagram.{Datagram, IsDatagram, IsSpelling, spel
 ghost use Rattle.ec_frame.specs.Frame.{Payload, IsFrame, with_datagrams};
 ghost use Rattle.ec_frame.specs.Walk.{KeepsLength, handled_all, after_all};
 
-use crate::cursor::DatagramCursor;
+use crate::cursor::Datagrams;
 
 /// A handler of each datagram of a frame.
 pub trait Handler {
@@ -36,8 +36,8 @@ pub fn pass<H: Handler>(handler: &mut H, frame: &mut [u8])
     ensures state { (p : Payload) → IsFrame frame.old p
         → handler.new ≡ after_all H.handled H.after handler.old p.datagrams }
 {
-    let mut places = DatagramCursor::new(frame);
-    while let Some(span) = places.next(frame) {
+    let mut places = Datagrams::new(frame);
+    while let Some(span) = places.next_place(frame) {
         handler.handle(&mut frame[span.from..span.to]);
     }
 }

@@ -12,7 +12,7 @@ use Rattle.ec_live.specs.Living.{Came, EndsTurns, IsCut, ObeysOne, RunState, Run
 use Rattle.ec_live.specs.Meeting.{Meets}
 use Rattle.ec_live.specs.State.{LiveState}
 use Rattle.ec_frame.specs.declared.command.Command.{Command}
-use Rattle.ec_frame.specs.declared.cursor.DatagramCursor.{DatagramCursor}
+use Rattle.ec_frame.specs.declared.cursor.Datagrams.{Datagrams}
 use Rattle.ec_frame.specs.Commands.{number_of}
 use Rattle.ec_frame.specs.Cursor.{IsAhead}
 use Rattle.ec_frame.specs.Datagram.{Datagram}
@@ -26,7 +26,7 @@ use Rattle.ec_live.specs.Cyclic.{cyclic_part}
 use Rattle.ec_live.specs.Drops.{is_dropped}
 
 -- a cursor went past the first of these datagrams, and `has` says whether it has a command; there may be none
-abbrev pub HasOver : List ℕ → DatagramCursor → Command → List Datagram → (has : Bool) → Type 0
+abbrev pub HasOver : List ℕ → Datagrams → Command → List Datagram → (has : Bool) → Type 0
 HasOver payload places command [] has = has ≡ false
 HasOver payload places command (d ∷ ds) has = (has ≡ (number_of d.command == number_of command)) × IsAhead payload places ds
 

@@ -8,7 +8,7 @@ ghost use Rattle.ec_live.specs.Cyclic.{are_commands, cyclic_commands, cyclic_par
 ghost use Rattle.ec_live.specs.Stages.{HasOver};
 
 use ec_frame::field::NAME_LEN;
-use ec_frame::{Command, DatagramCursor, Header, read_data};
+use ec_frame::{Command, Datagrams, Header, read_data};
 use ec_link::PartPlan;
 
 /// The part whose cyclic frame a payload is, by the parts of a plan. Its datagrams have the commands of that part's frame, and the first
@@ -43,8 +43,8 @@ fn named_part(payload: &[u8]) -> Option<usize>
     requires { (p : Payload) × IsFrame payload.now p }
     ensures { (p : Payload) → IsFrame payload.now p → result ≡ named_part p.datagrams }
 {
-    let mut places = DatagramCursor::new(payload);
-    let span = places.next(payload)?;
+    let mut places = Datagrams::new(payload);
+    let span = places.next_place(payload)?;
     let name = read_data(&payload[span.from..span.to]);
     if name.len() != NAME_LEN {
         return None;
@@ -57,21 +57,21 @@ fn has_commands(payload: &[u8], commands: &[Command]) -> bool
     requires { (p : Payload) × IsFrame payload.now p }
     ensures { (p : Payload) → IsFrame payload.now p → result ≡ are_commands commands.now p.datagrams }
 {
-    let mut places = DatagramCursor::new(payload);
+    let mut places = Datagrams::new(payload);
     for command in commands {
         if !is_next(&mut places, payload, *command) {
             return false;
         }
     }
-    places.next(payload).is_none()
+    places.next_place(payload).is_none()
 }
 
 /// Goes past the next datagram. Returns whether there is one and has this command.
-fn is_next(places: &mut DatagramCursor, payload: &[u8], command: Command) -> bool
+fn is_next(places: &mut Datagrams, payload: &[u8], command: Command) -> bool
     requires { (ds : List Datagram) × IsAhead payload.now places.old ds }
     ensures { (ds : List Datagram) → IsAhead payload.now places.old ds → HasOver payload.now places.new command ds result }
 {
-    match places.next(payload) {
+    match places.next_place(payload) {
         Some(span) => {
             let header = Header::read(&payload[span.from..span.to]);
             header.command.number() == command.number()

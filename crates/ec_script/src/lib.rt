@@ -1,7 +1,6 @@
 //! The language of `ecat sim` and `ecat master`: what lines stand for, and what they print.
 #![tactic(auto)]
 
-mod error;
 mod expectation;
 mod forms;
 mod halves;
@@ -17,7 +16,6 @@ mod value_test;
 mod view;
 mod words;
 
-pub use crate::error::ScriptError;
 pub use crate::expectation::Expectation;
 pub use crate::forms::{ExpectForm, FORMS, Form, REPEAT};
 pub use crate::halves::split_script;
@@ -30,3 +28,4 @@ pub use crate::value::{bounds_of, hex_of};
 pub use crate::value_test::{Comparison, ValueTest};
 pub use crate::view::MasterView;
 pub use crate::words::{byte_of, code_of, number_of, times_of};
+pub use ec_decode::DecodeError as ScriptError;

@@ -1,24 +1,25 @@
 -- A payload of two datagrams, and whether it answers an action.
-use Rattle.std.proofs.Common.{◌≡◌, ◌≤◌, ◌<◌, ◌↔◌, ◌==◌, ◌^◌, ℕ, ◌%◌, List, get_or, [], ◌∷◌, length, map, take, slice_range, Bool, true, false, refl, sym, ap, ◌∙◌, arith}
+use Rattle.std.proofs.Common.{◌≡◌, ◌<◌, ◌↔◌, ◌==◌, ◌^◌, ℕ, ◌%◌, List, [], ◌∷◌, length, map, take, Bool, true, false, refl, sym, ap, ◌∙◌, arith}
 use Rattle.std.specs.Int.{from_le_bytes, to_le_bytes, w64}
 use Rattle.std.proofs.lemmas.Bool.{eq-eqb, eqb-true}
-use Rattle.std.proofs.lemmas.Nat.{from_le_bytes-to_le_bytes_8, le_bytes_8}
+use Rattle.std.proofs.lemmas.Nat.{from_le_bytes-to_le_bytes_8}
 use Rattle.ec_frame.specs.declared.command.Command.{Command}
 use Rattle.ec_frame.specs.declared.command.Command.TheVariants.{Nop}
-use Rattle.ec_frame.specs.declared.cursor.DatagramSpan.{DatagramSpan}
-use Rattle.ec_frame.specs.declared.cursor.DatagramCursor.{DatagramCursor}
+use Rattle.ec_frame.specs.declared.cursor.Datagrams.{Datagrams}
+use Rattle.ec_frame.specs.declared.name.FrameName.{FrameName}
 use Rattle.ec_frame.specs.Cursor.{IsAhead}
 use Rattle.ec_frame.specs.Datagram.{Datagram, IsDatagram, is_followed, spelling}
 use Rattle.ec_frame.specs.Frame.{Payload, IsFrame}
+use Rattle.ec_frame.specs.Names.{name_bytes}
 use Rattle.ec_frame.proofs.FrameOrFault.{one_payload}
 use Rattle.ec_start.specs.declared.action.Action.{Action}
 use Rattle.ec_start.specs.Actions.{datagram_of, frame_of}
 use Rattle.ec_start.specs.Running.{Shape, shape, number_in}
-use Rattle.ec_start.specs.Answered.{Answers, IsAnswerAt}
+use Rattle.ec_start.specs.Answered.{Answers, IsAnswerIn}
 use Rattle.ec_start.proofs.ActionFrames.{datagram_is}
 
--- a frame of two datagrams, which stand at two places
-pub record IsPair (payload : List ℕ) (name answer : DatagramSpan) : Type 0 where
+-- a frame of two datagrams, and their bytes
+pub record IsPair (payload name answer : List ℕ) : Type 0 where
   pub frame : Payload
   pub first : Datagram
   pub datagram : Datagram
@@ -26,14 +27,14 @@ pub record IsPair (payload : List ℕ) (name answer : DatagramSpan) : Type 0 whe
   pub both : frame.datagrams ≡ first ∷ datagram ∷ []
   pub good_first : IsDatagram first
   pub good : IsDatagram datagram
-  pub there_first : slice_range payload name.from name.to ≡ spelling true first
-  pub there : slice_range payload answer.from answer.to ≡ spelling false datagram
+  pub there_first : name ≡ spelling true first
+  pub there : answer ≡ spelling false datagram
 
-pair_of : (payload : List ℕ) (name answer : DatagramSpan) (places one : DatagramCursor) (p : Payload) (ds : List Datagram) → p.datagrams ≡ ds → IsFrame payload p → length ds ≡ 2
+pair_of : (payload name answer : List ℕ) (places one : Datagrams) (p : Payload) (ds : List Datagram) → p.datagrams ≡ ds → IsFrame payload p → length ds ≡ 2
     → IsAhead payload places ds
-    → ((d : Datagram) (es : List Datagram) → IsAhead payload places (d ∷ es) → slice_range payload name.from name.to ≡ spelling (is_followed es) d)
+    → ((d : Datagram) (es : List Datagram) → IsAhead payload places (d ∷ es) → name ≡ spelling (is_followed es) d)
     → ((d : Datagram) (es : List Datagram) → IsAhead payload places (d ∷ es) → IsAhead payload one es)
-    → ((d : Datagram) (es : List Datagram) → IsAhead payload one (d ∷ es) → slice_range payload answer.from answer.to ≡ spelling (is_followed es) d)
+    → ((d : Datagram) (es : List Datagram) → IsAhead payload one (d ∷ es) → answer ≡ spelling (is_followed es) d)
     → IsPair payload name answer
 pair_of payload name answer places one p [] is f two ahead first others second = absurd (omega (arith, two))
 pair_of payload name answer places one p (d ∷ []) is f two ahead first others second = absurd (omega (arith, two))
@@ -52,22 +53,33 @@ pair_of payload name answer places one p (d ∷ e ∷ []) is f two ahead first o
       there = second e [] rest;
     }
 
-pub is_pair : (payload : List ℕ) (name answer : DatagramSpan) (places one : DatagramCursor) (p : Payload) → IsFrame payload p → length p.datagrams ≡ 2
+pub is_pair : (payload name answer : List ℕ) (places one : Datagrams) (p : Payload) → IsFrame payload p → length p.datagrams ≡ 2
     → IsAhead payload places p.datagrams
-    → ((d : Datagram) (es : List Datagram) → IsAhead payload places (d ∷ es) → slice_range payload name.from name.to ≡ spelling (is_followed es) d)
+    → ((d : Datagram) (es : List Datagram) → IsAhead payload places (d ∷ es) → name ≡ spelling (is_followed es) d)
     → ((d : Datagram) (es : List Datagram) → IsAhead payload places (d ∷ es) → IsAhead payload one es)
-    → ((d : Datagram) (es : List Datagram) → IsAhead payload one (d ∷ es) → slice_range payload answer.from answer.to ≡ spelling (is_followed es) d)
+    → ((d : Datagram) (es : List Datagram) → IsAhead payload one (d ∷ es) → answer ≡ spelling (is_followed es) d)
     → IsPair payload name answer
 is_pair payload name answer places one p f two ahead first others second = pair_of payload name answer places one p p.datagrams refl f two ahead first others second
 
+-- where two datagrams are ahead, the second is behind the first
+pub second_ahead : (payload : List ℕ) (places one : Datagrams) (ds : List Datagram) → length ds ≡ 2 → IsAhead payload places ds
+    → ((d : Datagram) (es : List Datagram) → IsAhead payload places (d ∷ es) → IsAhead payload one es) → (e : Datagram) × IsAhead payload one (e ∷ [])
+second_ahead payload places one [] two ahead others = absurd (omega (arith, two))
+second_ahead payload places one (d ∷ []) two ahead others = absurd (omega (arith, two))
+second_ahead payload places one (d ∷ e ∷ x ∷ xs) two ahead others = absurd (omega (arith, two))
+second_ahead payload places one (d ∷ e ∷ []) two ahead others = (e, others d (e ∷ []) ahead)
+
 -- ---- the number
 
-pub bytes_tell : (bytes : List ℕ) (number r : ℕ) → length bytes ≡ 8 → ((i : ℕ) → get_or bytes i 0 < 256) → number < 2 ^ 64
-    → r ≡ from_le_bytes w64 bytes → ((r == number) ≡ true) ↔ (bytes ≡ to_le_bytes w64 number)
-bytes_tell bytes number r eight fits small e = (
-  λ same. sym (le_bytes_8 bytes number eight fits (sym (eqb-true r number same) ∙ e)),
-  λ same. eq-eqb r number (e ∙ (ap (from_le_bytes w64) same ∙ from_le_bytes-to_le_bytes_8 number small)),
+pub number_read : (bytes : List ℕ) (name : FrameName) (number : ℕ) → bytes ≡ name_bytes name.number name.part → name.number < 2 ^ 64 → number < 2 ^ 64
+    → ((name.number == number) ≡ true) ↔ ((length bytes ≡ 10) × (take 8 bytes ≡ to_le_bytes w64 number))
+number_read bytes name number e fits small = (
+  λ same. (ap length e, ap (λ (xs : List ℕ). take 8 xs) e ∙ ap (to_le_bytes w64) (eqb-true name.number number same)),
+  λ h. eq-eqb name.number number (sym (from_le_bytes-to_le_bytes_8 name.number fits) ∙ (ap (from_le_bytes w64) (sym (ap (λ (xs : List ℕ). take 8 xs) e) ∙ h.1) ∙ from_le_bytes-to_le_bytes_8 number small)),
 )
+
+pub no_number : (bytes : List ℕ) (number : ℕ) → (length bytes ≡ 10 → ⊥) → (false ≡ true) ↔ ((length bytes ≡ 10) × (take 8 bytes ≡ to_le_bytes w64 number))
+no_number bytes number h = (λ f. absurd cc, λ is. absurd (h is.0))
 
 -- ---- shapes
 
@@ -111,8 +123,8 @@ answers a number ds d e both name told answer = record {
   number_is = ap number_in both ∙ told;
 }
 
-pub answer_length : (payload : List ℕ) (a : Action) (number : ℕ) (span : DatagramSpan) (at : IsAnswerAt payload a number span) → length at.datagram.data_bytes ≡ length (datagram_of a 0).data_bytes
-answer_length payload a number span at = let s = seconds a number at.frame.datagrams at.first at.datagram at.both at.answer in ap (λ (t : Shape). t.bytes) s.answer
+pub answer_length : (payload : List ℕ) (a : Action) (number : ℕ) (part : List ℕ) (at : IsAnswerIn payload a number part) → length at.datagram.data_bytes ≡ length (datagram_of a 0).data_bytes
+answer_length payload a number part at = let s = seconds a number at.frame.datagrams at.first at.datagram at.both at.answer in ap (λ (t : Shape). t.bytes) s.answer
 
 -- the second shape with what the code knows of the action
 made_shape : (a : Action) (number : ℕ) (command : Command) (bytes : ℕ) → command ≡ (datagram_of a 0).command → bytes ≡ length (datagram_of a 0).data_bytes
@@ -122,11 +134,11 @@ made_shape a number command bytes e f =
     let two : ℕ → Shape = λ n. record { command = (datagram_of a 0).command; index = number % 256; bytes = n } in
     ap one e ∙ ap two f
 
-pub answer_at : (payload : List ℕ) (a : Action) (number : ℕ) (name answer : DatagramSpan) (command : Command) (bytes : ℕ) (pair : IsPair payload name answer)
+pub answer_at : (payload : List ℕ) (a : Action) (number : ℕ) (name answer : List ℕ) (command : Command) (bytes : ℕ) (pair : IsPair payload name answer)
     → command ≡ (datagram_of a 0).command → bytes ≡ length (datagram_of a 0).data_bytes
     → shape pair.first ≡ first_shape number → take 8 pair.first.data_bytes ≡ to_le_bytes w64 number → shape pair.datagram ≡ record { command = command; index = number % 256; bytes = bytes }
-    → (answer.from ≤ answer.to) × (answer.to ≤ length payload) → IsAnswerAt payload a number answer
-answer_at payload a number name answer command bytes pair e f named told shaped within = record {
+    → IsAnswerIn payload a number answer
+answer_at payload a number name answer command bytes pair e f named told shaped = record {
   frame = pair.frame;
   first = pair.first;
   datagram = pair.datagram;
@@ -134,7 +146,6 @@ answer_at payload a number name answer command bytes pair e f named told shaped 
   both = pair.both;
   good = pair.good;
   answer = answers a number pair.frame.datagrams pair.first pair.datagram pair.both named told (shaped ∙ made_shape a number command bytes e f);
-  within = within;
   there = pair.there;
 }
 
@@ -144,7 +155,7 @@ pub record OfAnswer (a : Action) (number : ℕ) (command : Command) (bytes : ℕ
   pub told : take 8 d.data_bytes ≡ to_le_bytes w64 number
   pub answer : shape e ≡ record { command = command; index = number % 256; bytes = bytes }
 
-pub of_answer : (payload : List ℕ) (a : Action) (number : ℕ) (name answer : DatagramSpan) (command : Command) (bytes : ℕ) (pair : IsPair payload name answer) (p : Payload)
+pub of_answer : (payload : List ℕ) (a : Action) (number : ℕ) (name answer : List ℕ) (command : Command) (bytes : ℕ) (pair : IsPair payload name answer) (p : Payload)
     → command ≡ (datagram_of a 0).command → bytes ≡ length (datagram_of a 0).data_bytes → IsFrame payload p → Answers a number p.datagrams → OfAnswer a number command bytes pair.first pair.datagram
 of_answer payload a number name answer command bytes pair p e f spelled h =
     let one : p ≡ pair.frame = one_payload payload p pair.frame spelled pair.spelled in

@@ -4,7 +4,6 @@ use Rattle.std.proofs.lemmas.Bool.{lt-ltb, le-ltb}
 use Rattle.ec_coe.specs.Objects.{has_some}
 use Rattle.ec_frame.specs.Datagram.{Datagram}
 use Rattle.ec_frame.specs.Frame.{Payload, IsFrame}
-use Rattle.ec_frame.specs.declared.cursor.DatagramSpan.{DatagramSpan}
 use Rattle.ec_frame.proofs.FrameOrFault.{one_payload}
 use Rattle.ec_device.specs.declared.slave_type.Device.{Device}
 use Rattle.ec_link.specs.declared.settings.SlavePlan.{SlavePlan}
@@ -18,7 +17,7 @@ use Rattle.ec_start.specs.Scripts.{script}
 use Rattle.ec_start.specs.Verdicts.{verdict}
 use Rattle.ec_start.specs.Running.{StartState, is_sent, is_ended, with_identity, action_of, type_of, judged, shape, IsStartAnswer, IsStartTaken, second}
 use Rattle.ec_start.specs.Ahead.{opening, ahead, IsSettled}
-use Rattle.ec_start.specs.Answered.{answered, Answers, IsAnswerAt}
+use Rattle.ec_start.specs.Answered.{answered, Answers, IsAnswerIn}
 use Rattle.ec_start.specs.Held.{first_step, IsAtStep}
 use Rattle.ec_start.proofs.CursorActions.{ahead_here, script_ahead, get_none}
 
@@ -173,10 +172,10 @@ take_other s payload a number sent is none =
     let same : n ≡ number = cc in
     none p f (of_answer s a number p.datagrams is (subst (λ (m : ℕ). IsStartAnswer s m p.datagrams) same h)))
 
-pub take_kept : (s new : StartState) (payload : List ℕ) (a : Action) (number : ℕ) (span : DatagramSpan) (counter : ℕ) (bytes : List ℕ) (at : IsAnswerAt payload a number span)
+pub take_kept : (s new : StartState) (payload : List ℕ) (a : Action) (number : ℕ) (part : List ℕ) (counter : ℕ) (bytes : List ℕ) (at : IsAnswerIn payload a number part)
     → s.phase ≡ Sent number → action_of s ≡ a → counter ≡ at.datagram.counter → bytes ≡ at.datagram.data_bytes
     → new ≡ judged s (verdict (length s.plan) s.place s.seen (type_of s.plan) a (answered counter bytes)) → IsStartTaken s payload true new
-take_kept s new payload a number span counter bytes at sent is count told e =
+take_kept s new payload a number part counter bytes at sent is count told e =
     let answer : IsStartAnswer s number at.frame.datagrams = answer_of s a number at.frame.datagrams is at.answer in
     record {
       answers = λ n p here f.

@@ -2,15 +2,15 @@
 -- state machine", "SDO services"; which init commands come is this project's profile). One action is one step: a wait is one
 -- with all its polls.
 use Rattle.std.specs.Prelude.{ℕ, ◌+◌, ◌-◌, ◌*◌, ◌/◌, ◌%◌, List, [], ◌∷◌, ◌++◌, length, Option, Some, None}
-use Rattle.std.specs.Int.{to_le_bytes, w16, w64}
 use Rattle.ec_bits.specs.Bits.{zeros}
 use Rattle.ec_regs.specs.Memory.{station_address, al_control, al_status, sii_control, fmmus, fmmu_start, sync_managers, manager_start}
 use Rattle.ec_regs.specs.Managers.{manager_bytes}
 use Rattle.ec_regs.specs.Fmmus.{fmmu_bytes}
 use Rattle.ec_frame.specs.declared.command.Command.{Command}
-use Rattle.ec_frame.specs.declared.command.Command.TheVariants.{Nop, Apwr, Fprd, Fpwr, Brd, Bwr}
+use Rattle.ec_frame.specs.declared.command.Command.TheVariants.{Apwr, Fprd, Fpwr, Brd, Bwr}
 use Rattle.ec_frame.specs.Datagram.{Datagram}
 use Rattle.ec_frame.specs.Building.{new_datagram}
+use Rattle.ec_frame.specs.Names.{name_datagram}
 use Rattle.ec_al.specs.States.{state_number}
 use Rattle.ec_sii.specs.Laws.{read_command}
 use Rattle.ec_coe.specs.declared.message.Service.TheVariants.{Request as RequestService}
@@ -96,9 +96,6 @@ datagram_of (AwaitState i state) number = sent Fprd (station i) al_status (zeros
 datagram_of (SendRequest i before b r) number = sent Fpwr (station i) b.receive_start (filled b.receive_size (request_bytes before r)) number
 datagram_of (AwaitReply i b r) number = sent Fprd (station i) b.send_start (zeros b.send_size) number
 
--- the first datagram of each frame names it: its number and part 0
-abbrev pub numbered : ℕ → ℕ → Datagram
-numbered number part = new_datagram Nop (number % 256) 0 (to_le_bytes w64 number ++ to_le_bytes w16 part)
-
+-- its name and the action's datagram
 abbrev pub frame_of : Action → ℕ → List Datagram
-frame_of a number = numbered number 0 ∷ datagram_of a number ∷ []
+frame_of a number = name_datagram number 0 ∷ datagram_of a number ∷ []

@@ -1,9 +1,8 @@
 -- What a verdict looks at: the counter and the data of a datagram. It serves private code and its proofs alone.
-use Rattle.std.specs.Prelude.{ℕ, ◌≡◌, ◌==◌, ◌≤◌, List, ◌∷◌, [], length, false, if◌then◌else◌, map, slice_range}
+use Rattle.std.specs.Prelude.{ℕ, ◌≡◌, ◌==◌, List, ◌∷◌, [], false, if◌then◌else◌, map}
 use Rattle.std.specs.Int.{to_le_bytes, w64}
 use Rattle.ec_frame.specs.declared.command.Command.TheVariants.{Nop}
 use Rattle.ec_frame.specs.Datagram.{Datagram, IsDatagram, spelling}
-use Rattle.ec_frame.specs.declared.cursor.DatagramSpan.{DatagramSpan}
 use Rattle.ec_frame.specs.Building.{new_datagram}
 use Rattle.ec_frame.specs.Frame.{Payload, IsFrame}
 use Rattle.ec_start.specs.declared.action.Action.{Action}
@@ -24,8 +23,8 @@ pub record Answers (a : Action) (number : ℕ) (ds : List Datagram) : Type 0 whe
   pub shapes : map shape ds ≡ map shape (frame_of a number)
   pub number_is : number_in ds ≡ to_le_bytes w64 number
 
--- the payload is a frame that answers it, and its second datagram stands there
-pub record IsAnswerAt (payload : List ℕ) (a : Action) (number : ℕ) (span : DatagramSpan) : Type 0 where
+-- the payload is a frame that answers it, and the part spells its second datagram
+pub record IsAnswerIn (payload : List ℕ) (a : Action) (number : ℕ) (part : List ℕ) : Type 0 where
   pub frame : Payload
   pub first : Datagram
   pub datagram : Datagram
@@ -33,5 +32,4 @@ pub record IsAnswerAt (payload : List ℕ) (a : Action) (number : ℕ) (span : D
   pub both : frame.datagrams ≡ first ∷ datagram ∷ []
   pub good : IsDatagram datagram
   pub answer : Answers a number frame.datagrams
-  pub within : (span.from ≤ span.to) × (span.to ≤ length payload)
-  pub there : slice_range payload span.from span.to ≡ spelling false datagram
+  pub there : part ≡ spelling false datagram

@@ -6,7 +6,8 @@ use Rattle.ec_link.specs.Interface.{AreListed, IsOfItsType}
 use Rattle.ec_link.specs.Meaning.{no_slave}
 use Rattle.ec_link.specs.Sound.{AreManagers}
 use Rattle.ec_link.specs.declared.settings.SlavePlan.{SlavePlan}
-pub use Rattle.ec_start.specs.Actions.{datagram_of, frame_of, request_command, request_value, station, word_address_of, at, filled, request_bytes, request_message, sent, numbered}
+pub use Rattle.ec_frame.specs.Names.{name_datagram}
+pub use Rattle.ec_start.specs.Actions.{datagram_of, frame_of, request_command, request_value, station, word_address_of, at, filled, request_bytes, request_message, sent}
 pub use Rattle.ec_start.specs.Planned.{IsFmmu, IsStartable, AreMailboxes, IsRequest, IsTransfer, AreRequests, HasFewAssigned}
 pub use Rattle.ec_start.specs.Plans.{fmmu_at, settings_at}
 pub use Rattle.ec_start.specs.Running.{StartState, action_of, type_of, judged, taken, given_up_by, max_polls, asked, asked_by, next_frame, next_frame_by, sending, second, is_ended, is_sent, last_number, IsStartTaken, advanced, with_identity, Shape, shape, IsStartAnswer, IsOutstanding, is_accepted}

@@ -3,9 +3,10 @@ use Rattle.std.specs.Prelude.{ℕ, ◌+◌, ◌-◌, ◌^◌, ◌≡◌, ◌==�
 use Rattle.std.specs.Int.{to_le_bytes, w64}
 use Rattle.ec_device.specs.declared.slave_type.Device.{Device}
 use Rattle.ec_device.specs.Types.{plain_kind}
-use Rattle.ec_frame.specs.declared.command.Command.{Command}
 use Rattle.ec_frame.specs.Datagram.{Datagram}
 use Rattle.ec_frame.specs.Frame.{Payload, IsFrame}
+use Rattle.ec_frame.specs.Names.{name_of}
+pub use Rattle.ec_frame.specs.Names.{Shape, shape}
 use Rattle.ec_link.specs.declared.settings.SlavePlan.{SlavePlan}
 use Rattle.ec_start.specs.declared.action.Action.{Action}
 use Rattle.ec_start.specs.declared.action.Action.TheVariants.{CountSlaves, AwaitWord}
@@ -114,17 +115,8 @@ taken s d = judged s (verdict (length s.plan) s.place s.seen (type_of s.plan) (a
 
 -- ---- which payloads are taken
 
-pub record Shape : Type 0 where
-  pub command : Command
-  pub index : ℕ
-  pub bytes : ℕ
-
-abbrev pub shape : Datagram → Shape
-shape d = record { command = d.command; index = d.index; bytes = length d.data_bytes }
-
 abbrev pub number_in : List Datagram → List ℕ
-number_in [] = []
-number_in (d ∷ ds) = take 8 d.data_bytes
+number_in ds = take 8 (name_of ds)
 
 -- commands, Idx, lengths and order are those of the frame that was sent, and so is its number
 pub record IsStartAnswer (s : StartState) (number : ℕ) (ds : List Datagram) : Type 0 where

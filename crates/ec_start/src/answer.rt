@@ -6,36 +6,34 @@ ghost use Rattle.ec_frame.specs.Datagram.{Datagram, IsDatagram, IsSpelling, spel
 ghost use Rattle.ec_frame.specs.Frame.{Payload, IsFrame};
 ghost use Rattle.ec_start.specs.Doable.{IsDoable};
 ghost use Rattle.ec_start.specs.Running.{shape};
-ghost use Rattle.ec_start.specs.Answered.{Answers, IsAnswerAt};
+ghost use Rattle.ec_start.specs.Answered.{Answers, IsAnswerIn};
 
 use crate::action::Action;
 use ec_frame::field::NAME_LEN;
-use ec_frame::{Command, DatagramCursor, DatagramSpan, Header, check, index_of, read_data};
+use ec_frame::{Command, Datagrams, FrameName, Header, check, index_of, read_data};
 
 /// How many datagrams a frame of a start-up has: one that names the frame, and the action's.
 const DATAGRAMS: usize = 2;
 
-/// The bytes of the action's datagram in a payload that answers the action's frame of this number; none if it doesn't.
-pub fn answer_in(payload: &[u8], action: &Action, number: u64) -> Option<DatagramSpan>
+/// The action's datagram, as bytes spell it, in a payload that answers the action's frame of this number; none if it doesn't.
+pub fn answer_in<'a>(payload: &'a [u8], action: &Action, number: u64) -> Option<&'a [u8]>
     requires { IsDoable action.now }
     ensures { MatchOption result
         ((p : Payload) → IsFrame payload.now p → Answers action.now number p.datagrams → ⊥)
-        (λ span. IsAnswerAt payload.now action.now number span) }
+        (λ part. IsAnswerIn payload.now action.now number part.now) }
 {
     let has_two = is_pair(payload);
     if !has_two {
         return None;
     }
-    let mut places = DatagramCursor::new(payload);
-    let name = places.next(payload)?;
-    let answer = places.next(payload)?;
+    let mut datagrams = Datagrams::new(payload);
+    let name = datagrams.next_part(payload)?;
+    let answer = datagrams.next_part(payload)?;
     let command = action.command();
     let bytes = action.data_length();
-    let first = &payload[name.from..name.to];
-    let second = &payload[answer.from..answer.to];
-    let is_named = has_shape(first, Command::Nop, number, NAME_LEN);
-    let is_numbered = begins_with(first, number);
-    let is_answer = has_shape(second, command, number, bytes);
+    let is_named = has_shape(name, Command::Nop, number, NAME_LEN);
+    let is_numbered = has_number(name, number);
+    let is_answer = has_shape(answer, command, number, bytes);
     if !is_named {
         return None;
     }
@@ -58,24 +56,16 @@ fn is_pair(payload: &[u8]) -> bool
     }
 }
 
-/// Whether the data of a datagram begin with a number of eight bytes, little-endian.
-fn begins_with(part: &[u8], number: u64) -> bool
+/// Whether the data of a datagram are a frame's name with this number.
+fn has_number(part: &[u8], number: u64) -> bool
     requires { IsSpelling part.now }
     ensures { (more : Bool) (d : Datagram) → IsDatagram d → part.now ≡ spelling more d
-        → (result ≡ true) ↔ (take 8 d.data_bytes ≡ to_le_bytes w64 number) }
+        → (result ≡ true) ↔ ((length d.data_bytes ≡ 10) × (take 8 d.data_bytes ≡ to_le_bytes w64 number)) }
 {
-    let data = read_data(part);
-    data.len() >= 8 && are_bytes_of(&data[..8], number)
-}
-
-/// Whether eight bytes are a number, little-endian. It compares them as one number.
-fn are_bytes_of(bytes: &[u8], number: u64) -> bool
-    requires { length bytes.now ≡ 8 }
-    ensures { (result ≡ true) ↔ (bytes.now ≡ to_le_bytes w64 number) }
-{
-    let mut eight = [0; 8];
-    eight.copy_from_slice(bytes);
-    u64::from_le_bytes(eight) == number
+    match FrameName::read(read_data(part)) {
+        Some(name) => name.number == number,
+        None => false,
+    }
 }
 
 /// Whether a datagram of a frame with this number has this command and so many bytes of data.

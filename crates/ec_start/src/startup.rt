@@ -20,7 +20,7 @@ use crate::phase::{NextFrame, Phase, Taken};
 use crate::script::{Step, first_step};
 use crate::verdict::{Verdict, nothing_read, verdict_on, with_word};
 use ec_device::Device;
-use ec_frame::{Command, Frame, Sent, index_of, name_of, read_counter, read_data, write_pair};
+use ec_frame::{Command, Frame, FrameName, Sent, index_of, read_counter, read_data, write_pair};
 use ec_link::{Plan, SlavePlan};
 use std::marker::Model;
 
@@ -172,10 +172,9 @@ impl<'p> Startup<'p> {
         let Phase::Sent(number) = self.phase else {
             return Taken::Foreign;
         };
-        let Some(span) = answer_in(payload, &self.step.action, number) else {
+        let Some(answer) = answer_in(payload, &self.step.action, number) else {
             return Taken::Foreign;
         };
-        let answer = &payload[span.from..span.to];
         let verdict = verdict_on(
             self.held.plan().slaves(),
             self.place,
@@ -320,7 +319,7 @@ fn write_through(buffer: &mut [u8], action: &Action, number: u64, frame: &mut Fr
     ensures { IsFrame frame.new.items (bare_payload (frame_of action.now number)) }
 {
     let index = index_of(number);
-    let name = name_of(number, 0);
+    let name = FrameName { number, part: 0 }.bytes();
     let data = &mut buffer[..action.data_length()];
     action.write_data(data);
     let naming = Sent {

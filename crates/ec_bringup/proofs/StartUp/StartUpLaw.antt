@@ -1,5 +1,5 @@
 -- Every run of a world that starts up: up to the step that makes it ready, and from then on without a cycle.
-use Rattle.ec_bringup.proofs.Words.{ℕ, ◌<◌, ◌≤◌, ◌≡◌, ◌==◌, Bool, true, false, Option, Some, None, refl, sym, ◌∙◌, ap, subst, inl, inr, arith, List, [], ◌∷◌, length, get_or, replicate, drop, cases_Bool, and_parts, eqb-true, length-replicate, if_true, if_false, SlaveKind, Datagram, IsDatagram, SlaveState, power_on, slave_met, datagram_met, passes as passes_all, SlavePlan, datagram_of, numbered, script, StartError, Lost, StartState, sending, action_of, taken, begun, Ready, Failed, Config, Talk, Stage, Before, Up, end_of, Leads, AreAhead, IsBetween, Instant, Between, UnderWay, Adrift, Over, IsReady, Starts, IsOfKind, IsConfigured, IsSilent, IsUpAt, IsFaultedAt, Talks, Stands, IsStartable, Carried, Starting, slave_at, trouble_at, kind_at, no_plan, AreSlaves, is_idle, is_beginning, with_passed, with_start, with_sent, with_begun, with_empty, with_lost, AreStartable, ends_of, Happens, Sends, Passes, Loses, Returns, Strays, Closes, Serves, Puts, Gets, Faults, Resets, Runs, Stops, Steps, Begins, HoldsAll, Works, HasFault, SlaveHealth, Working, Faulted, WasReset, StartUpLaw, IsNew, taken_plan, Idle, IsUnderWay, ◌⊎◌, IsOver}
+use Rattle.ec_bringup.proofs.Words.{ℕ, ◌<◌, ◌≤◌, ◌≡◌, ◌==◌, Bool, true, false, Option, Some, None, refl, sym, ◌∙◌, ap, subst, inl, inr, arith, List, [], ◌∷◌, length, get_or, replicate, drop, cases_Bool, and_parts, eqb-true, length-replicate, if_true, if_false, SlaveKind, Datagram, IsDatagram, SlaveState, power_on, slave_met, datagram_met, passes as passes_all, SlavePlan, datagram_of, name_datagram, script, StartError, Lost, StartState, sending, action_of, taken, begun, Ready, Failed, Config, Talk, Stage, Before, Up, end_of, Leads, AreAhead, IsBetween, Instant, Between, UnderWay, Adrift, Over, IsReady, Starts, IsOfKind, IsConfigured, IsSilent, IsUpAt, IsFaultedAt, Talks, Stands, IsStartable, Carried, Starting, slave_at, trouble_at, kind_at, no_plan, AreSlaves, is_idle, is_beginning, with_passed, with_start, with_sent, with_begun, with_empty, with_lost, AreStartable, ends_of, Happens, Sends, Passes, Loses, Returns, Strays, Closes, Serves, Puts, Gets, Faults, Resets, Runs, Stops, Steps, Begins, HoldsAll, Works, HasFault, SlaveHealth, Working, Faulted, WasReset, StartUpLaw, IsNew, taken_plan, Idle, IsUnderWay, ◌⊎◌, IsOver}
 use Rattle.ec_bringup.proofs.AllSlaves.RoundLaw.{two-pass}
 use Rattle.ec_bringup.proofs.OneSlave.Reset.{reset_stands}
 use Rattle.ec_bringup.proofs.OneSlave.Fault.{fault-stands, put-stands, got-stands}
@@ -248,5 +248,5 @@ start-up ps planned w v new r ready i l =
 
 -- ---- a frame's two datagrams at a slave: the first is a NOP, so the second alone counts
 
-pub frame-passes : (s : SlaveState) (number : ℕ) (d : Datagram) → passes_all s (numbered number 0 ∷ d ∷ []) ≡ record { slave = slave_met s d; datagrams = numbered number 0 ∷ datagram_met s d ∷ [] }
+pub frame-passes : (s : SlaveState) (number : ℕ) (d : Datagram) → passes_all s (name_datagram number 0 ∷ d ∷ []) ≡ record { slave = slave_met s d; datagrams = name_datagram number 0 ∷ datagram_met s d ∷ [] }
 frame-passes s number d = two-pass s number d

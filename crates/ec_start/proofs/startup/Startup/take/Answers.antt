@@ -19,7 +19,7 @@ returns-in_default-answer_in c =
 pub verdict_on-verdict-requires : goal.verdict_on-verdict-requires
 verdict_on-verdict-requires c =
     let at = c.in-Some.ensures in
-    ap length (c.read_data.ensures false at.datagram at.good at.there) ∙ answer_length c.args.payload.now c.self.inside.step.action c.in-Sent.number c.in-Some.span at
+    ap length (c.read_data.ensures false at.datagram at.good at.there) ∙ answer_length c.args.payload.now c.self.inside.step.action c.in-Sent.number c.in-Some.answer.now at
 
 pub returns : goal.returns
 returns c =
@@ -30,7 +30,7 @@ returns c =
     let count = c.read_counter.ensures false at.datagram at.good at.there in
     let told = c.read_data.ensures false at.datagram at.good at.there in
     let same : c.slaves.result.now ≡ (plan_in i.held).slaves = c.slaves.ensures.value ∙ ap (λ (p : PlanState). p.slaves) c.plan.ensures in
-    take_kept c.args.self.now c.judge.new.self c.args.payload.now i.step.action c.in-Sent.number c.in-Some.span c.read_counter.result c.read_data.result.now at sent is count told
+    take_kept c.args.self.now c.judge.new.self c.args.payload.now i.step.action c.in-Sent.number c.in-Some.answer.now c.read_counter.result c.read_data.result.now at sent is count told
     (c.judge.ensures ∙ ap (judged c.args.self.now) (c.verdict_on-verdict.ensures
     ∙ (ap (λ (ps : List SlavePlan). verdict (length ps) i.place i.seen (type_of ps) i.step.action (answered c.read_counter.result c.read_data.result.now)) same
     ∙ ap (λ (t : StartState). verdict (length t.plan) t.place t.seen (type_of t.plan) i.step.action (answered c.read_counter.result c.read_data.result.now)) c.self.view_is)))
