@@ -26,8 +26,8 @@ pub struct ProcessDatagram<'a> {
 
 /// Adds what a datagram carries, for people, in lines, if it is a process datagram of the plan. These are its
 /// part, with the predicted counter beside the one that came, and each variable with its value. If no
-/// slave has answered the datagram, the variables are outputs alone; an output is left out if its slave has
-/// put inputs over it. `AllocError` if memory ran out.
+/// slave has answered the datagram, the variables are outputs alone; an output of an LRW is left out if its slave
+/// has put inputs over it. `AllocError` if memory ran out.
 pub fn write_process(
     alloc: Global,
     text: &mut String,
@@ -70,8 +70,9 @@ fn write_direction(
     requires whole { length datagram.content.now ≡ (part_at plan.now.parts process.part).bytes }
 {
     let found = carried_bits(alloc, plan, process.part, direction, datagram.content)?;
+    let has_inputs = process.command != ProcessCommand::Write && datagram.counter > 0;
     for one in found.as_slice() {
-        if direction == Direction::Out && datagram.counter > 0 && is_covered(plan, &one.link) {
+        if direction == Direction::Out && has_inputs && is_covered(plan, &one.link) {
             continue;
         }
         write_carried(text, table, plan, direction, one)?;
