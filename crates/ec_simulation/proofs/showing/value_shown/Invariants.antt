@@ -4,4 +4,4 @@ use Rattle.ec_simulation.proofs.Shown.{GoesOnShowing}
 use Rattle.ec_simulation.proofs.showing.value_shown.Given as goal
 
 abbrev pub invariant-loop-link : goal.invariant-loop-link
-invariant-loop-link l = GoesOnShowing l.world.now l.variable l.link-items l.link-index l.bytes (with_all_shown l.world.now l.variable l.link-items (zeros 8))
+invariant-loop-link l = GoesOnShowing l.world l.variable l.link-items l.link-index l.bytes (with_all_shown l.world l.variable l.link-items (zeros 8))
