@@ -10,8 +10,7 @@ use crate::question::{NUMBER, Question};
 use byteorder::{ByteOrder, LittleEndian};
 use ec_frame::field::NAME_LEN;
 use ec_frame::{
-    Command, DatagramSpan, Datagrams, FrameName, Header, check, index_of, read_counter,
-    read_data,
+    Command, DatagramSpan, Datagrams, FrameName, Header, check, index_of, read_counter, read_data,
 };
 use ec_regs::registers::{AL_STATUS, AL_STATUS_CODE};
 

@@ -217,11 +217,7 @@ fn one_less(frames: Option<u32>) -> Option<u32>
 }
 
 /// Meets a payload, and sends the answer, if it has one.
-fn answer<W: Wire>(
-    live: &mut Live<'_>,
-    wire: &mut W,
-    payload: &mut [u8],
-) -> Result<(), SocketFault>
+fn answer<W: Wire>(live: &mut Live<'_>, wire: &mut W, payload: &mut [u8]) -> Result<(), SocketFault>
     ensures sent { OnOk result (AnswersOne payload.old live.old live.new (W.state wire.old) (W.state wire.new)) }
     ensures unsent { OnErr result (KeepsAnswer payload.old live.old live.new (W.state wire.old) (W.state wire.new)) }
 {

@@ -21,16 +21,15 @@ losses_are_losses w v kept report after h g =
     let closes = by_master (awaits h.last.start) (GivesUp h.last v) (Closes h.last v) rests (h.closes.happens refl) in
     let ended = g.run.ends.1 in
     let first : closes.cycle ≡ alike.first = open_same h.last.master.cycle closes.cycle alike.first closes.is_open alike.open_first in
-    let second : ended.cycle ≡ alike.second = open_same g.run.last.cycle ended.cycle alike.second ended.was_open alike.open_second in
-    (
+    let second : ended.cycle ≡ alike.second = open_same g.run.last.cycle ended.cycle alike.second ended.was_open alike.open_second in (
       ap (λ (x : WorldState). x.master) closes.is
-      ∙ (ap (λ (c : OpenCycle). closed h.last.master c) first
-      ∙ (closed_alike h.last.master g.run.last alike
-      ∙ (ap (λ (c : OpenCycle). closed g.run.last c) (sym second)
-      ∙ sym ended.master))),
+          ∙ (ap (λ (c : OpenCycle). closed h.last.master c) first
+          ∙ (closed_alike h.last.master g.run.last alike
+          ∙ (ap (λ (c : OpenCycle). closed g.run.last c) (sym second)
+          ∙ sym ended.master))),
       ap (λ (x : WorldState). x.report) closes.is
-      ∙ ap Some (ap (λ (c : OpenCycle). report_of h.last.master.plan c.kept) first
-      ∙ (reported_alike h.last.master g.run.last alike
-      ∙ (ap (λ (c : OpenCycle). report_of g.run.last.plan c.kept) (sym second)
-      ∙ sym ended.report))),
+          ∙ ap Some (ap (λ (c : OpenCycle). report_of h.last.master.plan c.kept) first
+          ∙ (reported_alike h.last.master g.run.last alike
+          ∙ (ap (λ (c : OpenCycle). report_of g.run.last.plan c.kept) (sym second)
+          ∙ sym ended.report))),
     )

@@ -4,7 +4,7 @@ ghost use Rattle.ec_start.specs.Running.{is_ended};
 ghost use Rattle.ec_wire.specs.BringingUp.{IsAnswered, IsBroughtUp, IsTurn, IsUnanswered};
 ghost use Rattle.ec_wire.specs.ComingUp.{ComesUpOver};
 
-use crate::pace::{Pace, Restless, Resting};
+use crate::pace::{Pace, Resting, Restless};
 use crate::wire::{Wire, receive_on, send_on};
 use ec_frame::Frame;
 use ec_frame::field::MAX_FRAME_LEN;

@@ -63,7 +63,12 @@ fn follow<W: Wire, C: Clock>(session: &mut Session, wire: &mut W, clock: &C, cyc
 }
 
 /// Does so for the machine of a table, whose slaves answer at an address.
-fn run<H: AllocGlobal + Net + Clock>(rt: &H, table: &str, peer: SocketAddrV4, cycles: u32) -> Ended {
+fn run<H: AllocGlobal + Net + Clock>(
+    rt: &H,
+    table: &str,
+    peer: SocketAddrV4,
+    cycles: u32,
+) -> Ended {
     let Ok(mut session) = Session::open(rt.alloc(), table) else {
         return Err("the input states no machine");
     };

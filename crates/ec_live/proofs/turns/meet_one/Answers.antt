@@ -10,7 +10,7 @@ returns g c =
     let after = g.W.Wire.state c.answer.new.wire in
     let payload = take c.in-Some.count c.listen_on.new.buffer in
     let heard : Carries before between [] (payload ∷ []) =
-        subst (λ (o : Option ℕ). IfSome o (λ n. Carries before between [] (take n c.listen_on.new.buffer ∷ []))) c.in-Some.is c.in_ok-heard.ensures.done in
+    subst (λ (o : Option ℕ). IfSome o (λ n. Carries before between [] (take n c.listen_on.new.buffer ∷ []))) c.in-Some.is c.in_ok-heard.ensures.done in
     record {
       met = some_met c.answer.result c.args.live.now c.answer.new.live before between after payload c.args.station.now.frames c.one_less-station.result heard c.in_ok-heard.ensures.same c.one_less-station.ensures
           c.answer.ensures.sent;

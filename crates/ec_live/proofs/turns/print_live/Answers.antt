@@ -15,7 +15,7 @@ returns-in_err-print_text g c =
     let first = begun c.args.live.now wire left c.args.output.now in
     let ran = c.run_turns-ended in
     let text : c.as_bytes.result.now ≡ served_line ran.new.live.answered ran.new.live.refused =
-        c.as_bytes.ensures.value ∙ (c.deref.ensures.0 ∙ (c.served_text.ensures ∙ served_same _ _ _ _ c.served-answered.ensures.answered c.served-answered.ensures.refused)) in
+    c.as_bytes.ensures.value ∙ (c.deref.ensures.0 ∙ (c.served_text.ensures ∙ served_same _ _ _ _ c.served-answered.ensures.answered c.served-answered.ensures.refused)) in
     lives_unprinted c.from_residual.result ran.result c.in_err-print_text.field-0.0 c.args.station.now.frames first (bytes_left g.R.Read.remaining ran.new.input) ran.new.live ran.new.output c.print_text.new.output
     ran.new.lines.unmet c.from_residual.ensures.1 c.in_err-print_text.ensures.fault (ran.ensures first (begins c.args.live.now wire left c.args.output.now c.new-lines.result c.new-lines.ensures))
     (subst (IsCutOff ran.new.output c.print_text.new.output) text c.in_err-print_text.ensures.part)
@@ -27,7 +27,7 @@ returns-in_err-ended g c =
     let first = begun c.args.live.now wire left c.args.output.now in
     let ran = c.run_turns-ended in
     let text : c.as_bytes.result.now ≡ served_line ran.new.live.answered ran.new.live.refused =
-        c.as_bytes.ensures.value ∙ (c.deref.ensures.0 ∙ (c.served_text.ensures ∙ served_same _ _ _ _ c.served-answered.ensures.answered c.served-answered.ensures.refused)) in
+    c.as_bytes.ensures.value ∙ (c.deref.ensures.0 ∙ (c.served_text.ensures ∙ served_same _ _ _ _ c.served-answered.ensures.answered c.served-answered.ensures.refused)) in
     lives_short c.from_residual-in_err-ended.result ran.result c.in_err-ended.field-0.0 c.args.station.now.frames first (bytes_left g.R.Read.remaining ran.new.input) ran.new.live ran.new.output c.print_text.new.output
     ran.new.lines.unmet c.from_residual-in_err-ended.ensures.1 c.in_err-ended.was (ran.ensures first (begins c.args.live.now wire left c.args.output.now c.new-lines.result c.new-lines.ensures))
     (subst (IsPrinted ran.new.output c.print_text.new.output) text c.in_ok-print_text.ensures.all)
@@ -39,7 +39,7 @@ returns g c =
     let first = begun c.args.live.now wire left c.args.output.now in
     let ran = c.run_turns-ended in
     let text : c.as_bytes.result.now ≡ served_line ran.new.live.answered ran.new.live.refused =
-        c.as_bytes.ensures.value ∙ (c.deref.ensures.0 ∙ (c.served_text.ensures ∙ served_same _ _ _ _ c.served-answered.ensures.answered c.served-answered.ensures.refused)) in
+    c.as_bytes.ensures.value ∙ (c.deref.ensures.0 ∙ (c.served_text.ensures ∙ served_same _ _ _ _ c.served-answered.ensures.answered c.served-answered.ensures.refused)) in
     lives_out c.end_of.result ran.result c.args.station.now.frames first (bytes_left g.R.Read.remaining ran.new.input) ran.new.live ran.new.output c.print_text.new.output ran.new.lines.unmet c.in_ok-ended.was
     (ran.ensures first (begins c.args.live.now wire left c.args.output.now c.new-lines.result c.new-lines.ensures))
     (subst (IsPrinted ran.new.output c.print_text.new.output) text c.in_ok-print_text.ensures.all)

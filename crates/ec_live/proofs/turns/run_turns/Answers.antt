@@ -34,10 +34,9 @@ loop-preserved g c =
     let before = c.loop in
     let frames = c.args.station.now.frames in
     let left = bytes_left g.R.Read.remaining before.input in
-    let wire = g.W.Wire.state before.station.wire in
-    (
+    let wire = g.W.Wire.state before.station.wire in (
       λ s at. elim now.branch [
-        in-Frame+in_ok-meet_one-in-Frame w ↦
+        | in-Frame+in_ok-meet_one-in-Frame w ↦
             come_as frames s w.meet_one.new.live now.live (g.W.Wire.state w.meet_one.new.station.wire) (g.W.Wire.state now.station.wire) before.lines now.lines left (bytes_left g.R.Read.remaining now.input)
             before.output now.output w.meet_one.new.station.frames now.station.frames w.live-is (ap (λ x. g.W.Wire.state x.wire) w.station-is) w.lines-is (ap (bytes_left g.R.Read.remaining) w.input-is) w.output-is
             (ap (λ x. x.frames) w.station-is)
@@ -51,7 +50,7 @@ loop-preserved g c =
             w.obey_part.new.output (before.invariant.0 s at) w.in_ok-obey_part-in-Line.ensures.obeyed)
       ],
       elim now.branch [
-        in-Frame+in_ok-meet_one-in-Frame w ↦
+        | in-Frame+in_ok-meet_one-in-Frame w ↦
             let same : now.lines.count ≡ before.lines.count = ap (λ (x : LinesState). x.count) w.lines-is in
             omega (arith, before.invariant.1)
         | in-Line+in_ok-obey_part-in-Line w ↦

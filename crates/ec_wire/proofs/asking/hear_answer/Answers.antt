@@ -26,8 +26,7 @@ returns-in-Some-take_answer g c =
     let next = g.W.Wire.state c.listen_on.new.wire in
     let carried : Carries here next [] (came ∷ []) = some_here _ _ (λ (n : ℕ). Carries here next [] (take n c.listen_on.new.buffer ∷ [])) c.in-Some.is c.in_ok-heard.ensures.done in
     let a = c.in-Some-take_answer.ensures in
-    let answer : Answers c.args.question c.args.count came c.in-Some-take_answer.told = record { frame = a.0; spelled = a.1; answers = a.2; is = a.3 } in
-    (
+    let answer : Answers c.args.question c.args.count came c.in-Some-take_answer.told = record { frame = a.0; spelled = a.1; answers = a.2; is = a.3 } in (
       got ++ came ∷ [],
       carries-then start here next [] got [] (came ∷ []) b.heard.1 carried,
       last_heard c.args.question c.args.count got came c.in-Some-take_answer.told b.heard.2 answer,

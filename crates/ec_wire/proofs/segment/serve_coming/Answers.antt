@@ -12,8 +12,8 @@ returns-in-Err-clause-cut g c =
     let b = c.loop.invariant in (
       c.loop.counter + 1,
       cut_then (g.A.App.may_produce c.args.app.now) (g.A.App.may_produce c.loop.app) c.args.ring.now c.loop.ring c.serve_heard.new.ring
-      (g.W.Wire.state c.args.wire.now) (g.W.Wire.state c.loop.wire) (g.W.Wire.state c.serve_heard.new.wire) b.came.0 b.came.1 c.loop.counter (c.loop.counter + 1) c.loop.served.answered c.loop.served.refused
-      b.later b.came.2 b.came.3 b.came.4 b.came.5 b.counts (omega arith) b.same (c.in-Err.ensures.cut refl),
+          (g.W.Wire.state c.args.wire.now) (g.W.Wire.state c.loop.wire) (g.W.Wire.state c.serve_heard.new.wire) b.came.0 b.came.1 c.loop.counter (c.loop.counter + 1) c.loop.served.answered c.loop.served.refused
+          b.later b.came.2 b.came.3 b.came.4 b.came.5 b.counts (omega arith) b.same (c.in-Err.ensures.cut refl),
     )
 
 -- one payload more

@@ -9,7 +9,7 @@ loop-slave-preserved g c =
     let inside : c.loop-slave.slave < length c.loop-slave.states = let end = b.end in let test = c.loop-slave-test.true in omega arith in
     record {
       read = read_on c.args.self.now c.loop-slave.self c.read_status.new.self (g.W.Wire.state c.args.wire.now) (g.W.Wire.state c.loop-slave.wire) (g.W.Wire.state c.read_status.new.wire) c.loop-slave.states c.loop-slave.slave c.in_ok-told.told
-      inside b.read c.in_ok-told.ensures;
+          inside b.read c.in_ok-told.ensures;
       end = b.end ∙ sym (length-set c.loop-slave.states c.loop-slave.slave c.in_ok-told.told);
     }
 
