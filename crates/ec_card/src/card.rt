@@ -1,6 +1,6 @@
 //! A wire over the raw socket of a network card.
 ghost use Rattle.std.specs.Prelude.{◌≡◌, ◌≤◌, ◌≤ℤ◌, pos, length, IfOk};
-ghost use Rattle.ec_wire.specs.Wires.{failed_again, silent};
+ghost use Rattle.ec_wire.specs.Wires.{silent};
 
 use crate::ethernet::{Sender, framed, payload_of};
 use ec_frame::field::MAX_FRAME_LEN;
@@ -93,14 +93,6 @@ impl CardWire {
         self.socket.send(&frame, None)
     }
 
-    /// Counts a fault, and keeps why it was one.
-    fn fail(&mut self, trouble: Trouble)
-        ensures { self.new ≡ failed_again self.old }
-    {
-        self.failures = self.failures.saturating_add(1);
-        self.trouble = trouble;
-    }
-
     /// Reads frames until one is handed on, with the patience that is left after `waited`. Returns how many bytes of its payload are in
     /// the buffer, or the system's error. It is `ErrorKind::WouldBlock` if no frame came, or too many frames weren't handed on.
     fn await_payload(&self, waited: Duration, buffer: &mut [u8]) -> io::Result<usize>
@@ -131,27 +123,33 @@ impl Wire for CardWire {
     }
 
     fn send(&mut self, payload: &[u8]) {
+        let failures = self.failures;
         if let Err(trouble) = self.send_all(payload) {
-            self.fail(trouble);
+            self.failures = failures.saturating_add(1);
+            self.trouble = trouble;
         }
     }
 
     fn recv(&mut self, buffer: &mut [u8]) -> usize {
+        let failures = self.failures;
         match self.await_payload(Duration::ZERO, buffer) {
             Ok(count) => count,
             Err(error) => {
-                self.fail(Trouble::of(&error));
+                self.failures = failures.saturating_add(1);
+                self.trouble = Trouble::of(&error);
                 0
             }
         }
     }
 
     fn recv_within(&mut self, waited: Duration, buffer: &mut [u8]) -> Option<usize> {
+        let failures = self.failures;
         match self.await_payload(waited, buffer) {
             Ok(count) => Some(count),
             Err(error) if error.kind() == ErrorKind::WouldBlock => None,
             Err(error) => {
-                self.fail(Trouble::of(&error));
+                self.failures = failures.saturating_add(1);
+                self.trouble = Trouble::of(&error);
                 None
             }
         }
