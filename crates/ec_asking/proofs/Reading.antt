@@ -1,12 +1,12 @@
 -- A question past slaves: a read of the AL status changes no slave, and brings what the slave's registers show.
-use Rattle.std.proofs.Common.{ℕ, suc, ◌+◌, ◌*◌, ◌/◌, ◌%◌, ◌<◌, ◌≤◌, ◌≡◌, ◌≢◌, List, [], ◌∷◌, length, Bool, true, false, Some, None, refl, sym, ◌∙◌, ap, inl, inr, arith, slice_index, set}
+use Rattle.std.proofs.Common.{ℕ, suc, ◌+◌, ◌%◌, ◌<◌, ◌≤◌, ◌≡◌, ◌≢◌, List, [], ◌∷◌, length, Bool, true, false, Some, refl, sym, ◌∙◌, ap, inl, inr, arith, slice_index}
 use Rattle.std.specs.Prelude.{slice_get}
 use Rattle.std.specs.Int.{from_bool}
 use Rattle.std.proofs.lemmas.Bool.{cases_eq, eq-eqb}
 use Rattle.ec_bits.proofs.AnyLaws.{any_below_from, if_true}
 use Rattle.ec_frame.specs.declared.command.Command.{Command}
 use Rattle.ec_frame.specs.declared.command.Command.TheVariants.{Fprd, Nop}
-use Rattle.ec_slave.specs.Interface.{Datagram, IsDatagram, Met, OnlyReads, SlaveState, Window, adp_after, adp_of, ado_of, byte_at, byte_read, datagram_met, is_joining, is_reading, is_writing, may_read_byte, meets, physical_after, updated, role_of, slave_met, some_byte_read, station_of, touches, window_of}
+use Rattle.ec_slave.specs.Interface.{Datagram, IsDatagram, Met, OnlyReads, SlaveState, adp_after, adp_of, ado_of, byte_at, datagram_met, is_joining, is_reading, is_writing, may_read_byte, role_of, slave_met, some_byte_read, station_of, touches, window_of}
 use Rattle.ec_slave.specs.Meeting.{passes}
 use Rattle.ec_slave.proofs.Commands.PassedBy.{other_station_passes}
 use Rattle.ec_slave.proofs.Memory.WritesByByte.{reads_by_byte}

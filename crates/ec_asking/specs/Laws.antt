@@ -5,7 +5,7 @@ use Rattle.ec_slave.specs.Physical.{byte_at}
 use Rattle.ec_start.specs.Actions.{station}
 use Rattle.ec_ring.specs.Rings.{passes_ring}
 use Rattle.ec_asking.specs.declared.question.Question.TheVariants.{Status}
-use Rattle.ec_asking.specs.Questions.{IsAnswerTo, question_frame, told_in}
+use Rattle.ec_asking.specs.Questions.{question_frame, told_in}
 
 -- The frame that reads an AL status leaves all slaves as they are.
 abbrev pub StatusIsOnlyRead : Type 0

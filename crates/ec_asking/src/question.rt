@@ -1,8 +1,7 @@
 //! The questions, and the frame of each.
-ghost use Rattle.std.specs.Prelude.{◌≡◌, ◌<◌, ◌≤◌, length};
+ghost use Rattle.std.specs.Prelude.{◌≡◌};
 ghost use Rattle.ec_frame.specs.Building.{bare_payload};
 ghost use Rattle.ec_frame.specs.Frame.{IsFrame};
-ghost use Rattle.ec_start.specs.Actions.{station};
 ghost use Rattle.ec_asking.specs.Questions.{IsAskable, datagram_of, question_frame};
 
 use ec_frame::{Command, Frame, FrameName, Sent, address_of, index_of, write_pair};

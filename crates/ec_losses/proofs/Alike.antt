@@ -5,7 +5,7 @@ use Rattle.ec_frame.specs.Frame.{Payload}
 use Rattle.ec_link.specs.Plan.{PlanState, part_at}
 use Rattle.ec_cycle.specs.Closing.{ReturnedPart, inputs_closed, returned_part_of, report_of}
 use Rattle.ec_cycle.specs.Master.{Answers, Begun, IsAnswer, IsTaken, MasterState, OpenCycle, closed, with_returned}
-use Rattle.ec_losses.specs.Losses.{Keeps, if_kept}
+use Rattle.ec_losses.specs.Losses.{Keeps}
 
 -- ---- one payload
 

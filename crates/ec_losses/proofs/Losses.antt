@@ -1,15 +1,15 @@
 -- A cycle over a wire and one of the world end alike, if both masters keep the same payloads.
-use Rattle.std.proofs.Common.{◌≡◌, ◌∙◌, ℕ, List, true, Some, Ok, refl, sym, ap, subst}
-use Rattle.ec_cycle.specs.Closing.{ReturnedPart, ReportState, report_of}
+use Rattle.std.proofs.Common.{◌≡◌, ◌∙◌, true, Some, refl, sym, ap, subst}
+use Rattle.ec_cycle.specs.Closing.{report_of}
 use Rattle.ec_cycle.specs.Master.{MasterState, OpenCycle, closed}
-use Rattle.ec_world.specs.World.{ByStart, Closes, GivesUp, WorldState, awaits, is_up}
-use Rattle.ec_losses.specs.Losses.{IsWireCycle, IsWorldCycle, Keeps, LossesAreLosses}
+use Rattle.ec_world.specs.World.{Begins, Closes, GivesUp, WorldState, awaits, is_up}
+use Rattle.ec_losses.specs.Losses.{Keeps, LossesAreLosses}
 use Rattle.ec_losses.proofs.Alike.{AreAlike, all_alike, begun_alike, closed_alike, keeps_all, open_same, reported_alike}
 use Rattle.ec_losses.proofs.Passing.{all_left, by_master, kept_given, up_rests}
 
 pub losses_are_losses : LossesAreLosses
 losses_are_losses w v kept report after h g =
-    let begins = h.begins.happens refl in
+    let begins : Begins w h.begun = h.begins.happens refl in
     let up : is_up h.begun.start ≡ true = ap (λ (x : WorldState). is_up x.start) begins.is ∙ h.up in
     let left = all_left h.events h.begun h.back h.last up h.brings in
     let kept_last : h.last.master ≡ h.master = kept_given h.back h.begun.master kept h.master h.last.master h.keeps left.given in

@@ -1,12 +1,15 @@
 -- The master of a world while frames pass: it is given what comes back, and nothing else happens to it.
-use Rattle.std.proofs.Common.{◌≡◌, ◌∙◌, ℕ, List, [], ◌∷◌, ◌++◌, Bool, true, false, Option, Some, None, refl, sym, ap, subst}
+use Rattle.std.proofs.Common.{◌≡◌, ◌∙◌, ℕ, ◌+◌, List, [], ◌∷◌, ◌++◌, set, Bool, true, false, Option, Some, None, refl, sym, ap, subst}
+use Rattle.ec_slave.specs.Application.{output_taken}
+use Rattle.ec_slave.specs.Faulting.{faulted}
+use Rattle.ec_slave.specs.Serving.{served}
+use Rattle.ec_slave.specs.State.{power_on}
 use Rattle.ec_cycle.specs.Master.{IsTaken, MasterState}
 use Rattle.ec_start.specs.declared.phase.Phase.{Phase}
 use Rattle.ec_start.specs.declared.phase.Phase.TheVariants.{Idle, Sent, Ready, Failed}
-use Rattle.ec_start.specs.Running.{StartState}
 use Rattle.ec_world.specs.declared.event.Event.{Event}
 use Rattle.ec_world.specs.declared.event.Event.TheVariants.{StartNext, Set, Begin, Pass, Lose, Return, Close, Serve, AppPut, AppGet, Fault, Reset}
-use Rattle.ec_world.specs.World.{ByStart, Flight, IsStep, Returns, StartReturns, WorldState, awaits, flight_at, is_up, phase_awaits, phase_ready}
+use Rattle.ec_world.specs.World.{ByStart, Flight, Gets, IsStep, Passes, Puts, Returns, StartReturns, WorldState, awaits, flight_at, is_up, phase_awaits, phase_ready, slave_of, with_slave}
 use Rattle.ec_losses.specs.Losses.{Brings, Keeps, brought, bytes_in, is_passage}
 use Rattle.ec_losses.proofs.Alike.{one_outcome}
 
@@ -47,15 +50,22 @@ came_back w k x h = record {
   given = λ more n rest. subst (λ (o : Option Flight). Given w.master (bytes_in o ++ more) n) (sym h.there) (h.is_accepted, x.master, h.master, rest);
 }
 
+left_as : (w x y : WorldState) → x ≡ y → y.start ≡ w.start → y.master ≡ w.master → IsLeft w [] x
+left_as w x y is start master = left_alone w x (ap (λ (v : WorldState). v.start) is ∙ start) (ap (λ (v : WorldState). v.master) is ∙ master)
+
 one_left : (w : WorldState) (e : Event) (x : WorldState) → is_up w.start ≡ true → is_passage e ≡ true → IsStep w e x true → IsLeft w (brought w e) x
-one_left w (Pass k) x up passes s = let h = s.happens refl in left_alone w x (ap (λ (v : WorldState). v.start) h.is) (ap (λ (v : WorldState). v.master) h.is)
-one_left w (Lose k) x up passes s = let h = s.happens refl in left_alone w x (ap (λ (v : WorldState). v.start) h) (ap (λ (v : WorldState). v.master) h)
+one_left w (Pass k) x up passes s =
+    let h : Passes w k x = s.happens refl in
+    left_as w x (record w { slaves = x.slaves; slots = set w.slots k (Some (record h.flight { bytes = h.bytes; passed = h.flight.passed + 1 })) }) h.is refl refl
+one_left w (Lose k) x up passes s = left_as w x (record w { slots = set w.slots k None }) (s.happens refl) refl refl
 one_left w (Return k) x up passes s = came_back w k x (by_master (awaits w.start) (StartReturns w k x) (Returns w k x) (up_rests w up) (s.happens refl))
-one_left w (Serve k) x up passes s = let h = s.happens refl in left_alone w x (ap (λ (v : WorldState). v.start) h) (ap (λ (v : WorldState). v.master) h)
-one_left w (AppPut k i b) x up passes s = let h = s.happens refl in left_alone w x (ap (λ (v : WorldState). v.start) h.is) (ap (λ (v : WorldState). v.master) h.is)
-one_left w (AppGet k i) x up passes s = let h = s.happens refl in left_alone w x (ap (λ (v : WorldState). v.start) h.is) (ap (λ (v : WorldState). v.master) h.is)
-one_left w (Fault k) x up passes s = let h = s.happens refl in left_alone w x (ap (λ (v : WorldState). v.start) h) (ap (λ (v : WorldState). v.master) h)
-one_left w (Reset k) x up passes s = let h = s.happens refl in left_alone w x (ap (λ (v : WorldState). v.start) h) (ap (λ (v : WorldState). v.master) h)
+one_left w (Serve k) x up passes s = left_as w x (with_slave w k (served (slave_of w k))) (s.happens refl) refl refl
+one_left w (AppPut k i b) x up passes s = let h : Puts w k i b x = s.happens refl in left_as w x (with_slave w k h.slave) h.is refl refl
+one_left w (AppGet k i) x up passes s =
+    let h : Gets w k i x = s.happens refl in
+    left_as w x (record (with_slave w k (output_taken (slave_of w k) (Some h.got))) { got = Some h.got.byte }) h.is refl refl
+one_left w (Fault k) x up passes s = left_as w x (with_slave w k (faulted (slave_of w k))) (s.happens refl) refl refl
+one_left w (Reset k) x up passes s = left_as w x (with_slave w k (power_on (slave_of w k).kind (slave_of w k).identity)) (s.happens refl) refl refl
 one_left w StartNext x up passes s = let f : false ≡ true = passes in cc
 one_left w (Set v y) x up passes s = let f : false ≡ true = passes in cc
 one_left w Begin x up passes s = let f : false ≡ true = passes in cc

@@ -1,5 +1,5 @@
 -- AL states that a master reads by frames, beside those of the world.
-use Rattle.std.specs.Prelude.{◌≡◌, ◌≢◌, ◌<◌, ◌≤◌, ℕ, length}
+use Rattle.std.specs.Prelude.{◌≡◌, ◌≢◌, ◌<◌, ℕ, length}
 use Rattle.ec_slave.specs.State.{station_of}
 use Rattle.ec_ring.specs.Rings.{passes_ring}
 use Rattle.ec_start.specs.Actions.{station}

@@ -1,6 +1,6 @@
 -- What a session asks over a wire.
 use Rattle.std.proofs.Common.{ℕ, zero, suc, ◌+◌, ◌≡◌, ◌∙◌, ◌<◌, ◌≤◌, List, [], ◌∷◌, ◌++◌, length, set, take, max, nat_lt, Bool, true, false, if◌then◌else◌, Option, None, Result, Ok, Err, refl, sym, ap, subst, arith}
-use Rattle.std.specs.Prelude.{slice_get}
+use Rattle.std.specs.Prelude.{IsErrAnd, slice_get}
 use Rattle.std.proofs.lemmas.List.{length-take, take_all, take_more_set}
 use Rattle.ec_link.specs.declared.settings.SlavePlan.{SlavePlan}
 use Rattle.ec_start.specs.Running.{StartState, begun}
@@ -9,11 +9,10 @@ use Rattle.ec_wire.specs.declared.error.RunError.{RunError}
 use Rattle.ec_wire.specs.declared.error.SocketFault.{SocketFault}
 use Rattle.ec_wire.specs.Wires.{WireState}
 use Rattle.ec_asking.specs.declared.answer.AlStatus.{AlStatus}
-use Rattle.ec_asking.specs.declared.question.Question.TheVariants.{Init}
-use Rattle.ec_session.specs.Asking.{AreRead, AsksInit, IsQuestioned, IsReadPart, ReadsBy, ReadsStates, ReadsStatus, Stops, cleared}
+use Rattle.ec_session.specs.Asking.{AreRead, AsksInit, IsReadPart, ReadsBy, ReadsStates, ReadsStatus, Stops, cleared, stopped}
 use Rattle.ec_session.specs.Laws.{ClearingKeepsTheRest, ReadsKeepTheRest, StatusReadsKeepTheRest}
 use Rattle.ec_session.specs.Sessions.{SessionState, outputs_cleared, zero_set, zeros_set}
-use Rattle.ec_session.specs.Wired.{LosesAndCycles, run_refusal, start_again}
+use Rattle.ec_session.specs.Wired.{LosesAndCycles, run_refusal}
 
 -- ---- the outputs become 0
 
@@ -89,6 +88,11 @@ read_cut s mid t w x v states k fault inside read h =
     let here : length (take k states) ≡ k = let l = length-take k states in omega (arith, l) in
     record { told = take k states; mid = mid; between = x; read = read; fault = fault; cut = subst (λ (n : ℕ). ReadsStatus n mid x t v (Err fault)) (sym here) h }
 
+-- what is returned then
+pub part_read : (P : SocketFault → Type 0) (s t : SessionState) (w v : WireState) (told : List (Option AlStatus)) (r : Result Unit SocketFault) → IsErrAnd r P → IsReadPart s w t v → ReadsStates s w told t v r
+part_read P s t w v told (Ok done) why part = absurd why
+part_read P s t w v told (Err fault) why part = part
+
 -- all of them
 pub read_all : (s t : SessionState) (w v : WireState) (states : List (Option AlStatus)) (k : ℕ) → length states ≤ k → AreRead 0 s w (take k states) t v → AreRead 0 s w states t v
 read_all s t w v states k all read = subst (λ (told : List (Option AlStatus)). AreRead 0 s w told t v) (take_all k states all) read
@@ -99,19 +103,19 @@ read_all s t w v states k all read = subst (λ (told : List (Option AlStatus)). 
 pub cleared_refusal : (s : SessionState) → run_refusal (cleared s) ≡ run_refusal s
 cleared_refusal s = ap (λ (m : MasterState). run_refusal (record s { master = m })) (clearing_keeps_the_rest s.master)
 
--- no call of the wire was a fault as all slaves were asked: a start-up begins again
-pub init_asked : (s mid : SessionState) (w v : WireState) (told : Option AlStatus) (start : StartState) (number : ℕ) → IsQuestioned Init s w mid v (Ok told) → start ≡ begun mid.startup.plan number
-    → number ≡ max mid.startup.next mid.master.next → mid.startup.plan ≡ mid.master.plan.slaves → AsksInit s w (record mid { startup = start }) v (Ok tt)
-init_asked s mid w v told start number asked is most same =
-    let again : start ≡ start_again mid =
-    is ∙ (ap (λ (n : ℕ). begun mid.startup.plan n) most ∙ ap (λ (ps : List SlavePlan). begun ps (max mid.startup.next mid.master.next)) same) in
-    record { told = Ok told; mid = mid; asked = asked; ends = (ap (λ (x : StartState). record mid { startup = x }) again, refl) }
+-- a start-up of the master's plan begins again, with a number that is new
+pub begun_again : (s : SessionState) (start : StartState) (number : ℕ) → s.startup.plan ≡ s.master.plan.slaves → start ≡ begun s.startup.plan number → number ≡ max s.startup.next s.master.next → record s { startup = start } ≡ stopped s
+begun_again s start number same is most =
+    ap (λ (x : StartState). record s { startup = x })
+    (is ∙ (ap (λ (n : ℕ). begun s.startup.plan n) most ∙ ap (λ (ps : List SlavePlan). begun ps (max s.startup.next s.master.next)) same))
 
 -- the cycle had a fault, and nothing is asked
-pub stop_cut : (s empty mid : SessionState) (w v : WireState) (error : RunError) → empty ≡ cleared s → (run_refusal empty ≡ None → LosesAndCycles empty w mid v (Err error)) → run_refusal s ≡ None → Stops s w mid v (Err error)
-stop_cut s empty mid w v error is ran free =
+pub stop_cut : (s empty mid : SessionState) (w v : WireState) (r : Result Unit RunError) (error : RunError) → IsErrAnd r (λ e. e ≡ error) → empty ≡ cleared s
+    → (run_refusal empty ≡ None → LosesAndCycles empty w mid v (Err error)) → run_refusal s ≡ None → Stops s w mid v r
+stop_cut s empty mid w v (Ok done) error why is ran free = absurd why
+stop_cut s empty mid w v (Err e) error why is ran free =
     let cycles : LosesAndCycles (cleared s) w mid v (Err error) = subst (λ (x : SessionState). run_refusal x ≡ None → LosesAndCycles x w mid v (Err error)) is ran (cleared_refusal s ∙ free) in
-    record { mid = mid; between = v; ran = Err error; cycles = cycles; goes_on = (refl, refl, refl) }
+    record { mid = mid; between = v; ran = Err e; cycles = subst (λ (x : RunError). LosesAndCycles (cleared s) w mid v (Err x)) (sym why) cycles; goes_on = (refl, refl, refl) }
 
 -- or all slaves are asked
 pub stop_on : (s empty mid t : SessionState) (w x v : WireState) (answer : Result Unit RunError) → empty ≡ cleared s → (run_refusal empty ≡ None → LosesAndCycles empty w mid x (Ok tt)) → AsksInit mid x t v answer → run_refusal s ≡ None

@@ -97,8 +97,11 @@ cycled s t w v r after answer up run is answers free = record { ended = r; after
 
 -- what is returned of it is a fault of the wire exactly if there was one
 wire_ended : (r : Result ReportState RunError) (answer : Result Unit RunError) → answer ≡ without_report r → answer ≡ Err Wire → r ≡ Err Wire
-wire_ended (Ok report) answer is wire = absurd (let e : without_report (Ok report) ≡ Err Wire = sym is ∙ wire in cc)
-wire_ended (Err error) answer is wire = let e : without_report (Err error) ≡ Err Wire = sym is ∙ wire in let f : error ≡ Wire = cc in ap (λ (x : RunError). Err x) f
+wire_ended (Ok report) answer is wire = absurd (let e : Ok tt ≡ Err Wire = sym is ∙ wire in cc)
+wire_ended (Err error) answer is wire =
+    let e : Err error ≡ Err Wire = sym is ∙ wire in
+    let same : error ≡ Wire = cc in
+    ap (λ (x : RunError). Err x) same
 
 -- after a fault of the wire only a number is used up
 pub faulted : (s t : SessionState) (w v : WireState) (r : Result ReportState RunError) (after : MasterState) (answer : Result Unit RunError) → is_up s.startup.phase ≡ true → (begin_refusal s.master ≡ None → IsRun s.master w v r after)

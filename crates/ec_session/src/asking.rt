@@ -3,7 +3,7 @@ ghost use Rattle.std.specs.Prelude.{◌≡◌, length, None, Some, Err};
 ghost use Rattle.ec_cycle.specs.declared.error.CycleError.{CycleError};
 ghost use Rattle.ec_wire.specs.declared.error.RunError.TheVariants.{Refused};
 ghost use Rattle.ec_asking.specs.Questions.{IsAskable};
-ghost use Rattle.ec_session.specs.Asking.{AsksInit, IsQuestioned, ReadsStates, ReadsStatus, Stops};
+ghost use Rattle.ec_session.specs.Asking.{AsksInit, IsQuestioned, ReadsStates, ReadsStatus, Stops, stopped};
 ghost use Rattle.ec_session.specs.Wired.{run_refusal};
 
 use crate::session::Session;
@@ -49,7 +49,8 @@ impl Session {
         ensures read { ReadsStates self.old (W.state wire.old) states.new self.new (W.state wire.new) result }
     {
         for slave in 0..states.len() {
-            states[slave] = self.read_status(wire, clock, slave)?;
+            let told = self.read_status(wire, clock, slave)?;
+            states[slave] = told;
         }
         Ok(())
     }
@@ -81,12 +82,19 @@ impl Session {
     {
         match self.question(wire, clock, Question::Init) {
             Ok(_) => {
-                let number = self.next_start();
-                self.startup.begin_again(number);
+                self.begin_start();
                 Ok(())
             }
             Err(_) => Err(RunError::Wire),
         }
+    }
+
+    /// Begins a start-up: no cycle can be run before it has ended Ready.
+    fn begin_start(&mut self)
+        ensures { self.new ≡ stopped self.old }
+    {
+        let number = self.next_start();
+        self.startup.begin_again(number);
     }
 
     /// Asks a question over a wire, under the next count of questions.

@@ -1,8 +1,5 @@
 //! A question over a wire.
-ghost use Rattle.std.specs.Prelude.{◌≡◌, ◌≤◌, List, ℕ, [], length, Ok, Err, IfOk};
-ghost use Rattle.ec_wire.specs.Losing.{max_heard};
-ghost use Rattle.ec_wire.specs.Wires.{Carries, is_fault};
-ghost use Rattle.ec_wire.specs.Asked.{AreHeard, Asks, Hears};
+ghost use Rattle.ec_wire.specs.Asked.{Asks, Hears};
 ghost use Rattle.ec_asking.specs.Questions.{IsAskable};
 
 use crate::error::SocketFault;

@@ -1,6 +1,6 @@
-use Rattle.std.proofs.Common.{◌≡◌, ◌∙◌, ap, arith, length}
+use Rattle.std.proofs.Common.{◌∙◌, ap, arith}
 use Rattle.ec_cycle.specs.Master.{MasterState}
-use Rattle.ec_session.proofs.Asked.{all_zero, next_zero, zeros_plan}
+use Rattle.ec_session.proofs.Asked.{next_zero, zeros_plan}
 use Rattle.ec_session.proofs.session.clear_outputs.Goals as goal
 
 pub loop-variable-preserved : goal.loop-variable-preserved
@@ -10,3 +10,6 @@ loop-variable-preserved c =
       cleared = next_zero c.args.master.now c.loop-variable.master c.clear_output.new.master c.loop-variable.variable b.cleared c.clear_output.ensures;
       end = b.end;
     }
+
+pub returns-clause-plan : goal.returns-clause-plan
+returns-clause-plan c = ap (λ (m : MasterState). m.plan) c.loop-variable.invariant.cleared ∙ zeros_plan c.args.master.now c.loop-variable.variable

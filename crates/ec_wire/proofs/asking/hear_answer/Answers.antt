@@ -1,4 +1,4 @@
-use Rattle.std.proofs.Common.{ℕ, ◌≡◌, ◌∙◌, ◌++◌, ◌∷◌, [], take}
+use Rattle.std.proofs.Common.{ℕ, ◌∙◌, ◌++◌, ◌∷◌, [], take}
 use Rattle.ec_wire.specs.Asked.{Answers}
 use Rattle.ec_wire.specs.Wires.{Carries}
 use Rattle.ec_wire.proofs.WireCalls.{carries-lost, carries-then}

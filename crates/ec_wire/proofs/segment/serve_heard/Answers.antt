@@ -1,4 +1,4 @@
-use Rattle.std.proofs.Common.{◌≡◌, ◌∙◌, ℕ, ◌∷◌, [], take, refl, sym, inl, inr, arith}
+use Rattle.std.proofs.Common.{◌∙◌, ℕ, ◌∷◌, [], take, refl, sym, inl, inr, arith}
 use Rattle.ec_wire.specs.Wires.{Carries}
 use Rattle.ec_wire.proofs.WireCalls.{carries-then, fault-from, one_fault}
 use Rattle.ec_wire.proofs.Hearing.{none_here, some_here}

@@ -1,6 +1,6 @@
 use Rattle.std.proofs.Common.{◌≡◌, length, take}
 use Rattle.ec_session.specs.Asking.{AreRead}
-use Rattle.ec_session.proofs.asking.Session.read_states.Given as goal
+use Rattle.ec_session.proofs.session.Session.read_states.Given as goal
 
 abbrev pub invariant-loop-slave : goal.invariant-loop-slave
 invariant-loop-slave g l = record {
