@@ -119,7 +119,7 @@ unopened (Ok done) trouble old quiet told is same = absurd is
 unopened (Err e) trouble old quiet told is same = record {
   refused = subst IsSocket (sym is) tt;
   printed = refl;
-  told = same;
+  stderr = same;
 }
 
 pub opened_serves : (r : Result Unit Refusal) (frames : Option ℕ) (opened closed : WireState) (old new : OutputState) (may_produce : List ℕ → List ℕ → Type 0) (first last : List SlaveState)

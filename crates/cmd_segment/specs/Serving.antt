@@ -64,10 +64,10 @@ pub record ServesOn (descriptor : Option ℕ) (octets : List ℕ) (port : ℕ) (
   pub serves : ServesOpened frames first old new ended
 
 -- there is no such socket, and nothing is printed or told
-pub record IsUnopened (old new quiet stderr : OutputState) (ended : Result Unit Refusal) : Type 0 where
+pub record IsUnopened (old new quiet noted : OutputState) (ended : Result Unit Refusal) : Type 0 where
   pub refused : IsErrAnd ended IsSocket
   pub printed : new ≡ old
-  pub stderr : stderr ≡ quiet
+  pub stderr : noted ≡ quiet
 
 -- there is no memory, and nothing is printed or told
 abbrev pub IsUnmade : (old new quiet stderr : OutputState) → Result Unit Refusal → Type 0

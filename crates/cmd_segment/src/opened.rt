@@ -17,7 +17,7 @@ use std::os::fd::RawFd;
 use std::time::Duration;
 
 /// The most bytes of a printed line.
-const LINE_SIZE: usize = 80;
+const LINE_SIZE: usize = 128;
 
 /// A segment's wire.
 #[derive(Drop)]

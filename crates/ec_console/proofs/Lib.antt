@@ -18,3 +18,5 @@ pub mod EndLemmas
 pub mod MapLemmas
 -- reasons between what lines print
 pub mod ReasonLemmas
+-- a line that was taken
+mod TakenLines

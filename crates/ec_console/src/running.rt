@@ -92,9 +92,9 @@ pub fn obey_taken<T: Target, W: Write + Drop>(
     output: &mut OutputStream<W>,
 ) -> Result<u64, Refusal>
     ensures all { IfOk result (λ count. (unmet : ℕ) × (count ≡ counted unmet)
-        × ((line : List ℕ) → IsTaken line taken.entry → DoesTaken T.says (reading_at T.takes (T.table target.old)) target.old number line
+        × ((line : List ℕ) → IsTaken line taken → DoesTaken T.says (reading_at T.takes (T.table target.old)) target.old number line
         target.new unmet output.old output.new)) }
-    ensures part { OnErr result ((line : List ℕ) → IsTaken line taken.entry
+    ensures part { OnErr result ((line : List ℕ) → IsTaken line taken
         → StopsIn T.says (reading_at T.takes (T.table target.old)) target.old number line target.new output.old output.new) }
     ensures late { IfErr result (IsLate false output.new) }
     ensures table { T.table target.new ≡ T.table target.old }
@@ -209,7 +209,7 @@ fn reading_of<T: Target>(
     number: usize,
     taken: NextLine,
 ) -> Result<Option<Reading>, AllocError>
-    ensures { IfOk result (λ found. (line : List ℕ) → IsTaken line taken.entry
+    ensures { IfOk result (λ found. (line : List ℕ) → IsTaken line taken
         → found ≡ reading_if (reading_at T.takes (T.table target.now) number) line) }
 {
     match taken {

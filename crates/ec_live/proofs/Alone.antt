@@ -1,39 +1,14 @@
 -- A run without lines.
-use Rattle.std.proofs.Common.{◌≡◌, ◌∙◌, inl, inr, ℕ, List, [], ◌∷◌, ◌++◌, map, Bool, true, false, Option, refl, sym, ap, subst, append-nil, append_assoc, arith}
-use Rattle.std.proofs.lemmas.List.{length-append}
+use Rattle.std.proofs.Common.{◌≡◌, ◌∙◌, inl, inr, ℕ, List, [], ◌∷◌, ◌++◌, map, Bool, true, false, Option, refl, sym, ap, subst}
 use Rattle.ec_frame.specs.Frame.{IsFrame, Payload as Frame}
 use Rattle.ec_slave.specs.State.{SlaveState}
-use Rattle.ec_wire.specs.Wires.{Carries, Trace, Nothing, Number, Payloads, WireState, grown}
+use Rattle.ec_wire.specs.Wires.{Carries}
 use Rattle.ec_live.specs.Cyclic.{cyclic_part}
 use Rattle.ec_live.specs.Laws.{DropsNone, PassAll}
 use Rattle.ec_live.specs.Living.{MeetsOne, Payload, RunState, Runs}
 use Rattle.ec_live.specs.Meeting.{Meets}
 use Rattle.ec_live.specs.State.{LiveState}
-
--- ---- payloads that a wire carries
-
-grown_none : (told : Trace) → told ≡ grown told []
-grown_none Nothing = refl
-grown_none (Number n) = ap Number (omega arith)
-grown_none (Payloads ps) = ap Payloads (sym (append-nil ps))
-
-grown_twice : (a : Trace) (ps qs : List (List ℕ)) → grown (grown a ps) qs ≡ grown a (ps ++ qs)
-grown_twice Nothing ps qs = refl
-grown_twice (Number n) ps qs = ap Number (let l = length-append ps qs in omega (arith, l))
-grown_twice (Payloads xs) ps qs = ap Payloads (append_assoc xs ps qs)
-
-grown_then : (a b c : Trace) (ps qs : List (List ℕ)) → b ≡ grown a ps → c ≡ grown b qs → c ≡ grown a (ps ++ qs)
-grown_then a b c ps qs g h = h ∙ (ap (λ (x : Trace). grown x qs) g ∙ grown_twice a ps qs)
-
-carries_none : (w v : WireState) → v ≡ w → Carries w v [] []
-carries_none w v same = subst (λ (x : WireState). Carries w x [] []) (sym same) (record { sends = grown_none w.sent; receives = grown_none w.received; faults = omega arith })
-
-carries_then : (u v w : WireState) (xs ys zs ws : List (List ℕ)) → Carries u v xs ys → Carries v w zs ws → Carries u w (xs ++ zs) (ys ++ ws)
-carries_then u v w xs ys zs ws g h = record {
-  sends = grown_then u.sent v.sent w.sent xs zs g.sends h.sends;
-  receives = grown_then u.received v.received w.received ys ws g.receives h.receives;
-  faults = let p = g.faults in let q = h.faults in omega arith;
-}
+use Rattle.ec_live.proofs.Carrying.{carries_nothing, carries_then}
 
 -- ---- payload after payload
 
@@ -75,7 +50,7 @@ pub payloads_alone : (s t : RunState) (payloads : List (List ℕ)) → Runs s (m
 payloads_alone s t [] same none = (
   [],
   (ap (λ (x : RunState). x.live.world.slaves) same, refl),
-  carries_none s.wire t.wire (ap (λ (x : RunState). x.wire) same),
+  carries_nothing s.wire t.wire (ap (λ (x : RunState). x.wire) same),
   ap (λ (x : RunState). x.output) same,
   ap (λ (x : RunState). x.left) same,
 )

@@ -1,6 +1,7 @@
 -- What a payload and a line do to a live segment.
-use Rattle.std.proofs.Common.{◌≡◌, ◌∙◌, inl, inr, ℕ, ◌≢◌, ◌<◌, List, [], ◌∷◌, ◌++◌, length, nat_lt, Bool, true, false, if◌then◌else◌, Option, Some, None, Result, Ok, Err, IfOk, OnErr, refl, sym, ap, subst, arith}
+use Rattle.std.proofs.Common.{◌≡◌, ◌∙◌, inl, inr, ℕ, ◌≢◌, ◌<◌, ◌==◌, ◌&&◌, List, [], ◌∷◌, ◌++◌, length, not, nat_lt, Bool, true, false, if◌then◌else◌, Option, Some, None, Result, Ok, Err, IfOk, OnErr, refl, sym, ap, subst, arith}
 use Rattle.std.specs.Prelude.{codes}
+use Rattle.std.specs.List.{list_all}
 use Rattle.std.proofs.lemmas.List.Elements.{All-cons, All-nil}
 use Rattle.ec_frame.specs.Frame.{IsFrame, Payload}
 use Rattle.ec_ring.specs.Rings.{IsNoFrame}
@@ -38,11 +39,25 @@ meets_refused s t payload none is = inl (record { none = none; is = is; silent =
 pub kept_none : (s : LiveState) (payload : List ℕ) → ((part : Option ℕ) → is_dropped s.drops part ≡ false) → IsReturned s payload
 kept_none s payload none frame spelled = none (cyclic_part s.world.plan.parts frame.datagrams)
 
--- ---- a line
+-- nothing is pending, so it is no frame that is dropped
+pub kept_idle : (s v : LiveState) (payload : List ℕ) (pending : Bool) → v ≡ s → pending ≡ not ((v.drops.any == 0) && list_all (λ n. n == 0) v.drops.parts) → pending ≡ false → IsReturned s payload
+kept_idle s v payload pending is idle none =
+    subst (λ (x : LiveState). IsReturned x payload) is (kept_none v payload (λ part. nothing_dropped v.drops part (sym idle ∙ none)))
 
--- a segment, by its parts
+-- ---- a segment, by its parts
+
 abbrev pub live_of : {S : Type 0} → Simulated S → DropState → ℕ → ℕ → LiveState
 live_of {S} m drops answered refused = record { world = m.world; table = m.table; reasons = m.reasons; drops = drops; answered = answered; refused = refused }
+
+-- a payload that its simulation carries
+pub meets_carried : {S : Type 0} (s : LiveState) (a b : Simulated S) (drops : DropState) (answered refused more : ℕ) (payload answer : List ℕ) → live_of a drops answered refused ≡ s → IsReturned s payload
+    → IsCarried a.world payload b.world answer → b ≡ record a { world = b.world } → more ≡ one_more answered → Meets s payload (live_of b drops more refused) (answer ∷ [])
+meets_carried {S} s a b drops answered refused more payload answer is kept carried others counts =
+    subst (λ (x : LiveState). Meets x payload (live_of b drops more refused) (answer ∷ [])) is
+    (meets_answered (live_of a drops answered refused) (live_of b drops more refused) payload answer b.world (subst (λ (x : LiveState). IsReturned x payload) (sym is) kept) carried
+    (ap (λ (m : Simulated S). live_of m drops more refused) others ∙ ap (λ (n : ℕ). live_of (record a { world = b.world }) drops n refused) counts))
+
+-- ---- a line
 
 -- a line that its simulation obeys
 pub world_obeys : {S : Type 0} (observed : S → WorldState → Event → WorldState → S → Type 0) (a b : Simulated S) (drops : DropState) (answered refused : ℕ) (s : LiveState) (line : Line) (text : List ℕ) (unmet : ℕ)
@@ -68,9 +83,33 @@ part_dropped n k s t line text unmet there h = rw there h
 pub part_missing : (n k : ℕ) (s t : LiveState) (line : Line) (text : List ℕ) (unmet : ℕ) → nat_lt k (length s.drops.parts) ≡ false → SaysNo s line t text unmet → SaysAction (act.LosePart n k) s line t text unmet
 part_missing n k s t line text unmet none h = rw none h
 
+-- an action that isn't the segment's own
+pub says_else : (action : LineAction) (s t : LiveState) (line : Line) (text : List ℕ) (unmet : ℕ) → ((n : ℕ) → action ≢ act.Lose n) → ((n k : ℕ) → action ≢ act.LosePart n k) → action ≢ act.Served
+    → SaysInWorld s line t text unmet → SaysAction action s line t text unmet
+says_else (act.Lose n) s t line text unmet no_lose no_part no_served h = absurd (no_lose n refl)
+says_else (act.LosePart n k) s t line text unmet no_lose no_part no_served h = absurd (no_part n k refl)
+says_else act.Served s t line text unmet no_lose no_part no_served h = absurd (no_served refl)
+says_else _ s t line text unmet no_lose no_part no_served h = h
+
+-- what its simulation says
+pub said_else : {S V E : Type 0} (observed : S → WorldState → Event → WorldState → S → Type 0) (r : Result V E) (text : V → List ℕ) (unmet : V → ℕ) (a b : Simulated S) (drops : DropState) (answered refused : ℕ)
+    (s : LiveState) (line : Line) → live_of a drops answered refused ≡ s → ((n : ℕ) → line.action ≢ act.Lose n) → ((n k : ℕ) → line.action ≢ act.LosePart n k) → line.action ≢ act.Served
+    → IfOk r (λ v. Simulates observed a line b (text v) (unmet v)) → IfOk r (λ v. SaysAction line.action s line (live_of b drops answered refused) (text v) (unmet v))
+said_else {S} {V} {E} observed (Ok v) text unmet a b drops answered refused s line is no_lose no_part no_served h =
+    says_else line.action s (live_of b drops answered refused) line (text v) (unmet v) no_lose no_part no_served (world_obeys observed a b drops answered refused s line (text v) (unmet v) is h)
+said_else {S} {V} {E} observed (Err e) text unmet a b drops answered refused s line is no_lose no_part no_served h = tt
+
+pub unsaid_else : {S V E : Type 0} (observed : S → WorldState → Event → WorldState → S → Type 0) (r : Result V E) (a b : Simulated S) (drops : DropState) (answered refused : ℕ)
+    (s : LiveState) (line : Line) → live_of a drops answered refused ≡ s → ((n : ℕ) → line.action ≢ act.Lose n) → ((n k : ℕ) → line.action ≢ act.LosePart n k) → line.action ≢ act.Served
+    → OnErr r ((text : List ℕ) × (unmet : ℕ) × Simulates observed a line b text unmet)
+    → OnErr r ((text : List ℕ) × (unmet : ℕ) × SaysAction line.action s line (live_of b drops answered refused) text unmet)
+unsaid_else {S} {V} {E} observed (Ok v) a b drops answered refused s line is no_lose no_part no_served h = tt
+unsaid_else {S} {V} {E} observed (Err e) a b drops answered refused s line is no_lose no_part no_served (text, unmet, h) =
+    (text, unmet, says_else line.action s (live_of b drops answered refused) line text unmet no_lose no_part no_served (world_obeys observed a b drops answered refused s line text unmet is h))
+
 -- a text that may stand behind it
-some_words : 63 ∷ [] ≢ []
-some_words is = let e : 63 ∷ [] ≡ [] = is in cc
+some_words : ◌≢◌ {A = List ℕ} (63 ∷ []) []
+some_words is = let e : ◌≡◌ {A = List ℕ} (63 ∷ []) [] = is in cc
 
 no_end : (b : ℕ) → b ≡ 63 → b ≢ 10
 no_end b is end = absurd (omega arith)
@@ -90,3 +129,20 @@ pub some_no : (s t : LiveState) (line : Line) → t ≡ s → (text : List ℕ) 
 some_no s t line same =
     let why = some_why (is_reasoned s.reasons No) in
     (_, 0, says_no s t line _ 0 same (why.0, why.1, refl) refl)
+
+-- a line that names no part of the plan, if there is no memory for its text
+pub some_missing : {S : Type 0} (s : LiveState) (a : Simulated S) (before after : DropState) (answered refused n k : ℕ) (line : Line) → live_of a before answered refused ≡ s → after ≡ before
+    → nat_lt k (length before.parts) ≡ false → (text : List ℕ) × (unmet : ℕ) × SaysAction (act.LosePart n k) s line (live_of a after answered refused) text unmet
+some_missing {S} s a before after answered refused n k line is same none =
+    let t = live_of a after answered refused in
+    let no = some_no s t line (ap (λ (d : DropState). live_of a d answered refused) same ∙ is) in
+    (no.0, no.1, part_missing n k s t line no.0 no.1 (ap (λ (x : LiveState). nat_lt k (length x.drops.parts)) (sym is) ∙ none) no.2)
+
+-- what is said of an error
+pub on_err : {A E : Type 0} (P Q : Type 0) (r : Result A E) → (P → Q) → OnErr r P → OnErr r Q
+on_err {A} {E} P Q (Ok x) f h = h
+on_err {A} {E} P Q (Err e) f h = f h
+
+pub on_any : {A E : Type 0} (P : Type 0) (r : Result A E) → P → OnErr r P
+on_any {A} {E} P (Ok x) h = tt
+on_any {A} {E} P (Err e) h = h

@@ -2,6 +2,8 @@
 pub mod Commands
 -- when no frame is dropped
 pub mod Dropping
+-- payloads that a wire carries
+pub mod Carrying
 -- what a payload and a line do
 pub mod Doing
 -- a run, step after step

@@ -1,10 +1,13 @@
 -- A run of a live segment, step after step.
-use Rattle.std.proofs.Common.{◌≡◌, ◌≢◌, ◌∙◌, ◌⊎◌, inl, inr, ℕ, zero, suc, ◌+◌, ◌-◌, ◌^◌, ◌<◌, ◌==◌, List, [], ◌∷◌, ◌++◌, length, min, take, Bool, true, false, Option, Some, None, Result, Ok, Err, refl, sym, ap, subst, append-nil, add-zero, nat_tests, arith}
+use Rattle.std.proofs.Common.{◌≡◌, ◌≢◌, ◌∙◌, ◌⊎◌, inl, inr, ℕ, zero, suc, ◌+◌, ◌-◌, ◌^◌, ◌<◌, ◌==◌, List, [], ◌∷◌, ◌++◌, length, min, take, Bool, true, false, Option, Some, None, Result, Ok, Err, IfErr, OnOk, refl, sym, ap, subst, add-zero, arith}
 use Rattle.std.specs.Result.{IsErrAnd}
 use Rattle.std.proofs.KnownBytes.{Consumes-nil, Consumes-trans}
+use Rattle.std.proofs.lemmas.Bool.Decides.{nat_tests}
 use Rattle.std.proofs.lemmas.List.Elements.{All-nil}
-use Rattle.ec_lines.specs.Taking.{IsSoFar, TakesLine, TakesPart, max_kept}
-use Rattle.ec_wire.specs.Wires.{Carries, Trace, Nothing, Number, Payloads, WireState, grown, is_fault}
+use Rattle.ec_lines.specs.Taking.{GoesOn, IsSoFar, IsTaken, TakesLine, TakesPart, max_kept}
+use Rattle.ec_lines.specs.declared.lines.NextLine.{NextLine}
+use Rattle.ec_lines.specs.declared.lines.NextLine.TheVariants as taken
+use Rattle.ec_wire.specs.Wires.{Carries, WireState, is_fault}
 use Rattle.ec_wire.specs.declared.trouble.Trouble.{Trouble}
 use Rattle.ec_wire.specs.declared.trouble.Trouble.TheVariants.{Silence}
 use Rattle.ec_console.specs.declared.refusal.Refusal.{Refusal}
@@ -14,10 +17,11 @@ use Rattle.ec_console.specs.Printing.{IsCutOff, IsPrinted, OutputState}
 use Rattle.ec_console.specs.Saying.{IsLate}
 use Rattle.ec_console.specs.Unmet.{counted, ended_by}
 use Rattle.ec_live.specs.Doing.{SaysLive, served_line}
-use Rattle.ec_live.specs.Living.{AreAll, Came, EndsTurns, HasRun, IsCut, Line, LivesOn, MeetsOne, ObeysOne, Payload, RunState, Runs, RunsOut, Step, StopsInLine, line_read, payloads_of}
+use Rattle.ec_live.specs.Living.{AreAll, Came, EndsTurns, HasRun, IsCut, Line, LivesOn, MeetsOne, ObeysOne, Payload, RunState, Runs, RunsOut, Step, StopsInLine, begun, line_read, payloads_of}
 use Rattle.ec_live.specs.Stages.{Closes, FitsLines, FramesLeft, HasCome, IsAt, LinesState, MeetsFault, MeetsSome, ObeysCut, ObeysSome, TurnsEnd, one_less_frame}
 use Rattle.ec_live.specs.Meeting.{Meets}
 use Rattle.ec_live.specs.State.{LiveState}
+use Rattle.ec_live.proofs.Carrying.{same_wire}
 
 -- ---- bytes of the input
 
@@ -33,19 +37,6 @@ none_taken known = ([], Consumes-nil known)
 
 pub taken_more : (a b c : Option (List ℕ)) → TakesPart a b → TakesPart b c → TakesPart a c
 taken_more a b c (xs, first) (ys, next) = (xs ++ ys, Consumes-trans a b c xs ys first next)
-
--- ---- a wire that carries nothing
-
-grown_none : (told : Trace) → grown told [] ≡ told
-grown_none Nothing = refl
-grown_none (Number n) = ap Number (add-zero n)
-grown_none (Payloads ps) = ap Payloads (append-nil ps)
-
-carries_none : (w v : WireState) → Carries w v [] [] → v.failed ≡ w.failed → v ≡ w
-carries_none w v h fine =
-    ap (λ (told : Trace). record { sent = told; received = v.received; failed = v.failed }) (h.sends ∙ grown_none w.sent)
-    ∙ (ap (λ (told : Trace). record { sent = w.sent; received = told; failed = v.failed }) (h.receives ∙ grown_none w.received)
-    ∙ ap (λ (n : ℕ). record { sent = w.sent; received = w.received; failed = n }) fine)
 
 -- ---- counts
 
@@ -65,9 +56,29 @@ fits_part t l m old new h count unmet taken part = record {
 }
 
 -- it goes on, or no more come
-pub goes_on : (s : RunState) (live : LiveState) (output : OutputState) (l m : LinesState) (old new : Option (List ℕ)) → s.live ≡ live → s.output ≡ output → FitsLines s l old → m.count ≡ l.count
+goes_on : (s : RunState) (live : LiveState) (output : OutputState) (l m : LinesState) (old new : Option (List ℕ)) → s.live ≡ live → s.output ≡ output → FitsLines s l old → m.count ≡ l.count
     → m.unmet ≡ l.unmet → TakesPart old new → (m.is_open ≡ true → IsSoFar s.left new max_kept m.part) → ObeysSome s live m new output
 goes_on s live output l m old new a b h count unmet taken part = inl (sym a, sym b, fits_part s l m old new h count unmet taken part)
+
+-- what the code has of lines
+abbrev pub lines_of : List ℕ → ℕ → ℕ → Bool → LinesState
+lines_of part count unmet is_open = record { part = part; count = count; unmet = unmet; is_open = is_open }
+
+-- it goes on
+pub part_taken : (s : RunState) (live : LiveState) (output : OutputState) (l : LinesState) (part kept : List ℕ) (count unmet : ℕ) (is_open : Bool) (old new : Option (List ℕ)) (next : Option NextLine)
+    → lines_of part count unmet is_open ≡ l → is_open ≡ true → TakesPart old new → ((start : Option (List ℕ)) → IsSoFar start old max_kept part → GoesOn start new kept next) → next ≡ None
+    → s.live ≡ live → s.output ≡ output → FitsLines s l old → ObeysSome s live (lines_of kept count unmet is_open) new output
+part_taken s live output l part kept count unmet is_open old new next is opened taken goes none a b h =
+    let fits = subst (λ (x : LinesState). FitsLines s x old) (sym is) h in
+    goes_on s live output (lines_of part count unmet is_open) (lines_of kept count unmet is_open) old new a b fits refl refl taken
+    (λ still. subst (GoesOn s.left new kept) none (goes s.left (fits.part opened)))
+
+-- no more come
+pub none_more : (s : RunState) (live : LiveState) (output : OutputState) (l : LinesState) (part kept : List ℕ) (count unmet : ℕ) (is_open : Bool) (old new : Option (List ℕ)) → lines_of part count unmet is_open ≡ l
+    → TakesPart old new → s.live ≡ live → s.output ≡ output → FitsLines s l old → ObeysSome s live (lines_of kept count unmet false) new output
+none_more s live output l part kept count unmet is_open old new is taken a b h =
+    goes_on s live output (lines_of part count unmet is_open) (lines_of kept count unmet false) old new a b (subst (λ (x : LinesState). FitsLines s x old) (sym is) h) refl refl taken
+    (λ still. let bad : false ≡ true = still in cc)
 
 -- a line is whole, and done
 pub obeys_line : (s : RunState) (live next : LiveState) (before after : OutputState) (l m : LinesState) (old new : Option (List ℕ)) (line : List ℕ) (more unmet : ℕ) → s.live ≡ live → s.output ≡ before
@@ -134,6 +145,55 @@ cuts_line s live next before after l old new n line x a b h taken stops one late
     by refusal.BadHex late = absurd late
     by (refusal.Unmet n) late = absurd late
 
+-- what was taken as no end has bytes
+some_taken : (line : List ℕ) (next : NextLine) → IsTaken line next → (next ≡ taken.End → ⊥) → 0 < length line
+some_taken line taken.End is some = absurd (some refl)
+some_taken line (taken.Text text) is some = is.0
+some_taken line taken.NoText is some = is.0
+
+-- a line that is whole, by what the code has
+pub whole_obeyed : (s : RunState) (live next : LiveState) (before after : OutputState) (l : LinesState) (part kept : List ℕ) (count unmet n more sum : ℕ) (is_open : Bool) (old new : Option (List ℕ)) (took : NextLine)
+    → lines_of part count unmet is_open ≡ l → is_open ≡ true → count < 2 ^ 64 - 1 → n ≡ min (count + 1) (2 ^ 64 - 1) → sum ≡ min (unmet + more) (2 ^ 64 - 1)
+    → ((start : Option (List ℕ)) → IsSoFar start old max_kept part → GoesOn start new kept (Some took)) → (took ≡ taken.End → ⊥)
+    → ((u : ℕ) × (more ≡ counted u) × ((line : List ℕ) → IsTaken line took → DoesTaken SaysLive (line_read live.table) live n line next u before after))
+    → s.live ≡ live → s.output ≡ before → FitsLines s l old → ObeysSome s next (lines_of kept n sum is_open) new after
+whole_obeyed s live next before after l part kept count unmet n more sum is_open old new took is opened few one sums goes some (u, counts, does) a b h = by (goes s.left (fits.part opened))
+  where
+    fits : FitsLines s (lines_of part count unmet is_open) old
+    fits = subst (λ (x : LinesState). FitsLines s x old) (sym is) h
+
+    next_one : n ≡ count + 1
+    next_one = omega arith
+
+    by : GoesOn s.left new kept (Some took) → ObeysSome s next (lines_of kept n sum is_open) new after
+    by (line, takes, fit, none) =
+        obeys_line s live next before after (lines_of part count unmet is_open) (lines_of kept n sum is_open) old new line more u a b fits takes (some_taken line took fit some) (does line fit) next_one counts sums none
+
+pub whole_cut : (s : RunState) (live next : LiveState) (before after : OutputState) (l : LinesState) (part kept : List ℕ) (count unmet n : ℕ) (is_open : Bool) (old new : Option (List ℕ)) (took : NextLine) (x : Refusal)
+    → lines_of part count unmet is_open ≡ l → is_open ≡ true → count < 2 ^ 64 - 1 → n ≡ min (count + 1) (2 ^ 64 - 1)
+    → ((start : Option (List ℕ)) → IsSoFar start old max_kept part → GoesOn start new kept (Some took))
+    → ((line : List ℕ) → IsTaken line took → StopsIn SaysLive (line_read live.table) live n line next before after) → IsLate false after x
+    → s.live ≡ live → s.output ≡ before → FitsLines s l old → ObeysCut s next after x
+whole_cut s live next before after l part kept count unmet n is_open old new took x is opened few one goes stops late a b h = by (goes s.left (fits.part opened))
+  where
+    fits : FitsLines s (lines_of part count unmet is_open) old
+    fits = subst (λ (y : LinesState). FitsLines s y old) (sym is) h
+
+    next_one : n ≡ count + 1
+    next_one = omega arith
+
+    by : GoesOn s.left new kept (Some took) → ObeysCut s next after x
+    by (line, takes, fit, none) = cuts_line s live next before after (lines_of part count unmet is_open) old new n line x a b fits takes (stops line fit) next_one late
+
+-- what is said of an end that is an error
+pub no_done : (P : Type 0) (r : Result Unit Refusal) (x : Refusal) → IsErrAnd r (λ e. e ≡ x) → OnOk r P
+no_done P (Ok done) x is = absurd is
+no_done P (Err e) x is = tt
+
+pub known_err : (P : Refusal → Type 0) (r : Result Unit Refusal) (x : Refusal) → IsErrAnd r (λ e. e ≡ x) → P x → IfErr r P
+known_err P (Ok done) x is h = tt
+known_err P (Err e) x is h = subst P (sym is) h
+
 -- there is no memory for its bytes
 pub cuts_before : (s : RunState) (live : LiveState) (output : OutputState) → s.live ≡ live → s.output ≡ output → ObeysCut s live output refusal.Memory
 cuts_before s live output a b = (s, inl refl, a, b)
@@ -155,7 +215,7 @@ line_more (Payload q ∷ cs) l = let more = line_more cs l in omega (arith, more
 line_more (Line k ∷ cs) l = line_more cs l
 
 one_less : (j k m : ℕ) → (Some j ≡ Some 0 → ⊥) → j + k ≡ m → j - 1 + (k + 1) ≡ m
-one_less 0 k m some is = absurd (some refl)
+one_less zero k m some is = absurd (some refl)
 one_less (suc i) k m some is = omega arith
 
 frame_less : (frames now : Option ℕ) (k : ℕ) → (now ≡ Some 0 → ⊥) → FramesLeft frames k now → FramesLeft frames (k + 1) (one_less_frame now)
@@ -174,6 +234,17 @@ none_come frames s live wire lines left output at = record { came = []; last = s
     all None = tt
     all (Some n) = add-zero n
 
+-- by the same parts
+pub come_as : (frames : Option ℕ) (s : RunState) (live live2 : LiveState) (w w2 : WireState) (l l2 : LinesState) (left left2 : Option (List ℕ)) (output output2 : OutputState) (now now2 : Option ℕ)
+    → live2 ≡ live → w2 ≡ w → l2 ≡ l → left2 ≡ left → output2 ≡ output → now2 ≡ now → HasCome frames s live w l left output now → HasCome frames s live2 w2 l2 left2 output2 now2
+come_as frames s live live2 w w2 l l2 left left2 output output2 now now2 a b c d e f h =
+    subst (λ (x : LiveState). HasCome frames s x w2 l2 left2 output2 now2) (sym a)
+    (subst (λ (x : WireState). HasCome frames s live x l2 left2 output2 now2) (sym b)
+    (subst (λ (x : LinesState). HasCome frames s live w x left2 output2 now2) (sym c)
+    (subst (λ (x : Option (List ℕ)). HasCome frames s live w l x output2 now2) (sym d)
+    (subst (λ (x : OutputState). HasCome frames s live w l left x now2) (sym e)
+    (subst (λ (x : Option ℕ). HasCome frames s live w l left output x) (sym f) h)))))
+
 -- a payload comes, or nothing
 pub frame_comes : (frames now later : Option ℕ) (s : RunState) (live next : LiveState) (w v : WireState) (lines : LinesState) (left : Option (List ℕ)) (output : OutputState)
     → HasCome frames s live w lines left output now → (now ≡ Some 0 → ⊥) → MeetsSome live next w v now later → HasCome frames s next v lines left output later
@@ -183,7 +254,7 @@ frame_comes frames now later s live next w v lines left output h some (inl (noth
   runs = h.runs;
   at = record {
     live = h.at.live ∙ sym nothing.same;
-    wire = h.at.wire ∙ sym (carries_none w v nothing.carried nothing.fine);
+    wire = h.at.wire ∙ sym (same_wire w v nothing.carried nothing.fine);
     output = h.at.output;
     lines = h.at.lines;
   };
@@ -249,7 +320,7 @@ all_came frames now s live w lines left output none h = record {
   where
     all : (f : Option ℕ) → FramesLeft f (length (payloads_of h.came)) (Some 0) → AreAll f h.came
     all None is = tt
-    all (Some m) is = is
+    all (Some m) is = let e : 0 + length (payloads_of h.came) ≡ m = is in omega arith
 
 -- a call was refused, and nothing else was done
 pub stops : (frames now : Option ℕ) (s : RunState) (live : LiveState) (w : WireState) (lines : LinesState) (left : Option (List ℕ)) (output : OutputState) (trouble : Trouble)
@@ -353,11 +424,13 @@ by_count : (b : Bool) (r : Result Unit Refusal) (frames : Option ℕ) (s : RunSt
 by_count true r frames s left new count unmet is ended counts out =
     let none : count ≡ 0 = grind (arith, nat_tests) in
     let zero : unmet ≡ 0 = omega arith in
-    subst (LivesOn frames s left new) (sym (ended ∙ rw is refl)) (subst (RunsOut frames s left new) zero out)
+    let end : ended_by count ≡ Ok tt = rw is refl in
+    subst (LivesOn frames s left new) (sym (ended ∙ end)) (subst (RunsOut frames s left new) zero out)
 by_count false r frames s left new count unmet is ended counts out =
     let more : 0 < count = grind (arith, nat_tests) in
     let some : 0 < unmet = omega arith in
-    subst (LivesOn frames s left new) (sym (ended ∙ rw is refl)) (inl (unmet, some, ap refusal.Unmet counts, out))
+    let end : ended_by count ≡ Err (refusal.Unmet count) = rw is refl in
+    subst (LivesOn frames s left new) (sym (ended ∙ end)) (inl (unmet, some, ap refusal.Unmet counts, out))
 
 -- the run came to its end
 pub lives_out : (r ended : Result Unit Refusal) (frames : Option ℕ) (s : RunState) (left : Option (List ℕ)) (live : LiveState) (before after : OutputState) (count : ℕ) → ended ≡ Ok tt
@@ -409,3 +482,19 @@ pub unserved_unprinted : (r : Result Unit Refusal) (x : Refusal) (frames : Optio
     → IsCutOff s.output after (served_line s.live.answered s.live.refused) → LivesOn frames s s.left after r
 unserved_unprinted r x frames s after passed is prints =
     lives_unprinted r (Err (refusal.Socket Silence)) x frames s s.left s.live s.output after 0 passed is (unserved frames s Silence) prints
+
+-- ---- the whole
+
+-- where a run begins
+pub begins : (live : LiveState) (wire : WireState) (left : Option (List ℕ)) (output : OutputState) (l : LinesState) → l ≡ lines_of [] 0 0 true → IsAt (begun live wire left output) live wire l left output
+begins live wire left output l is = subst (λ (x : LinesState). IsAt (begun live wire left output) live wire x left output) (sym is) (record {
+  live = refl;
+  wire = refl;
+  output = refl;
+  lines = record { number = refl; unmet = refl; rest = none_taken left; part = λ still. none_so_far left max_kept [] refl };
+})
+
+-- ---- texts
+
+pub served_same : (a b c d : ℕ) → a ≡ c → b ≡ d → served_line a b ≡ served_line c d
+served_same a b c d x y = ap (λ (n : ℕ). served_line n b) x ∙ ap (served_line c) y

@@ -80,32 +80,46 @@ Closes None ended = ended ≡ Ok tt
 Closes (Some n) ended = ended ≡ Err (Socket Silence)
 
 -- where a run is, by what the code has
-pub record IsAt (t : RunState) (live : LiveState) (wire : WireState) (lines : LinesState) (left : Option (List ℕ)) (output : OutputState) : Type 0 where
-  pub live : t.live ≡ live
-  pub wire : t.wire ≡ wire
-  pub output : t.output ≡ output
-  pub lines : FitsLines t lines left
+pub record IsAt (t : RunState) (now : LiveState) (on : WireState) (part : LinesState) (left : Option (List ℕ)) (printed : OutputState) : Type 0 where
+  pub live : t.live ≡ now
+  pub wire : t.wire ≡ on
+  pub output : t.output ≡ printed
+  pub lines : FitsLines t part left
 
 -- a run so far
-pub record HasCome (frames : Option ℕ) (s : RunState) (live : LiveState) (wire : WireState) (lines : LinesState) (left : Option (List ℕ)) (output : OutputState) (now : Option ℕ) : Type 0 where
+pub record HasCome (all : Option ℕ) (s : RunState) (live : LiveState) (wire : WireState) (lines : LinesState) (left : Option (List ℕ)) (output : OutputState) (now : Option ℕ) : Type 0 where
   pub came : List Came
   pub last : RunState
   pub runs : Runs s came last
   pub at : IsAt last live wire lines left output
-  pub frames : FramesLeft frames (length (payloads_of came)) now
+  pub frames : FramesLeft all (length (payloads_of came)) now
 
 -- how the turns end, and where the run is then
-pub record TurnsEnd (frames : Option ℕ) (s : RunState) (live : LiveState) (left : Option (List ℕ)) (output : OutputState) (unmet : ℕ) (ended : Result Unit Refusal) : Type 0 where
+pub record TurnsEnd (frames : Option ℕ) (s : RunState) (now : LiveState) (left : Option (List ℕ)) (printed : OutputState) (unmet : ℕ) (ended : Result Unit Refusal) : Type 0 where
   pub last : RunState
   pub ends : EndsTurns frames s last left ended
-  pub live : last.live ≡ live
-  pub output : last.output ≡ output
+  pub live : last.live ≡ now
+  pub output : last.output ≡ printed
   pub expects : is_ok ended ≡ true → unmet ≡ counted last.unmet
 
 -- one payload less is to come, if their number is known
 abbrev pub one_less_frame : Option ℕ → Option ℕ
 one_less_frame None = None
 one_less_frame (Some n) = Some (n - 1)
+
+-- a payload that came is met, and its answer is sent, if it has one
+pub record AnswersOne (payload : List ℕ) (s t : LiveState) (w v : WireState) : Type 0 where
+  pub answers : List (List ℕ)
+  pub carried : Carries w v answers []
+  pub fine : v.failed ≡ w.failed
+  pub meets : Meets s payload t answers
+
+-- or it isn't sent
+pub record KeepsAnswer (payload : List ℕ) (s t : LiveState) (w v : WireState) : Type 0 where
+  pub answer : List ℕ
+  pub carried : Carries w v [] []
+  pub fault : is_fault w v ≡ true
+  pub meets : Meets s payload t (answer ∷ [])
 
 -- a payload comes, and its answer is sent, if it has one
 pub record MeetsPayload (payload : List ℕ) (s t : LiveState) (w v : WireState) : Type 0 where

@@ -22,10 +22,10 @@ abbrev pub one_more : ℕ → ℕ
 one_more n = min (n + 1) (2 ^ 64 - 1)
 
 -- the slaves of a table, just switched on; nothing came, and nothing is dropped
-pub record IsNewLive (t : Contents) (reasons : Reasons) (s : LiveState) : Type 0 where
+pub record IsNewLive (t : Contents) (wanted : Reasons) (s : LiveState) : Type 0 where
   pub world : IsOfMachine t s.world
   pub table : s.table ≡ t
-  pub reasons : s.reasons ≡ reasons
+  pub reasons : s.reasons ≡ wanted
   pub drops : s.drops ≡ no_drops (length s.world.plan.parts)
   pub answered : s.answered ≡ 0
   pub refused : s.refused ≡ 0

@@ -4,7 +4,7 @@ ghost use Rattle.ec_lines.specs.Inputs.{bytes_left};
 ghost use Rattle.ec_lines.specs.Taking.{TakesPart};
 ghost use Rattle.ec_wire.specs.Wires.{WireState};
 ghost use Rattle.ec_live.specs.Living.{LivesOn, RunState, begun};
-ghost use Rattle.ec_live.specs.Stages.{Closes, FitsLines, IsAt, MeetsFault, MeetsSome, ObeysCut, ObeysSome, TurnsEnd};
+ghost use Rattle.ec_live.specs.Stages.{AnswersOne, Closes, FitsLines, IsAt, KeepsAnswer, MeetsFault, MeetsSome, ObeysCut, ObeysSome, TurnsEnd, one_less_frame};
 
 use crate::live::{Live, served_text};
 use ec_console::{
@@ -202,12 +202,34 @@ fn meet_one<W: Wire + Drop, K: Watching + Drop>(
     let Some(count) = heard else {
         return Ok(());
     };
-    if let Some(frames) = station.frames {
-        station.frames = Some(frames.saturating_sub(1));
+    station.frames = one_less(station.frames);
+    answer(live, &mut station.wire, &mut buffer[..count])
+}
+
+/// One payload less is to come, if their number is known.
+fn one_less(frames: Option<u32>) -> Option<u32>
+    ensures { result ≡ one_less_frame frames }
+{
+    match frames {
+        None => None,
+        Some(frames) => Some(frames.saturating_sub(1)),
     }
-    let payload = &mut buffer[..count];
-    if live.meet(payload) && !send_on(&mut station.wire, payload) {
-        return Err(SocketFault(station.wire.trouble()));
+}
+
+/// Meets a payload, and sends the answer, if it has one.
+fn answer<W: Wire>(
+    live: &mut Live<'_>,
+    wire: &mut W,
+    payload: &mut [u8],
+) -> Result<(), SocketFault>
+    ensures sent { OnOk result (AnswersOne payload.old live.old live.new (W.state wire.old) (W.state wire.new)) }
+    ensures unsent { OnErr result (KeepsAnswer payload.old live.old live.new (W.state wire.old) (W.state wire.new)) }
+{
+    if !live.meet(payload) {
+        return Ok(());
+    }
+    if !send_on(wire, payload) {
+        return Err(SocketFault(wire.trouble()));
     }
     Ok(())
 }
@@ -233,14 +255,20 @@ fn obey_part<R: Read + Drop, O: Write + Drop>(
     }
     match take_part(alloc, input, &mut lines.part) {
         Ok(None) => Ok(()),
-        Ok(Some(NextLine::End)) | Err(LinesError::Unread) => {
+        Ok(Some(taken)) => match taken {
+            NextLine::End => {
+                lines.is_open = false;
+                Ok(())
+            }
+            line => {
+                lines.count = lines.count.saturating_add(1);
+                let unmet = obey_taken(alloc, live, lines.count, line, output)?;
+                lines.unmet = lines.unmet.saturating_add(unmet);
+                Ok(())
+            }
+        },
+        Err(LinesError::Unread) => {
             lines.is_open = false;
-            Ok(())
-        }
-        Ok(Some(taken)) => {
-            lines.count = lines.count.saturating_add(1);
-            let unmet = obey_taken(alloc, live, lines.count, taken, output)?;
-            lines.unmet = lines.unmet.saturating_add(unmet);
             Ok(())
         }
         Err(_) => Err(Refusal::Memory),

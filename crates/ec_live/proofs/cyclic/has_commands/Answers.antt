@@ -5,8 +5,8 @@ use Rattle.ec_live.proofs.cyclic.has_commands.Goals as goal
 pub loop-command-init : goal.loop-command-init
 loop-command-init c = λ p h. over_begins c.args.payload.now c.new-places.result c.args.commands.now p.datagrams (c.new-places.ensures.ahead p h)
 
-pub is_next_place-requires : goal.is_next_place-requires
-is_next_place-requires c = let u = c.loop-command.invariant c.requires.0 c.requires.1 in (u.rest, u.ahead)
+pub is_next-requires : goal.is_next-requires
+is_next-requires c = let u = c.loop-command.invariant c.requires.0 c.requires.1 in (u.rest, u.ahead)
 
 pub returns-then-not-is_next : goal.returns-then-not-is_next
 returns-then-not-is_next c = λ p h.
