@@ -141,11 +141,7 @@ impl<'c, W: Wire + Drop, C: Clock> Mastered<'c, W, C> {
         ensures { Does (Expect (InState slave state code)) self.old self.new result }
     {
         let told = self.session.read_status(&mut self.wire, self.clock, slave);
-        if is_in_state(state, code, told) {
-            LineOutput::Nothing
-        } else {
-            LineOutput::Unmet
-        }
+        output_if(is_in_state(state, code, told))
     }
 
     /// Sets an output variable to a value. `No`, and nothing changes, if it is no output or can't hold the value.
@@ -172,11 +168,7 @@ impl<'c, W: Wire + Drop, C: Clock> Mastered<'c, W, C> {
     fn expect_here(&self, expected: Expectation) -> LineOutput
         ensures { result ≡ output_if (is_met expected (view_of self.now.session)) }
     {
-        if is_met(&view_of(&self.session), expected) {
-            LineOutput::Nothing
-        } else {
-            LineOutput::Unmet
-        }
+        output_if(is_met(&view_of(&self.session), expected))
     }
 
     /// The output of `report`: the last report, or `No` before the first one.
@@ -286,6 +278,17 @@ fn output_of_read(read: Result<(), SocketFault>) -> LineOutput
     match read {
         Ok(()) => LineOutput::States,
         Err(_) => LineOutput::Fault,
+    }
+}
+
+/// The output of an expectation, by whether it holds.
+fn output_if(holds: bool) -> LineOutput
+    ensures { result ≡ output_if holds }
+{
+    if holds {
+        LineOutput::Nothing
+    } else {
+        LineOutput::Unmet
     }
 }
 

@@ -1,29 +1,18 @@
-use Rattle.std.proofs.Common.{◌≡◌, ◌∙◌, ap, subst, sym}
+use Rattle.std.proofs.Common.{◌∙◌, ap, subst}
 use Rattle.ec_script.specs.declared.expectation.Expectation.TheVariants.{State as InState}
 use Rattle.ec_script.specs.declared.line.LineAction.TheVariants.{Expect}
-use Rattle.ec_script.specs.declared.output.LineOutput.TheVariants.{Nothing, Unmet}
 use Rattle.ec_script.specs.Outputs.{output_if}
 use Rattle.cmd_master.specs.Doing.{Does}
 use Rattle.cmd_master.specs.State.{MasteredState}
 use Rattle.cmd_master.proofs.Doing.{read_one, state_of}
 use Rattle.cmd_master.proofs.mastered.Mastered.expect_state.Goals as goal
 
-pub returns-then-is_in_state : goal.returns-then-is_in_state
-returns-then-is_in_state g c =
+pub returns : goal.returns
+returns g c =
     let i = c.self.inside in
     let r = c.read_status-told in
     let a = c.args in
     let t : MasteredState = state_of r.new.self (g.W.Wire.state r.new.wire) i.reasons i.states.items in
-    subst (λ (m : MasteredState). Does (Expect (InState a.slave a.state a.code)) m t Nothing) c.self.view_is
-    (read_one a.slave a.state a.code i.session r.new.self (g.W.Wire.state i.wire) (g.W.Wire.state r.new.wire) i.reasons i.states.items r.result Nothing r.ensures
-    (sym (ap output_if (sym c.is_in_state.ensures ∙ c.if-is_in_state.true))))
-
-pub returns-else-is_in_state : goal.returns-else-is_in_state
-returns-else-is_in_state g c =
-    let i = c.self.inside in
-    let r = c.read_status-told in
-    let a = c.args in
-    let t : MasteredState = state_of r.new.self (g.W.Wire.state r.new.wire) i.reasons i.states.items in
-    subst (λ (m : MasteredState). Does (Expect (InState a.slave a.state a.code)) m t Unmet) c.self.view_is
-    (read_one a.slave a.state a.code i.session r.new.self (g.W.Wire.state i.wire) (g.W.Wire.state r.new.wire) i.reasons i.states.items r.result Unmet r.ensures
-    (sym (ap output_if (sym c.is_in_state.ensures ∙ c.if-is_in_state.false))))
+    subst (λ (m : MasteredState). Does (Expect (InState a.slave a.state a.code)) m t c.output_if.result) c.self.view_is
+    (read_one a.slave a.state a.code i.session r.new.self (g.W.Wire.state i.wire) (g.W.Wire.state r.new.wire) i.reasons i.states.items r.result c.output_if.result r.ensures
+    (c.output_if.ensures ∙ ap output_if c.is_in_state.ensures))
