@@ -19,7 +19,8 @@ use Rattle.ec_session.specs.Wired.{LosesAndCycles, run_refusal}
 -- one more
 pub next_zero : (m x new : MasterState) (n : ℕ) → x ≡ zeros_set m n → new ≡ zero_set x n → new ≡ zeros_set m (n + 1)
 next_zero m x new n so is =
-    subst (λ (k : ℕ). new ≡ zeros_set m k) (omega arith) (subst (λ (y : MasterState). new ≡ zero_set y n) so is)
+    let more : suc n ≡ n + 1 = omega arith in
+    subst (λ (k : ℕ). new ≡ zeros_set m k) more (subst (λ (y : MasterState). new ≡ zero_set y n) so is)
 
 zero-keeps : (m : MasterState) (v : ℕ) (b : Bool) → (let x : MasterState = if b then variable_set m v 0 else m in x ≡ record m { outputs = x.outputs })
 zero-keeps m v true = refl
@@ -68,7 +69,7 @@ reads_keep_the_rest s t w v told (Err fault) h =
 pub read_push : (k : ℕ) (s mid t : SessionState) (w x v : WireState) (told : List (Option AlStatus)) (one : Option AlStatus) → AreRead k s w told mid x → ReadsStatus (k + length told) mid x t v (Ok one) → AreRead k s w (told ++ one ∷ []) t v
 read_push k s mid t w x v [] one (same, still) h =
     let at : k + 0 ≡ k = omega arith in
-    (t, v, subst (λ (n : ℕ). ReadsStatus n s w t v (Ok one)) at (subst (λ (y : WireState). ReadsStatus (k + 0) s y t v (Ok one)) still (subst (λ (y : SessionState). ReadsStatus (k + 0) y x t v (Ok one)) same h)), refl, refl)
+    (t, v, subst (λ (n : ℕ). ReadsStatus n s w t v (Ok one)) at (subst (λ (y : WireState). ReadsStatus (k + 0) s y t v (Ok one)) still (subst (λ (y : SessionState). ReadsStatus (k + 0) y x t v (Ok one)) same h)), (refl, refl))
 read_push k s mid t w x v (o ∷ told) one (next, between, first, rest) h =
     let at : k + length (o ∷ told) ≡ k + 1 + length told = omega arith in
     (next, between, first, read_push (k + 1) next mid t between x v told one rest (subst (λ (n : ℕ). ReadsStatus n mid x t v (Ok one)) at h))

@@ -19,7 +19,7 @@ returns-in_err-told-clause-read g c =
     let b = c.loop-slave.invariant in
     let inside : c.loop-slave.slave < length c.loop-slave.states = let end = b.end in let test = c.loop-slave-test.true in omega arith in
     part_read _ c.args.self.now c.read_status.new.self (g.W.Wire.state c.args.wire.now) (g.W.Wire.state c.read_status.new.wire) c.loop-slave.states c.from_residual.result c.from_residual.ensures.1
-    (read_cut c.args.self.now c.loop-slave.self c.read_status.new.self (g.W.Wire.state c.args.wire.now) (g.W.Wire.state c.loop-slave.wire) (g.W.Wire.state c.read_status.new.wire) c.loop-slave.states c.loop-slave.slave c.in_err-told.field-0
+    (read_cut c.args.self.now c.loop-slave.self c.read_status.new.self (g.W.Wire.state c.args.wire.now) (g.W.Wire.state c.loop-slave.wire) (g.W.Wire.state c.read_status.new.wire) c.loop-slave.states c.loop-slave.slave c.in_err-told.field-0.0
     inside b.read c.in_err-told.ensures)
 
 -- all were read
