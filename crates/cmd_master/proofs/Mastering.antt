@@ -1,16 +1,18 @@
 -- How a run of lines ends.
-use Rattle.std.proofs.Common.{◌≡◌, inl, ℕ, List, refl, subst, Result, Err, IfErr, OnErr}
+use Rattle.std.proofs.Common.{◌≡◌, inl, inr, ℕ, List, refl, subst, sym, Result, Ok, Err, IfErr, OnErr}
 use Rattle.std.specs.Result.{IsErrAnd}
 use Rattle.ec_table.specs.Contents.{Contents}
+use Rattle.ec_wire.specs.declared.trouble.Trouble.{Trouble}
 use Rattle.ec_wire.specs.Wires.{WireState, silent}
 use Rattle.ec_script.specs.declared.line.Line.{Line}
 use Rattle.ec_script.specs.declared.read.Reading.{Reading}
 use Rattle.ec_console.specs.declared.refusal.Refusal.{Refusal}
-use Rattle.ec_console.specs.declared.refusal.Refusal.TheVariants.{Memory}
+use Rattle.ec_console.specs.declared.refusal.Refusal.TheVariants.{Memory, Socket}
 use Rattle.ec_console.specs.declared.wanted.Reasons.{Reasons}
 use Rattle.ec_console.specs.Coming.{ComesOut, ComesPart, reading_at}
 use Rattle.ec_console.specs.Given.{Given}
 use Rattle.ec_console.specs.Printing.{OutputState}
+use Rattle.ec_console.specs.Refusals.{IsSocket}
 use Rattle.ec_console.specs.Saying.{IsLate}
 use Rattle.ec_console.specs.Unmet.{counted, ended_by}
 use Rattle.ec_console.proofs.EndLemmas.{run_cut, run_ended, run_refused}
@@ -52,6 +54,11 @@ pub on_socket : (r : Result Unit Refusal) (reasons : Reasons) (t : Contents) (m 
     → (last : MasteredState) × RunsOver m.session.table m last input old new r → RunsMachine reasons t input old new r
 on_socket r reasons t m failed input old new begun is runs =
     on_wire r reasons t m (silent 0) input old new (subst (λ (n : ℕ). m ≡ begun_over reasons t (silent n)) is begun) refl runs
+
+-- there is none
+pub unconnected : (r : Result Unit Refusal) (trouble : Trouble) (reasons : Reasons) (t : Contents) (input : Given) (known : OutputState) → IsErrAnd r (λ e. e ≡ Socket trouble) → RunsMachine reasons t input known known r
+unconnected (Ok done) trouble reasons t input known is = absurd is
+unconnected (Err e) trouble reasons t input known is = inr (e, refl, subst IsSocket (sym is) tt, refl)
 
 -- no memory for a master
 pub never_begun : (r : Result Unit Refusal) (reasons : Reasons) (t : Contents) (input : Given) (known : OutputState) → IsErrAnd r (λ e. e ≡ Memory) → RunsMachine reasons t input known known r

@@ -70,8 +70,8 @@ impl<'c, W: Wire + Drop, C: Clock> Mastered<'c, W, C> {
         })
     }
 
-    /// Does an action once, and returns its output. It allocates nothing. After [`LineOutput::Fault`] only the number of the next cycle
-    /// has changed.
+    /// Does an action once, and returns its output. It allocates nothing. If a cycle ends with [`LineOutput::Fault`], only the number of the
+    /// next one has changed.
     fn act(&mut self, action: LineAction) -> LineOutput
         ensures { Does action self.old self.new result }
     {

@@ -3,7 +3,7 @@ use ec_live::{LineSource, Ready, Watching};
 use ec_wire::{SocketFault, Trouble};
 use mio::unix::SourceFd;
 use mio::{Events, Interest, Poll, Token};
-use std::io;
+use std::io::{self, ErrorKind};
 use std::net::Net;
 use std::os::fd::RawFd;
 use std::time::{Clock, Duration, Instant};
@@ -82,10 +82,15 @@ impl<'c, C: Clock> Watch<'c, C> {
         self.last
     }
 
-    /// Asks the system again about the source that was handed on last, and waits for at most this long.
+    /// Asks the system again about the source that was handed on last, and waits for at most this long, or until a signal interrupts it.
     fn poll(&mut self, lines: LineSource, limit: Option<Duration>) -> io::Result<()> {
         self.ask_again(lines)?;
-        self.poll.poll(&mut self.events, limit)?;
+        if let Err(error) = self.poll.poll(&mut self.events, limit) {
+            return match error.kind() {
+                ErrorKind::Interrupted => Ok(()),
+                _ => Err(error),
+            };
+        }
         for event in self.events.iter() {
             if event.token() == WIRE {
                 self.has_payload = true;

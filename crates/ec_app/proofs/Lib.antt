@@ -4,5 +4,5 @@ mod PassLemmas
 mod PlanLemmas
 -- the exit statuses that there are, and how a run ends to which arguments were given
 mod RunLemmas
--- arguments that can't be right
+-- arguments that can't be right, and the work of a segment
 mod WrongLemmas

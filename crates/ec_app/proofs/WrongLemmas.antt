@@ -1,12 +1,18 @@
--- Arguments that can't be right, and the address that a segment listens on.
-use Rattle.std.proofs.Common.{◌≡◌, ◌∙◌, inl, inr, ℕ, List, [], ◌∷◌, Option, None, Some, Result, Ok, Err, IfNone, IfSome, refl, sym, ap, subst}
+-- Arguments that can't be right, and the work that a segment's arguments ask for.
+use Rattle.std.proofs.Common.{◌≡◌, ◌∙◌, inl, inr, ℕ, List, [], ◌∷◌, Bool, true, false, Option, None, Some, Result, Ok, Err, IfNone, IfSome, refl, sym, ap, subst}
 use Rattle.std.specs.Result.{result_unwrap_or}
 use Rattle.std.specs.Net.Addr.{ipv4_octets}
 use Rattle.std.specs.Net.Grammar.{IsIpv4Text, Parses}
 use Rattle.std.specs.declared.net.ipv4_addr.Ipv4Addr.{Ipv4Addr}
+use Rattle.ec_console.specs.declared.form.SlaveForm.{SlaveForm}
+use Rattle.ec_console.specs.declared.wanted.Reasons.{Reasons}
+use Rattle.ec_console.specs.Reasons.{reasons_of}
+use Rattle.ec_console.specs.Stating.{slave_form}
+use Rattle.cmd_segment.specs.declared.endpoint.Endpoint.{Endpoint}
+use Rattle.ec_app.specs.declared.work.Work.TheVariants as work
 use Rattle.ec_app.specs.declared.wrong.Wrong.{Wrong}
 use Rattle.ec_app.specs.declared.wrong.Wrong.TheVariants.{Descriptor}
-use Rattle.ec_app.specs.Running.{IsBound}
+use Rattle.ec_app.specs.Running.{IsBound, work_if}
 use Rattle.ec_app.specs.Wrong.{IsRightAt, IsWrongAt}
 
 -- ---- without a descriptor
@@ -34,3 +40,15 @@ pub is_bound : {E : Type 0} (text : List ℕ) (read : Result Ipv4Addr E) (given 
     → IsBound text (ipv4_octets a)
 is_bound {E} text (Ok b) given a parsed local is = inl (b, parsed, ap ipv4_octets is)
 is_bound {E} text (Err e) given a parsed local is = inr ((λ (b, spelled). parsed b spelled), ap ipv4_octets is ∙ local)
+
+-- ---- its work
+
+pub live_work : (live full explained : Bool) (e : Endpoint) (form : SlaveForm) (reasons : Reasons) → live ≡ true → form ≡ slave_form full → reasons ≡ reasons_of explained
+    → work.Plant form e reasons ≡ work_if live (slave_form full) e (reasons_of explained)
+live_work live full explained e form reasons is shown why =
+    ap (λ (f : SlaveForm). work.Plant f e reasons) shown
+    ∙ (ap (λ (r : Reasons). work.Plant (slave_form full) e r) why ∙ ap (λ (l : Bool). work_if l (slave_form full) e (reasons_of explained)) (sym is))
+
+pub still_work : (live full explained : Bool) (e : Endpoint) (form : SlaveForm) → live ≡ false → form ≡ slave_form full → work.Segment form e ≡ work_if live (slave_form full) e (reasons_of explained)
+still_work live full explained e form is shown =
+    ap (λ (f : SlaveForm). work.Segment f e) shown ∙ ap (λ (l : Bool). work_if l (slave_form full) e (reasons_of explained)) (sym is)

@@ -144,7 +144,7 @@ fn exit_status<F: Write + Drop>(ended: Result<(), Refusal>, faults: &mut OutputS
 
 /// The work of a segment.
 fn segment_work<'a>(options: SegmentOptions<'_>, explained: bool) -> Work<'a>
-    ensures { IsWorkOf (arguments_of options) explained result }
+    ensures { IsWorkOf (arguments_of options.entry) explained result }
 {
     let endpoint = Endpoint {
         frames: options.frames,

@@ -11,7 +11,7 @@ use Rattle.ec_wire.specs.Wires.{WireState}
 use Rattle.ec_asking.specs.declared.answer.AlStatus.{AlStatus}
 use Rattle.ec_session.specs.Asking.{AreRead, AsksInit, IsReadPart, ReadsBy, ReadsStates, ReadsStatus, Stops, cleared, stopped}
 use Rattle.ec_session.specs.Laws.{ClearingKeepsTheRest, ReadsKeepTheRest, StatusReadsKeepTheRest}
-use Rattle.ec_session.specs.Sessions.{SessionState, outputs_cleared, zero_set, zeros_set}
+use Rattle.ec_session.specs.Sessions.{SessionState, zero_set, zeros_set}
 use Rattle.ec_session.specs.Wired.{LosesAndCycles, run_refusal}
 
 -- ---- the outputs become 0
@@ -37,10 +37,6 @@ clearing_keeps_the_rest m = zeros-keep m (length m.plan.variables)
 
 pub zeros_plan : (m : MasterState) (n : ℕ) → (zeros_set m n).plan ≡ m.plan
 zeros_plan m n = ap (λ (x : MasterState). x.plan) (zeros-keep m n)
-
--- all of them
-pub all_zero : (m new : MasterState) (n : ℕ) → n ≡ length m.plan.variables → new ≡ zeros_set m n → new ≡ outputs_cleared m
-all_zero m new n all is = subst (λ (k : ℕ). new ≡ zeros_set m k) all is
 
 -- ---- AL states are read
 

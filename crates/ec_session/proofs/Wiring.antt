@@ -88,9 +88,6 @@ run_plan m after w v r run same = by (begin_refusal m) refl
 pub refusal_up : (s : SessionState) → is_up s.startup.phase ≡ true → run_refusal s ≡ begin_refusal s.master
 refusal_up s up = rw up refl
 
-pub refusal_down : (s : SessionState) → is_up s.startup.phase ≡ false → run_refusal s ≡ Some NotReady
-refusal_down s down = rw down refl
-
 pub cycled : (s t : SessionState) (w v : WireState) (r : Result ReportState RunError) (after : MasterState) (answer : Result Unit RunError) → is_up s.startup.phase ≡ true → (begin_refusal s.master ≡ None → IsRun s.master w v r after)
     → t ≡ with_run s r after → answer ≡ without_report r → run_refusal s ≡ None → Cycles s w t v answer
 cycled s t w v r after answer up run is answers free = record { ended = r; after = after; run = run (sym (refusal_up s up) ∙ free); is = is; answers = answers }

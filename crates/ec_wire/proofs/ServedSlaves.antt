@@ -7,8 +7,8 @@ use Rattle.ec_slave.specs.State.{SlaveState}
 use Rattle.ec_slave.specs.Serving.{served}
 use Rattle.ec_wire.specs.Applications.{HasStepped, IsServed, AreServed, outputs_seen}
 use Rattle.ec_wire.specs.Wires.{WireState, Carries}
-use Rattle.ec_wire.specs.Segments.{IsAnswer, IsTreated, AreTreated, HasServed, WasCutOff}
-use Rattle.ec_wire.proofs.WireCalls.{carries-lost, carries-then, fault-from}
+use Rattle.ec_wire.specs.Segments.{IsAnswer, IsTreated, AreTreated, WasCutOff}
+use Rattle.ec_wire.proofs.WireCalls.{carries-then, fault-from}
 
 -- what may be made later might have been made before
 abbrev pub AreFewer : (List ℕ → List ℕ → Type 0) → (List ℕ → List ℕ → Type 0) → Type 0
@@ -129,17 +129,3 @@ cut_then may_produce later a b c u v w ps xs count frames answered refused fewer
       others = omega (arith, long, rest, counted, sum);
       fault = sym (fault-from u v w same) ∙ h.fault;
     }
-
--- ---- payloads until none comes
-
--- so many came
-pub served_so_far : (may_produce : List ℕ → List ℕ → Type 0) (a b : List SlaveState) (u v : WireState) (ps xs : List (List ℕ)) (count answered refused : ℕ) → Carries u v xs ps → AreTreated may_produce a ps b xs → length ps ≡ count
-    → length xs ≡ answered → answered + refused ≡ count → HasServed may_produce a b u v count answered refused
-served_so_far may_produce a b u v ps xs count answered refused carried treated long sent sum =
-    record { got = ps; sent = xs; carried = carried; treated = treated; all = long; answers = sym sent; others = sum }
-
--- and then none
-pub quiet_at_last : (may_produce : List ℕ → List ℕ → Type 0) (a b c : List SlaveState) (u v w : WireState) (ps xs : List (List ℕ)) (count answered refused : ℕ) → Carries u v xs ps → AreTreated may_produce a ps b xs
-    → length ps ≡ count → length xs ≡ answered → answered + refused ≡ count → Carries v w [] [] → c ≡ b → HasServed may_produce a c u w count answered refused
-quiet_at_last may_produce a b c u v w ps xs count answered refused carried treated long sent sum quiet same =
-    served_so_far may_produce a c u w ps xs count answered refused (carries-lost u v w xs ps carried quiet) (subst (λ (s : List SlaveState). AreTreated may_produce a ps s xs) (sym same) treated) long sent sum

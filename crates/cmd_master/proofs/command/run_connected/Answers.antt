@@ -1,5 +1,11 @@
-use Rattle.cmd_master.proofs.Mastering.{never_begun, on_socket, on_wire}
+use Rattle.cmd_master.proofs.Mastering.{never_begun, on_socket, on_wire, unconnected}
 use Rattle.cmd_master.proofs.command.run_connected.Goals as goal
+
+pub returns-in_err-wire-in-None-clause-runs : goal.returns-in_err-wire-in-None-clause-runs
+returns-in_err-wire-in-None-clause-runs g c = unconnected _ _ c.args.options.reasons c.args.machine _ _ c.from_residual.ensures.1
+
+pub returns-in_err-wire-in-Some-clause-runs : goal.returns-in_err-wire-in-Some-clause-runs
+returns-in_err-wire-in-Some-clause-runs g c = unconnected _ _ c.args.options.reasons c.args.machine _ _ c.from_residual-in_err-wire-in-Some.ensures.1
 
 pub returns-in_err-mastered-in-None-clause-runs : goal.returns-in_err-mastered-in-None-clause-runs
 returns-in_err-mastered-in-None-clause-runs g c = never_begun _ c.args.options.reasons c.args.machine _ _ c.from_residual-in_err-mastered-in-None.ensures.1

@@ -1,4 +1,4 @@
-use Rattle.std.proofs.Common.{◌∙◌, ap, arith}
+use Rattle.std.proofs.Common.{◌∙◌, ap}
 use Rattle.ec_cycle.specs.Master.{MasterState}
 use Rattle.ec_session.proofs.Asked.{next_zero, zeros_plan}
 use Rattle.ec_session.proofs.session.clear_outputs.Goals as goal
