@@ -5,7 +5,7 @@ use Rattle.ec_table.specs.Contents.{Contents, advertised_as}
 use Rattle.ec_table.specs.Reading.{table_of}
 use Rattle.ec_link.specs.Faults.{Fails, compile_fault}
 use Rattle.ec_link.specs.Machine.{Refuses}
-use Rattle.ec_link.specs.declared.fault.LinkError.{LinkError}
+use Rattle.ec_link.specs.Errors.{LinkError}
 use Rattle.ec_link.specs.declared.machine.MachineError.TheVariants.{Link}
 use Rattle.ec_link.proofs.AdvertisedFull.{faces}
 use Rattle.ec_bringup.specs.SwitchedOn.{AreSlavesOf}

@@ -8,7 +8,7 @@ use Rattle.ec_link.specs.declared.layout.Seat.{Seat}
 use Rattle.ec_link.specs.declared.plan.PartPlan.{PartPlan}
 use Rattle.ec_link.specs.Sizes.{table_sizes}
 use Rattle.ec_link.specs.Layout.{LayoutState, layout}
-use Rattle.ec_link.specs.declared.fault.LinkError.{LinkError}
+use Rattle.ec_link.specs.Errors.{LinkError}
 use Rattle.ec_link.specs.Faults.{compile_fault}
 use Rattle.ec_link.specs.Plan.{PlanState, plan_of, addressed, first_address}
 use Rattle.ec_link.proofs.FaultTests.{sizes_count}

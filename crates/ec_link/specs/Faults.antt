@@ -15,8 +15,9 @@ use Rattle.ec_table.specs.Objects.{type_of, entries_of}
 use Rattle.ec_regs.specs.declared.manager.SyncManagerSettings.{SyncManagerSettings}
 use Rattle.ec_link.specs.declared.fault.LinkFault.{LinkFault}
 use Rattle.ec_link.specs.declared.fault.LinkFault.TheVariants.{WrongDirection, NoEntry, OutsideEntry, LinkedTwice, EntryTwice, TooManyBits, TooManySlaves, TooManyParts, AreasOverlap, OutsideRam, SplitVariable}
-use Rattle.ec_link.specs.declared.fault.LinkError.{LinkError}
-use Rattle.ec_link.specs.declared.fault.LinkError.TheVariants.{Memory, Refused}
+use Rattle.ec_table.specs.Errors.{or_memory}
+use Rattle.ec_link.specs.Errors.{LinkError}
+use Rattle.ec_table.specs.declared.or_memory.OrMemory.TheVariants.{Memory, Refused}
 use Rattle.ec_link.specs.Entries.{names_twice}
 use Rattle.ec_link.specs.Sizes.{table_sizes}
 use Rattle.ec_link.specs.Layout.{layout}
@@ -168,16 +169,13 @@ fault_value (OutsideRam k) = k
 fault_value (SplitVariable k) = k
 
 abbrev pub error_number : LinkError → ℕ
-error_number Memory = 1
-error_number (Refused f) = fault_number f
+error_number e = or_memory 1 fault_number e
 
 abbrev pub error_name : LinkError → List ℕ
-error_name Memory = codes "Memory"
-error_name (Refused f) = fault_name f
+error_name e = or_memory (codes "Memory") fault_name e
 
 abbrev pub error_value : LinkError → Option ℕ
-error_value Memory = None
-error_value (Refused f) = Some (fault_value f)
+error_value e = or_memory None (λ f. Some (fault_value f)) e
 
 -- why a call doesn't make a plan: memory ran out, or the table has this fault
 abbrev pub Fails : LinkError → Option LinkFault → Type 0

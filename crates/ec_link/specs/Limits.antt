@@ -10,8 +10,8 @@ use Rattle.ec_link.specs.declared.link_runs.LinkRun.{LinkRun}
 use Rattle.ec_link.specs.declared.image.Variable.{Variable}
 use Rattle.ec_link.specs.declared.plan.PartPlan.{PartPlan}
 use Rattle.ec_link.specs.declared.fault.LinkFault.{LinkFault}
-use Rattle.ec_link.specs.declared.fault.LinkError.{LinkError}
-use Rattle.ec_link.specs.declared.fault.LinkError.TheVariants.{Memory}
+use Rattle.ec_link.specs.Errors.{LinkError}
+use Rattle.ec_table.specs.declared.or_memory.OrMemory.TheVariants.{Memory}
 use Rattle.ec_bits.specs.Bits.{bytes_of_bits}
 use Rattle.ec_link.specs.Layout.{limit, part_so_far, seat_at, is_unit_of}
 use Rattle.ec_link.specs.Plan.{logical_from}

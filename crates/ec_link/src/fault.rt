@@ -1,8 +1,8 @@
 //! Why a table has no plan.
 ghost use Rattle.std.specs.Prelude.{◌≡◌};
-ghost use Rattle.ec_link.specs.Faults.{fault_number, fault_name, fault_value, error_number, error_name, error_value};
+ghost use Rattle.ec_link.specs.Faults.{fault_number, fault_name, fault_value};
 
-use std::alloc::{AllocError, AllocFailed};
+use ec_table::{OrMemory, Refusing};
 use std::fmt;
 use thiserror::Error;
 
@@ -110,75 +110,29 @@ impl fmt::Debug for LinkFault {
     }
 }
 
-/// Why there is no plan.
-#[derive(Clone, Copy, Debug, PartialEq, Eq, Error)]
-pub enum LinkError {
-    /// Memory ran out; the table may be good or bad.
-    #[error("out of memory")]
-    Memory,
-    /// The first fault of the table.
-    #[error(transparent)]
-    Refused(LinkFault),
-}
+/// Why there is no plan: memory ran out, or the first fault of the table.
+pub type LinkError = OrMemory<LinkFault>;
 
-impl LinkError {
-    /// The place of the fault, or how many slaves or parts there are; none for memory.
-    pub fn value(self) -> Option<usize>
-        ensures { result ≡ error_value self }
-    {
-        match self {
-            LinkError::Memory => None,
-            LinkError::Refused(fault) => Some(fault.value()),
-        }
+impl Refusing for LinkFault {
+    ghost number_of = { fault_number };
+
+    ghost name_of = { fault_name };
+
+    fn refusal_number(self) -> u8 {
+        self.number()
     }
 
-    /// The number of the refusal: 1 for memory, else the fault's.
-    pub fn number(self) -> u8
-        ensures { result ≡ error_number self }
-    {
-        match self {
-            LinkError::Memory => 1,
-            LinkError::Refused(fault) => fault.number(),
-        }
-    }
-
-    /// The name of the refusal, one word.
-    pub fn name(self) -> &'static str
-        ensures { result.now ≡ error_name self }
-    {
-        match self {
-            LinkError::Memory => "Memory",
-            LinkError::Refused(fault) => fault.name(),
-        }
+    fn refusal_name(self) -> &'static str {
+        self.name()
     }
 }
 
-impl From<AllocError> for LinkError {
-    ghost use Rattle.ec_link.specs.declared.fault.LinkError.TheVariants.{Memory};
-
-    ghost from_gives = { λ _ e. e ≡ Memory };
-
-    fn from(_e: AllocError) -> LinkError {
-        LinkError::Memory
-    }
-}
-
-impl<T: Drop> From<AllocFailed<T>> for LinkError {
-    ghost use Rattle.ec_link.specs.declared.fault.LinkError.TheVariants.{Memory};
-
-    ghost from_gives = { λ _ e. e ≡ Memory };
-
-    fn from(_e: AllocFailed<T>) -> LinkError {
-        LinkError::Memory
-    }
-}
-
-impl From<LinkFault> for LinkError {
-    ghost use Rattle.ec_link.specs.declared.fault.LinkError.TheVariants.{Refused};
+impl From<LinkFault> for OrMemory<LinkFault> {
+    ghost use Rattle.ec_table.specs.declared.or_memory.OrMemory.TheVariants.{Refused};
 
     ghost from_gives = { λ f e. e ≡ Refused f };
 
-    fn from(fault: LinkFault) -> LinkError {
+    fn from(fault: LinkFault) -> OrMemory<LinkFault> {
         Self::Refused(fault)
     }
 }

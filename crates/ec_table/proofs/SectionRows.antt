@@ -7,8 +7,8 @@ use Rattle.toml.specs.declared.value.Value.{Value}
 use Rattle.toml.proofs.Views.{items_view-drop}
 use Rattle.ec_table.specs.declared.fault.Fault.{Fault}
 use Rattle.ec_table.specs.Fields.{◌>>=◌}
-use Rattle.ec_table.specs.declared.fault.TableError.{TableError}
-use Rattle.ec_table.specs.declared.fault.TableError.TheVariants.{Memory, Refused}
+use Rattle.ec_table.specs.Errors.{TableError}
+use Rattle.ec_table.specs.declared.or_memory.OrMemory.TheVariants.{Memory, Refused}
 use Rattle.std.specs.Result.{IsErr, IsErrAnd}
 use Rattle.ec_table.specs.InOrder.{rows_after, one_more, Fails, Gives}
 

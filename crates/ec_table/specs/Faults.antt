@@ -5,8 +5,7 @@ use Rattle.ec_table.specs.declared.fault.Section.TheVariants as section
 use Rattle.ec_table.specs.declared.fault.Position.{Position}
 use Rattle.ec_table.specs.declared.fault.Fault.{Fault}
 use Rattle.ec_table.specs.declared.fault.Fault.TheVariants.{Toml, BadKey, BadValue, TwiceNamed, UnknownName}
-use Rattle.ec_table.specs.declared.fault.TableError.{TableError}
-use Rattle.ec_table.specs.declared.fault.TableError.TheVariants.{Memory, Refused}
+use Rattle.ec_table.specs.Errors.{TableError, or_memory}
 
 abbrev pub section_number : Section → ℕ
 section_number section.Top = 0
@@ -37,13 +36,10 @@ fault_position (TwiceNamed p) = Some p
 fault_position (UnknownName p) = Some p
 
 abbrev pub error_number : TableError → ℕ
-error_number Memory = 1
-error_number (Refused f) = fault_number f
+error_number e = or_memory 1 fault_number e
 
 abbrev pub error_name : TableError → List ℕ
-error_name Memory = codes "Memory"
-error_name (Refused f) = fault_name f
+error_name e = or_memory (codes "Memory") fault_name e
 
 abbrev pub error_position : TableError → Option Position
-error_position Memory = None
-error_position (Refused f) = fault_position f
+error_position e = or_memory None fault_position e

@@ -1,6 +1,7 @@
 -- To be believed, in this order: what a table holds (Contents), and how a text is read as one (Fields, Names, Pdos, Reading, with
 -- the faults and their order: Faults, InOrder), and what a table says of a slave or a link (Objects).
 pub mod Contents
+pub mod Errors
 pub mod Faults
 pub mod Fields
 pub mod Keys

@@ -1,8 +1,8 @@
 //! Why a text states no table, and where.
 ghost use Rattle.std.specs.Prelude.{◌≡◌};
-ghost use Rattle.ec_table.specs.Faults.{section_number, fault_number, fault_name, fault_position, error_number, error_name, error_position};
+ghost use Rattle.ec_table.specs.Faults.{section_number, fault_number, fault_name, fault_position, error_position};
 
-use std::alloc::{AllocError, AllocFailed};
+use crate::or_memory::{OrMemory, Refusing};
 use std::fmt;
 use thiserror::Error;
 
@@ -121,75 +121,41 @@ impl Fault {
     }
 }
 
-/// Why no table was read.
-#[derive(Clone, Copy, Debug, PartialEq, Eq, Error)]
-pub enum TableError {
-    /// Memory ran out; the text may be good or bad.
-    #[error("out of memory")]
-    Memory,
-    /// The first fault of the text.
-    #[error("{0}")]
-    Refused(Fault),
+/// Why no table was read: memory ran out, or the first fault of the text.
+pub type TableError = OrMemory<Fault>;
+
+impl Refusing for Fault {
+    ghost number_of = { fault_number };
+
+    ghost name_of = { fault_name };
+
+    fn refusal_number(self) -> u8 {
+        self.number()
+    }
+
+    fn refusal_name(self) -> &'static str {
+        self.name()
+    }
 }
 
-impl TableError {
-    /// The number of the refusal: 1 for memory, else the fault's.
-    pub fn number(self) -> u8
-        ensures { result ≡ error_number self }
-    {
-        match self {
-            TableError::Memory => 1,
-            TableError::Refused(fault) => fault.number(),
-        }
-    }
-
-    /// The name of the refusal, one word.
-    pub fn name(self) -> &'static str
-        ensures { result.now ≡ error_name self }
-    {
-        match self {
-            TableError::Memory => "Memory",
-            TableError::Refused(fault) => fault.name(),
-        }
-    }
-
+impl OrMemory<Fault> {
     /// The place of the fault; none for memory and for a text that is no TOML.
     pub fn place(self) -> Option<Position>
         ensures { result ≡ error_position self }
     {
         match self {
-            TableError::Memory => None,
-            TableError::Refused(fault) => fault.place(),
+            OrMemory::Memory => None,
+            OrMemory::Refused(fault) => fault.place(),
         }
     }
 }
 
-impl From<AllocError> for TableError {
-    ghost use Rattle.ec_table.specs.declared.fault.TableError.TheVariants.{Memory};
-
-    ghost from_gives = { λ _ e. e ≡ Memory };
-
-    fn from(_e: AllocError) -> TableError {
-        TableError::Memory
-    }
-}
-
-impl<T: Drop> From<AllocFailed<T>> for TableError {
-    ghost use Rattle.ec_table.specs.declared.fault.TableError.TheVariants.{Memory};
-
-    ghost from_gives = { λ _ e. e ≡ Memory };
-
-    fn from(_e: AllocFailed<T>) -> TableError {
-        TableError::Memory
-    }
-}
-
-impl From<Fault> for TableError {
-    ghost use Rattle.ec_table.specs.declared.fault.TableError.TheVariants.{Refused};
+impl From<Fault> for OrMemory<Fault> {
+    ghost use Rattle.ec_table.specs.declared.or_memory.OrMemory.TheVariants.{Refused};
 
     ghost from_gives = { λ f e. e ≡ Refused f };
 
-    fn from(fault: Fault) -> TableError {
+    fn from(fault: Fault) -> OrMemory<Fault> {
         Self::Refused(fault)
     }
 }

@@ -7,6 +7,7 @@ mod keys;
 pub mod laws;
 mod links;
 mod named;
+mod or_memory;
 mod pdos;
 mod read;
 mod rows;
@@ -18,6 +19,7 @@ mod variables;
 
 pub use crate::fault::{Fault, Position, Section, TableError};
 pub use crate::keys::{ENTRY, Key, LINK_BITS, MAILBOX, Rule, Shape};
+pub use crate::or_memory::{OrMemory, Refusing};
 pub use crate::read::read_table;
 pub use crate::rows::{
     Direction, LinkBits, LinkRow, Name, ProcessData, SlaveRow, TypeRow, VariableRow, Version,

@@ -6,13 +6,13 @@ use Rattle.ec_decode.specs.declared.error.DecodeError.{DecodeError}
 use Rattle.ec_decode.specs.declared.error.DecodeError.TheVariants as decode
 use Rattle.ec_table.specs.declared.fault.Fault.{Fault}
 use Rattle.ec_table.specs.declared.fault.Fault.TheVariants as fault
-use Rattle.ec_table.specs.declared.fault.TableError.{TableError}
-use Rattle.ec_table.specs.declared.fault.TableError.TheVariants as table
+use Rattle.ec_table.specs.Errors.{TableError}
+use Rattle.ec_table.specs.declared.or_memory.OrMemory.TheVariants as table
 use Rattle.ec_table.specs.Faults as table_names
 use Rattle.ec_link.specs.declared.fault.LinkFault.{LinkFault}
 use Rattle.ec_link.specs.declared.fault.LinkFault.TheVariants as misfit
-use Rattle.ec_link.specs.declared.fault.LinkError.{LinkError}
-use Rattle.ec_link.specs.declared.fault.LinkError.TheVariants as link
+use Rattle.ec_link.specs.Errors.{LinkError}
+use Rattle.ec_table.specs.declared.or_memory.OrMemory.TheVariants as link
 use Rattle.ec_link.specs.Faults as link_names
 use Rattle.ec_start.specs.declared.error.StartError.{StartError}
 use Rattle.ec_start.specs.declared.error.StartError.TheVariants as start

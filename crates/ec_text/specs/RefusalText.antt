@@ -8,10 +8,10 @@ use Rattle.ec_decode.specs.declared.error.DecodeError.{DecodeError}
 use Rattle.ec_decode.specs.Faults as payload
 use Rattle.ec_decode.specs.Reading as decode
 use Rattle.ec_table.specs.declared.fault.Position.{Position}
-use Rattle.ec_table.specs.declared.fault.TableError.{TableError}
+use Rattle.ec_table.specs.Errors.{TableError}
 use Rattle.ec_table.specs.Faults.{section_number}
 use Rattle.ec_table.specs.Faults as table
-use Rattle.ec_link.specs.declared.fault.LinkError.{LinkError}
+use Rattle.ec_link.specs.Errors.{LinkError}
 use Rattle.ec_link.specs.Faults as link
 use Rattle.ec_start.specs.declared.error.StartError.{StartError}
 use Rattle.ec_start.specs.Errors as start

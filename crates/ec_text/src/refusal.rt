@@ -132,9 +132,9 @@ impl Refused for LinkError {
     }
 
     fn values(&self) -> Values {
-        match self.value() {
+        match self.fault() {
             None => Values::new(),
-            Some(value) => listed(&[value as u64]),
+            Some(fault) => listed(&[fault.value() as u64]),
         }
     }
 }
