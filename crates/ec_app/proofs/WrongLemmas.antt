@@ -36,10 +36,10 @@ right_socket d n Right None is = subst (λ (o : Option ℕ). IsRightAt o Right) 
 -- ---- the address of a segment
 
 -- that of its text, or `given` if it is none
-pub is_bound : {E : Type 0} (text : List ℕ) (read : Result Ipv4Addr E) (given a : Ipv4Addr) → Parses IsIpv4Text text read → ipv4_octets given ≡ 127 ∷ 0 ∷ 0 ∷ 1 ∷ [] → a ≡ result_unwrap_or read given
+pub is_bound : {E : Type 0} (text : List ℕ) (read : Result Ipv4Addr E) (given a : Ipv4Addr) → Parses IsIpv4Text text read → a ≡ result_unwrap_or read given → ipv4_octets given ≡ 127 ∷ 0 ∷ 0 ∷ 1 ∷ []
     → IsBound text (ipv4_octets a)
-is_bound {E} text (Ok b) given a parsed local is = inl (b, parsed, ap ipv4_octets is)
-is_bound {E} text (Err e) given a parsed local is = inr ((λ (b, spelled). parsed b spelled), ap ipv4_octets is ∙ local)
+is_bound {E} text (Ok b) given a parsed is local = inl (b, parsed, ap ipv4_octets is)
+is_bound {E} text (Err e) given a parsed is local = inr ((λ (b, spelled). parsed b spelled), ap ipv4_octets is ∙ local)
 
 -- ---- its work
 

@@ -210,6 +210,7 @@ line_run (Never v) old new all h = none_run old new h.0
 line_run (Output v) old new all h = none_run old new h
 line_run (LosePart n k) old new all h = none_run old new h.0
 line_run Served old new all h = none_run old new h.0
+line_run Stop old new all h = none_run old new h.0
 line_run Ready old new all h = made_run (turns_events old h.turns) old new all h.made
 line_run Cycle old new all h = made_run (cycle_events old) old new all h
 line_run action old new all h = made_run (alone (event_of action)) old new all h

@@ -1,5 +1,5 @@
 -- Only the output `States` prints AL states. They are those of slave after slave.
-use Rattle.std.proofs.Common.{◌≡◌, ◌∙◌, ℕ, zero, suc, ◌+◌, List, [], ◌∷◌, ◌++◌, Option, Result, Ok, Err, IfOk, String, Global, refl, sym, ap, arith, tt, string_bytes}
+use Rattle.std.proofs.Common.{◌≡◌, ◌∙◌, ℕ, zero, suc, ◌+◌, List, [], ◌∷◌, ◌++◌, Option, Result, Ok, Err, IfOk, String, Global, refl, ap, arith, string_bytes}
 use Rattle.ec_table.specs.Contents.{Contents}
 use Rattle.ec_asking.specs.declared.answer.AlStatus.{AlStatus}
 use Rattle.ec_script.specs.declared.output.LineOutput.{LineOutput}
@@ -29,13 +29,18 @@ printed_as (Err e) t n view here w states said of_it shown is = tt
 
 -- ---- slave after slave
 
+abbrev one : WorldState → ℕ → List (Option AlStatus)
+one w k = status_of w k ∷ []
+
 -- the slave behind so many, from number s on
-one_more : (w : WorldState) (s i : ℕ) → statuses_from w s i ++ (status_of w (s + i) ∷ []) ≡ statuses_from w s (i + 1)
-one_more w s zero = let e : s + 0 ≡ s = omega arith in let f : 0 + 1 ≡ suc 0 = omega arith in rw (e, f) refl
+one_more : (w : WorldState) (s i : ℕ) → statuses_from w s i ++ one w (s + i) ≡ statuses_from w s (suc i)
+one_more w s zero = let e : s + 0 ≡ s = omega arith in ap (one w) e
 one_more w s (suc i) =
     let e : s + suc i ≡ s + 1 + i = omega arith in
-    let f : suc i + 1 ≡ suc (i + 1) = omega arith in
-    rw (e, f) (ap (λ ss. status_of w s ∷ ss) (one_more w (s + 1) i))
+    ap (λ ss. status_of w s ∷ ss) (ap (λ (k : ℕ). statuses_from w (s + 1) i ++ one w k) e ∙ one_more w (s + 1) i)
 
 pub statuses_more : (w : WorldState) (i : ℕ) (states : List (Option AlStatus)) → states ≡ statuses_from w 0 i → states ++ (status_of w i ∷ []) ≡ statuses_from w 0 (i + 1)
-statuses_more w i states h = let e : 0 + i ≡ i = omega arith in ap (λ ss. ss ++ (status_of w i ∷ [])) h ∙ (rw e at one_more w 0 i)
+statuses_more w i states h =
+    let e : i ≡ 0 + i = omega arith in
+    let f : suc i ≡ i + 1 = omega arith in
+    ap (λ ss. ss ++ one w i) h ∙ (ap (λ (k : ℕ). statuses_from w 0 i ++ one w k) e ∙ (one_more w 0 i ∙ ap (λ (n : ℕ). statuses_from w 0 n) f))

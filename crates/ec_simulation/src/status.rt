@@ -68,8 +68,8 @@ pub fn status_of(world: &World<'_>, slave: usize) -> Option<AlStatus>
     if slave >= world.slaves() {
         return None;
     }
-    let station = world.slave(slave).station_address();
-    if usize::from(station) != FIRST_STATION + slave {
+    let station = usize::from(world.slave(slave).station_address());
+    if station < FIRST_STATION || station - FIRST_STATION != slave {
         return None;
     }
     Some(AlStatus {

@@ -142,6 +142,9 @@ const BACK: [u8; 16] = [14, 16, 7, 1, 1, 0, 0x30, 1, 2, 0, 0, 0, 1, 0, 1, 0];
 
 const BACK_FROM_THREE: [u8; 16] = [14, 16, 7, 1, 3, 0, 0x30, 1, 2, 0, 0, 0, 1, 0, 3, 0];
 
+/// `BROADCAST` without its last byte, which is no frame.
+const CUT: [u8; 15] = [14, 16, 7, 1, 0, 0, 0x30, 1, 2, 0, 0, 0, 0, 0, 0];
+
 /// A slave without PDOs, just switched on.
 fn plain_slave(alloc: Global) -> Result<Slave, AllocError> {
     Slave::new(alloc, SlaveType::without_pdos(alloc), IDENTITY)
@@ -198,12 +201,11 @@ fn expect_ring(rt: &impl Abort, ring: Result<Ring, AllocError>) {
     let (mut one, mut all) = (BROADCAST, BROADCAST);
     ring.pass_one(&mut one, 1).expect(rt, "a frame");
     ring.pass_all(&mut all).expect(rt, "a frame");
-    let refused = [
-        ring.pass_one(&mut one[..15], 1),
-        ring.pass_all(&mut one[..15]),
-    ];
+    let mut cut = CUT;
+    let refused = [ring.pass_one(&mut cut, 1), ring.pass_all(&mut cut)];
     expect(rt, refused == [Err(NotAFrame); 2], "no frames");
-    expect_same(rt, &(one, all), &(BACK, BACK_FROM_THREE), "frames");
+    let wanted = (BACK, BACK_FROM_THREE, CUT);
+    expect_same(rt, &(one, all, cut), &wanted, "frames");
     expect_same(rt, &status_of(ring.slave(1)), &Some(1), "the AL status");
     expect(rt, !ring.slave_mut(1).fault(), "no fault in INIT");
 }
