@@ -4,7 +4,7 @@ ghost use Rattle.std.specs.Char.{is_ascii_digit};
 ghost use Rattle.std.specs.List.{list_all, slice_get};
 ghost use Rattle.std.specs.Option.{option_and_then, option_map};
 ghost use Rattle.ec_script.specs.Words.{bounds_of};
-ghost use Rattle.ec_script.specs.Operands.{assignment_at, bounds_at, bounds_for, byte_at, code_at, held_at, held_for, number_at, slave_at, slave_in, slave_named, state_at, state_named, value_for, variable_named};
+ghost use Rattle.ec_script.specs.Operands.{assignment_at, bounds_at, bounds_for, byte_at, code_at, held_at, held_for, number_at, slave_at, slave_in, slave_named, state_at, state_named, value_for, variable_at, variable_named};
 
 use crate::value::{WrittenValue, bounds_of, held_in, value_of};
 use crate::words::{byte_of, code_of, number_of};
