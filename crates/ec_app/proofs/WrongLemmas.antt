@@ -33,6 +33,12 @@ pub right_socket : (d : Option ℕ) (n : ℕ) (Right : Type 0) (found : Option W
 right_socket d n Right (Some w) is = tt
 right_socket d n Right None is = subst (λ (o : Option ℕ). IsRightAt o Right) (sym is) tt
 
+-- ---- none is wrong
+
+pub none_right : (found : Option Wrong) (Right : Type 0) → ((w : Wrong) → found ≡ Some w → ⊥) → IfNone found Right → Right
+none_right None Right none h = h
+none_right (Some w) Right none h = absurd (none w refl)
+
 -- ---- the address of a segment
 
 -- that of its text, or `given` if it is none
