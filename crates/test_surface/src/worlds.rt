@@ -1,4 +1,5 @@
 //! A world, event by event.
+use crate::compare::{expect, expect_same};
 use crate::machines::machine_of;
 use ec_link::Machine;
 use ec_regs::Identity;
@@ -23,7 +24,7 @@ fn world_of<'p>(
     identities: &[Identity],
 ) -> Result<World<'p>, AllocError> {
     let (table, plan) = (machine.table(), machine.plan());
-    assert!(rt; identities.len() == table.slaves().len());
+    expect(rt, identities.len() == table.slaves().len(), "world of");
     World::new(rt.alloc(), table, plan, identities)
 }
 
@@ -39,31 +40,41 @@ fn is_made(world: &mut World<'_>, event: Event) -> bool {
 
 /// The value of a variable, and how many bytes of outputs a slave has published.
 fn shown(rt: &impl Abort, world: &World<'_>, variable: usize, slave: usize) -> (u64, usize) {
-    assert!(rt; variable < world.variables() && slave < world.slaves());
+    expect(
+        rt,
+        variable < world.variables() && slave < world.slaves(),
+        "shown",
+    );
     (world.input(variable), world.outputs(slave).len())
 }
 
 /// Of a new world: the first frame of its start-up passes its slaves and is lost, and the start-up is given up. No cycle can begin.
 fn expect_new(rt: &impl Abort, world: Result<World<'_>, AllocError>) {
     let mut world = world.expect(rt, "memory");
-    assert!(rt; is_made(&mut world, Event::StartNext));
+    expect(rt, is_made(&mut world, Event::StartNext), "new");
     let slot = world.slot(0);
     let count = made(
         &mut world,
         &[Event::Pass(0), Event::Begin, Event::Lose(0), Event::Close],
     );
-    assert_eq!(rt;
-        (
+    expect_same(
+        rt,
+        &(
             slot,
             count,
             world.slot(0),
             world.byte(),
-            world.report().is_some()
+            world.report().is_some(),
         ),
-        (Some(0), 3, None, None, false)
+        &(Some(0), 3, None, None, false),
+        "new",
     );
-    assert_eq!(rt; shown(rt, &world, 2, 0), (0, 0));
-    assert!(rt; matches!(world.outcome(), Some(Err(error)) if error.number() == 32));
+    expect_same(rt, &shown(rt, &world, 2, 0), &(0, 0), "new");
+    expect(
+        rt,
+        matches!(world.outcome(), Some(Err(error)) if error.number() == 32),
+        "new",
+    );
 }
 
 #[test]

@@ -1,5 +1,6 @@
 //! Machines, and the slaves and the start-ups of them.
 
+use crate::lines::expect;
 use ec_bringup::slaves_of_machine;
 use ec_link::{Machine, Plan};
 use ec_ring::Ring;
@@ -41,9 +42,7 @@ pub fn changed_ring(rt: &(impl AllocGlobal + Abort), change: &str) -> Ring {
 
 /// A start-up of a plan whose first frame has this number.
 fn startup_of_plan<'p>(rt: &impl Abort, plan: &'p Plan, number: u64) -> Startup<'p> {
-    if !Startup::can_start(plan) {
-        panic!(rt; "no start-up");
-    }
+    expect(rt, Startup::can_start(plan), "a start-up");
     Startup::new(plan, number)
 }
 
