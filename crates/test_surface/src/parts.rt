@@ -1,5 +1,6 @@
 //! Bits, frames, registers, sync managers and FMMUs.
-ghost use Rattle.std.specs.Prelude.{◌==◌, ◌-◌, Option, Some, None, true, if◌then◌else◌};
+ghost use Rattle.std.specs.Prelude.{◌≡◌, ◌==◌, ◌-◌, Option, Some, None, true, if◌then◌else◌};
+ghost use Rattle.ec_frame.specs.Lending.{IsSomeLent};
 ghost use Rattle.ec_bits.specs.Bits.{bit, within, zeros};
 
 use crate::compare::{expect, expect_same};
@@ -8,7 +9,7 @@ use ec_fmmu::{
     Fmmu, FmmuTable, ReadableBits, ReadableRuns, WritableBytes, apply_read, apply_write,
     read_by_bits,
 };
-use ec_frame::{Builder, Command, Datagrams, Frame, FrameError, Full, Header, check};
+use ec_frame::{Builder, Command, Datagram, Datagrams, Frame, FrameError, Full, Header, check};
 use ec_regs::registers::{AL_CONTROL, AL_STATUS};
 use ec_regs::{
     AlWord, FmmuSettings, SiiControl, decode_fmmu, decode_manager, encode_fmmu, encode_manager,
@@ -79,8 +80,8 @@ fn frames(rt: HostRuntime) {
     );
 }
 
-/// The same with other fields.
-const REWRITTEN: [u8; 16] = [14, 16, 4, 2, 1, 0x10, 0x10, 1, 2, 0, 4, 0, 0, 0, 3, 0];
+/// The same with each field that can be written changed.
+const REWRITTEN: [u8; 16] = [14, 16, 4, 2, 1, 0x10, 0x10, 1, 2, 0, 4, 0, 8, 0, 3, 0];
 
 /// The header, the data and the working counter of the one datagram of a frame.
 fn read_only_one(rt: &impl Abort, frame: &mut [u8]) -> (Header, [u8; 2], u16) {
@@ -98,12 +99,23 @@ fn read_only_one(rt: &impl Abort, frame: &mut [u8]) -> (Header, [u8; 2], u16) {
     (datagram.header(), [data[0], data[1]], datagram.counter())
 }
 
-/// Writes fields of the one datagram of a frame.
+/// Writes the data of a datagram.
+fn write_data(rt: &impl Abort, datagram: &mut Datagram<'_>, content: &[u8])
+    requires { IsSomeLent datagram.old }
+    ensures same_reference { datagram.new.frame.ghost_name ≡ datagram.old.frame.ghost_name }
+    ensures some { IsSomeLent datagram.new }
+{
+    assert!(rt; datagram.data().len() == content.len());
+    datagram.set_data(content);
+}
+
+/// Writes each field of the one datagram of a frame.
 fn write_only_one(rt: &impl Abort, frame: &mut [u8]) {
     check(frame).expect(rt, "a frame");
     let mut datagrams = Datagrams::new(frame);
     expect(rt, datagrams.has_next(), "write only one");
     let mut datagram = datagrams.next(frame);
+    write_data(rt, &mut datagram, &[8, 0]);
     datagram.set_command(Command::Fprd);
     datagram.set_index(2);
     datagram.set_address(0x0110_1001);
