@@ -54,7 +54,7 @@ fn expect_ended(rt: &impl Abort, run: &Run, status: u8, printed: &[u8], told: &[
         rt,
         &(status, printed, told),
         &(wanted, output.as_bytes(), faults.as_bytes()),
-        "ended",
+        "a run",
     );
 }
 
@@ -77,7 +77,7 @@ fn commands(rt: HostRuntime) {
 #[test]
 fn frames_in_hex(rt: HostRuntime) {
     let back = pass_hex(rt.alloc(), 3, SENT).expect(&rt, "an answer");
-    expect_same(&rt, &back.as_str(), &BACK, "frames in hex");
+    expect_same(&rt, &back.as_str(), &BACK, "a frame in hex");
 }
 
 /// The plan of three slaves.
@@ -106,7 +106,7 @@ fn plan_of_machine(rt: &(impl AllocGlobal + Abort), machine: &Machine) -> String
 #[test]
 fn plan_as_text(rt: HostRuntime) {
     let text = plan_of_machine(&rt, &machine_of(&rt));
-    expect_same(&rt, &text.as_str(), &PLAN, "plan as text");
+    expect_same(&rt, &text.as_str(), &PLAN, "a plan");
 }
 
 // ---- scripts
@@ -141,13 +141,13 @@ fn expect_printed(
     wanted: &str,
 ) {
     let text = printed(rt, world, machine, line);
-    expect_same(rt, &text.as_str(), &wanted, "printed");
+    expect_same(rt, &text.as_str(), &wanted, "a line");
 }
 
 /// Does the lines of a script in a world.
 fn expect_lines(rt: &(impl AllocGlobal + Abort), world: &mut World<'_>, machine: &Machine) {
     let lines = read_script(rt.alloc(), machine.table(), SCRIPT).expect(rt, "a script");
-    expect(rt, lines.as_slice().len() == PRINTED.len(), "lines");
+    expect(rt, lines.as_slice().len() == PRINTED.len(), "a script");
     for (line, wanted) in lines.as_slice().iter().zip(&PRINTED) {
         expect_printed(rt, world, machine, line, *wanted);
     }
@@ -178,7 +178,7 @@ fn expect_cycle(rt: &impl Abort, machine: &Machine, master: &mut Master<'_>, wir
     bring_up_wire(&mut startup, wire);
     make_ready(rt, &startup, master);
     let report = run_cycle(master, wire).expect(rt, "a cycle");
-    expect(rt, report.is_taken() && wire.failures() == 0, "cycle");
+    expect(rt, report.is_taken() && wire.failures() == 0, "a cycle");
 }
 
 /// The same over memory.
@@ -219,7 +219,7 @@ fn expect_answer(rt: &impl Abort, ring: &mut Ring, wire: &mut UdpWire, client: &
         rt,
         &(served.answered, served.refused, &buffer[..count.min(1500)]),
         &(1, 0, ANSWER.as_slice()),
-        "answer",
+        "an answer",
     );
 }
 

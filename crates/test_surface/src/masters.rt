@@ -26,7 +26,7 @@ fn expect_lost(rt: &impl Abort, startup: &mut Startup<'_>) {
             Taken::Foreign,
             Some(Err(StartError::Lost)),
         ),
-        "lost",
+        "a start-up that is lost",
     );
 }
 
@@ -48,7 +48,7 @@ fn expect_ready(rt: &impl Abort, startup: &mut Startup<'_>, ring: &mut Ring) {
     }
     bring_all_up(rt, startup, ring);
     let met = (startup.outcome(), startup.next_number());
-    expect_same(rt, &met, &(Some(Ok(())), 76), "ready");
+    expect_same(rt, &met, &(Some(Ok(())), 76), "a start-up");
 }
 
 /// A start-up is lost, and begins again.
@@ -75,32 +75,33 @@ fn raise(rt: &impl Abort, machine: &Machine, master: &mut Master<'_>, ring: &mut
 /// The application of a slave writes its inputs.
 fn put(rt: &impl Abort, ring: &mut Ring, slave: usize, inputs: &[u8]) {
     for (place, byte) in inputs.iter().enumerate() {
-        expect(rt, slave < ring.len(), "put");
-        expect(rt, ring.slave_mut(slave).app_put(place, *byte), "put");
+        expect(rt, slave < ring.len(), "a byte of inputs");
+        expect(
+            rt,
+            ring.slave_mut(slave).app_put(place, *byte),
+            "a byte of inputs",
+        );
     }
 }
 
 /// Sets an output variable.
 fn set(rt: &impl Abort, master: &mut Master<'_>, variable: usize, value: u64) {
-    expect(rt, master.can_set(variable, value), "set");
+    expect(rt, master.can_set(variable, value), "a value");
     master.set(variable, value);
 }
 
 /// The value of a variable.
 fn value_of(rt: &impl Abort, master: &Master<'_>, variable: usize) -> u64 {
-    expect(rt, variable < master.variables(), "value of");
+    expect(rt, variable < master.variables(), "a variable");
     master.get(variable)
 }
 
 /// The frame of the cycle's one part.
 fn frame_of(rt: &impl Abort, master: &Master<'_>) -> Frame {
-    expect(rt, master.is_open() && 0 < master.parts(), "frame of");
+    expect(rt, master.is_open() && 0 < master.parts(), "an open cycle");
     let mut frame = Frame::new();
-    expect(
-        rt,
-        frame.try_extend_from_slice(master.frame(0)).is_ok(),
-        "frame of",
-    );
+    let has_room = frame.try_extend_from_slice(master.frame(0)).is_ok();
+    expect(rt, has_room, "room");
     frame
 }
 
@@ -123,7 +124,7 @@ fn expect_cycle(rt: &impl Abort, master: &mut Master<'_>, ring: &mut Ring) {
         rt,
         &(taken, report.is_taken(), inputs),
         &(Taken::Accepted, true, (5, 48879)),
-        "cycle",
+        "a cycle",
     );
 }
 
@@ -131,7 +132,7 @@ fn expect_cycle(rt: &impl Abort, master: &mut Master<'_>, ring: &mut Ring) {
 fn expect_cycles(rt: &impl Abort, machine: &Machine, master: &mut Master<'_>, ring: &mut Ring)
     requires { master.old.plan ≡ plan_of machine.now }
 {
-    expect_same(rt, &master.begin(), &Err(CycleError::NotReady), "cycles");
+    expect_same(rt, &master.begin(), &Err(CycleError::NotReady), "no cycle");
     raise(rt, machine, master, ring);
     put(rt, ring, 1, &[5]);
     put(rt, ring, 2, &[0xef, 0xbe]);

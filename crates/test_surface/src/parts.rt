@@ -47,11 +47,8 @@ fn built(rt: &impl Abort) -> Frame {
     builder
         .add(Command::Brd, 1, 0x0130_0000, &[0, 0])
         .expect(rt, "room");
-    expect(
-        rt,
-        builder.add(Command::Nop, 1, 0, &[0; 1458]) == Err(Full),
-        "built",
-    );
+    let is_full = builder.add(Command::Nop, 1, 0, &[0; 1458]) == Err(Full);
+    expect(rt, is_full, "a full frame");
     builder.finish()
 }
 
@@ -70,13 +67,13 @@ const HEADER: Header = Header {
 #[test]
 fn frames(rt: HostRuntime) {
     let frame = built(&rt);
-    expect_same(&rt, &frame.as_slice(), &BROADCAST.as_slice(), "frames");
-    expect_same(&rt, &check(&BROADCAST), &Ok(1), "frames");
+    expect_same(&rt, &frame.as_slice(), &BROADCAST.as_slice(), "a frame");
+    expect_same(&rt, &check(&BROADCAST), &Ok(1), "a frame");
     expect_same(
         &rt,
         &check(&BROADCAST[..15]),
         &Err(FrameError::Short),
-        "frames",
+        "a frame",
     );
 }
 
@@ -87,14 +84,14 @@ const REWRITTEN: [u8; 16] = [14, 16, 4, 2, 1, 0x10, 0x10, 1, 2, 0, 4, 0, 8, 0, 3
 fn read_only_one(rt: &impl Abort, frame: &mut [u8]) -> (Header, [u8; 2], u16) {
     check(frame).expect(rt, "a frame");
     let mut datagrams = Datagrams::new(frame);
-    expect(rt, datagrams.has_next(), "read only one");
+    expect(rt, datagrams.has_next(), "one datagram");
     let datagram = datagrams.next(frame);
-    expect(rt, !datagrams.has_next(), "read only one");
+    expect(rt, !datagrams.has_next(), "one datagram");
     let data = datagram.data();
     expect(
         rt,
         data.len() == 2 && datagram.part().len() == 14,
-        "read only one",
+        "one datagram",
     );
     (datagram.header(), [data[0], data[1]], datagram.counter())
 }
@@ -113,7 +110,7 @@ fn write_data(rt: &impl Abort, datagram: &mut Datagram<'_>, content: &[u8])
 fn write_only_one(rt: &impl Abort, frame: &mut [u8]) {
     check(frame).expect(rt, "a frame");
     let mut datagrams = Datagrams::new(frame);
-    expect(rt, datagrams.has_next(), "write only one");
+    expect(rt, datagrams.has_next(), "one datagram");
     let mut datagram = datagrams.next(frame);
     write_data(rt, &mut datagram, &[8, 0]);
     datagram.set_command(Command::Fprd);
@@ -130,10 +127,10 @@ fn datagrams(rt: HostRuntime) {
         &rt,
         &read_only_one(&rt, &mut frame),
         &(HEADER, [0, 0], 0),
-        "datagrams",
+        "a datagram",
     );
     write_only_one(&rt, &mut frame);
-    expect_same(&rt, &frame, &REWRITTEN, "datagrams");
+    expect_same(&rt, &frame, &REWRITTEN, "a datagram");
 }
 
 // ---- ec_regs
@@ -182,13 +179,13 @@ fn register_words(rt: HostRuntime) {
         &rt,
         &(status.state(), status.has_error()),
         &(4, true),
-        "register words",
+        "words",
     );
     expect_same(
         &rt,
         &(control.command(), control.is_busy()),
         &(1, true),
-        "register words",
+        "words",
     );
 }
 
@@ -340,7 +337,7 @@ fn fmmus(rt: HostRuntime) {
         &rt,
         &met,
         &(Some(FIRST + 3), None, Some(LOGICAL + 3)),
-        "fmmus",
+        "FMMUs",
     );
     let fmmus = FmmuTable::new([fmmu, none, none, none]);
     let (mut data, mut window) = ([0xf0], [0xff]);
@@ -359,6 +356,6 @@ fn fmmus(rt: HostRuntime) {
         &rt,
         &(are_moved, data, window),
         &((true, true), [0xfb], [0xef]),
-        "fmmus",
+        "FMMUs",
     );
 }

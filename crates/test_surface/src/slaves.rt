@@ -64,7 +64,7 @@ fn words_of_the_sii(rt: HostRuntime) {
         &rt,
         &(word, before, port.read(0x0503), port.read(0x0508)),
         &(0xABCD, (0x81, 0), 0x00, 0xCD),
-        "words of the sii",
+        "words of the SII",
     );
 }
 
@@ -91,9 +91,9 @@ fn expect_reply(rt: &impl Abort, objects: &mut Dictionary) {
         rt,
         &(is_short, &mailbox[..16]),
         &(true, REPLY.as_slice()),
-        "reply",
+        "a reply",
     );
-    expect(rt, read_message(&UPLOAD[..15]).is_err(), "reply");
+    expect(rt, read_message(&UPLOAD[..15]).is_err(), "a reply");
 }
 
 /// The vendor's number, and another one.
@@ -158,7 +158,7 @@ fn passed(rt: &impl Abort, slave: &mut Slave) -> [u8; 16] {
 /// A slave in INIT answers frames, and its application has no process data.
 fn expect_slave(rt: &impl Abort, slave: Result<Slave, AllocError>) {
     let mut slave = slave.expect(rt, "memory");
-    expect_same(rt, &passed(rt, &mut slave), &BACK, "slave");
+    expect_same(rt, &passed(rt, &mut slave), &BACK, "a slave");
     slave.serve();
     let denied = (slave.app_put(0, 1), slave.app_get(0), slave.fault());
     slave.reset();
@@ -166,7 +166,7 @@ fn expect_slave(rt: &impl Abort, slave: Result<Slave, AllocError>) {
         rt,
         &(denied, slave.app_sizes(), slave.outputs().len()),
         &((false, None, false), (0, 0), 0),
-        "slave",
+        "a slave",
     );
 }
 
@@ -191,20 +191,45 @@ fn status_of(slave: &Slave) -> Option<u8> {
     slave.byte(0x0130)
 }
 
-/// The frame passes one slave, and then all of them. What is no frame passes none.
+/// The frame passes one slave, and then all of them. What is no frame passes none, and stays as it is.
 fn expect_ring(rt: &impl Abort, ring: Result<Ring, AllocError>) {
     let mut ring = ring.expect(rt, "memory");
-    expect(rt, ring.len() == 3, "ring");
+    expect(rt, ring.len() == 3, "three slaves");
     let (mut one, mut all) = (BROADCAST, BROADCAST);
     ring.pass_one(&mut one, 1).expect(rt, "a frame");
     ring.pass_all(&mut all).expect(rt, "a frame");
-    expect_same(rt, &(one, all), &(BACK, BACK_FROM_THREE), "ring");
-    expect(rt, ring.pass_all(&mut one[..15]) == Err(NotAFrame), "ring");
-    expect_same(rt, &status_of(ring.slave(1)), &Some(1), "ring");
-    expect(rt, !ring.slave_mut(1).fault(), "ring");
+    let refused = [
+        ring.pass_one(&mut one[..15], 1),
+        ring.pass_all(&mut one[..15]),
+    ];
+    expect(rt, refused == [Err(NotAFrame); 2], "no frames");
+    expect_same(rt, &(one, all), &(BACK, BACK_FROM_THREE), "frames");
+    expect_same(rt, &status_of(ring.slave(1)), &Some(1), "the AL status");
+    expect(rt, !ring.slave_mut(1).fault(), "no fault in INIT");
+}
+
+/// A broadcast write of the first byte of the RAM, with index 1; and the same as a slave leaves it.
+const WRITE: [u8; 15] = [13, 16, 8, 1, 0, 0, 0, 0x10, 1, 0, 0, 0, 0x77, 0, 0];
+
+const WRITTEN: [u8; 15] = [13, 16, 8, 1, 1, 0, 0, 0x10, 1, 0, 0, 0, 0x77, 1, 0];
+
+/// A frame that passes one slave writes into that one alone.
+fn expect_written(rt: &impl Abort, ring: Result<Ring, AllocError>) {
+    let mut ring = ring.expect(rt, "memory");
+    expect(rt, ring.len() == 3, "three slaves");
+    let mut frame = WRITE;
+    ring.pass_one(&mut frame, 1).expect(rt, "a frame");
+    let bytes = (ring.slave(0).byte(0x1000), ring.slave_mut(1).byte(0x1000));
+    expect_same(
+        rt,
+        &(frame, bytes, ring.is_empty()),
+        &(WRITTEN, (Some(0), Some(0x77)), false),
+        "a written slave",
+    );
 }
 
 #[test]
 fn rings(rt: HostRuntime) {
     expect_ring(&rt, three_slaves(rt.alloc()));
+    expect_written(&rt, three_slaves(rt.alloc()));
 }
