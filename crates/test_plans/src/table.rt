@@ -37,6 +37,23 @@ fn reads_the_examples(rt: HostRuntime) {
     expect_rows(&rt, THREE_OF_A_TYPE, THREE_OF_A_TYPE_READ);
 }
 
+/// A line for each link: the names of its variable and of its slave.
+fn ends_of(alloc: Global, table: &Table) -> Result<String, AllocError> {
+    let mut text = String::new(alloc);
+    for link in 0..table.links().len() {
+        let variable = table.variable_of(link).name.as_str();
+        let slave = table.slave_of(link).name.as_str();
+        writeln!(text, "{variable} {slave}")?;
+    }
+    Ok(text)
+}
+
+#[test]
+fn names_the_ends_of_links(rt: HostRuntime) {
+    let table = read_table(rt.alloc(), THREE_OF_A_TYPE).expect(&rt, "a table");
+    expect_text(&rt, ends_of(rt.alloc(), &table), "v0 s0\nv1 s1\nv2 s2\n");
+}
+
 /// Whether a text states a table, or is refused as texts are, and not for want of memory.
 fn is_told(alloc: Global, text: &str) -> bool {
     match read_table(alloc, text).err() {
