@@ -6,7 +6,7 @@ mod failures;
 mod rows;
 mod steps;
 
-const THREE_SLAVES: &str = test_data::BARE_THREE_SLAVES;
+const THREE_SLAVES: &str = test_data::THREE_SLAVES;
 
 /// All frames of the three slaves byte by byte, the exchange of uploads and downloads among them.
 const READY: &str = "\

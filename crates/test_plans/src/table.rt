@@ -4,7 +4,7 @@
 mod examples;
 
 use self::examples::{
-    PLAIN, SMALL_MACHINE, SMALL_MACHINE_READ, THREE_OF_A_TYPE, THREE_OF_A_TYPE_READ, THREE_SLAVES,
+    SHORT, SMALL_MACHINE, SMALL_MACHINE_READ, THREE_OF_A_TYPE, THREE_OF_A_TYPE_READ, THREE_SLAVES,
     THREE_SLAVES_READ,
 };
 use crate::compare::{expect, expect_said, expect_text, push_rows};
@@ -32,7 +32,7 @@ fn expect_rows(rt: &(impl AllocGlobal + Abort), text: &str, rows: &str) {
 fn reads_the_examples(rt: HostRuntime) {
     expect_rows(&rt, "", "One\n");
     expect_rows(&rt, THREE_SLAVES, THREE_SLAVES_READ);
-    expect_rows(&rt, PLAIN, THREE_SLAVES_READ);
+    expect_rows(&rt, SHORT, THREE_SLAVES_READ);
     expect_rows(&rt, SMALL_MACHINE, SMALL_MACHINE_READ);
     expect_rows(&rt, THREE_OF_A_TYPE, THREE_OF_A_TYPE_READ);
 }
@@ -64,8 +64,8 @@ fn is_told(alloc: Global, text: &str) -> bool {
 
 #[test]
 fn reads_a_text_cut_anywhere(rt: HostRuntime) {
-    for end in 0..PLAIN.len() {
-        let text = PLAIN.get(..end).unwrap_or("");
+    for end in 0..THREE_SLAVES.len() {
+        let text = THREE_SLAVES.get(..end).unwrap_or("");
         expect(&rt, is_told(rt.alloc(), text), text);
     }
 }

@@ -2,7 +2,7 @@
 ghost use Rattle.std.specs.Prelude.{◌<◌, ◌≤◌};
 
 use crate::rows::expect_same;
-use ec_bits::{copy_bits, copy_by_words, get, put, overwrite, read_bits, within, write_bits};
+use ec_bits::{copy_bits, copy_by_words, get, overwrite, put, read_bits, within, write_bits};
 use std::process::Abort;
 
 // Twelve bits from bit 0 of ab cd, so b a d from the lowest nibble on, to bit 4 of ff ff ff. Then ten ones to bit 7: bits 7 to

@@ -6,7 +6,7 @@ use crate::rows::expect_same;
 use ec_bits::{get, put};
 use ec_fmmu::{
     Fmmu, FmmuTable, ReadableBits, ReadableRuns, WritableBytes, apply_read, apply_write,
-    run_settings, read_by_bits,
+    read_by_bits, run_settings,
 };
 use ec_regs::FmmuSettings;
 use std::process::Abort;

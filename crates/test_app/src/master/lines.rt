@@ -10,7 +10,7 @@ use ec_wire::MemoryWire;
 use std::alloc::Global;
 use std::process::Abort;
 
-const THREE_SLAVES: &str = test_data::BARE_THREE_SLAVES;
+const THREE_SLAVES: &str = test_data::SHORT_THREE_SLAVES;
 
 /// So many calls of a wire never fail.
 const NEVER: u64 = u64::MAX;
@@ -240,7 +240,7 @@ const FAILURES: [Failure; 6] = [
 
 /// The slaves of the three, without variables and links, in which OLD became NEW.
 fn other_slaves(rt: &(impl AllocGlobal + Abort), old: &str, new: &str) -> Machine {
-    let (slaves, _) = test_data::SHORT_THREE_SLAVES
+    let (slaves, _) = THREE_SLAVES
         .split_once("variable = [")
         .expect(rt, "variables");
     let text = slaves.replace(rt.alloc(), old, new).expect(rt, "memory");

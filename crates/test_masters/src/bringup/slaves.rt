@@ -7,8 +7,8 @@ use ec_ring::Ring;
 use ec_start::Startup;
 use std::process::Abort;
 
-/// The table of `examples/three_slaves.toml`, without its comments.
-pub const THREE_SLAVES: &str = test_data::BARE_THREE_SLAVES;
+/// The table of `examples/three_slaves.toml`, a line for each list.
+pub const THREE_SLAVES: &str = test_data::SHORT_THREE_SLAVES;
 
 /// The machine of a table.
 pub fn machine_of(rt: &(impl AllocGlobal + Abort), text: &str) -> Machine {
@@ -22,8 +22,9 @@ pub fn ring_of(rt: &(impl AllocGlobal + Abort), machine: &Machine) -> Ring {
 
 /// The table of the three slaves, without variables and links.
 fn slaves_alone() -> &'static str {
-    let whole = test_data::SHORT_THREE_SLAVES;
-    let (slaves, _) = whole.split_once("variable = ").unwrap_or((whole, ""));
+    let (slaves, _) = THREE_SLAVES
+        .split_once("variable = ")
+        .unwrap_or((THREE_SLAVES, ""));
     slaves
 }
 

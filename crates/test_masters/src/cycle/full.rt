@@ -96,12 +96,7 @@ fn push_variables(text: &mut String, count: usize) -> Result<(), AllocError> {
 }
 
 /// A table of slaves with so many output bits each, and these variables and links.
-fn table_of(
-    rt: &(impl AllocGlobal + Abort),
-    slaves: &[u32],
-    has_lrw: bool,
-    links: &str,
-) -> String {
+fn table_of(rt: &(impl AllocGlobal + Abort), slaves: &[u32], has_lrw: bool, links: &str) -> String {
     let mut text = String::new(rt.alloc());
     push_slaves(&mut text, slaves, has_lrw).expect(rt, "memory");
     text.push_str(links).expect(rt, "memory");

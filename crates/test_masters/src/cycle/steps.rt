@@ -15,8 +15,9 @@
 //! A ROW has hexadecimal digits with blanks between fields; the field `+7` stands for seven bytes of zeros.
 ghost use Rattle.std.specs.Prelude.{◌≡◌};
 
-use crate::lines::{Line, expect, expect_same, line_of, number_at, number_of, parts, place_at};
-use crate::lines::word_at;
+use crate::lines::{
+    Line, expect, expect_same, line_of, number_at, number_of, parts, place_at, word_at,
+};
 use ec_bringup::{bring_up, slaves_of_machine};
 use ec_cycle::{CycleError, Master, Report, Taken};
 use ec_link::{ExpectedCounters, Machine, Plan};
@@ -119,12 +120,7 @@ fn expect_frame(rt: &impl Abort, master: &Master, part: usize, wanted: &[u8]) {
 /// The same of a row behind the number of the part.
 fn expect_row(rt: &(impl AllocGlobal + Abort), master: &Master, line: &Line<'_>) {
     let (part, row) = parts(line.about, " ");
-    expect_frame(
-        rt,
-        master,
-        number_of(rt, part) as usize,
-        &bytes_of(rt, row),
-    );
+    expect_frame(rt, master, number_of(rt, part) as usize, &bytes_of(rt, row));
 }
 
 /// Compares what a master takes the payload of a row for.

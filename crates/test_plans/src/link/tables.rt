@@ -1,9 +1,9 @@
-//! Link tables, and the description of each.
+//! Tables, the image of each, and what errors say.
 use ec_link::{LinkError, LinkFault, MachineError};
 use ec_table::{Fault, TableError};
 
-/// The table of `examples/three_slaves.toml`, without its comments.
-pub const THREE_SLAVES: &str = test_data::BARE_THREE_SLAVES;
+/// The table of `examples/three_slaves.toml`.
+pub const THREE_SLAVES: &str = test_data::THREE_SLAVES;
 
 /// The same, a line for each list, with the second slave in a sync unit of its own.
 pub const TWO_UNITS: &str = test_data::SHORT_TWO_UNITS;

@@ -3,8 +3,8 @@
 /// `examples/three_slaves.toml`.
 pub const THREE_SLAVES: &str = test_data::THREE_SLAVES;
 
-/// The lines of the table of three slaves that are no comments.
-pub const PLAIN: &str = test_data::BARE_THREE_SLAVES;
+/// The same, a line for each list.
+pub const SHORT: &str = test_data::SHORT_THREE_SLAVES;
 
 /// `examples/small_machine.toml`.
 pub const SMALL_MACHINE: &str = test_data::SMALL_MACHINE;

@@ -3,11 +3,9 @@
 ghost use Rattle.std.specs.Prelude.{◌≡◌};
 ghost use Rattle.ec_link.specs.Plan.{plan_of};
 
-use crate::wire::fakes::Fake;
 use crate::rows::{assert_same, expect};
-use crate::wire::machines::{
-    bring_up, brought_up, ring_of, set, startup_of, value_of, wire_to,
-};
+use crate::wire::fakes::Fake;
+use crate::wire::machines::{bring_up, brought_up, ring_of, set, startup_of, value_of, wire_to};
 use ec_cycle::{Master, Report};
 use ec_link::{ExpectedCounters, Machine};
 use ec_ring::Ring;

@@ -1,6 +1,6 @@
 //! Start-ups over wires.
-use crate::wire::fakes::Fake;
 use crate::rows::assert_same;
+use crate::wire::fakes::Fake;
 use crate::wire::machines::{ring_of, startup_of, wire_to};
 use ec_link::Machine;
 use ec_start::{StartError, Startup};
