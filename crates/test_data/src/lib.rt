@@ -16,7 +16,5 @@ pub use crate::files::{
 };
 pub use crate::random::Random;
 pub use crate::scripts::random_script;
-pub use crate::spellings::{
-    BARE_THREE_SLAVES, SHORT_THREE_SLAVES, SHORT_TWO_UNITS, SHORT_WITHOUT_LRW,
-};
+pub use crate::spellings::{SHORT_THREE_SLAVES, SHORT_TWO_UNITS, SHORT_WITHOUT_LRW};
 pub use crate::tables::random_table;

@@ -9,43 +9,40 @@ ghost use Rattle.ec_frame.specs.Fields.{with_adp, with_counter, with_data};
 ghost use Rattle.ec_frame.specs.FieldChanges.{IsDatagram-with_adp, IsDatagram-with_counter};
 ghost use Rattle.ec_frame.specs.FieldChanges.{IsDatagram-with_data};
 
+use crate::compare::{bytes_of, expect_row, expect_same};
 use ec_frame::{
-    Builder, Command, Datagrams, Frame, FrameError, Full, Handler, Header, Sent, check,
-    cut_counter, cut_heading, pass, read_counter, read_data, write_address, write_adp,
-    write_counter, write_pair,
+    Builder, Command, Datagrams, Frame, Handler, Header, Sent, check, cut_counter,
+    cut_heading, pass, read_counter, read_data, write_address, write_adp, write_counter,
+    write_pair,
 };
 use std::process::Abort;
-use std::test::Fail;
 
 /// One datagram: a broadcast read of the AL status, two bytes.
 const STATUS: &str = "0e10 0701 0000 3001 0200 0000 0000 0000";
 
-/// The bytes of a row of hexadecimal digits, with blanks between fields.
-fn bytes_of(rt: &(impl AllocGlobal + Abort), row: &str) -> Result<Vec<u8>, Fail> {
-    let mut bytes = Vec::new(rt.alloc());
-    for field in row.split_whitespace() {
-        bytes.extend_from_slice(&hex::decode(rt.alloc(), field)?)?;
-    }
-    Ok(bytes)
+/// A frame in which something was before, which is gone when another one is written there.
+fn used_frame() -> Frame {
+    let mut frame = Frame::new();
+    frame.push(0xFF);
+    frame
 }
 
 #[test]
-fn builder_makes_the_frame(rt: HostRuntime) -> Result<(), Fail> {
+fn builder_makes_the_frame(rt: HostRuntime) {
     let mut builder = Builder::new();
-    builder.add(Command::Brd, 1, 0x0130_0000, &[0, 0])?;
-    // what was in a frame before is gone
-    let mut written = Frame::new();
-    written.push(0xFF);
+    let added = builder.add(Command::Brd, 1, 0x0130_0000, &[0, 0]);
+    added.expect(&rt, "room");
+    let mut written = used_frame();
     builder.write(&mut written);
-    let frame = builder.finish();
-    let expected = bytes_of(&rt, STATUS)?;
-    assert_eq!(rt; written.as_slice(), expected.as_slice());
-    assert_eq!(rt; frame.as_slice(), expected.as_slice());
-    Ok(())
+    expect_row(&rt, written.as_slice(), STATUS);
+    expect_row(&rt, builder.finish().as_slice(), STATUS);
 }
 
+/// Two datagrams of two bytes each.
+const PAIR: &str = "1c10 0007 00000000 0280 0000 0102 0000 0708 00003001 0200 0000 0000 0000";
+
 #[test]
-fn pair_makes_the_frame(rt: HostRuntime) -> Result<(), Fail> {
+fn pair_makes_the_frame(rt: HostRuntime) {
     let naming = Sent {
         command: Command::Nop,
         index: 7,
@@ -58,34 +55,35 @@ fn pair_makes_the_frame(rt: HostRuntime) -> Result<(), Fail> {
         address: 0x0130_0000,
         content: &[0, 0],
     };
-    // what was in a frame before is gone
-    let mut written = Frame::new();
-    written.push(0xFF);
+    let mut written = used_frame();
     write_pair(&mut written, naming, asking);
-    let expected = bytes_of(
-        &rt,
-        "1c10 0007 00000000 0280 0000 0102 0000 0708 00003001 0200 0000 0000 0000",
-    )?;
-    assert_eq!(rt; written.as_slice(), expected.as_slice());
-    Ok(())
+    expect_row(&rt, written.as_slice(), PAIR);
+}
+
+/// Whether a datagram of these data is added.
+fn is_added(builder: &mut Builder, content: &[u8]) -> bool {
+    builder.add(Command::Nop, 0, 0, content).is_ok()
 }
 
 #[test]
-fn builder_is_full_at_the_limit(rt: HostRuntime) -> Result<(), Fail> {
+fn builder_is_full_at_the_limit(rt: HostRuntime) {
     let content = [0; 1459];
     let mut builder = Builder::new();
-    assert_eq!(rt;
-        builder.add(Command::Lrw, 0, 0x0001_0000, &content),
-        Err(Full)
-    );
-    builder.add(Command::Lrw, 0, 0x0001_0000, &content[..1446])?;
-    assert_eq!(rt; builder.add(Command::Nop, 0, 0, &[0]), Err(Full));
-    builder.add(Command::Nop, 0, 0, &[])?;
-    assert_eq!(rt; builder.add(Command::Nop, 0, 0, &[]), Err(Full));
+    let first = is_added(&mut builder, &content);
+    let added = builder.add(Command::Lrw, 0, 0x0001_0000, &content[..1446]);
+    added.expect(&rt, "room");
+    let others = [
+        is_added(&mut builder, &[0]),
+        is_added(&mut builder, &[]),
+        is_added(&mut builder, &[]),
+    ];
     let frame = builder.finish();
-    assert_eq!(rt; frame.len(), 1472);
-    assert_eq!(rt; check(&frame), Ok(2));
-    Ok(())
+    expect_same(
+        &rt,
+        &(first, others, frame.len(), check(&frame)),
+        &(false, [false, true, false], 1472, Ok(2)),
+        "a full frame",
+    );
 }
 
 /// What a slave might do to each datagram: adds 1 to ADP and the data's length to the counter, and
@@ -140,87 +138,61 @@ const CYCLE: &str = "3518 \
     0764 0000 3001 0280 0000 0000 0000 \
     0c64 ffff 0100 0540 3412 3a12000000 ffff aabb";
 
-#[test]
-fn pass_hands_each_datagram_over(rt: HostRuntime) -> Result<(), Fail> {
-    let mut frame = bytes_of(&rt, CYCLE)?;
-    let mut marker = Marker { seen: 0 };
-    assert_eq!(rt; check(&frame)?, 3);
-    pass(&mut marker, &mut frame);
-    assert_eq!(rt; marker.seen, 3);
-    let expected = bytes_of(
-        &rt,
-        "3518 \
-         0064 0100 0000 0a80 0000 55000000000000000000 0a00 \
-         0764 0100 3001 0280 0000 5500 0200 \
-         0c64 0000 0100 0540 3412 5512000000 0400 aabb",
-    )?;
-    assert_eq!(rt; frame.as_slice(), expected.as_slice());
-    Ok(())
+/// The same behind the marker.
+const MARKED: &str = "3518 \
+    0064 0100 0000 0a80 0000 55000000000000000000 0a00 \
+    0764 0100 3001 0280 0000 5500 0200 \
+    0c64 0000 0100 0540 3412 5512000000 0400 aabb";
+
+/// Passes a frame, and returns how many datagrams it has.
+fn pass_frame(rt: &impl Abort, marker: &mut Marker, frame: &mut [u8]) -> usize {
+    let count = check(frame).expect(rt, "a frame");
+    pass(marker, frame);
+    count
 }
 
 #[test]
-fn fields_are_read_and_written(rt: HostRuntime) -> Result<(), Fail> {
-    let mut frame = bytes_of(&rt, CYCLE)?;
-    check(&frame)?;
-    let mut places = Datagrams::new(&frame);
-    let first = places.next_place(&frame).ok_or("no datagram")?;
+fn pass_hands_each_datagram_over(rt: HostRuntime) {
+    let mut frame = bytes_of(&rt, CYCLE);
+    let mut marker = Marker { seen: 0 };
+    let count = pass_frame(&rt, &mut marker, &mut frame);
+    expect_same(&rt, &(count, marker.seen), &(3, 3), "datagrams");
+    expect_row(&rt, &frame, MARKED);
+}
+
+/// The header of the first datagram.
+const FIRST: Header = Header {
+    command: Command::Nop,
+    index: 0x64,
+    address: 0,
+    data_length: 10,
+    reserved: 0,
+    circulating: false,
+    more: true,
+    irq: 0,
+};
+
+/// Reads the fields of a frame's first datagram, and writes its address.
+fn expect_fields(rt: &impl Abort, frame: &mut [u8]) {
+    check(frame).expect(rt, "a frame");
+    let first = Datagrams::new(frame)
+        .next_place(frame)
+        .expect(rt, "a datagram");
     let part = &mut frame[first.from..first.to];
     let header = Header::read(part);
-    let expected = Header {
-        command: Command::Nop,
-        index: 0x64,
-        address: 0,
-        data_length: 10,
-        reserved: 0,
-        circulating: false,
-        more: true,
-        irq: 0,
-    };
-    assert_eq!(rt; header, expected);
-    assert_eq!(rt;
-        read_data(part),
-        [0x64, 0, 0, 0, 0, 0, 0, 0, 0, 0].as_slice()
-    );
+    let has_data = read_data(part) == [0x64, 0, 0, 0, 0, 0, 0, 0, 0, 0].as_slice();
     write_address(part, 0x0403_0201);
-    assert_eq!(rt; Header::read(part).ado(), 0x0403);
-    assert_eq!(rt; &frame[4..8], [1, 2, 3, 4].as_slice());
-    Ok(())
-}
-
-/// What each fault of a frame says.
-const FAULTS: [(FrameError, &str); 6] = [
-    (
-        FrameError::Short,
-        "fewer bytes than the header has, or than it says",
-    ),
-    (FrameError::BadType, "the header's type isn't 1"),
-    (
-        FrameError::BadLength,
-        "no byte of datagrams, or too few for a datagram",
-    ),
-    (
-        FrameError::BadMore,
-        "a datagram is wrong on whether another follows",
-    ),
-    (FrameError::BadCommand, "a command over 14"),
-    (FrameError::TooLong, "more than 1470 bytes of datagrams"),
-];
-
-/// A fault says this.
-fn expect_said(rt: &(impl AllocGlobal + Abort), fault: FrameError, text: &str) {
-    let said = format!(in rt.alloc(); "{fault}").expect(rt, "memory");
-    assert_eq!(rt; said.as_str(), text);
+    let ado = Header::read(part).ado();
+    let is_written = frame.get(4..8) == Some([1, 2, 3, 4].as_slice());
+    expect_same(
+        rt,
+        &(header, has_data, ado, is_written),
+        &(FIRST, true, 0x0403, true),
+        "a datagram",
+    );
 }
 
 #[test]
-fn faults_say_what_is_wrong(rt: HostRuntime) {
-    for (fault, text) in &FAULTS {
-        expect_said(&rt, *fault, text);
-    }
-}
-
-#[test]
-fn what_is_full_says_so(rt: HostRuntime) {
-    let said = format!(in rt.alloc(); "{Full}").expect(&rt, "memory");
-    assert_eq!(rt; said.as_str(), "the datagram doesn't fit in the frame");
+fn fields_are_read_and_written(rt: HostRuntime) {
+    expect_fields(&rt, &mut bytes_of(&rt, CYCLE));
 }

@@ -4,7 +4,11 @@
 #[cfg(test)]
 mod capture;
 #[cfg(test)]
+mod compare;
+#[cfg(test)]
 mod decode;
+#[cfg(test)]
+mod errors;
 #[cfg(test)]
 mod frame;
 #[cfg(test)]

@@ -5,3 +5,5 @@
 mod bringup;
 #[cfg(test)]
 mod cycle;
+#[cfg(test)]
+mod lines;

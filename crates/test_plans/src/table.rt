@@ -1,67 +1,73 @@
-//! Texts, and what reading each returns. Whatever isn't as it must be ends the test, and so does memory that is refused: so no
-//! function here has another way out, on which texts or tables would go away. What is wrong with texts that are changed, as
-//! `ecat plan` prints it, stands as cases in `tools/cases/data/`: `lacking.cases`, `types.cases` and `values.cases`.
-mod described;
+//! Texts, and the tables that they state. What is wrong with texts that are changed, as `ecat plan` prints it, stands as cases in
+//! `tools/cases/data/`: `lacking.cases`, `types.cases` and `values.cases`. What slaves show besides, where their table is advertised in full,
+//! `tools/scan/run` finds.
 mod examples;
-mod full;
-mod texts;
 
-use self::described::ends_of;
-use self::examples::{PLAIN, THREE_OF_A_TYPE};
-use self::texts::assert_same;
+use self::examples::{
+    SHORT, SMALL_MACHINE, SMALL_MACHINE_READ, THREE_OF_A_TYPE, THREE_OF_A_TYPE_READ, THREE_SLAVES,
+    THREE_SLAVES_READ,
+};
+use crate::compare::{expect, expect_said, expect_text, push_rows};
 use ec_table::{Fault, Position, Section, Table, TableError, read_table};
+use std::alloc::{AllocError, Global};
 use std::process::Abort;
 
-/// The table that a text states.
-fn read(rt: &(impl AllocGlobal + Abort), text: &str) -> Table {
-    read_table(rt.alloc(), text).expect(rt, text)
+/// All that a table holds: its version, and a line for each row.
+fn rows_of(alloc: Global, table: &Table) -> Result<String, AllocError> {
+    let mut text = format!(in alloc; "{:?}\n", table.version())?;
+    push_rows(&mut text, table.types())?;
+    push_rows(&mut text, table.slaves())?;
+    push_rows(&mut text, table.variables())?;
+    push_rows(&mut text, table.links())?;
+    Ok(text)
 }
 
-/// Why a text states no table.
-fn refused(rt: &impl AllocGlobal, text: &str) -> Option<TableError> {
-    read_table(rt.alloc(), text).err()
+/// Compares all that the table of a text holds.
+fn expect_rows(rt: &(impl AllocGlobal + Abort), text: &str, rows: &str) {
+    let table = read_table(rt.alloc(), text).expect(rt, text);
+    expect_text(rt, rows_of(rt.alloc(), &table), rows);
 }
 
-fn assert_ends(rt: &(impl AllocGlobal + Abort), table: &Table, wanted: &str) {
-    assert_same(rt, ends_of(rt, table).as_str(), wanted, "the links");
+#[test]
+fn reads_the_examples(rt: HostRuntime) {
+    expect_rows(&rt, "", "One\n");
+    expect_rows(&rt, THREE_SLAVES, THREE_SLAVES_READ);
+    expect_rows(&rt, SHORT, THREE_SLAVES_READ);
+    expect_rows(&rt, SMALL_MACHINE, SMALL_MACHINE_READ);
+    expect_rows(&rt, THREE_OF_A_TYPE, THREE_OF_A_TYPE_READ);
+}
+
+/// A line for each link: the names of its variable and of its slave.
+fn ends_of(alloc: Global, table: &Table) -> Result<String, AllocError> {
+    let mut text = String::new(alloc);
+    for link in 0..table.links().len() {
+        let variable = table.variable_of(link).name.as_str();
+        let slave = table.slave_of(link).name.as_str();
+        writeln!(text, "{variable} {slave}")?;
+    }
+    Ok(text)
 }
 
 #[test]
 fn names_the_ends_of_links(rt: HostRuntime) {
-    assert_ends(&rt, &read(&rt, THREE_OF_A_TYPE), "v0 s0\nv1 s1\nv2 s2\n");
+    let table = read_table(rt.alloc(), THREE_OF_A_TYPE).expect(&rt, "a table");
+    expect_text(&rt, ends_of(rt.alloc(), &table), "v0 s0\nv1 s1\nv2 s2\n");
 }
 
-/// Reading a text returned a table, or one of the refusals of texts.
-fn assert_of_texts(rt: &impl Abort, refused: Option<TableError>, end: usize) {
-    match refused {
-        None => {}
-        Some(error) => assert!(rt; error.number() > 10 && error.number() < 16, "cut at {end}"),
+/// Whether a text states a table, or is refused as texts are, and not for want of memory.
+fn is_told(alloc: Global, text: &str) -> bool {
+    match read_table(alloc, text).err() {
+        Some(error) => error.number() > 10 && error.number() < 16,
+        None => true,
     }
-}
-
-/// Reads the table of three slaves without its end: a table or a refusal.
-fn assert_cut(rt: &(impl AllocGlobal + Abort), end: usize) {
-    assert_of_texts(rt, refused(rt, PLAIN.get(..end).expect(rt, "no cut")), end);
 }
 
 #[test]
 fn reads_a_text_cut_anywhere(rt: HostRuntime) {
-    for end in 0..PLAIN.len() {
-        assert_cut(&rt, end);
+    for end in 0..THREE_SLAVES.len() {
+        let text = THREE_SLAVES.get(..end).unwrap_or("");
+        expect(&rt, is_told(rt.alloc(), text), text);
     }
-}
-
-/// What is said of an error.
-fn said(rt: &(impl AllocGlobal + Abort), error: TableError) -> String {
-    format!(in rt.alloc(); "{error}").expect(rt, "memory")
-}
-
-fn assert_said(rt: &(impl AllocGlobal + Abort), error: TableError, wanted: &str) {
-    assert_same(rt, said(rt, error).as_str(), wanted, "an error");
-}
-
-fn assert_fault_said(rt: &(impl AllocGlobal + Abort), fault: Fault, wanted: &str) {
-    assert_said(rt, TableError::Refused(fault), wanted);
 }
 
 /// An element of a section.
@@ -72,31 +78,36 @@ fn seventh(section: Section) -> Position {
     }
 }
 
+/// A fault of a text says this.
+fn expect_fault(rt: &(impl AllocGlobal + Abort), fault: Fault, wanted: &str) {
+    expect_said(rt, &TableError::Refused(fault), wanted);
+}
+
 #[test]
 fn says_what_is_wrong(rt: HostRuntime) {
-    assert_said(&rt, TableError::Memory, "out of memory");
-    assert_fault_said(&rt, Fault::Toml, "the text is not TOML");
-    assert_fault_said(
+    expect_said(&rt, &TableError::Memory, "out of memory");
+    expect_fault(&rt, Fault::Toml, "the text is not TOML");
+    expect_fault(
         &rt,
         Fault::BadKey(seventh(Section::Top)),
         "the document: a key is unknown, or one is missing",
     );
-    assert_fault_said(
+    expect_fault(
         &rt,
         Fault::BadValue(seventh(Section::Type)),
         "type 7: a value has the wrong kind, range or number of items",
     );
-    assert_fault_said(
+    expect_fault(
         &rt,
         Fault::TwiceNamed(seventh(Section::Slave)),
         "slave 7: a name or an index stands twice",
     );
-    assert_fault_said(
+    expect_fault(
         &rt,
         Fault::BadKey(seventh(Section::Variable)),
         "variable 7: a key is unknown, or one is missing",
     );
-    assert_fault_said(
+    expect_fault(
         &rt,
         Fault::UnknownName(seventh(Section::Link)),
         "link 7: a name or an index is unknown",

@@ -2,14 +2,13 @@
 //! file, so it stays in INIT; `firmware` does.
 mod borders;
 mod firmware;
-mod identities;
 mod long;
 mod overlaps;
 mod runs;
 mod steps;
 
-use self::firmware::mixed_slave;
 use self::steps::expect_case;
+use crate::kinds::slave_in;
 use ec_device::{Identity, SlaveType};
 use ec_listed::Listed;
 use ec_slave::Slave;
@@ -42,7 +41,7 @@ enum Kind {
 fn slave_of(rt: &(impl AllocGlobal + Abort), kind: Kind) -> Result<Slave, AllocError> {
     match kind {
         Kind::Plain => plain_slave(rt.alloc()),
-        Kind::Mixed => mixed_slave(rt),
+        Kind::Mixed => slave_in(rt, "mixed - 128"),
     }
 }
 

@@ -1,4 +1,5 @@
 //! The AL state machine, step by step, by the public calls of `ec_al`.
+use crate::rows::{expect, expect_same};
 use ec_al::{Al, Checks};
 use std::process::Abort;
 
@@ -49,43 +50,36 @@ fn checks_of(word: &str) -> Checks {
     }
 }
 
-/// A request, and the firmware step that decides it.
-fn ask(al: &mut Al, word: &str, control: u16) -> bool {
-    al.request();
-    al.step(control, checks_of(word));
-    true
-}
-
-/// Power-on.
-fn start(al: &mut Al) -> bool {
-    *al = Al::new();
-    true
-}
-
 /// Takes a step. Whether it was taken.
 fn take_step(rt: &impl Abort, al: &mut Al, word: &str, control: u16) -> bool {
     match word {
-        "starts" => start(al),
-        "asks" | "fails" | "lacks_inputs" => ask(al, word, control),
-        "faults" => al.fault(),
-        _ => panic!(rt; "{word}"),
+        "starts" => *al = Al::new(),
+        "faults" => return al.fault(),
+        _ => {
+            expect(rt, matches!(word, "asks" | "fails" | "lacks_inputs"), word);
+            al.request();
+            al.step(control, checks_of(word));
+        }
     }
+    true
 }
 
-/// Takes the step at a place of the table, and compares what is seen then.
-fn expect_step(rt: &impl Abort, al: &mut Al, place: usize, step: &Step) {
+/// Takes a step, and compares what is seen then.
+fn expect_step(rt: &impl Abort, al: &mut Al, step: &Step) {
     let (word, control, taken, status, code) = *step;
     let is_taken = take_step(rt, al, word, control);
-    assert_eq!(rt;
-        (place, is_taken, al.status_word(), al.code()),
-        (place, taken, status, code)
+    expect_same(
+        rt,
+        &(control, is_taken, al.status_word(), al.code()),
+        &(control, taken, status, code),
+        word,
     );
 }
 
 #[test]
 fn state_machines(rt: HostRuntime) {
     let mut al = Al::new();
-    for (place, step) in STEPS.iter().enumerate() {
-        expect_step(&rt, &mut al, place, step);
+    for step in &STEPS {
+        expect_step(&rt, &mut al, step);
     }
 }

@@ -1,6 +1,7 @@
 //! Copies and numbers of bits, by the public calls of `ec_bits`.
 ghost use Rattle.std.specs.Prelude.{◌<◌, ◌≤◌};
 
+use crate::rows::expect_same;
 use ec_bits::{copy_bits, copy_by_words, get, overwrite, put, read_bits, within, write_bits};
 use std::process::Abort;
 
@@ -14,16 +15,18 @@ fn copies_bits(rt: HostRuntime) {
     let more_turns = copy_bits(&mut ten, 7, &[0xfe, 0xff], 1, 10);
     let mut none = ten;
     let no_turns = copy_bits(&mut none, 24, &[0xff], 8, 0);
-    assert_eq!(rt;
-        (turns, more_turns, no_turns, twelve, ten, none),
-        (
+    expect_same(
+        &rt,
+        &(turns, more_turns, no_turns, twelve, ten, none),
+        &(
             2,
             3,
             0,
             [0xbf, 0xda, 0xff],
             [0x80, 0xff, 0x01],
-            [0x80, 0xff, 0x01]
-        )
+            [0x80, 0xff, 0x01],
+        ),
+        "copies bits",
     );
 }
 
@@ -36,9 +39,11 @@ fn reads_numbers(rt: HostRuntime) {
         read_bits(&bytes, 12, 12),
         read_bits(&bytes, 72, 0),
     ];
-    assert_eq!(rt;
-        numbers,
-        [0xfedc_ba98_7654_3210, 0xffed_cba9_8765_4321, 0x543, 0]
+    expect_same(
+        &rt,
+        &numbers,
+        &[0xfedc_ba98_7654_3210, 0xffed_cba9_8765_4321, 0x543, 0],
+        "reads numbers",
     );
 }
 
@@ -50,13 +55,15 @@ fn writes_numbers(rt: HostRuntime) {
     write_bits(&mut short, 9, 3, 0x15);
     let mut none = short;
     write_bits(&mut none, 72, 0, 1);
-    assert_eq!(rt;
-        [long, short, none],
-        [
+    expect_same(
+        &rt,
+        &[long, short, none],
+        &[
             [0x1f, 0, 0, 0, 0, 0, 0, 0, 0xf8],
             [0x1f, 0x0a, 0, 0, 0, 0, 0, 0, 0xf8],
-            [0x1f, 0x0a, 0, 0, 0, 0, 0, 0, 0xf8]
-        ]
+            [0x1f, 0x0a, 0, 0, 0, 0, 0, 0, 0xf8],
+        ],
+        "writes numbers",
     );
 }
 
@@ -72,9 +79,11 @@ fn sets_single_bits(rt: HostRuntime) {
         overwrite(&mut told, 0, Some(true)),
         overwrite(&mut told, 1, None),
     ];
-    assert_eq!(rt;
-        (seen, bytes, told),
-        ([true, false, true, false], [0x84, 0x7f], [0x85, 0x7f])
+    expect_same(
+        &rt,
+        &(seen, bytes, told),
+        &([true, false, true, false], [0x84, 0x7f], [0x85, 0x7f]),
+        "sets single bits",
     );
 }
 
@@ -105,9 +114,11 @@ fn expect_run(rt: &impl Abort, before: [u8; 6], to: usize, from: usize, count: u
     copy_by_words(&mut by_words, to, &SOURCE, from, count);
     write_bits(&mut as_number, to, count, read_bits(&SOURCE, from, count));
     let want = copied_by_bits(before, to, &SOURCE, from, count);
-    assert_eq!(rt;
-        ((to, from, count), [by_bytes, by_words, as_number]),
-        ((to, from, count), [want, want, want])
+    expect_same(
+        rt,
+        &((to, from, count), [by_bytes, by_words, as_number]),
+        &((to, from, count), [want, want, want]),
+        "a run",
     );
 }
 
@@ -150,7 +161,12 @@ fn expect_long_run(rt: &impl Abort, to: usize, src: &[u8; 19], from: usize)
 {
     let mut bytes = [0xff; 19];
     copy_by_words(&mut bytes, to, src, from, 130);
-    assert_eq!(rt; (to, from, bytes), (to, from, long_by_bits(to, src, from)));
+    expect_same(
+        rt,
+        &(to, from, bytes),
+        &(to, from, long_by_bits(to, src, from)),
+        "a long run",
+    );
 }
 
 // 130 bits, so two words of eight bytes, with bits before and behind them.
@@ -172,5 +188,10 @@ fn finds_what_is_within(rt: HostRuntime) {
         within(3, 0, 3),
         within(1, usize::MAX, usize::MAX),
     ];
-    assert_eq!(rt; found, [true, true, false, false, false, true]);
+    expect_same(
+        &rt,
+        &found,
+        &[true, true, false, false, false, true],
+        "finds what is within",
+    );
 }

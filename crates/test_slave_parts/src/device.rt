@@ -1,5 +1,6 @@
 //! Types of slaves and lists, by the public calls of `ec_device` and `ec_listed`.
 use crate::kinds::{DEVICE, MAILBOX, Pdos, kind_with, pdos_of};
+use crate::rows::{expect, expect_same};
 use ec_device::{Entry, Pdo, SlaveType};
 use ec_listed::Listed;
 use std::alloc::AllocError;
@@ -41,17 +42,14 @@ fn expect_objects(rt: &impl Abort, kind: &SlaveType) {
     let starts = [kind.out_start(), kind.in_start()];
     let counts = [kind.outputs().len(), kind.inputs().len()];
     let bits = [kind.output_bits(), kind.input_bits()];
-    assert_eq!(rt;
-        (
-            (kind.device(), identity.serial, identity.device()),
-            (kind.mailbox(), starts, kind.lrw()),
-            (counts, bits)
-        ),
-        (
-            (DEVICE, 7, DEVICE),
-            (Some(MAILBOX), [0x1100, 0x1400], true),
-            ([2, 1], [16, 16])
-        )
+    let is_device = kind.device() == DEVICE && identity.device() == DEVICE;
+    let has_mailbox = kind.mailbox() == Some(MAILBOX);
+    expect(rt, is_device && has_mailbox && kind.lrw(), "a type");
+    expect_same(
+        rt,
+        &(identity.serial, starts, counts, bits),
+        &(7, [0x1100, 0x1400], [2, 1], [16, 16]),
+        "a type",
     );
 }
 
@@ -85,7 +83,7 @@ fn expect_limits(rt: &impl Abort, twice: &[Pdo], other: &[Pdo]) {
         Entry { bits: 65, ..LONG }.is_within_limits(),
         Entry { index: 0, ..LONG }.is_within_limits(),
     ];
-    assert_eq!(rt; within, [false, false, true, false, false]);
+    expect_same(rt, &within, &[false, false, true, false, false], "limits");
 }
 
 #[test]
@@ -97,15 +95,9 @@ fn types_out_of_limits(rt: HostRuntime) {
 
 /// Expects of a type that it has nothing.
 fn expect_plain(rt: &impl Abort, plain: &SlaveType) {
-    assert_eq!(rt;
-        (
-            plain.mailbox(),
-            plain.outputs().is_empty(),
-            [plain.output_bits(), plain.input_bits()],
-            plain.lrw()
-        ),
-        (None, true, [0, 0], true)
-    );
+    let is_empty = plain.outputs().is_empty() && plain.output_bits() == 0;
+    let has_none = plain.mailbox().is_none() && plain.input_bits() == 0;
+    expect(rt, is_empty && has_none && plain.lrw(), "a type");
 }
 
 #[test]
@@ -125,7 +117,7 @@ fn numbers(rt: &(impl AllocGlobal + Abort), count: u32) -> Listed<u32> {
 /// Copies a list, and compares the lengths of both.
 fn expect_lengths(rt: &(impl AllocGlobal + Abort), list: &Listed<u32>, count: usize) {
     let copied = Listed::copied(rt.alloc(), list.as_slice()).expect(rt, "memory");
-    assert_eq!(rt; [list.len(), copied.len()], [count, count]);
+    expect_same(rt, &(list.len(), copied.len()), &(count, count), "lists");
 }
 
 /// Makes a list of so many numbers and a copy of it.

@@ -1,4 +1,5 @@
 //! Bits that FMMUs bring to and fro, by the public calls of `ec_fmmu`.
+use crate::rows::expect_same;
 use crate::runs::{All, AllBut, FIRST, LOGICAL, RUN, Ram, run_of, table};
 use ec_fmmu::{
     Fmmu, FmmuTable, apply_read, apply_write, is_touched_by_reading, is_touched_by_writing,
@@ -35,7 +36,12 @@ fn writes_four_bits(rt: HostRuntime) {
         apply_write(&fmmus, &NO_BYTE_LESS, LOGICAL, &[0x0b], FIRST, &mut window),
         apply_read(&fmmus, &Ram { bytes: [0; 6] }, LOGICAL, &mut data),
     ];
-    assert_eq!(rt; (met, window, data), ([true, false], [0xef], [0x0b]));
+    expect_same(
+        &rt,
+        &(met, window, data),
+        &([true, false], [0xef], [0x0b]),
+        "writes four bits",
+    );
 }
 
 /// The first byte of the RAM alone isn't 0.
@@ -53,7 +59,12 @@ fn reads_four_bits(rt: HostRuntime) {
         apply_read(&fmmus, &EF, LOGICAL, &mut data),
         apply_write(&fmmus, &NO_BYTE_LESS, LOGICAL, &[0], FIRST, &mut window),
     ];
-    assert_eq!(rt; (met, data, window), ([true, false], [0xbf], [0xff]));
+    expect_same(
+        &rt,
+        &(met, data, window),
+        &([true, false], [0xbf], [0xff]),
+        "reads four bits",
+    );
 }
 
 /// Four bytes of RAM, and 0 behind them.
@@ -74,14 +85,16 @@ fn logical_addresses_do_not_wrap(rt: HostRuntime) {
         &mut data,
     );
     let mapped = [last.map(8 * 0x1_0000_0000), first.map(8 * 0x1_0000_0000)];
-    assert_eq!(rt;
-        (any, data, mapped, last.inverse(8 * 0x1801 + 7)),
-        (
+    expect_same(
+        &rt,
+        &(any, data, mapped, last.inverse(8 * 0x1801 + 7)),
+        &(
             true,
             [0x12, 0x34],
             [Some(8 * 0x1801), None],
-            Some(8 * 0x1_0000_0000 + 7)
-        )
+            Some(8 * 0x1_0000_0000 + 7),
+        ),
+        "logical addresses do not wrap",
     );
 }
 
@@ -101,9 +114,11 @@ fn lower_decides_on_a_logical_bit(rt: HostRuntime) {
             &mut window,
         ),
     ];
-    assert_eq!(rt;
-        (met, data, window),
-        ([true, true], [0x34, 0x78], [0, 0xaa, 0, 0xbb])
+    expect_same(
+        &rt,
+        &(met, data, window),
+        &([true, true], [0x34, 0x78], [0, 0xaa, 0, 0xbb]),
+        "lower decides on a logical bit",
     );
 }
 
@@ -137,13 +152,15 @@ fn lower_decides_on_a_physical_bit(rt: HostRuntime) {
         apply_write(&fmmus, &NO_BYTE_LESS, LOGICAL + 8, &[0xbb], FIRST, &mut one),
     ];
     let source = write_source(fmmus.as_slice(), FIRST);
-    assert_eq!(rt;
-        (met, [all, behind, one], source),
-        (
+    expect_same(
+        &rt,
+        &(met, [all, behind, one], source),
+        &(
             [true, true, false],
             [[0xaa, 0xcc, 0, 0], [0, 0xcc, 0, 0], [0; 4]],
-            Some(LOGICAL)
-        )
+            Some(LOGICAL),
+        ),
+        "lower decides on a physical bit",
     );
 }
 
@@ -158,9 +175,11 @@ fn denied_and_unmapped_bytes_stay(rt: HostRuntime) {
         whole(0, 2, 0x0fff).map(8),
         whole(0, 0, 0x1800).map(0),
     ];
-    assert_eq!(rt;
-        (any, window, mapped),
-        (true, [1, 0, 3], [None, Some(8 * 0x1000), None])
+    expect_same(
+        &rt,
+        &(any, window, mapped),
+        &(true, [1, 0, 3], [None, Some(8 * 0x1000), None]),
+        "denied and unmapped bytes stay",
     );
 }
 
@@ -174,9 +193,11 @@ fn expect_touched(rt: &impl Abort, fmmus: &FmmuTable, row: &Touched) {
         is_touched_by_reading(fmmus, from, bits, address),
         is_touched_by_writing(fmmus, from, bits, address),
     ];
-    assert_eq!(rt;
-        (from, bits, address, met),
-        (from, bits, address, [is_touched; 2])
+    expect_same(
+        rt,
+        &(from, bits, address, met),
+        &(from, bits, address, [is_touched; 2]),
+        "a touched byte",
     );
 }
 
@@ -239,15 +260,17 @@ fn moves_what_the_data_and_the_window_reach(rt: HostRuntime) {
     ];
     let mut behind = end;
     let none = apply_read(&fmmus, &SIX_BYTES, LOGICAL + 48, &mut behind);
-    assert_eq!(rt;
-        (met, none, window, middle, (end, behind)),
-        (
+    expect_same(
+        &rt,
+        &(met, none, window, middle, (end, behind)),
+        &(
             [true; 3],
             false,
             [2, 3],
             [0x2c, 0x63, 0xf0],
-            ([0x17, 0], [0x17, 0])
-        )
+            ([0x17, 0], [0x17, 0]),
+        ),
+        "moves what the data and the window reach",
     );
 }
 
@@ -271,9 +294,11 @@ fn expect_written(rt: &impl Abort, row: &Overlapping<[u8; 2], [u8; 4]>) {
     let fmmus = table(&[run_of(0, 0, 8), run_of(logical, physical, 8)]);
     let mut window = before;
     let any = apply_write(&fmmus, &All, LOGICAL, &data, FIRST, &mut window);
-    assert_eq!(rt;
-        ((logical, physical), before, any, window),
-        ((logical, physical), before, true, want)
+    expect_same(
+        rt,
+        &((logical, physical), before, any, window),
+        &((logical, physical), before, true, want),
+        "a written run",
     );
 }
 
@@ -306,9 +331,11 @@ fn expect_read(rt: &impl Abort, row: &Overlapping<[u8; 6], [u8; 2]>) {
     let fmmus = table(&[run_of(0, 0, 8), run_of(logical, physical, 8)]);
     let mut data = before;
     let any = apply_read(&fmmus, &Ram { bytes }, LOGICAL, &mut data);
-    assert_eq!(rt;
-        ((logical, physical), bytes, any, data),
-        ((logical, physical), bytes, true, want)
+    expect_same(
+        rt,
+        &((logical, physical), bytes, any, data),
+        &((logical, physical), bytes, true, want),
+        "a run that is read",
     );
 }
 
@@ -352,5 +379,10 @@ fn usual_fmmus_have_an_area(rt: HostRuntime) {
     ];
     let both = [12, 0x80003, 0x1100, 9, 0x8000F, 0x1400];
     let mute = [0, 0x8000F, 0, 9, 0x8000F, 0x1400];
-    assert_eq!(rt; areas, [Some(both), Some(mute), None, None, None]);
+    expect_same(
+        &rt,
+        &areas,
+        &[Some(both), Some(mute), None, None, None],
+        "usual fmmus have an area",
+    );
 }

@@ -1,4 +1,5 @@
 //! Types of slaves for the tests of this crate.
+use crate::rows::expect;
 use ec_device::{Device, Entry, Mailbox, Pdo, SlaveType};
 use ec_listed::Listed;
 use std::alloc::{AllocError, Global};
@@ -49,7 +50,8 @@ fn kind_of(
     lrw: bool,
 ) -> SlaveType {
     let mailbox = Some(MAILBOX);
-    assert!(rt; SlaveType::is_within_limits(mailbox, outputs.as_slice(), inputs.as_slice()));
+    let fits = SlaveType::is_within_limits(mailbox, outputs.as_slice(), inputs.as_slice());
+    expect(rt, fits, "the limits of a type");
     SlaveType::new(DEVICE, mailbox, 0x1100, in_start, outputs, inputs, lrw)
 }
 

@@ -1,4 +1,5 @@
 //! Records of registers, by the public calls of `ec_regs`.
+use crate::rows::{expect, expect_same};
 use ec_regs::registers::{
     AL_CONTROL, AL_STATUS, AL_STATUS_CODE, SII_ADDRESS, SII_CONTROL, SII_DATA, STATION_ADDRESS,
     fmmu_address, manager_address,
@@ -18,19 +19,13 @@ fn output_manager(rt: HostRuntime) {
         settings.is_buffered(),
         settings.is_master_written(),
     ];
-    assert_eq!(rt;
-        (
-            settings,
-            answers,
-            settings.span(),
-            encode_manager(&settings)
-        ),
-        (
-            SyncManagerSettings::of_area(0x1100, 2, CONTROL_OUTPUTS),
-            [true; 3],
-            6,
-            bytes
-        )
+    let outputs = SyncManagerSettings::of_area(0x1100, 2, CONTROL_OUTPUTS);
+    expect(&rt, settings == outputs, "an output manager");
+    expect_same(
+        &rt,
+        &(answers, settings.span(), encode_manager(&settings)),
+        &([true; 3], 6, bytes),
+        "an output manager",
     );
 }
 
@@ -53,7 +48,8 @@ fn output_fmmu(rt: HostRuntime) {
         writes: true,
         active: true,
     };
-    assert_eq!(rt; (settings, encode_fmmu(&settings)), (fields, bytes));
+    let are_same = settings == fields && encode_fmmu(&settings) == bytes;
+    expect(&rt, are_same, "an output FMMU");
 }
 
 // Three buffers of one byte that don't fit at the last address, a mailbox of that byte, three buffers of 65535 bytes, and two
@@ -70,14 +66,12 @@ fn spans_at_the_end_of_the_ram(rt: HostRuntime) {
         longest.is_set(),
         input.is_set(),
     ];
-    assert_eq!(rt;
-        (
-            are_set,
-            buffered.span(),
-            mailbox.is_mailbox(),
-            input.is_master_read()
-        ),
-        ([false, true, false, true], 3, true, true)
+    let are_so = mailbox.is_mailbox() && input.is_master_read();
+    expect_same(
+        &rt,
+        &(are_set, buffered.span(), are_so),
+        &([false, true, false, true], 3, true),
+        "spans",
     );
 }
 
@@ -86,7 +80,12 @@ fn spans_at_the_end_of_the_ram(rt: HostRuntime) {
 fn addresses_of_records(rt: HostRuntime) {
     let fmmus = [fmmu_address(0), fmmu_address(3)];
     let managers = [manager_address(0), manager_address(3)];
-    assert_eq!(rt; (fmmus, managers), ([0x0600, 0x0630], [0x0800, 0x0818]));
+    expect_same(
+        &rt,
+        &(fmmus, managers),
+        &([0x0600, 0x0630], [0x0800, 0x0818]),
+        "addresses",
+    );
 }
 
 /// Addresses, and whether the byte there is stored as it is written.
@@ -120,7 +119,8 @@ const STORED: [(usize, bool); 22] = [
 #[test]
 fn bytes_that_are_stored(rt: HostRuntime) {
     for (address, stored) in &STORED {
-        assert_eq!(rt; (*address, is_stored(*address)), (*address, *stored));
+        let seen = (*address, is_stored(*address));
+        expect_same(&rt, &seen, &(*address, *stored), "a stored byte");
     }
 }
 
@@ -137,10 +137,8 @@ const WRITTEN: [(usize, bool, bool); 6] = [
 #[test]
 fn bytes_of_the_sii_port(rt: HostRuntime) {
     for (address, is_busy, counts) in &WRITTEN {
-        assert_eq!(rt;
-            (*address, *is_busy, takes_writes(*address, *is_busy)),
-            (*address, *is_busy, *counts)
-        );
+        let seen = (*address, takes_writes(*address, *is_busy));
+        expect_same(&rt, &seen, &(*address, *counts), "a written byte");
     }
 }
 
@@ -160,8 +158,11 @@ fn words(rt: HostRuntime) {
         SiiControl::new(1, false, true).0,
         SiiControl::new(0, true, false).0,
     ];
-    assert_eq!(rt;
-        (status.state(), control.command(), flags, words),
-        (2, 1, [true, true, true, false], [0x0018, 0x8100, 0x2000])
+    let are_so = status.state() == 2 && control.command() == 1;
+    expect_same(
+        &rt,
+        &(are_so, flags, words),
+        &(true, [true, true, true, false], [0x0018, 0x8100, 0x2000]),
+        "words",
     );
 }

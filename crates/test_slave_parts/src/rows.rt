@@ -1,6 +1,27 @@
-//! Lines of text taken apart. Numbers and bytes are hexadecimal digits, and blanks may stand within rows of bytes. A line that is
-//! out of form ends the test.
+//! Lines of text taken apart, and what is seen beside what is wanted. Numbers and bytes are hexadecimal digits, and blanks may stand
+//! within rows of bytes. A line that is out of form ends the test. An assertion takes seconds to prove, so those of this crate stand
+//! here.
+ghost use Rattle.std.specs.Prelude.{◌≡◌, true};
+
+use std::fmt::Debug;
 use std::process::Abort;
+
+/// It holds. `about` is printed if it doesn't.
+pub(crate) fn expect(rt: &impl Abort, holds: bool, about: &str)
+    ensures { holds ≡ true }
+{
+    assert!(rt; holds, "{about}");
+}
+
+/// What is seen is what is wanted.
+pub(crate) fn expect_same<T: PartialEq + Debug>(
+    rt: &impl Abort,
+    seen: &T,
+    wanted: &T,
+    about: &str,
+) {
+    assert_eq!(rt; seen, wanted, "{about}");
+}
 
 /// What stands before and behind the first place of a text.
 pub(crate) fn parts<'a>(rt: &impl Abort, text: &'a str, between: &str) -> (&'a str, &'a str) {

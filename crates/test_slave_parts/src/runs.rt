@@ -2,6 +2,7 @@
 ghost use Rattle.std.specs.Prelude.{◌<◌, ◌≤◌, ◌+◌, ◌-◌, ◌*◌, ◌==◌, Option, Some, None, true, false, if◌then◌else◌};
 ghost use Rattle.ec_bits.specs.Bits.{bit, within};
 
+use crate::rows::expect_same;
 use ec_bits::{get, put};
 use ec_fmmu::{
     Fmmu, FmmuTable, ReadableBits, ReadableRuns, WritableBytes, apply_read, apply_write,
@@ -138,9 +139,11 @@ fn expect_written(rt: &impl Abort, before: [u8; 6], start: u8, physical: u8, cou
         ),
     ];
     let run = (start, physical, count);
-    assert_eq!(rt;
-        (run, met, [by_runs, by_bytes]),
-        (run, [true, true], [want, want])
+    expect_same(
+        rt,
+        &(run, met, [by_runs, by_bytes]),
+        &(run, [true, true], [want, want]),
+        "a written run",
     );
 }
 
@@ -173,7 +176,12 @@ fn expect_read(
     let mut data = before;
     let met = apply_read(&fmmus, &Ram { bytes }, LOGICAL, &mut data);
     let run = (start, physical, count);
-    assert_eq!(rt; (run, met, data), (run, true, want));
+    expect_same(
+        rt,
+        &(run, met, data),
+        &(run, true, want),
+        "a run that is read",
+    );
 }
 
 /// Reads a run of each first bit of both sides and each length up to 40.

@@ -1,6 +1,7 @@
 //! The SII, word by word and through its registers, by the public calls of `ec_sii`. What is asked and what must be seen are
 //! lines of text, in hexadecimal digits, with blanks in between. A line with `#` is a comment.
 use crate::kinds::{MAILBOX, kind_with};
+use crate::rows::{bytes_of, expect, expect_same, parts, word_of};
 use ec_device::{Entry, Face, Identity, MAX_NAME, SlaveType};
 use ec_listed::Listed;
 use ec_sii::{Port, SiiImage};
@@ -36,7 +37,8 @@ const GAP: Entry = Entry {
 
 /// A type gets this name, and is then that of the last slave of its ring.
 fn show_named(rt: &impl Abort, kind: &mut SlaveType, name: Listed<u8>) {
-    assert!(rt; !name.as_slice().is_empty() && name.as_slice().len() <= MAX_NAME);
+    let is_short = name.as_slice().len() <= MAX_NAME;
+    expect(rt, !name.as_slice().is_empty() && is_short, "a name");
     kind.show(Face {
         name,
         is_last: true,
@@ -76,34 +78,12 @@ fn plain_image(rt: &impl AllocGlobal) -> Result<SiiImage, AllocError> {
     SiiImage::of(rt.alloc(), &SlaveType::without_pdos(rt.alloc()), IDENTITY)
 }
 
-/// What stands before and behind the first place of a text.
-fn parts<'a>(rt: &impl Abort, text: &'a str, between: &str) -> (&'a str, &'a str) {
-    text.split_once(between).expect(rt, text)
-}
-
-/// A word, or the address of one.
-fn word_of(rt: &impl Abort, digits: &str) -> u16 {
-    u16::from_str_radix(digits, 16).expect(rt, digits)
-}
-
-/// The digits of a row.
-fn digits_of(rt: &(impl AllocGlobal + Abort), row: &str) -> String {
-    row.replace(rt.alloc(), " ", "").expect(rt, "memory")
-}
-
-/// The bytes of a row.
-fn bytes_of(rt: &(impl AllocGlobal + Abort), row: &str) -> Vec<u8> {
-    hex::decode(rt.alloc(), digits_of(rt, row).as_str()).expect(rt, row)
-}
-
 /// Compares the words of an image from an address on.
 fn expect_words(rt: &impl Abort, image: &SiiImage, line: &str, from: u16, words: &str) {
     for (place, digits) in words.split(' ').enumerate() {
-        assert_eq!(rt;
-            image.word(place.saturating_add(usize::from(from))),
-            word_of(rt, digits),
-            "{place} of {line}"
-        );
+        let address = place.saturating_add(usize::from(from));
+        let seen = (address, image.word(address));
+        expect_same(rt, &seen, &(address, word_of(rt, digits)), line);
     }
 }
 
@@ -204,11 +184,8 @@ fn bytes_seen(port: &Port) -> [u8; 10] {
 
 /// Compares the bytes of the port with a row. It is busy exactly where its status says so.
 fn assert_seen(rt: &impl Abort, port: &Port, line: &str, row: &str, wanted: &[u8]) {
-    assert_eq!(rt;
-        (port.is_busy(), bytes_seen(port).as_slice()),
-        (row.starts_with("0081"), wanted),
-        "{line}"
-    );
+    let seen = (port.is_busy(), bytes_seen(port).as_slice() == wanted);
+    expect_same(rt, &seen, &(row.starts_with("0081"), true), line);
 }
 
 /// Writes bytes from an address on.
@@ -230,7 +207,7 @@ fn take_step(rt: &(impl AllocGlobal + Abort), port: &mut Port, word: &str, about
         "reads" => read_row(rt, port, about),
         "steps" => port.step(),
         "resets" => port.reset(),
-        _ => panic!(rt; "{word}"),
+        _ => expect(rt, false, word),
     }
 }
 

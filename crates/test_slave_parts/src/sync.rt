@@ -20,7 +20,7 @@
 ghost use Rattle.std.specs.Prelude.{◌==◌, ◌||◌, ◌+◌, ◌-◌, length, slice_range};
 ghost use Rattle.ec_bits.specs.Bits.{within, zeros};
 
-use crate::rows::{byte_of, bytes_of, halves, parts, word_of};
+use crate::rows::{byte_of, bytes_of, expect, expect_same, halves, parts, word_of};
 use ec_regs::SyncManagerSettings;
 use ec_sync::{Reach, SyncManager, Touching, Writing};
 use std::alloc::AllocError;
@@ -184,7 +184,10 @@ fn is_granted(
         "is_set" => manager.is_set(),
         "is_enabled" => manager.is_enabled(),
         "governs" => manager.governs(place_of(rt, about)),
-        _ => panic!(rt; "{word}"),
+        _ => {
+            expect(rt, false, word);
+            false
+        }
     }
 }
 
@@ -215,7 +218,7 @@ type Place<'a> = (&'a str, &'a str);
 
 /// Compares bytes.
 fn assert_bytes(rt: &impl Abort, at: Place<'_>, met: &[u8], wanted: &[u8]) {
-    assert_eq!(rt; (at, met), (at, wanted));
+    expect_same(rt, &(at.1, met), &(at.1, wanted), at.0);
 }
 
 /// Compares bytes with a row.

@@ -2,6 +2,7 @@
 ghost use Rattle.std.specs.Prelude.{◌≡◌};
 ghost use Rattle.ec_link.specs.Plan.{plan_of};
 
+use crate::compare::{expect, expect_same};
 use crate::machines::{machine_of, make_ready, master_of, ring_of, startup_of};
 use ec_app::{
     App, Line, MemoryWire, UdpWire, Wire, bring_up_wire, pass_hex, plan_text, read_script,
@@ -49,9 +50,11 @@ fn run_over<H: AllocGlobal + Net + Files + Clock>(
 /// Compares how a run ended.
 fn expect_ended(rt: &impl Abort, run: &Run, status: u8, printed: &[u8], told: &[u8]) {
     let (_, _, wanted, output, faults) = *run;
-    assert_eq!(rt;
-        (status, printed, told),
-        (wanted, output.as_bytes(), faults.as_bytes())
+    expect_same(
+        rt,
+        &(status, printed, told),
+        &(wanted, output.as_bytes(), faults.as_bytes()),
+        "a run",
     );
 }
 
@@ -74,7 +77,7 @@ fn commands(rt: HostRuntime) {
 #[test]
 fn frames_in_hex(rt: HostRuntime) {
     let back = pass_hex(rt.alloc(), 3, SENT).expect(&rt, "an answer");
-    assert_eq!(rt; back.as_str(), BACK);
+    expect_same(&rt, &back.as_str(), &BACK, "a frame in hex");
 }
 
 /// The plan of three slaves.
@@ -103,7 +106,7 @@ fn plan_of_machine(rt: &(impl AllocGlobal + Abort), machine: &Machine) -> String
 #[test]
 fn plan_as_text(rt: HostRuntime) {
     let text = plan_of_machine(&rt, &machine_of(&rt));
-    assert_eq!(rt; text.as_str(), PLAN);
+    expect_same(&rt, &text.as_str(), &PLAN, "a plan");
 }
 
 // ---- scripts
@@ -138,13 +141,13 @@ fn expect_printed(
     wanted: &str,
 ) {
     let text = printed(rt, world, machine, line);
-    assert_eq!(rt; text.as_str(), wanted);
+    expect_same(rt, &text.as_str(), &wanted, "a line");
 }
 
 /// Does the lines of a script in a world.
 fn expect_lines(rt: &(impl AllocGlobal + Abort), world: &mut World<'_>, machine: &Machine) {
     let lines = read_script(rt.alloc(), machine.table(), SCRIPT).expect(rt, "a script");
-    assert!(rt; lines.as_slice().len() == PRINTED.len());
+    expect(rt, lines.as_slice().len() == PRINTED.len(), "a script");
     for (line, wanted) in lines.as_slice().iter().zip(&PRINTED) {
         expect_printed(rt, world, machine, line, *wanted);
     }
@@ -175,7 +178,7 @@ fn expect_cycle(rt: &impl Abort, machine: &Machine, master: &mut Master<'_>, wir
     bring_up_wire(&mut startup, wire);
     make_ready(rt, &startup, master);
     let report = run_cycle(master, wire).expect(rt, "a cycle");
-    assert!(rt; report.is_taken() && wire.failures() == 0);
+    expect(rt, report.is_taken() && wire.failures() == 0, "a cycle");
 }
 
 /// The same over memory.
@@ -212,9 +215,11 @@ fn expect_answer(rt: &impl Abort, ring: &mut Ring, wire: &mut UdpWire, client: &
     let served = serve_segment(ring, &mut Idle, wire, 1).expect(rt, "a segment");
     let mut buffer = [0; 1500];
     let (count, _) = client.recv_from(&mut buffer).expect(rt, "an answer");
-    assert_eq!(rt;
-        (served.answered, served.refused, &buffer[..count.min(1500)]),
-        (1, 0, ANSWER.as_slice())
+    expect_same(
+        rt,
+        &(served.answered, served.refused, &buffer[..count.min(1500)]),
+        &(1, 0, ANSWER.as_slice()),
+        "an answer",
     );
 }
 

@@ -5,6 +5,8 @@
 #[cfg(test)]
 mod app;
 #[cfg(test)]
+mod compare;
+#[cfg(test)]
 mod machines;
 #[cfg(test)]
 mod masters;

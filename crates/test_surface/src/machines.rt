@@ -2,6 +2,7 @@
 ghost use Rattle.std.specs.Prelude.{◌≡◌};
 ghost use Rattle.ec_link.specs.Plan.{plan_of};
 
+use crate::compare::expect;
 use ec_bringup::slaves_of_machine;
 use ec_cycle::Master;
 use ec_link::{Machine, Plan};
@@ -24,9 +25,7 @@ pub(crate) fn ring_of(rt: &(impl AllocGlobal + Abort), machine: &Machine) -> Rin
 fn startup_of_plan<'p>(rt: &impl Abort, plan: &'p Plan) -> Startup<'p>
     ensures { result.plan ≡ plan.now.slaves }
 {
-    if !Startup::can_start(plan) {
-        panic!(rt; "no start-up");
-    }
+    expect(rt, Startup::can_start(plan), "a start-up");
     Startup::new(plan, 0)
 }
 
@@ -50,6 +49,6 @@ pub(crate) fn make_ready(rt: &impl Abort, startup: &Startup<'_>, master: &mut Ma
 {
     match startup.phase() {
         Phase::Ready => master.ready(startup),
-        _ => panic!(rt; "slaves that don't come up"),
+        _ => expect(rt, false, "slaves that come up"),
     }
 }

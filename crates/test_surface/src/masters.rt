@@ -2,6 +2,7 @@
 ghost use Rattle.std.specs.Prelude.{◌≡◌};
 ghost use Rattle.ec_link.specs.Plan.{plan_of};
 
+use crate::compare::{expect, expect_same};
 use crate::machines::{machine_of, make_ready, master_of, ring_of, startup_of};
 use ec_app::bring_up;
 use ec_cycle::{CycleError, Master, Taken};
@@ -17,13 +18,15 @@ fn expect_lost(rt: &impl Abort, startup: &mut Startup<'_>) {
     let sent = (startup.next(&mut frame), startup.next(&mut frame));
     let taken = startup.take(b"");
     startup.give_up();
-    assert_eq!(rt;
-        (sent, taken, startup.outcome()),
-        (
+    expect_same(
+        rt,
+        &(sent, taken, startup.outcome()),
+        &(
             (NextFrame::Send, NextFrame::Waiting),
             Taken::Foreign,
-            Some(Err(StartError::Lost))
-        )
+            Some(Err(StartError::Lost)),
+        ),
+        "a start-up that is lost",
     );
 }
 
@@ -33,7 +36,7 @@ fn bring_all_up(rt: &impl Abort, startup: &mut Startup<'_>, ring: &mut Ring)
 {
     match startup.phase() {
         Phase::Idle => bring_up(startup, ring),
-        _ => panic!(rt; "a frame is outstanding"),
+        _ => expect(rt, false, "no frame outstanding"),
     }
 }
 
@@ -41,11 +44,11 @@ fn bring_all_up(rt: &impl Abort, startup: &mut Startup<'_>, ring: &mut Ring)
 fn expect_ready(rt: &impl Abort, startup: &mut Startup<'_>, ring: &mut Ring) {
     match startup.phase() {
         Phase::Failed(_) => startup.restart(),
-        _ => panic!(rt; "no failure"),
+        _ => expect(rt, false, "a failure"),
     }
     bring_all_up(rt, startup, ring);
     let met = (startup.outcome(), startup.next_number());
-    assert_eq!(rt; met, (Some(Ok(())), 76));
+    expect_same(rt, &met, &(Some(Ok(())), 76), "a start-up");
 }
 
 /// A start-up is lost, and begins again.
@@ -72,28 +75,33 @@ fn raise(rt: &impl Abort, machine: &Machine, master: &mut Master<'_>, ring: &mut
 /// The application of a slave writes its inputs.
 fn put(rt: &impl Abort, ring: &mut Ring, slave: usize, inputs: &[u8]) {
     for (place, byte) in inputs.iter().enumerate() {
-        assert!(rt; slave < ring.len());
-        assert!(rt; ring.slave_mut(slave).app_put(place, *byte));
+        expect(rt, slave < ring.len(), "a byte of inputs");
+        expect(
+            rt,
+            ring.slave_mut(slave).app_put(place, *byte),
+            "a byte of inputs",
+        );
     }
 }
 
 /// Sets an output variable.
 fn set(rt: &impl Abort, master: &mut Master<'_>, variable: usize, value: u64) {
-    assert!(rt; master.can_set(variable, value));
+    expect(rt, master.can_set(variable, value), "a value");
     master.set(variable, value);
 }
 
 /// The value of a variable.
 fn value_of(rt: &impl Abort, master: &Master<'_>, variable: usize) -> u64 {
-    assert!(rt; variable < master.variables());
+    expect(rt, variable < master.variables(), "a variable");
     master.get(variable)
 }
 
 /// The frame of the cycle's one part.
 fn frame_of(rt: &impl Abort, master: &Master<'_>) -> Frame {
-    assert!(rt; master.is_open() && 0 < master.parts());
+    expect(rt, master.is_open() && 0 < master.parts(), "an open cycle");
     let mut frame = Frame::new();
-    assert!(rt; frame.try_extend_from_slice(master.frame(0)).is_ok());
+    let has_room = frame.try_extend_from_slice(master.frame(0)).is_ok();
+    expect(rt, has_room, "room");
     frame
 }
 
@@ -112,9 +120,11 @@ fn expect_cycle(rt: &impl Abort, master: &mut Master<'_>, ring: &mut Ring) {
     let taken = passed(rt, master, ring);
     let report = master.close().expect(rt, "a report");
     let inputs = (value_of(rt, master, 2), value_of(rt, master, 3));
-    assert_eq!(rt;
-        (taken, report.is_taken(), inputs),
-        (Taken::Accepted, true, (5, 48879))
+    expect_same(
+        rt,
+        &(taken, report.is_taken(), inputs),
+        &(Taken::Accepted, true, (5, 48879)),
+        "a cycle",
     );
 }
 
@@ -122,7 +132,7 @@ fn expect_cycle(rt: &impl Abort, master: &mut Master<'_>, ring: &mut Ring) {
 fn expect_cycles(rt: &impl Abort, machine: &Machine, master: &mut Master<'_>, ring: &mut Ring)
     requires { master.old.plan ≡ plan_of machine.now }
 {
-    assert_eq!(rt; master.begin(), Err(CycleError::NotReady));
+    expect_same(rt, &master.begin(), &Err(CycleError::NotReady), "no cycle");
     raise(rt, machine, master, ring);
     put(rt, ring, 1, &[5]);
     put(rt, ring, 2, &[0xef, 0xbe]);

@@ -1,13 +1,15 @@
 //! Bits, frames, registers, sync managers and FMMUs.
-ghost use Rattle.std.specs.Prelude.{◌==◌, ◌-◌, Option, Some, None, true, if◌then◌else◌};
+ghost use Rattle.std.specs.Prelude.{◌≡◌, ◌==◌, ◌-◌, Option, Some, None, true, if◌then◌else◌};
+ghost use Rattle.ec_frame.specs.Lending.{IsSomeLent};
 ghost use Rattle.ec_bits.specs.Bits.{bit, within, zeros};
 
+use crate::compare::{expect, expect_same};
 use ec_bits::{copy_bits, get, put, read_bits, write_bits};
 use ec_fmmu::{
     Fmmu, FmmuTable, ReadableBits, ReadableRuns, WritableBytes, apply_read, apply_write,
     read_by_bits,
 };
-use ec_frame::{Builder, Command, Datagrams, Frame, FrameError, Full, Header, check};
+use ec_frame::{Builder, Command, Datagram, Datagrams, Frame, FrameError, Full, Header, check};
 use ec_regs::registers::{AL_CONTROL, AL_STATUS};
 use ec_regs::{
     AlWord, FmmuSettings, SiiControl, decode_fmmu, decode_manager, encode_fmmu, encode_manager,
@@ -26,9 +28,11 @@ fn bits(rt: HostRuntime) {
     write_bits(&mut bytes, 0, 12, 0xdab);
     put(&mut bytes, 12, true);
     let turns = copy_bits(&mut copy, 4, &bytes, 0, 12);
-    assert_eq!(rt;
-        (get(&bytes, 12), read_bits(&bytes, 4, 12), turns, copy),
-        (true, 0x1da, 2, [0xbf, 0xda, 0xff])
+    expect_same(
+        &rt,
+        &(get(&bytes, 12), read_bits(&bytes, 4, 12), turns, copy),
+        &(true, 0x1da, 2, [0xbf, 0xda, 0xff]),
+        "bits",
     );
 }
 
@@ -43,7 +47,8 @@ fn built(rt: &impl Abort) -> Frame {
     builder
         .add(Command::Brd, 1, 0x0130_0000, &[0, 0])
         .expect(rt, "room");
-    assert!(rt; builder.add(Command::Nop, 1, 0, &[0; 1458]) == Err(Full));
+    let is_full = builder.add(Command::Nop, 1, 0, &[0; 1458]) == Err(Full);
+    expect(rt, is_full, "a full frame");
     builder.finish()
 }
 
@@ -62,35 +67,52 @@ const HEADER: Header = Header {
 #[test]
 fn frames(rt: HostRuntime) {
     let frame = built(&rt);
-    assert_eq!(rt; frame.as_slice(), BROADCAST.as_slice());
-    assert_eq!(rt; check(&BROADCAST), Ok(1));
-    assert_eq!(rt; check(&BROADCAST[..15]), Err(FrameError::Short));
+    expect_same(&rt, &frame.as_slice(), &BROADCAST.as_slice(), "a frame");
+    expect_same(&rt, &check(&BROADCAST), &Ok(1), "a frame");
+    expect_same(
+        &rt,
+        &check(&BROADCAST[..15]),
+        &Err(FrameError::Short),
+        "a frame",
+    );
 }
 
-/// The same with other fields.
+/// The same with each field that can be written changed.
 const REWRITTEN: [u8; 16] = [14, 16, 4, 2, 1, 0x10, 0x10, 1, 2, 0, 4, 0, 8, 0, 3, 0];
 
 /// The header, the data and the working counter of the one datagram of a frame.
 fn read_only_one(rt: &impl Abort, frame: &mut [u8]) -> (Header, [u8; 2], u16) {
     check(frame).expect(rt, "a frame");
     let mut datagrams = Datagrams::new(frame);
-    assert!(rt; datagrams.has_next());
+    expect(rt, datagrams.has_next(), "one datagram");
     let datagram = datagrams.next(frame);
-    assert!(rt; !datagrams.has_next());
+    expect(rt, !datagrams.has_next(), "one datagram");
     let data = datagram.data();
-    assert!(rt; data.len() == 2 && datagram.part().len() == 14);
+    expect(
+        rt,
+        data.len() == 2 && datagram.part().len() == 14,
+        "one datagram",
+    );
     (datagram.header(), [data[0], data[1]], datagram.counter())
 }
 
-/// Writes fields of the one datagram of a frame.
+/// Writes the data of a datagram.
+fn write_data(rt: &impl Abort, datagram: &mut Datagram<'_>, content: &[u8])
+    requires { IsSomeLent datagram.old }
+    ensures same_reference { datagram.new.frame.ghost_name ≡ datagram.old.frame.ghost_name }
+    ensures some { IsSomeLent datagram.new }
+{
+    assert!(rt; datagram.data().len() == content.len());
+    datagram.set_data(content);
+}
+
+/// Writes each field of the one datagram of a frame.
 fn write_only_one(rt: &impl Abort, frame: &mut [u8]) {
     check(frame).expect(rt, "a frame");
     let mut datagrams = Datagrams::new(frame);
-    assert!(rt; datagrams.has_next());
+    expect(rt, datagrams.has_next(), "one datagram");
     let mut datagram = datagrams.next(frame);
-    let length = datagram.data().len();
-    assert!(rt; length == 2);
-    datagram.set_data(&[8, 0]);
+    write_data(rt, &mut datagram, &[8, 0]);
     datagram.set_command(Command::Fprd);
     datagram.set_index(2);
     datagram.set_address(0x0110_1001);
@@ -101,9 +123,14 @@ fn write_only_one(rt: &impl Abort, frame: &mut [u8]) {
 #[test]
 fn datagrams(rt: HostRuntime) {
     let mut frame = BROADCAST;
-    assert_eq!(rt; read_only_one(&rt, &mut frame), (HEADER, [0, 0], 0));
+    expect_same(
+        &rt,
+        &read_only_one(&rt, &mut frame),
+        &(HEADER, [0, 0], 0),
+        "a datagram",
+    );
     write_only_one(&rt, &mut frame);
-    assert_eq!(rt; frame, REWRITTEN);
+    expect_same(&rt, &frame, &REWRITTEN, "a datagram");
 }
 
 // ---- ec_regs
@@ -117,33 +144,49 @@ const FMMU: [u8; 16] = [0, 0, 1, 0, 2, 0, 4, 7, 0, 0x11, 0, 2, 1, 0, 0, 0];
 #[test]
 fn registers(rt: HostRuntime) {
     let (manager, fmmu) = (decode_manager(&MANAGER), decode_fmmu(&FMMU));
-    assert_eq!(rt;
-        (encode_manager(&manager), encode_fmmu(&fmmu)),
-        (MANAGER, FMMU)
+    expect_same(
+        &rt,
+        &(encode_manager(&manager), encode_fmmu(&fmmu)),
+        &(MANAGER, FMMU),
+        "registers",
     );
-    assert_eq!(rt;
-        (
+    expect_same(
+        &rt,
+        &(
             manager.start,
             manager.length,
             fmmu.logical_start,
-            fmmu.stop_bit
+            fmmu.stop_bit,
         ),
-        (0x1100, 2, 0x0001_0000, 7)
+        &(0x1100, 2, 0x0001_0000, 7),
+        "registers",
     );
-    assert_eq!(rt;
-        (
+    expect_same(
+        &rt,
+        &(
             takes_writes(AL_CONTROL, false),
-            takes_writes(AL_STATUS, false)
+            takes_writes(AL_STATUS, false),
         ),
-        (true, false)
+        &(true, false),
+        "registers",
     );
 }
 
 #[test]
 fn register_words(rt: HostRuntime) {
     let (status, control) = (AlWord(0x0014), SiiControl(0x8100));
-    assert_eq!(rt; (status.state(), status.has_error()), (4, true));
-    assert_eq!(rt; (control.command(), control.is_busy()), (1, true));
+    expect_same(
+        &rt,
+        &(status.state(), status.has_error()),
+        &(4, true),
+        "words",
+    );
+    expect_same(
+        &rt,
+        &(control.command(), control.is_busy()),
+        &(1, true),
+        "words",
+    );
 }
 
 // ---- ec_sync
@@ -183,8 +226,13 @@ fn expect_inputs(rt: &impl Abort, manager: &mut Manager) {
         len: 1,
     });
     let is_written = manager.ring_write(&Zero { address: 0x1100 });
-    assert_eq!(rt; (put, is_read, is_written), (true, true, false));
-    assert_eq!(rt; manager.published(), [7].as_slice());
+    expect_same(
+        rt,
+        &(put, is_read, is_written),
+        &(true, true, false),
+        "inputs",
+    );
+    expect_same(rt, &manager.published(), &[7].as_slice(), "inputs");
 }
 
 /// A byte of outputs there, which the ring writes and the application reads.
@@ -192,7 +240,7 @@ fn expect_outputs(rt: &impl Abort, manager: &mut Manager) {
     manager.configure(decode_manager(&[0, 0x11, 1, 0, 0x24, 0, 1, 0]));
     let is_written = manager.ring_write(&Zero { address: 0x1100 });
     let met = (is_written, manager.app_get(0), manager.app_get(1));
-    assert_eq!(rt; met, (true, Some(0), None));
+    expect_same(rt, &met, &(true, Some(0), None), "outputs");
 }
 
 /// A mailbox there into which the firmware puts a message, and one from which it takes one.
@@ -202,9 +250,11 @@ fn expect_mailboxes(rt: &impl Abort, manager: &mut Manager) {
     manager.configure(decode_manager(&[0, 0x11, 1, 0, 0x26, 0, 1, 0]));
     let is_written = manager.ring_write(&Zero { address: 0x1100 });
     let are_taken = (manager.mailbox_take(), manager.mailbox_take());
-    assert_eq!(rt;
-        (are_put, is_written, are_taken),
-        ((true, false), true, (true, false))
+    expect_same(
+        rt,
+        &(are_put, is_written, are_taken),
+        &((true, false), true, (true, false)),
+        "mailboxes",
     );
 }
 
@@ -283,7 +333,12 @@ fn fmmus(rt: HostRuntime) {
         fmmu.map(LOGICAL + 4),
         fmmu.inverse(FIRST + 5),
     );
-    assert_eq!(rt; met, (Some(FIRST + 3), None, Some(LOGICAL + 3)));
+    expect_same(
+        &rt,
+        &met,
+        &(Some(FIRST + 3), None, Some(LOGICAL + 3)),
+        "FMMUs",
+    );
     let fmmus = FmmuTable::new([fmmu, none, none, none]);
     let (mut data, mut window) = ([0xf0], [0xff]);
     let are_moved = (
@@ -297,5 +352,10 @@ fn fmmus(rt: HostRuntime) {
             &mut window,
         ),
     );
-    assert_eq!(rt; (are_moved, data, window), ((true, true), [0xfb], [0xef]));
+    expect_same(
+        &rt,
+        &(are_moved, data, window),
+        &((true, true), [0xfb], [0xef]),
+        "FMMUs",
+    );
 }

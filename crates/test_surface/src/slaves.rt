@@ -1,4 +1,5 @@
 //! The AL state machine, the SII, the mailbox, one slave, and slaves in a row.
+use crate::compare::{expect, expect_same};
 use ec_al::{Al, Checks};
 use ec_coe::{AbortCode, Dictionary, SdoValue, ValueSize, read_message, write_message};
 use ec_frame::check;
@@ -40,9 +41,11 @@ fn states(rt: HostRuntime) {
     let has_fault = al.fault();
     let fault = (al.status_word(), al.code());
     al.reset();
-    assert_eq!(rt;
-        (met, has_fault, fault, al.status_word()),
-        ([2, 4, 8], true, (0x0014, 0x0001), 1)
+    expect_same(
+        &rt,
+        &(met, has_fault, fault, al.status_word()),
+        &([2, 4, 8], true, (0x0014, 0x0001), 1),
+        "states",
     );
 }
 
@@ -57,9 +60,11 @@ fn words_of_the_sii(rt: HostRuntime) {
     port.write(0x0502, &[0, 1, 8, 0, 0, 0]);
     let before = (port.read(0x0503), port.read(0x0508));
     port.step();
-    assert_eq!(rt;
-        (word, before, port.read(0x0503), port.read(0x0508)),
-        (0xABCD, (0x81, 0), 0x00, 0xCD)
+    expect_same(
+        &rt,
+        &(word, before, port.read(0x0503), port.read(0x0508)),
+        &(0xABCD, (0x81, 0), 0x00, 0xCD),
+        "words of the SII",
     );
 }
 
@@ -82,8 +87,13 @@ fn expect_reply(rt: &impl Abort, objects: &mut Dictionary) {
     let mut mailbox = [7; 18];
     let is_short = write_message(&reply, &mut mailbox[..15]).is_err();
     write_message(&reply, &mut mailbox).expect(rt, "room");
-    assert_eq!(rt; (is_short, &mailbox[..16]), (true, REPLY.as_slice()));
-    assert!(rt; read_message(&UPLOAD[..15]).is_err());
+    expect_same(
+        rt,
+        &(is_short, &mailbox[..16]),
+        &(true, REPLY.as_slice()),
+        "a reply",
+    );
+    expect(rt, read_message(&UPLOAD[..15]).is_err(), "a reply");
 }
 
 /// The vendor's number, and another one.
@@ -103,14 +113,16 @@ fn expect_objects(rt: &impl Abort, objects: Result<Dictionary, AllocError>) {
     expect_reply(rt, &mut objects);
     let vendor = objects.upload(0x1018, 1);
     let written = objects.download(true, 0x1018, 1, OTHER);
-    assert_eq!(rt;
-        (
+    expect_same(
+        rt,
+        &(
             vendor,
             written,
             objects.assigned_outputs().len(),
-            objects.assigned_inputs().len()
+            objects.assigned_inputs().len(),
         ),
-        (Ok(VENDOR), Err(AbortCode::ReadOnly), 0, 0)
+        &(Ok(VENDOR), Err(AbortCode::ReadOnly), 0, 0),
+        "objects",
     );
 }
 
@@ -146,13 +158,15 @@ fn passed(rt: &impl Abort, slave: &mut Slave) -> [u8; 16] {
 /// A slave in INIT answers frames, and its application has no process data.
 fn expect_slave(rt: &impl Abort, slave: Result<Slave, AllocError>) {
     let mut slave = slave.expect(rt, "memory");
-    assert_eq!(rt; passed(rt, &mut slave), BACK);
+    expect_same(rt, &passed(rt, &mut slave), &BACK, "a slave");
     slave.serve();
     let denied = (slave.app_put(0, 1), slave.app_get(0), slave.fault());
     slave.reset();
-    assert_eq!(rt;
-        (denied, slave.app_sizes(), slave.outputs().len()),
-        ((false, None, false), (0, 0), 0)
+    expect_same(
+        rt,
+        &(denied, slave.app_sizes(), slave.outputs().len()),
+        &((false, None, false), (0, 0), 0),
+        "a slave",
     );
 }
 
@@ -177,20 +191,45 @@ fn status_of(slave: &Slave) -> Option<u8> {
     slave.byte(0x0130)
 }
 
-/// The frame passes one slave, and then all of them. What is no frame passes none.
+/// The frame passes one slave, and then all of them. What is no frame passes none, and stays as it is.
 fn expect_ring(rt: &impl Abort, ring: Result<Ring, AllocError>) {
     let mut ring = ring.expect(rt, "memory");
-    assert!(rt; ring.len() == 3);
+    expect(rt, ring.len() == 3, "three slaves");
     let (mut one, mut all) = (BROADCAST, BROADCAST);
     ring.pass_one(&mut one, 1).expect(rt, "a frame");
     ring.pass_all(&mut all).expect(rt, "a frame");
-    assert_eq!(rt; (one, all), (BACK, BACK_FROM_THREE));
-    assert!(rt; ring.pass_all(&mut one[..15]) == Err(NotAFrame));
-    assert_eq!(rt; status_of(ring.slave(1)), Some(1));
-    assert!(rt; !ring.slave_mut(1).fault());
+    let refused = [
+        ring.pass_one(&mut one[..15], 1),
+        ring.pass_all(&mut one[..15]),
+    ];
+    expect(rt, refused == [Err(NotAFrame); 2], "no frames");
+    expect_same(rt, &(one, all), &(BACK, BACK_FROM_THREE), "frames");
+    expect_same(rt, &status_of(ring.slave(1)), &Some(1), "the AL status");
+    expect(rt, !ring.slave_mut(1).fault(), "no fault in INIT");
+}
+
+/// A broadcast write of the first byte of the RAM, with index 1; and the same as a slave leaves it.
+const WRITE: [u8; 15] = [13, 16, 8, 1, 0, 0, 0, 0x10, 1, 0, 0, 0, 0x77, 0, 0];
+
+const WRITTEN: [u8; 15] = [13, 16, 8, 1, 1, 0, 0, 0x10, 1, 0, 0, 0, 0x77, 1, 0];
+
+/// A frame that passes one slave writes into that one alone.
+fn expect_written(rt: &impl Abort, ring: Result<Ring, AllocError>) {
+    let mut ring = ring.expect(rt, "memory");
+    expect(rt, ring.len() == 3, "three slaves");
+    let mut frame = WRITE;
+    ring.pass_one(&mut frame, 1).expect(rt, "a frame");
+    let bytes = (ring.slave(0).byte(0x1000), ring.slave_mut(1).byte(0x1000));
+    expect_same(
+        rt,
+        &(frame, bytes, ring.is_empty()),
+        &(WRITTEN, (Some(0), Some(0x77)), false),
+        "a written slave",
+    );
 }
 
 #[test]
 fn rings(rt: HostRuntime) {
     expect_ring(&rt, three_slaves(rt.alloc()));
+    expect_written(&rt, three_slaves(rt.alloc()));
 }

@@ -7,7 +7,7 @@
 //! | `sends ROW`, `takes SIZE > ROW` | the wire sends a payload, or receives one into a buffer of so many bytes |
 //! | `gives ROW`, `meets > ROW` | the other end sends a frame, or receives one |
 //! | `failures > COUNT` | the faults of the wire so far |
-use crate::rows::{Line, assert_row, assert_same, bytes_of, line_of, number_of};
+use crate::rows::{Line, assert_row, assert_same, bytes_of, expect, line_of, number_of};
 use ec_card::{CardWire, Patience, Sender, framed, payload_of};
 use ec_frame::check;
 use ec_wire::{SocketFault, Wire};
@@ -31,9 +31,7 @@ const CAME: &str = "ffffffffffff 020000454301 88a4 0e100701030030010200000001000
 /// Compares the frame of a payload.
 fn expect_framed(rt: &(impl AllocGlobal + Abort), sender: Sender, payload: &str, frame: &str) {
     let payload = bytes_of(rt, payload);
-    if payload.len() > 1472 {
-        panic!(rt; "a payload that is too long");
-    }
+    expect(rt, payload.len() <= 1472, "a payload that fits");
     let met = framed(sender, &payload);
     assert_same(rt, &met.as_slice(), &bytes_of(rt, frame).as_slice(), frame);
 }
@@ -127,9 +125,7 @@ fn connect(rt: &impl Abort, socket: &UdpSocket, other: &UdpSocket) {
 /// A wire over a socket.
 fn wire_over(rt: &impl Abort, socket: UdpSocket, own: Sender) -> CardWire {
     let descriptor = socket.into_raw_fd();
-    if descriptor < 0 {
-        panic!(rt; "a descriptor");
-    }
+    expect(rt, descriptor >= 0, "a descriptor");
     CardWire::of_descriptor(descriptor, own, soon()).expect(rt, "a wire")
 }
 
@@ -182,7 +178,7 @@ fn take_step(
         "gives" => give(rt, peer, line.about),
         "meets" => expect_met(rt, peer, line),
         "failures" => expect_failures(rt, wire, line),
-        _ => panic!(rt; "{}", line.text),
+        _ => expect(rt, false, line.text),
     }
 }
 

@@ -1,16 +1,20 @@
 //! Bytes as rows of text, lines of steps, and how what is met is compared. A text that is out of form ends the test, as one does
 //! that doesn't hold: so nothing here has another way out, on which slaves, wires or bytes would go away.
+ghost use Rattle.std.specs.Prelude.{◌≡◌, true};
+
 use std::fmt::Debug;
 use std::process::Abort;
+
+/// It holds. `about` is printed if it doesn't. An assertion takes seconds to prove, so those of this crate stand here.
+pub fn expect(rt: &impl Abort, holds: bool, about: &str)
+    ensures { holds ≡ true }
+{
+    assert!(rt; holds, "{about}");
+}
 
 /// Compares what is met with what is wanted, and prints a text that says where it stands.
 pub fn assert_same<T: Debug + PartialEq>(rt: &impl Abort, met: &T, wanted: &T, text: &str) {
     assert_eq!(rt; met, wanted, "{text}");
-}
-
-/// What stands before and behind the first place of a text.
-pub fn parts<'a>(rt: &impl Abort, text: &'a str, between: &str) -> (&'a str, &'a str) {
-    text.split_once(between).expect(rt, text)
 }
 
 /// A number in decimal digits.

@@ -4,7 +4,6 @@ mod calls;
 mod cycles;
 mod fakes;
 mod machines;
-mod rounds;
 mod sizes;
 mod startups;
 mod tables;
@@ -12,23 +11,24 @@ mod tap;
 mod trials;
 
 use self::calls::{expect_calls, expect_memory};
-use self::machines::assert_same;
 use self::sizes::expect_size;
 use self::tables::{FULL_TABLE, THREE_SLAVES};
 use self::trials::expect_trials;
+use crate::rows::assert_same;
 use ec_cycle::CycleError;
+use ec_ring::NotAFrame;
 use ec_wire::{RunError, SocketFault};
 use std::fmt::Display;
 use std::process::Abort;
 
-// Start-ups that come up or are lost, over memory and over strange payloads; the frame of a cycle; cycles over memory, of which
-// each call is a fault in turn; refusals, which come before the wire; and a loop over sockets.
+// Start-ups that come up or are lost, over memory and over strange payloads; cycles over memory, of which each call is a fault in
+// turn; refusals, which come before the wire; and a loop over sockets.
 #[test]
 fn three_slaves(rt: HostRuntime) {
     expect_trials(
         &rt,
         THREE_SLAVES,
-        "start-ups, frames, faults, refusal, spent wire, loop",
+        "start-ups, faults, refusal, spent wire, loop",
     );
 }
 
@@ -162,22 +162,20 @@ fn waits_a_second(rt: HostRuntime) {
     );
 }
 
-/// What is said of an error.
-fn said<T: Display>(rt: &(impl AllocGlobal + Abort), error: &T) -> String {
-    format!(in rt.alloc(); "{error}").expect(rt, "memory")
-}
-
+/// An error says this.
 fn expect_said<T: Display>(rt: &(impl AllocGlobal + Abort), error: &T, text: &str) {
-    assert_same(rt, &said(rt, error).as_str(), &text);
+    let said = format!(in rt.alloc(); "{error}").expect(rt, "memory");
+    assert_same(rt, &said.as_str(), &text, text);
 }
 
-// Of a refusal what the master says of it.
+// Of a refusal what the master says of it, and what a ring says of a payload that is no frame.
 #[test]
 fn texts_of_errors(rt: HostRuntime) {
     let refusal = RunError::Refused(CycleError::NotReady);
     expect_said(&rt, &refusal, "no start-up has ended ready");
     expect_said(&rt, &RunError::Wire, "a fault of the wire");
     expect_said(&rt, &SocketFault, "a fault of a socket");
-    let met = (SocketFault.number(), SocketFault.name());
-    assert_same(&rt, &met, &(43, "Socket"));
+    expect_said(&rt, &NotAFrame, "not a frame");
+    let met = (SocketFault.number(), SocketFault.name(), NotAFrame.number());
+    assert_same(&rt, &met, &(43, "Socket", 10), "numbers");
 }

@@ -1,13 +1,14 @@
 //! Machines, and the slaves and the start-ups of them.
 
+use crate::lines::expect;
 use ec_bringup::slaves_of_machine;
 use ec_link::{Machine, Plan};
 use ec_ring::Ring;
 use ec_start::Startup;
 use std::process::Abort;
 
-/// The table of `examples/three_slaves.toml`, without its comments.
-pub const THREE_SLAVES: &str = test_data::BARE_THREE_SLAVES;
+/// The table of `examples/three_slaves.toml`, a line for each list.
+pub const THREE_SLAVES: &str = test_data::SHORT_THREE_SLAVES;
 
 /// The machine of a table.
 pub fn machine_of(rt: &(impl AllocGlobal + Abort), text: &str) -> Machine {
@@ -21,8 +22,9 @@ pub fn ring_of(rt: &(impl AllocGlobal + Abort), machine: &Machine) -> Ring {
 
 /// The table of the three slaves, without variables and links.
 fn slaves_alone() -> &'static str {
-    let whole = test_data::SHORT_THREE_SLAVES;
-    let (slaves, _) = whole.split_once("variable = ").unwrap_or((whole, ""));
+    let (slaves, _) = THREE_SLAVES
+        .split_once("variable = ")
+        .unwrap_or((THREE_SLAVES, ""));
     slaves
 }
 
@@ -41,9 +43,7 @@ pub fn changed_ring(rt: &(impl AllocGlobal + Abort), change: &str) -> Ring {
 
 /// A start-up of a plan whose first frame has this number.
 fn startup_of_plan<'p>(rt: &impl Abort, plan: &'p Plan, number: u64) -> Startup<'p> {
-    if !Startup::can_start(plan) {
-        panic!(rt; "no start-up");
-    }
+    expect(rt, Startup::can_start(plan), "a start-up");
     Startup::new(plan, number)
 }
 

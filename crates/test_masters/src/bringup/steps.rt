@@ -18,53 +18,16 @@
 
 use super::slaves::{changed_ring, machine_of, ring_of, startup_of};
 use super::troubles::{Trouble, rise_in_trouble};
+use crate::lines::{Line, expect, expect_same, line_of, number_at, place_at, word_at};
 use ec_bringup::bring_up;
 use ec_link::Machine;
 use ec_ring::Ring;
 use ec_start::{Phase, StartError, Startup};
 use std::process::Abort;
 
-/// What stands before and behind the first place of a text; where that place isn't there, all of the text and nothing.
-fn parts<'t>(text: &'t str, between: &str) -> (&'t str, &'t str) {
-    text.split_once(between).unwrap_or((text, ""))
-}
-
-/// A word of words, counted from 0; nothing behind the last one.
-fn word_at(words: &str, place: usize) -> &str {
-    words.split(' ').nth(place).unwrap_or("")
-}
-
-fn number_of(rt: &impl Abort, word: &str) -> u64 {
-    let (digits, radix) = match word.strip_prefix("0x") {
-        Some(digits) => (digits, 16),
-        None => (word, 10),
-    };
-    u64::from_str_radix(digits, radix).expect(rt, word)
-}
-
-/// A number; 0 where there is no word.
-fn number_at(rt: &impl Abort, words: &str, place: usize) -> u64 {
-    match word_at(words, place) {
-        "" => 0,
-        word => number_of(rt, word),
-    }
-}
-
-/// The place that a word says.
-fn place_at(rt: &impl Abort, words: &str, place: usize) -> usize {
-    number_at(rt, words, place) as usize
-}
-
 /// The byte that a word says.
 fn byte_at(rt: &impl Abort, words: &str, place: usize) -> u8 {
     (number_at(rt, words, place) % 256) as u8
-}
-
-/// What a line says must hold.
-fn expect(rt: &impl Abort, holds: bool, line: &str) {
-    if !holds {
-        panic!(rt; "{line}");
-    }
 }
 
 /// Whether the words behind the first one are these values.
@@ -102,7 +65,7 @@ fn begin_anew(startup: &mut Startup<'_>) {
 fn rise(rt: &impl Abort, startup: &mut Startup<'_>, ring: &mut Ring) {
     match startup.phase() {
         Phase::Idle => bring_up(startup, ring),
-        _ => panic!(rt; "a start-up that runs"),
+        _ => expect(rt, false, "a start-up that runs"),
     }
 }
 
@@ -210,9 +173,9 @@ fn expect_overcome<'p>(
     trial: u64,
 ) {
     renew(rt, machine, startup, ring);
-    if !is_overcome(rt, startup, ring, &trouble_at(word, trial)) {
-        panic!(rt; "{word} {trial}");
-    }
+    let trouble = trouble_at(word, trial);
+    let comes_up = is_overcome(rt, startup, ring, &trouble);
+    expect_same(rt, &(trial, comes_up), &(trial, true), word);
 }
 
 /// So many trials.
@@ -246,26 +209,6 @@ fn exchange(ring: &mut Ring, other: &mut Ring, place: usize) {
     }
 }
 
-/// A line: all of it, its first word, what stands behind that, and what stands behind `>`.
-#[derive(Drop)]
-struct Line<'t> {
-    text: &'t str,
-    word: &'t str,
-    about: &'t str,
-    end: &'t str,
-}
-
-fn line_of(text: &str) -> Line<'_> {
-    let (done, end) = parts(text, " > ");
-    let (word, about) = parts(done, " ");
-    Line {
-        text,
-        word,
-        about,
-        end,
-    }
-}
-
 /// What a line says of the slaves and the start-up that are there.
 fn expect_seen(rt: &impl Abort, startup: &mut Startup<'_>, ring: &mut Ring, line: &Line<'_>) {
     let number = number_at(rt, line.about, 0);
@@ -276,7 +219,7 @@ fn expect_seen(rt: &impl Abort, startup: &mut Startup<'_>, ring: &mut Ring, line
             let is_shown = all_show(ring, byte_at(rt, line.about, 1));
             expect(rt, is_shown && ring.len() as u64 == number, line.text);
         }
-        _ => panic!(rt; "{}", line.text),
+        _ => expect(rt, false, line.text),
     }
 }
 

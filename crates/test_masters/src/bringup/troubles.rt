@@ -1,5 +1,6 @@
 //! Start-ups of which frames meet trouble.
 
+use crate::lines::expect;
 use ec_frame::Frame;
 use ec_ring::Ring;
 use ec_start::{NextFrame, Startup, Taken};
@@ -141,5 +142,5 @@ pub fn rise_in_trouble(
             return;
         }
     }
-    panic!(rt; "no end");
+    expect(rt, false, "an end");
 }

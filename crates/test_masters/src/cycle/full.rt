@@ -1,13 +1,12 @@
 //! Cycles whose frames are as long as a frame can be: 1470 bytes behind the header, 1472 in all.
-use crate::cycle::steps::Step::{Begins, Closes, Keeps, Next, Ready, Sends, Sets};
 use crate::cycle::steps::expect_steps;
+use crate::lines::expect_same;
 use ec_cycle::Master;
-use ec_link::ExpectedCounters::{Lrw, Split};
 use ec_link::Machine;
 use ec_start::HeldPlan;
 use std::alloc::{AllocError, Global};
+use std::process::Abort;
 use std::sync::Arc;
-use std::test::Fail;
 
 /// One variable is the last byte of the sixth slave, one is the bit of the seventh.
 const LINKS_OF_SEVEN: &str = r#"[[variable]]
@@ -77,88 +76,12 @@ rxpdo = [ {{ index = 0x1600, entries = ["
     text.push_str("] } ]\n")
 }
 
-/// A table of slaves with so many output bits each, and these variables and links.
-fn table_of(
-    alloc: Global,
-    slaves: &[u32],
-    has_lrw: bool,
-    links: &str,
-) -> Result<String, AllocError> {
-    let mut text = String::new(alloc);
+/// Slaves with so many output bits each.
+fn push_slaves(text: &mut String, slaves: &[u32], has_lrw: bool) -> Result<(), AllocError> {
     for (place, bits) in slaves.iter().enumerate() {
-        push_slave(&mut text, place, *bits, has_lrw)?;
+        push_slave(text, place, *bits, has_lrw)?;
     }
-    text.push_str(links)?;
-    Ok(text)
-}
-
-// The first part is full; the last slave's one bit is the second part.
-#[test]
-fn full_part(rt: HostRuntime) -> Result<(), Fail> {
-    let slaves = [2048, 2048, 2048, 2048, 2048, 1136, 1];
-    let table = table_of(rt.alloc(), &slaves, true, LINKS_OF_SEVEN)?;
-    let steps = [
-        Sets(0, 0xA5),
-        Sets(1, 1),
-        Ready(517),
-        Begins,
-        Sends(
-            0,
-            "be15 \
-             0005 0000 0000 0a80 0000 0502000000000000 0000 0000 \
-             0705 0000 3001 0280 0000 0000 0000 \
-             0c05 00000100 8e05 0000 +1421 a5 0000",
-        ),
-        Sends(
-            1,
-            "3110 \
-             0005 0000 0000 0a80 0000 0502000000000000 0100 0000 \
-             0705 0000 3001 0280 0000 0000 0000 \
-             0c05 8e050100 0100 0000 01 0000",
-        ),
-        Keeps(
-            "be15 \
-             0005 0000 0000 0a80 0000 0502000000000000 0000 0000 \
-             0705 0700 3001 0280 0000 0800 0700 \
-             0c05 00000100 8e05 0000 +1421 a5 0c00",
-        ),
-        Keeps(
-            "3110 \
-             0005 0000 0000 0a80 0000 0502000000000000 0100 0000 \
-             0705 0700 3001 0280 0000 0800 0700 \
-             0c05 8e050100 0100 0000 01 0200",
-        ),
-        Closes(&[true], &[Some(Lrw(12)), Some(Lrw(2))], 0x0008),
-    ];
-    expect_steps(&rt, table.as_str(), &steps)
-}
-
-// Without LRW a full part has 705 bytes, which go out and come back in two datagrams.
-#[test]
-fn full_split_part(rt: HostRuntime) -> Result<(), Fail> {
-    let table = table_of(rt.alloc(), &[2048, 2048, 1544], false, LINK_OF_THREE)?;
-    let steps = [
-        Sets(0, 0xA5),
-        Ready(517),
-        Begins,
-        Sends(
-            0,
-            "be15 \
-             0005 0000 0000 0a80 0000 0502000000000000 0000 0000 \
-             0705 0000 3001 0280 0000 0000 0000 \
-             0b05 00000100 c182 0000 +704 a5 0000 \
-             0a05 00000100 c102 0000 +705 0000",
-        ),
-        Keeps(
-            "be15 \
-             0005 0000 0000 0a80 0000 0502000000000000 0000 0000 \
-             0705 0300 3001 0280 0000 0800 0300 \
-             0b05 00000100 c182 0000 +704 a5 0300 \
-             0a05 00000100 c102 0000 +705 0000",
-        ),
-        Closes(&[true], &[Some(Split { write: 3, read: 0 })], 0x0008),
-    ];
-    expect_steps(&rt, table.as_str(), &steps)
+    Ok(())
 }
 
 /// So many input variables of 64 bits.
@@ -172,6 +95,74 @@ fn push_variables(text: &mut String, count: usize) -> Result<(), AllocError> {
     Ok(())
 }
 
+/// A table of slaves with so many output bits each, and these variables and links.
+fn table_of(rt: &(impl AllocGlobal + Abort), slaves: &[u32], has_lrw: bool, links: &str) -> String {
+    let mut text = String::new(rt.alloc());
+    push_slaves(&mut text, slaves, has_lrw).expect(rt, "memory");
+    text.push_str(links).expect(rt, "memory");
+    text
+}
+
+/// The first part is full; the last slave's one bit is the second part.
+const FULL_PART: &str = "\
+sets 0 0xA5
+sets 1 1
+ready 517
+begins
+sends 0 be15 \
+    0005 0000 0000 0a80 0000 0502000000000000 0000 0000 \
+    0705 0000 3001 0280 0000 0000 0000 \
+    0c05 00000100 8e05 0000 +1421 a5 0000
+sends 1 3110 \
+    0005 0000 0000 0a80 0000 0502000000000000 0100 0000 \
+    0705 0000 3001 0280 0000 0000 0000 \
+    0c05 8e050100 0100 0000 01 0000
+keeps be15 \
+    0005 0000 0000 0a80 0000 0502000000000000 0000 0000 \
+    0705 0700 3001 0280 0000 0800 0700 \
+    0c05 00000100 8e05 0000 +1421 a5 0c00
+keeps 3110 \
+    0005 0000 0000 0a80 0000 0502000000000000 0100 0000 \
+    0705 0700 3001 0280 0000 0800 0700 \
+    0c05 8e050100 0100 0000 01 0200
+closes 1 12,2 0x0008";
+
+/// Without LRW a full part has 705 bytes, which go out and come back in two datagrams.
+const FULL_SPLIT_PART: &str = "\
+sets 0 0xA5
+ready 517
+begins
+sends 0 be15 \
+    0005 0000 0000 0a80 0000 0502000000000000 0000 0000 \
+    0705 0000 3001 0280 0000 0000 0000 \
+    0b05 00000100 c182 0000 +704 a5 0000 \
+    0a05 00000100 c102 0000 +705 0000
+keeps be15 \
+    0005 0000 0000 0a80 0000 0502000000000000 0000 0000 \
+    0705 0300 3001 0280 0000 0800 0300 \
+    0b05 00000100 c182 0000 +704 a5 0300 \
+    0a05 00000100 c102 0000 +705 0000
+closes 1 3+0 0x0008";
+
+/// Takes steps with a master of slaves with so many output bits each.
+fn expect_full(
+    rt: &(impl AllocGlobal + Abort),
+    slaves: &[u32],
+    has_lrw: bool,
+    links: &str,
+    lines: &str,
+) {
+    expect_steps(rt, table_of(rt, slaves, has_lrw, links).as_str(), lines);
+}
+
+#[test]
+fn full_parts(rt: HostRuntime) {
+    let seven = [2048, 2048, 2048, 2048, 2048, 1136, 1];
+    expect_full(&rt, &seven, true, LINKS_OF_SEVEN, FULL_PART);
+    let three = [2048, 2048, 1544];
+    expect_full(&rt, &three, false, LINK_OF_THREE, FULL_SPLIT_PART);
+}
+
 /// A master that owns its machine.
 fn owning_master(alloc: Global, machine: Machine) -> Result<Master<'static>, AllocError> {
     let machine = Arc::new(alloc, machine)?;
@@ -180,17 +171,30 @@ fn owning_master(alloc: Global, machine: Machine) -> Result<Master<'static>, All
     Master::of(alloc, HeldPlan::Shared(machine))
 }
 
-// There is memory for a master of each number of slaves, each with as many outputs as a slave may have; whether its plan is lent
-// or shared.
+/// A master, as it is made, has so many bytes of inputs.
+fn expect_inputs(rt: &impl Abort, master: Result<Master<'static>, AllocError>, count: usize) {
+    let master = master.expect(rt, "memory");
+    expect_same(rt, &master.inputs().len(), &count, "inputs");
+}
+
+/// There is memory for a master of a table, whether its plan is lent or shared.
+fn expect_master(rt: &(impl AllocGlobal + Abort), table: &str, count: usize) {
+    expect_steps(rt, table, "next 0");
+    let machine = Machine::read(rt.alloc(), table).expect(rt, "a machine");
+    expect_inputs(rt, owning_master(rt.alloc(), machine), count);
+}
+
+/// There is one of so many slaves, each with as many outputs as a slave may have.
+fn expect_master_of(rt: &(impl AllocGlobal + Abort), slaves: &[u32]) {
+    let mut table = table_of(rt, slaves, true, "");
+    push_variables(&mut table, slaves.len()).expect(rt, "memory");
+    expect_master(rt, table.as_str(), slaves.len().saturating_mul(8));
+}
+
 #[test]
-fn masters_of_all_sizes(rt: HostRuntime) -> Result<(), Fail> {
+fn masters_of_all_sizes(rt: HostRuntime) {
     let slaves = [2048; 64];
     for count in 1..65 {
-        let mut table = table_of(rt.alloc(), &slaves[..count], true, "")?;
-        push_variables(&mut table, count)?;
-        expect_steps(&rt, table.as_str(), &[Next(0)])?;
-        let master = owning_master(rt.alloc(), Machine::read(rt.alloc(), table.as_str())?)?;
-        assert_eq!(rt; master.inputs().len(), 8 * count);
+        expect_master_of(&rt, &slaves[..count]);
     }
-    Ok(())
 }

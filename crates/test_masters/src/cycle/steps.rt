@@ -1,61 +1,52 @@
-//! What is done with a master, and what must be seen of it.
-ghost use Rattle.std.specs.Prelude.{◌≡◌, IfOk};
+//! What is done with a master, and what must be seen of it, as lines of text (`crate::lines`).
+//!
+//! | Line | Says |
+//! |---|---|
+//! | `ready NUMBER` | a start-up of the plan ended Ready, with this next number |
+//! | `sets VARIABLE VALUE`, `denied VARIABLE VALUE` | a variable gets a value; no variable of that number holds the value |
+//! | `reads VARIABLE VALUE` | a variable has a value |
+//! | `next NUMBER` | the number of the next cycle |
+//! | `begins`, `refused NUMBER NAME TEXT` | a cycle begins; none does, and that is what the refusal says |
+//! | `sends PART ROW` | the frame of a part |
+//! | `keeps ROW`, `foreign ROW` | a payload that is kept; one that isn't |
+//! | `closes UNITS COUNTERS AL` | the cycle is closed: for each unit 1 if it was taken, else 0; for each part its counter, `WRITE+READ` of one that is split and `-` of one that wasn't kept, with commas between; the AL word |
+//! | `denies NUMBER NAME TEXT` | no cycle is open that could be closed |
+//!
+//! A ROW has hexadecimal digits with blanks between fields; the field `+7` stands for seven bytes of zeros.
+ghost use Rattle.std.specs.Prelude.{◌≡◌};
 
+use crate::lines::{
+    Line, expect, expect_same, line_of, number_at, number_of, parts, place_at, word_at,
+};
 use ec_bringup::{bring_up, slaves_of_machine};
 use ec_cycle::{CycleError, Master, Report, Taken};
 use ec_link::{ExpectedCounters, Machine, Plan};
 use ec_start::{Phase, Startup};
 use std::alloc::{AllocError, Global};
 use std::process::Abort;
-use std::test::Fail;
-
-/// A step. Rows are hexadecimal digits with blanks between fields; the field `+7` stands for seven bytes of zeros.
-#[derive(Clone, Copy, Drop)]
-pub enum Step<'a> {
-    /// A start-up of the plan ended Ready, with this next number.
-    Ready(u64),
-    /// A variable gets a value.
-    Sets(usize, u64),
-    /// No variable of that number holds the value.
-    Denied(usize, u64),
-    /// A variable has a value.
-    Reads(usize, u64),
-    /// The number of the next cycle.
-    Next(u64),
-    /// A cycle begins.
-    Begins,
-    /// None does, for this cause.
-    Refused(CycleError),
-    /// The frame of a part.
-    Sends(usize, &'a str),
-    /// A payload that is kept.
-    Keeps(&'a str),
-    /// A payload that isn't.
-    Foreign(&'a str),
-    /// The cycle is closed: which units were taken, the counters of each part, and the AL word.
-    Closes(&'a [bool], &'a [Option<ExpectedCounters>], u16),
-    /// No cycle is open that could be closed.
-    NotOpen,
-}
 
 /// Appends so many zeros.
-fn push_zeros(bytes: &mut Vec<u8>, count: u16) -> Result<(), AllocError> {
-    for _ in 0..count {
-        bytes.push(0)?;
-    }
-    Ok(())
+fn push_zeros(rt: &impl Abort, bytes: &mut Vec<u8>, count: usize) {
+    let len = bytes.len().saturating_add(count);
+    bytes.resize(len, 0).expect(rt, "memory");
+}
+
+/// Appends the bytes of digits.
+fn push_digits(rt: &(impl AllocGlobal + Abort), bytes: &mut Vec<u8>, digits: &str) {
+    let more = hex::decode(rt.alloc(), digits).expect(rt, digits);
+    bytes.extend_from_slice(&more).expect(rt, "memory");
 }
 
 /// The bytes of a row.
-fn bytes_of(alloc: Global, row: &str) -> Result<Vec<u8>, Fail> {
-    let mut bytes = Vec::new(alloc);
-    for field in row.split_whitespace() {
+fn bytes_of(rt: &(impl AllocGlobal + Abort), row: &str) -> Vec<u8> {
+    let mut bytes = Vec::new(rt.alloc());
+    for field in row.split(' ') {
         match field.strip_prefix("+") {
-            Some(count) => push_zeros(&mut bytes, count.parse::<u16>()?)?,
-            None => bytes.extend_from_slice(&hex::decode(alloc, field)?)?,
+            Some(count) => push_zeros(rt, &mut bytes, number_of(rt, count) as usize),
+            None => push_digits(rt, &mut bytes, field),
         }
     }
-    Ok(bytes)
+    bytes
 }
 
 /// A start-up of a plan over the slaves of its machine, whose first frame has this number; it has ended.
@@ -64,14 +55,14 @@ fn ended_startup<'p>(
     machine: &Machine,
     plan: &'p Plan,
     number: u64,
-) -> Result<Startup<'p>, Fail>
-    ensures { IfOk result (λ s. s.plan ≡ plan.now.slaves) }
+) -> Startup<'p>
+    ensures { result.plan ≡ plan.now.slaves }
 {
-    assert!(rt; Startup::can_start(plan));
+    expect(rt, Startup::can_start(plan), "a start-up");
     let mut startup = Startup::new(plan, number);
-    let mut ring = slaves_of_machine(rt.alloc(), machine)?;
+    let mut ring = slaves_of_machine(rt.alloc(), machine).expect(rt, "memory");
     bring_up(&mut startup, &mut ring);
-    Ok(startup)
+    startup
 }
 
 /// The number of the first frame of a start-up whose next number is this when it has ended.
@@ -80,13 +71,17 @@ fn first_number(
     machine: &Machine,
     plan: &Plan,
     number: u64,
-) -> Result<u64, Fail> {
-    let frames = ended_startup(rt, machine, plan, 0)?.next_number();
-    Ok(
-        number
-            .checked_sub(frames)
-            .ok_or("a number behind so many frames")?,
-    )
+) -> u64 {
+    let frames = ended_startup(rt, machine, plan, 0).next_number();
+    number.checked_sub(frames).expect(rt, "so many frames")
+}
+
+/// The master becomes ready by a start-up of its plan.
+fn become_ready(rt: &impl Abort, master: &mut Master, startup: &Startup<'_>, number: u64)
+    requires { startup.now.plan ≡ master.old.plan.slaves }
+{
+    assert!(rt; startup.phase() == Phase::Ready && startup.next_number() == number);
+    master.ready(startup);
 }
 
 /// The master becomes ready by a start-up of its plan whose next number is this.
@@ -95,126 +90,178 @@ fn make_ready(
     machine: &Machine,
     master: &mut Master,
     number: u64,
-) -> Result<(), Fail> {
-    let held = master.held_plan().clone()?;
-    let first = first_number(rt, machine, held.plan(), number)?;
-    let startup = ended_startup(rt, machine, held.plan(), first)?;
-    assert_eq!(rt; startup.phase(), Phase::Ready);
-    assert_eq!(rt; startup.next_number(), number);
-    master.ready(&startup);
-    Ok(())
+) {
+    let held = master.held_plan().clone().expect(rt, "memory");
+    let first = first_number(rt, machine, held.plan(), number);
+    let startup = ended_startup(rt, machine, held.plan(), first);
+    become_ready(rt, master, &startup, number);
 }
 
-fn set(rt: &impl Abort, master: &mut Master, variable: usize, value: u64) {
-    assert!(rt; master.can_set(variable, value));
+/// A variable gets a value.
+fn set(rt: &impl Abort, master: &mut Master, line: &Line<'_>) {
+    let (variable, value) = (place_at(rt, line.about, 0), number_at(rt, line.about, 1));
+    expect(rt, master.can_set(variable, value), line.text);
     master.set(variable, value);
 }
 
-fn assert_frame(rt: &impl Abort, master: &Master, part: usize, expected: &[u8]) {
-    assert!(rt; master.is_open());
-    assert!(rt; part < master.parts());
-    assert!(rt; master.frame(part) == expected);
+/// Compares the value of a variable.
+fn expect_value(rt: &impl Abort, master: &Master, line: &Line<'_>) {
+    let (variable, value) = (place_at(rt, line.about, 0), number_at(rt, line.about, 1));
+    expect(rt, variable < master.variables(), line.text);
+    expect_same(rt, &master.get(variable), &value, line.text);
 }
 
-fn assert_value(rt: &impl Abort, master: &Master, variable: usize, expected: u64) {
-    assert!(rt; variable < master.variables());
-    assert_eq!(rt; master.get(variable), expected);
+/// Compares the frame of a part.
+fn expect_frame(rt: &impl Abort, master: &Master, part: usize, wanted: &[u8]) {
+    expect(rt, master.is_open() && part < master.parts(), "a frame");
+    expect_same(rt, &master.frame(part), &wanted, "a frame");
 }
 
-fn assert_report(
-    rt: &impl Abort,
-    report: &Report,
-    units: &[bool],
-    counters: &[Option<ExpectedCounters>],
-    al_word: u16,
-) {
-    assert!(rt; report.units_taken() == units);
-    assert_eq!(rt; report.units().len(), units.len());
-    assert_eq!(rt; report.is_taken(), units.iter().all(|taken| *taken));
-    assert!(rt; report.counters().as_slice() == counters);
-    assert_eq!(rt;
-        report.missing(),
-        counters.iter().filter(|counter| counter.is_none()).count()
-    );
-    assert_eq!(rt; report.al_word(), al_word);
+/// The same of a row behind the number of the part.
+fn expect_row(rt: &(impl AllocGlobal + Abort), master: &Master, line: &Line<'_>) {
+    let (part, row) = parts(line.about, " ");
+    expect_frame(rt, master, number_of(rt, part) as usize, &bytes_of(rt, row));
 }
 
-/// What is done with the image, and what is seen of the numbers.
-fn take_call(rt: &impl Abort, master: &mut Master, step: Step) {
-    match step {
-        Step::Sets(variable, value) => set(rt, master, variable, value),
-        Step::Denied(variable, value) => assert!(rt; !master.can_set(variable, value)),
-        Step::Reads(variable, value) => assert_value(rt, master, variable, value),
-        Step::Next(number) => assert_eq!(rt; master.next_number(), number),
-        _ => {}
-    }
-}
-
-/// What a master takes the payload of a row for.
-fn assert_taken(
+/// Compares what a master takes the payload of a row for.
+fn expect_taken(
     rt: &(impl AllocGlobal + Abort),
     master: &mut Master,
-    row: &str,
+    line: &Line<'_>,
     taken: Taken,
-) -> Result<(), Fail> {
-    let payload = bytes_of(rt.alloc(), row)?;
-    assert_eq!(rt; master.take(&payload), taken, "{row}");
-    Ok(())
+) {
+    let met = master.take(&bytes_of(rt, line.about));
+    expect_same(rt, &met, &taken, line.text);
 }
 
-/// What is done with start-ups and cycles.
-fn take_cycle(
-    rt: &(impl AllocGlobal + Abort),
-    machine: &Machine,
-    master: &mut Master,
-    step: Step,
-) -> Result<(), Fail> {
-    match step {
-        Step::Ready(number) => make_ready(rt, machine, master, number)?,
-        Step::Begins => assert_eq!(rt; master.begin(), Ok(())),
-        Step::Refused(error) => assert_eq!(rt; master.begin(), Err(error)),
-        Step::Sends(part, row) => assert_frame(rt, master, part, &bytes_of(rt.alloc(), row)?),
-        Step::Keeps(row) => assert_taken(rt, master, row, Taken::Accepted)?,
-        Step::Foreign(row) => assert_taken(rt, master, row, Taken::Foreign)?,
-        Step::Closes(units, counters, al_word) => {
-            assert_report(rt, &master.close()?, units, counters, al_word);
+/// What a refusal says: its number, its name, and words.
+fn words_of(alloc: Global, error: CycleError) -> Result<String, AllocError> {
+    format!(in alloc; "{} {} {error}", error.number(), error.name())
+}
+
+/// Compares words, as they are made.
+fn expect_words(rt: &impl Abort, words: Result<String, AllocError>, wanted: &str) {
+    let words = words.expect(rt, "memory");
+    expect_same(rt, &words.as_str(), &wanted, "a refusal");
+}
+
+/// There is a refusal, and it says this.
+fn expect_refused(rt: &(impl AllocGlobal + Abort), refusal: Option<CycleError>, wanted: &str) {
+    match refusal {
+        Some(error) => expect_words(rt, words_of(rt.alloc(), error), wanted),
+        None => expect(rt, false, wanted),
+    }
+}
+
+/// The counters that a word says.
+fn counters_of(rt: &impl Abort, word: &str) -> Option<ExpectedCounters> {
+    match word.split_once("+") {
+        Some((write, read)) => Some(ExpectedCounters::Split {
+            write: number_of(rt, write) as usize,
+            read: number_of(rt, read) as usize,
+        }),
+        None if word == "-" => None,
+        None => Some(ExpectedCounters::Lrw(number_of(rt, word) as usize)),
+    }
+}
+
+/// Compares the counters of parts.
+fn expect_counters(rt: &impl Abort, counters: &[Option<ExpectedCounters>], words: &str) {
+    for (place, word) in words.split(',').enumerate() {
+        let wanted = Some(counters_of(rt, word));
+        expect_same(rt, &counters.get(place).copied(), &wanted, words);
+    }
+    expect_same(rt, &counters.len(), &words.split(',').count(), words);
+}
+
+/// Compares which units were taken.
+fn expect_units(rt: &impl Abort, taken: &[bool], units: &str) {
+    for (place, unit) in units.bytes().enumerate() {
+        let wanted = Some(unit == b'1');
+        expect_same(rt, &taken.get(place).copied(), &wanted, units);
+    }
+    expect_same(rt, &taken.len(), &units.len(), units);
+}
+
+/// Compares a report.
+fn expect_report(rt: &impl Abort, report: &Report, line: &Line<'_>) {
+    let (units, counters) = (word_at(line.about, 0), word_at(line.about, 1));
+    expect_units(rt, report.units_taken(), units);
+    expect_counters(rt, report.counters().as_slice(), counters);
+    let missing = counters.split(',').filter(|word| *word == "-").count();
+    expect_same(
+        rt,
+        &(report.units().len(), report.missing(), report.is_taken()),
+        &(units.len(), missing, !units.contains("0")),
+        line.text,
+    );
+    let al_word = number_at(rt, line.about, 2);
+    expect_same(rt, &u64::from(report.al_word()), &al_word, line.text);
+}
+
+/// Closes the cycle, and compares the report.
+fn expect_closed(rt: &impl Abort, master: &mut Master, line: &Line<'_>) {
+    match master.close() {
+        Ok(report) => expect_report(rt, &report, line),
+        Err(_) => expect(rt, false, line.text),
+    }
+}
+
+/// What is seen of variables and numbers.
+fn expect_seen(rt: &impl Abort, master: &mut Master, line: &Line<'_>) {
+    let (first, second) = (number_at(rt, line.about, 0), number_at(rt, line.about, 1));
+    match line.word {
+        "sets" => set(rt, master, line),
+        "reads" => expect_value(rt, master, line),
+        "denied" => {
+            let is_denied = !master.can_set(first as usize, second);
+            expect(rt, is_denied, line.text);
         }
-        Step::NotOpen => assert!(rt; master.close().is_err()),
-        _ => {}
+        "next" => expect_same(rt, &master.next_number(), &first, line.text),
+        _ => expect(rt, line.word.is_empty(), line.text),
     }
-    Ok(())
 }
 
-/// Takes all steps, in their order.
-fn take_all(
+/// Takes the step of a line.
+fn take_step(
     rt: &(impl AllocGlobal + Abort),
     machine: &Machine,
     master: &mut Master,
-    steps: &[Step],
-) -> Result<(), Fail> {
-    for step in steps {
-        take_call(rt, master, *step);
-        take_cycle(rt, machine, master, *step)?;
+    line: &Line<'_>,
+) {
+    match line.word {
+        "ready" => make_ready(rt, machine, master, number_at(rt, line.about, 0)),
+        "begins" => expect(rt, master.begin().is_ok(), line.text),
+        "refused" => expect_refused(rt, master.begin().err(), line.about),
+        "sends" => expect_row(rt, master, line),
+        "keeps" => expect_taken(rt, master, line, Taken::Accepted),
+        "foreign" => expect_taken(rt, master, line, Taken::Foreign),
+        "closes" => expect_closed(rt, master, line),
+        "denies" => expect_refused(rt, master.close().err(), line.about),
+        _ => expect_seen(rt, master, line),
     }
-    Ok(())
 }
 
-/// Takes all steps with a new master of a machine.
-fn expect_steps_of(
+/// Takes the steps of all lines, in their order.
+fn take_steps(
     rt: &(impl AllocGlobal + Abort),
     machine: &Machine,
-    steps: &[Step],
-) -> Result<(), Fail> {
-    let mut master = Master::new(rt.alloc(), machine.plan())?;
-    take_all(rt, machine, &mut master, steps)
+    master: &mut Master,
+    lines: &str,
+) {
+    for line in lines.lines() {
+        take_step(rt, machine, master, &line_of(line));
+    }
 }
 
-/// Takes all steps with a new master of a table's machine.
-pub fn expect_steps(
-    rt: &(impl AllocGlobal + Abort),
-    table: &str,
-    steps: &[Step],
-) -> Result<(), Fail> {
-    let machine = Machine::read(rt.alloc(), table)?;
-    expect_steps_of(rt, &machine, steps)
+/// Takes the steps with a new master of a machine.
+fn expect_steps_of(rt: &(impl AllocGlobal + Abort), machine: &Machine, lines: &str) {
+    let mut master = Master::new(rt.alloc(), machine.plan()).expect(rt, "memory");
+    take_steps(rt, machine, &mut master, lines);
+}
+
+/// Takes the steps with a new master of a table's machine.
+pub fn expect_steps(rt: &(impl AllocGlobal + Abort), table: &str, lines: &str) {
+    let machine = Machine::read(rt.alloc(), table).expect(rt, "a machine");
+    expect_steps_of(rt, &machine, lines);
 }

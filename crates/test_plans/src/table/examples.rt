@@ -3,8 +3,8 @@
 /// `examples/three_slaves.toml`.
 pub const THREE_SLAVES: &str = test_data::THREE_SLAVES;
 
-/// The lines of the table of three slaves that are no comments.
-pub const PLAIN: &str = test_data::BARE_THREE_SLAVES;
+/// The same, a line for each list.
+pub const SHORT: &str = test_data::SHORT_THREE_SLAVES;
 
 /// `examples/small_machine.toml`.
 pub const SMALL_MACHINE: &str = test_data::SMALL_MACHINE;
@@ -58,12 +58,12 @@ sub = 1
 
 /// All that the table of three slaves holds, a line for each row.
 pub const THREE_SLAVES_READ: &str = r#"One
-type do4 Device { vendor: 43981, product: 1, revision: 1 } None 4352 0 true out 5632: 28672.1.4 in
-type di4 Device { vendor: 43981, product: 2, revision: 1 } None 0 4352 true out in 6656: 24576.1.4
-type mix Device { vendor: 43981, product: 3, revision: 1 } Some(Mailbox { receive_start: 4096, receive_size: 128, send_start: 4224, send_size: 128 }) 4352 5120 true out 5632: 28688.1.12 in 6656: 24592.1.16
-slave s0 0 out [5632] in [] 0 0: 28672.1.4 /
-slave s1 1 out [] in [6656] 0 0: / 24576.1.4
-slave s2 2 out [5632] in [6656] 0 0: 28688.1.12 / 24592.1.16
+TypeRow { name: Name { text: "do4" }, device: Device { vendor: 43981, product: 1, revision: 1 }, mailbox: None, process: ProcessData { out_start: 4352, in_start: 0, outputs: Listed { items: [Pdo { index: 5632, entries: Listed { items: [Entry { index: 28672, subindex: 1, bits: 4 }] } }] }, inputs: Listed { items: [] } }, lrw: true }
+TypeRow { name: Name { text: "di4" }, device: Device { vendor: 43981, product: 2, revision: 1 }, mailbox: None, process: ProcessData { out_start: 0, in_start: 4352, outputs: Listed { items: [] }, inputs: Listed { items: [Pdo { index: 6656, entries: Listed { items: [Entry { index: 24576, subindex: 1, bits: 4 }] } }] } }, lrw: true }
+TypeRow { name: Name { text: "mix" }, device: Device { vendor: 43981, product: 3, revision: 1 }, mailbox: Some(Mailbox { receive_start: 4096, receive_size: 128, send_start: 4224, send_size: 128 }), process: ProcessData { out_start: 4352, in_start: 5120, outputs: Listed { items: [Pdo { index: 5632, entries: Listed { items: [Entry { index: 28688, subindex: 1, bits: 12 }] } }] }, inputs: Listed { items: [Pdo { index: 6656, entries: Listed { items: [Entry { index: 24592, subindex: 1, bits: 16 }] } }] } }, lrw: true }
+SlaveRow { name: Name { text: "s0" }, type_index: 0, outputs: Listed { items: [5632] }, inputs: Listed { items: [] }, serial: 0, unit: 0 }
+SlaveRow { name: Name { text: "s1" }, type_index: 1, outputs: Listed { items: [] }, inputs: Listed { items: [6656] }, serial: 0, unit: 0 }
+SlaveRow { name: Name { text: "s2" }, type_index: 2, outputs: Listed { items: [5632] }, inputs: Listed { items: [6656] }, serial: 0, unit: 0 }
 VariableRow { name: Name { text: "a" }, direction: Out, bits: 4 }
 VariableRow { name: Name { text: "b" }, direction: Out, bits: 12 }
 VariableRow { name: Name { text: "c" }, direction: In, bits: 4 }
@@ -76,10 +76,10 @@ LinkRow { variable: 3, slave: 2, index: 24592, subindex: 1, bits: LinkBits { var
 
 /// The same of the small machine.
 pub const SMALL_MACHINE_READ: &str = r#"Two
-type coupler Device { vendor: 1445, product: 17, revision: 2 } None 4352 4480 true out 5632: 28672.1.1 28672.2.1 28672.3.1 28672.4.1 0.0.4 in 6656: 24576.1.8
-type analog2 Device { vendor: 1445, product: 770, revision: 1 } Some(Mailbox { receive_start: 4096, receive_size: 128, send_start: 4224, send_size: 128 }) 4352 5120 false out 5632: 28688.17.16 5633: 28704.17.16 in 6656: 24592.1.8 0.0.8 24592.17.16 6657: 24608.1.8 0.0.8 24608.17.16
-slave panel 0 out [5632] in [6656] 0 0: 28672.1.1 28672.2.1 28672.3.1 28672.4.1 0.0.4 / 24576.1.8
-slave press 1 out [5633] in [6657] 1042 1: 28704.17.16 / 24608.1.8 0.0.8 24608.17.16
+TypeRow { name: Name { text: "coupler" }, device: Device { vendor: 1445, product: 17, revision: 2 }, mailbox: None, process: ProcessData { out_start: 4352, in_start: 4480, outputs: Listed { items: [Pdo { index: 5632, entries: Listed { items: [Entry { index: 28672, subindex: 1, bits: 1 }, Entry { index: 28672, subindex: 2, bits: 1 }, Entry { index: 28672, subindex: 3, bits: 1 }, Entry { index: 28672, subindex: 4, bits: 1 }, Entry { index: 0, subindex: 0, bits: 4 }] } }] }, inputs: Listed { items: [Pdo { index: 6656, entries: Listed { items: [Entry { index: 24576, subindex: 1, bits: 8 }] } }] } }, lrw: true }
+TypeRow { name: Name { text: "analog2" }, device: Device { vendor: 1445, product: 770, revision: 1 }, mailbox: Some(Mailbox { receive_start: 4096, receive_size: 128, send_start: 4224, send_size: 128 }), process: ProcessData { out_start: 4352, in_start: 5120, outputs: Listed { items: [Pdo { index: 5632, entries: Listed { items: [Entry { index: 28688, subindex: 17, bits: 16 }] } }, Pdo { index: 5633, entries: Listed { items: [Entry { index: 28704, subindex: 17, bits: 16 }] } }] }, inputs: Listed { items: [Pdo { index: 6656, entries: Listed { items: [Entry { index: 24592, subindex: 1, bits: 8 }, Entry { index: 0, subindex: 0, bits: 8 }, Entry { index: 24592, subindex: 17, bits: 16 }] } }, Pdo { index: 6657, entries: Listed { items: [Entry { index: 24608, subindex: 1, bits: 8 }, Entry { index: 0, subindex: 0, bits: 8 }, Entry { index: 24608, subindex: 17, bits: 16 }] } }] } }, lrw: false }
+SlaveRow { name: Name { text: "panel" }, type_index: 0, outputs: Listed { items: [5632] }, inputs: Listed { items: [6656] }, serial: 0, unit: 0 }
+SlaveRow { name: Name { text: "press" }, type_index: 1, outputs: Listed { items: [5633] }, inputs: Listed { items: [6657] }, serial: 1042, unit: 1 }
 VariableRow { name: Name { text: "lamp" }, direction: Out, bits: 1 }
 VariableRow { name: Name { text: "valves" }, direction: Out, bits: 2 }
 VariableRow { name: Name { text: "switches" }, direction: In, bits: 8 }
@@ -95,10 +95,10 @@ LinkRow { variable: 4, slave: 1, index: 24608, subindex: 17, bits: LinkBits { va
 
 /// The same of the three slaves of a type.
 pub const THREE_OF_A_TYPE_READ: &str = r#"One
-type do4 Device { vendor: 43981, product: 1, revision: 1 } None 4352 0 true out 5632: 28672.1.4 in
-slave s0 0 out [5632] in [] 0 0: 28672.1.4 /
-slave s1 0 out [5632] in [] 0 0: 28672.1.4 /
-slave s2 0 out [5632] in [] 0 0: 28672.1.4 /
+TypeRow { name: Name { text: "do4" }, device: Device { vendor: 43981, product: 1, revision: 1 }, mailbox: None, process: ProcessData { out_start: 4352, in_start: 0, outputs: Listed { items: [Pdo { index: 5632, entries: Listed { items: [Entry { index: 28672, subindex: 1, bits: 4 }] } }] }, inputs: Listed { items: [] } }, lrw: true }
+SlaveRow { name: Name { text: "s0" }, type_index: 0, outputs: Listed { items: [5632] }, inputs: Listed { items: [] }, serial: 0, unit: 0 }
+SlaveRow { name: Name { text: "s1" }, type_index: 0, outputs: Listed { items: [5632] }, inputs: Listed { items: [] }, serial: 0, unit: 0 }
+SlaveRow { name: Name { text: "s2" }, type_index: 0, outputs: Listed { items: [5632] }, inputs: Listed { items: [] }, serial: 0, unit: 0 }
 VariableRow { name: Name { text: "v0" }, direction: Out, bits: 4 }
 VariableRow { name: Name { text: "v1" }, direction: Out, bits: 4 }
 VariableRow { name: Name { text: "v2" }, direction: Out, bits: 4 }

@@ -1,16 +1,5 @@
 //! Firmware steps of a slave that frames reach.
 use super::{Kind, expect_cases};
-use ec_device::{Device, Entry, Mailbox, Pdo, SlaveType};
-use ec_listed::Listed;
-use ec_slave::Slave;
-use std::alloc::{AllocError, Global};
-use std::process::Abort;
-
-const DEVICE: Device = Device {
-    vendor: 0xABCD,
-    product: 3,
-    revision: 1,
-};
 
 /// From power-on to PREOP, with all four managers set: 0 and 1 to mailboxes of 128 bytes at 0x1000 and 0x1080, 2 to two bytes of
 /// outputs at 0x1100, and 3 to two bytes of inputs at 0x1400.
@@ -20,61 +9,6 @@ writes 0810 0011020024000100
 writes 0818 0014020020000100
 asks 0200 > 020000000000
 ";
-
-/// The mailboxes.
-const MAILBOX: Option<Mailbox> = Some(Mailbox {
-    receive_start: 0x1000,
-    receive_size: 128,
-    send_start: 0x1080,
-    send_size: 128,
-});
-
-/// 12 bits of outputs.
-const OUTPUT: Entry = Entry {
-    index: 0x7010,
-    subindex: 1,
-    bits: 12,
-};
-
-/// 16 bits of inputs.
-const INPUT: Entry = Entry {
-    index: 0x6010,
-    subindex: 1,
-    bits: 16,
-};
-
-/// A list of one entry.
-fn one_entry(alloc: Global, entry: Entry) -> Result<Listed<Entry>, AllocError> {
-    let mut entries = Listed::new(alloc);
-    entries.push(entry)?;
-    Ok(entries)
-}
-
-/// A list of one PDO of one entry.
-fn one_pdo(alloc: Global, index: u16, entry: Entry) -> Result<Listed<Pdo>, AllocError> {
-    let entries = one_entry(alloc, entry)?;
-    let mut pdos = Listed::new(alloc);
-    pdos.push(Pdo { index, entries })?;
-    Ok(pdos)
-}
-
-/// The type of a slave with mailboxes and these PDOs.
-fn kind_of(rt: &impl Abort, outputs: Listed<Pdo>, inputs: Listed<Pdo>) -> SlaveType {
-    assert!(rt; SlaveType::is_within_limits(MAILBOX, outputs.as_slice(), inputs.as_slice()));
-    SlaveType::new(DEVICE, MAILBOX, 0x1100, 0x1400, outputs, inputs, true)
-}
-
-/// The type of a slave with mailboxes, 12 bits of outputs and 16 bits of inputs.
-fn mixed_kind(rt: &(impl AllocGlobal + Abort)) -> SlaveType {
-    let outputs = one_pdo(rt.alloc(), 0x1600, OUTPUT).expect(rt, "memory");
-    let inputs = one_pdo(rt.alloc(), 0x1A00, INPUT).expect(rt, "memory");
-    kind_of(rt, outputs, inputs)
-}
-
-/// A slave of that type.
-pub fn mixed_slave(rt: &(impl AllocGlobal + Abort)) -> Result<Slave, AllocError> {
-    Slave::new(rt.alloc(), mixed_kind(rt), DEVICE.identity(0))
-}
 
 /// From power-on.
 const FROM_POWER_ON: &str = "\

@@ -1,5 +1,6 @@
 //! Long frames.
 use super::steps::{Line, assert_bytes, expect_back, pass_frame};
+use crate::compare::expect_same;
 use ec_frame::Command;
 use ec_slave::Slave;
 use std::process::Abort;
@@ -38,7 +39,7 @@ fn expect_unchanged(
     count: usize,
 ) {
     let met = pass_frame(rt, slave, frame);
-    assert!(rt; met == count);
+    expect_same(rt, &met, &count, "datagrams");
     assert_bytes(rt, line, frame, sent);
 }
 

@@ -4,6 +4,7 @@ ghost use Rattle.std.specs.Prelude.{◌≤◌, ◌<◌, ◌+◌};
 
 use super::steps::{data_of, frame_of, pass_frame};
 use super::{Kind, expect_cases};
+use crate::compare::expect_same;
 use ec_bits::{get, put};
 use ec_frame::Command::{self, Aprd, Apwr, Lrd, Lwr};
 use ec_slave::Slave;
@@ -89,13 +90,10 @@ impl Run {
     }
 }
 
-/// Tells of which run something isn't as it must be.
+/// Prints how many bits a run has, the first logical one and the first physical one, if something isn't as it must be.
 fn assert_run(rt: &impl Abort, run: Run, is_good: bool) {
-    assert!(rt;
-        is_good,
-        "{} bits from {} on, at {}",
-        run.count, run.start, run.physical
-    );
+    let about = (run.count, run.start, run.physical);
+    expect_same(rt, &(about, is_good), &(about, true), "a run");
 }
 
 /// Passes a datagram, and compares its data as they come back.

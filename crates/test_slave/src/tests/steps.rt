@@ -21,6 +21,7 @@
 //! | `# WORDS` | nothing |
 use super::long::{expect_longest, expect_nops};
 use super::runs::take_runs;
+use crate::compare::{bytes_of, expect, expect_same, parts};
 use ec_frame::{Builder, Command, Frame, check};
 use ec_slave::Slave;
 use std::alloc::AllocError;
@@ -37,12 +38,8 @@ pub struct Line<'a> {
     row: &'a str,
 }
 
-/// What stands before and behind the first place of a text.
-fn parts<'a>(rt: &impl Abort, text: &'a str, between: &str) -> (&'a str, &'a str) {
-    text.split_once(between).expect(rt, text)
-}
-
-/// The same; where that place isn't there, all of the text and what is neither a row nor a number.
+/// What stands before and behind the first place of a text; where that place isn't there, all of the text and what is neither a row nor
+/// a number.
 fn halves<'a>(text: &'a str, between: &str) -> (&'a str, &'a str) {
     text.split_once(between).unwrap_or((text, "?"))
 }
@@ -75,21 +72,6 @@ fn command_of(rt: &impl Abort, word: &str) -> Command {
     }
 }
 
-/// The digits of a row.
-fn digits_of(rt: &(impl AllocGlobal + Abort), row: &str) -> String {
-    row.replace(rt.alloc(), " ", "").expect(rt, "memory")
-}
-
-/// The bytes of digits.
-fn bytes_of_digits(rt: &(impl AllocGlobal + Abort), digits: &str) -> Vec<u8> {
-    hex::decode(rt.alloc(), digits).expect(rt, digits)
-}
-
-/// The bytes of a row.
-fn bytes_of(rt: &(impl AllocGlobal + Abort), row: &str) -> Vec<u8> {
-    bytes_of_digits(rt, digits_of(rt, row).as_str())
-}
-
 /// The bytes of a mailbox of 128 bytes: a message and zeros.
 fn mailbox_of(rt: &(impl AllocGlobal + Abort), row: &str) -> Vec<u8> {
     let mut bytes = bytes_of(rt, row);
@@ -106,7 +88,7 @@ fn counted(rt: &(impl AllocGlobal + Abort), bytes: &[u8], counter: u8) -> Vec<u8
 
 /// Compares bytes.
 pub fn assert_bytes(rt: &impl Abort, line: &Line<'_>, met: &[u8], wanted: &[u8]) {
-    assert_eq!(rt; met, wanted, "{}: {}", line.name, line.text);
+    expect_same(rt, &(line.name, met), &(line.name, wanted), line.text);
 }
 
 /// Compares bytes with a row.
@@ -259,7 +241,10 @@ fn byte_seen(rt: &impl Abort, slave: &mut Slave, line: &Line<'_>) -> Option<u8> 
         "gets" => slave.app_get(usize::from(word_of(rt, line.about))),
         "puts" => Some(u8::from(is_put(rt, slave, line.about))),
         "faults" => Some(u8::from(slave.fault())),
-        word => panic!(rt; "{word}"),
+        word => {
+            expect(rt, false, word);
+            None
+        }
     }
 }
 

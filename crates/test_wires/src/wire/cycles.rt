@@ -3,10 +3,9 @@
 ghost use Rattle.std.specs.Prelude.{◌≡◌};
 ghost use Rattle.ec_link.specs.Plan.{plan_of};
 
+use crate::rows::{assert_same, expect};
 use crate::wire::fakes::Fake;
-use crate::wire::machines::{
-    assert_same, bring_up, brought_up, ring_of, set, startup_of, value_of, wire_to,
-};
+use crate::wire::machines::{bring_up, brought_up, ring_of, set, startup_of, value_of, wire_to};
 use ec_cycle::{Master, Report};
 use ec_link::{ExpectedCounters, Machine};
 use ec_ring::Ring;
@@ -69,7 +68,7 @@ fn expect_fault(
         run(master, &mut wire, mirror, wanted[0].0),
         run(master, &mut wire, mirror, wanted[1].0),
     ];
-    assert_same(rt, &met, &wanted);
+    assert_same(rt, &met, &wanted, "two cycles");
     wire.into_ring()
 }
 
@@ -84,7 +83,7 @@ pub fn expect_faults(
     requires { master.old.plan ≡ plan_of machine.now }
 {
     let mut ring = brought_up(rt, machine, master, 0);
-    assert!(rt; master.parts() == usize::from(parts));
+    expect(rt, master.parts() == usize::from(parts), "parts");
     for call in 0..2 * u32::from(parts) {
         ring = expect_fault(rt, master, ring, mirror, u32::from(parts), call);
     }
@@ -97,10 +96,9 @@ fn error_over_spent(rt: &impl Abort, master: &mut Master<'_>) -> RunError {
         bytes: 0,
         received: 0,
     };
-    match run_cycle(master, &mut spent) {
-        Ok(_) => panic!(rt; "a cycle over a spent wire"),
-        Err(error) => error,
-    }
+    run_cycle(master, &mut spent)
+        .err()
+        .expect(rt, "a cycle over a spent wire")
 }
 
 /// A cycle over a spent wire ends by an error with this number and name.
@@ -110,7 +108,8 @@ pub fn expect_error(
     wanted: (RunError, u8, &'static str),
 ) {
     let error = error_over_spent(rt, master);
-    assert_same(rt, &(error, error.number(), error.name()), &wanted);
+    let seen = (error, error.number(), error.name());
+    assert_same(rt, &seen, &wanted, wanted.2);
 }
 
 /// Once its slaves have come up a cycle over a spent wire ends by a fault.
@@ -131,7 +130,7 @@ fn expect_good(rt: &impl Abort, master: &mut Master<'_>, wire: &mut LoopWire<Ech
     set(master, 0, number);
     set(master, 1, number);
     let report = run_cycle(master, wire).expect(rt, "a cycle");
-    assert!(rt; is_good(&report));
+    expect(rt, is_good(&report), "a good cycle");
 }
 
 /// Runs two cycles over sockets, of slaves that show their outputs; slave 1 has none to show.
@@ -139,7 +138,7 @@ fn expect_two(rt: &impl Abort, master: &mut Master<'_>, wire: &mut LoopWire<Echo
     expect_good(rt, master, wire, 1);
     expect_good(rt, master, wire, 2);
     let seen = (value_of(master, 2), value_of(master, 3), wire.failures());
-    assert_same(rt, &seen, &(0, 1, 0));
+    assert_same(rt, &seen, &(0, 1, 0), "two cycles");
 }
 
 /// Whether a port of 127.0.0.1 is in use.
@@ -151,7 +150,7 @@ fn is_held(rt: &impl Net, port: u16) -> bool {
 fn expect_ports(rt: &(impl Net + Abort), wire: &LoopWire<Echo>) {
     let (master, segment) = wire.ports();
     let met = (is_held(rt, master), is_held(rt, segment), master == segment);
-    assert_same(rt, &met, &(true, true, false));
+    assert_same(rt, &met, &(true, true, false), "two ports");
 }
 
 /// What a loopback counts: slaves, payloads sent and received, and faults.
@@ -162,17 +161,15 @@ fn expect_counts(rt: &impl Abort, loopback: &Loopback<Echo>, wanted: (usize, u64
         loopback.received(),
         loopback.failures(),
     );
-    assert_same(rt, &met, &wanted);
+    assert_same(rt, &met, &wanted, "a loopback");
 }
 
 /// A loopback opens no wire while another one has its application.
 fn expect_lent(rt: &(impl Net + Abort), loopback: &mut Loopback<Echo>, ring: Ring)
     ensures { loopback.new ≡ loopback.old }
 {
-    match loopback.open(rt, ring) {
-        Ok(_) => panic!(rt; "two wires with one application"),
-        Err(_) => {}
-    }
+    let is_refused = loopback.open(rt, ring).is_err();
+    expect(rt, is_refused, "one wire with an application");
 }
 
 /// Brings the slaves of a machine up over a loop of two sockets, and runs two cycles. As many payloads are counted as the

@@ -3,22 +3,17 @@
 ghost use Rattle.std.specs.Prelude.{◌≡◌};
 ghost use Rattle.ec_link.specs.Plan.{plan_of};
 
+use crate::rows::expect;
 use ec_bringup::slaves_of_machine;
 use ec_cycle::Master;
 use ec_link::{Machine, Plan};
 use ec_ring::Ring;
 use ec_start::{Phase, Startup};
 use ec_wire::{MemoryWire, Wire, bring_up_wire};
-use std::fmt::Debug;
 use std::process::Abort;
 
 /// A broadcast that reads two bytes.
 pub const READ: [u8; 16] = [14, 16, 7, 1, 0, 0, 0x30, 1, 2, 0, 0, 0, 0, 0, 0, 0];
-
-/// Compares what is met with what is wanted.
-pub fn assert_same<T: Debug + PartialEq>(rt: &impl Abort, met: &T, wanted: &T) {
-    assert_eq!(rt; met, wanted);
-}
 
 /// The machine of a table.
 pub fn machine_of(rt: &(impl AllocGlobal + Abort), text: &str) -> Machine {
@@ -46,9 +41,7 @@ pub fn master_of<'p>(rt: &(impl AllocGlobal + Abort), machine: &'p Machine) -> M
 fn startup_of_plan<'p>(rt: &impl Abort, plan: &'p Plan, number: u64) -> Startup<'p>
     ensures { result.plan ≡ plan.now.slaves }
 {
-    if !Startup::can_start(plan) {
-        panic!(rt; "no start-up");
-    }
+    expect(rt, Startup::can_start(plan), "a start-up");
     Startup::new(plan, number)
 }
 
@@ -71,7 +64,7 @@ pub fn bring_up<W: Wire>(
     bring_up_wire(startup, wire);
     match startup.phase() {
         Phase::Ready => master.ready(startup),
-        _ => panic!(rt; "slaves that don't come up"),
+        _ => expect(rt, false, "slaves that come up"),
     }
 }
 

@@ -1,5 +1,6 @@
 //! Wires over memory to every number of slaves.
-use crate::wire::machines::{READ, assert_same, machine_of, ring_of, wire_to};
+use crate::rows::assert_same;
+use crate::wire::machines::{READ, machine_of, ring_of, wire_to};
 use ec_wire::Wire;
 use std::alloc::AllocError;
 use std::process::Abort;
@@ -37,5 +38,5 @@ pub fn expect_size(rt: &(impl AllocGlobal + Abort), slaves: u16, room: usize) {
     wire.send(&READ);
     let count = wire.recv(&mut back);
     let counter = u16::from_le_bytes([back[14], back[15]]);
-    assert_same(rt, &(count, counter), &(16, slaves));
+    assert_same(rt, &(count, counter), &(16, slaves), "slaves");
 }

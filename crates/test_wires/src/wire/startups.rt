@@ -1,6 +1,7 @@
 //! Start-ups over wires.
+use crate::rows::assert_same;
 use crate::wire::fakes::Fake;
-use crate::wire::machines::{assert_same, ring_of, startup_of, wire_to};
+use crate::wire::machines::{ring_of, startup_of, wire_to};
 use ec_link::Machine;
 use ec_start::{StartError, Startup};
 use ec_wire::{Wire, bring_up_wire};
@@ -38,7 +39,7 @@ fn ended(rt: &(impl AllocGlobal + Abort), machine: &Machine, call: u64) -> Ended
 
 fn expect_rows(rt: &(impl AllocGlobal + Abort), machine: &Machine, rows: &[Row]) {
     for row in rows {
-        assert_same(rt, &(row.0, ended(rt, machine, row.0)), row);
+        assert_same(rt, &(row.0, ended(rt, machine, row.0)), row, row.1.0);
     }
 }
 
@@ -50,7 +51,8 @@ fn expect_lost(rt: &impl Abort, machine: &Machine) {
         received: 0,
     };
     let ended = run(&mut startup_of(rt, machine, 0), &mut fake);
-    assert_same(rt, &(fake.received, ended), &(64, ("lost", 1)));
+    let seen = (fake.received, ended);
+    assert_same(rt, &seen, &(64, ("lost", 1)), "strange payloads");
 }
 
 /// Start-ups of a machine over memory, each with a fault or none, and over strange payloads.

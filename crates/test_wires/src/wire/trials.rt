@@ -3,9 +3,9 @@
 ghost use Rattle.std.specs.Prelude.{◌≡◌};
 ghost use Rattle.ec_link.specs.Plan.{plan_of};
 
+use crate::rows::expect;
 use crate::wire::cycles::{expect_error, expect_faults, expect_loop, expect_spent};
 use crate::wire::machines::{machine_of, master_of};
-use crate::wire::rounds::expect_frames;
 use crate::wire::startups::expect_ends;
 use ec_cycle::{CycleError, Master};
 use ec_link::Machine;
@@ -27,13 +27,12 @@ fn expect_trial(
 {
     match trial {
         "start-ups" => expect_ends(rt, machine),
-        "frames" => expect_frames(rt, machine, master),
         "faults" => expect_faults(rt, machine, master, (1, 3), 1),
         "faults of many" => expect_faults(rt, machine, master, (0, 1), 13),
         "refusal" => expect_error(rt, master, NOT_READY),
         "spent wire" => expect_spent(rt, machine, master),
         "loop" => expect_loop(rt, machine, master),
-        _ => panic!(rt; "{trial}"),
+        _ => expect(rt, false, trial),
     }
 }
 

@@ -1,0 +1,272 @@
+//! What lines print, and how often what they expect isn't so. What is printed of lines that need no wire stands as cases in
+//! `tools/cases/data/masters.cases`.
+
+use crate::compare::expect_same;
+use cmd_master::Mastered;
+use ec_bringup::slaves_of_machine;
+use ec_console::{InputStream, OutputStream, Reasons, Refusal, run_input};
+use ec_link::Machine;
+use ec_wire::MemoryWire;
+use std::alloc::Global;
+use std::process::Abort;
+
+const THREE_SLAVES: &str = test_data::SHORT_THREE_SLAVES;
+
+/// So many calls of a wire never fail.
+const NEVER: u64 = u64::MAX;
+
+/// Runs lines by a master over a wire. What they print is said by no clause, so that the comparisons behind it carry nothing of it.
+fn run_all(
+    alloc: Global,
+    mastered: &mut Mastered<MemoryWire>,
+    lines: &str,
+    output: &mut OutputStream<Vec<u8>>,
+) -> Result<u64, Refusal> {
+    let mut input = InputStream::new(lines.as_bytes());
+    run_input(alloc, mastered, &mut input, output)
+}
+
+/// The machine of the three slaves.
+fn three_slaves(rt: &(impl AllocGlobal + Abort)) -> Machine {
+    Machine::read(rt.alloc(), THREE_SLAVES).expect(rt, "a good table")
+}
+
+/// A wire to the slaves of a machine, whose call of this number fails.
+fn wire_of(rt: &(impl AllocGlobal + Abort), machine: &Machine, fails_at: u64) -> MemoryWire {
+    let slaves = slaves_of_machine(rt.alloc(), machine).expect(rt, "memory");
+    MemoryWire::new(rt.alloc(), slaves, 2000, fails_at).expect(rt, "memory")
+}
+
+/// A master of the three slaves over a wire.
+fn mastered_over(
+    rt: &(impl AllocGlobal + Abort),
+    wire: MemoryWire,
+    reasons: Reasons,
+) -> Mastered<MemoryWire> {
+    Mastered::new(rt.alloc(), three_slaves(rt), wire, reasons).expect(rt, "memory")
+}
+
+/// Lines, the call of the wire that fails, how often what they expect isn't so, and what they print.
+type Run<'a> = (&'a str, u64, u64, &'a str);
+
+/// Compares how often what lines expect isn't so, and what they print.
+fn expect_ended(rt: &impl Abort, run: &Run, ended: Result<u64, Refusal>, output: &[u8]) {
+    let (lines, _, unmet, printed) = *run;
+    expect_same(
+        rt,
+        &(ended, output),
+        &(Ok(unmet), printed.as_bytes()),
+        lines,
+    );
+}
+
+/// Runs lines over a wire to the three slaves, and compares what they print.
+fn expect_run<H: AllocGlobal + Abort>(rt: &H, reasons: Reasons, run: &Run) {
+    let wire = wire_of(rt, &three_slaves(rt), run.1);
+    let mut mastered = mastered_over(rt, wire, reasons);
+    let mut output = OutputStream::new(Vec::new(rt.alloc()));
+    let ended = run_all(rt.alloc(), &mut mastered, run.0, &mut output);
+    expect_ended(rt, run, ended, output.into_stream().as_slice());
+}
+
+/// Does so with each of these.
+fn expect_runs<H: AllocGlobal + Abort>(rt: &H, reasons: Reasons, runs: &[Run]) {
+    for run in runs {
+        expect_run(rt, reasons, run);
+    }
+}
+
+// The start-up of the three slaves has 75 frames, each sent in one call of the wire and received in the next, and a cycle has
+// one: so the first cycle begins with call 150, and a start-up behind it with call 152.
+const RUNS: [Run; 10] = [
+    // What a cycle sends comes back as input in the next one.
+    (
+        "ready\nset b 0x123\ncycle\ncycle\nexpect d 0x123\nshow\n",
+        NEVER,
+        0,
+        "ready\nreport taken missing 0 counters 6 al 0008\nreport taken missing 0 counters 6 al 0008\nc 0\nd 291\n",
+    ),
+    // Before a start-up nothing is run, and there is no report; what is set is kept for later.
+    (
+        "cycle\nreport\nshow\nset b 2\nready\nrepeat 2 cycle\nshow",
+        NEVER,
+        0,
+        "no 1\nno 2\nc 0\nd 0\nready\nreport taken missing 0 counters 6 al 0008\nreport taken missing 0 counters 6 al 0008\nc 0\nd 2\n",
+    ),
+    // The last report again, as often as is asked, also with a comment.
+    (
+        "ready\ncycle\nreport\nrepeat 2 report # report\n",
+        NEVER,
+        0,
+        "ready\nreport taken missing 0 counters 6 al 0008\nreport taken missing 0 counters 6 al 0008\nreport taken missing 0 counters 6 al 0008\nreport taken missing 0 counters 6 al 0008\n",
+    ),
+    // Expectations of reports and start-ups.
+    (
+        "ready\ncycle\nexpect ready\nexpect failed\nexpect taken\nexpect untaken\nexpect taken 0\nexpect taken 1\nexpect untaken 0\n",
+        NEVER,
+        4,
+        "ready\nreport taken missing 0 counters 6 al 0008\nunmet 4\nunmet 6\nunmet 8\nunmet 9\n",
+    ),
+    // A start-up that fails, and then the next one.
+    (
+        "ready\nexpect failed 32\nexpect failed 26\ncycle\nready\ncycle\n",
+        0,
+        1,
+        "failed 32\nunmet 3\nno 4\nready\nreport taken missing 0 counters 6 al 0008\n",
+    ),
+    // A fault of the wire in a cycle: nothing is taken, the last report stays, and the next cycle goes on.
+    (
+        "ready\ncycle\nset b 7\ncycle\nshow\nreport\nexpect taken\nrepeat 2 cycle\nshow\n",
+        152,
+        0,
+        "ready\nreport taken missing 0 counters 6 al 0008\nfault 37 Wire\nc 0\nd 0\nreport taken missing 0 counters 6 al 0008\nreport taken missing 0 counters 6 al 0008\nreport taken missing 0 counters 6 al 0008\nc 0\nd 7\n",
+    ),
+    (
+        "ready\nset b 7\ncycle\ncycle\nshow\n",
+        153,
+        0,
+        "ready\nreport taken missing 0 counters 6 al 0008\nfault 37 Wire\nc 0\nd 0\n",
+    ),
+    (
+        "ready\ncycle\nreport\n",
+        150,
+        0,
+        "ready\nfault 37 Wire\nno 3\n",
+    ),
+    // Slaves that are up are brought up again; their inputs are 0 then, until outputs have come to them.
+    (
+        "ready\nset b 9\nrepeat 2 cycle\nexpect d 9\nready\ncycle\nexpect d 0\ncycle\nexpect d 9\n",
+        NEVER,
+        0,
+        "ready\nreport taken missing 0 counters 6 al 0008\nreport taken missing 0 counters 6 al 0008\nready\nreport taken missing 0 counters 6 al 0008\nreport taken missing 0 counters 6 al 0008\n",
+    ),
+    // Where that fails, no cycle is run until they are.
+    (
+        "ready\ncycle\nready\ncycle\nexpect ready\nready\ncycle\n",
+        152,
+        1,
+        "ready\nreport taken missing 0 counters 6 al 0008\nfailed 32\nno 4\nunmet 5\nready\nreport taken missing 0 counters 6 al 0008\n",
+    ),
+];
+
+#[test]
+fn lines_move_a_master(rt: HostRuntime) {
+    expect_runs(&rt, Reasons::Omitted, &RUNS);
+}
+
+// Behind each line that can't be done, and behind a start-up that has failed, stands why, if reasons are printed.
+const REASONED: [Run; 4] = [
+    (
+        "cycle\nready\ncycle\n",
+        NEVER,
+        0,
+        "no 1\n  there was no start-up: `ready` brings the slaves up\nready\nreport taken missing 0 counters 6 al 0008\n",
+    ),
+    // A start-up that fails, then a cycle, and then the next start-up.
+    (
+        "ready\ncycle\nexpect ready\nready\ncycle\n",
+        0,
+        1,
+        "failed 32\n  32 Lost: given up\n\
+         no 2\n  the last start-up failed, 32 Lost: given up; `ready` makes one more\n\
+         unmet 3\nready\nreport taken missing 0 counters 6 al 0008\n",
+    ),
+    // Behind one that was ready.
+    (
+        "ready\ncycle\nready\ncycle\nreport\n",
+        152,
+        0,
+        "ready\nreport taken missing 0 counters 6 al 0008\nfailed 32\n  32 Lost: given up\n\
+         no 4\n  the last start-up failed, 32 Lost: given up; `ready` makes one more\n\
+         report taken missing 0 counters 6 al 0008\n",
+    ),
+    // A fault of the wire has none, nor have bad lines, and what is expected.
+    (
+        "ready\ncycle\nreport\nbegin\nexpect taken\nshow\n",
+        150,
+        1,
+        "ready\nfault 37 Wire\nno 3\n  no cycle has ended with a report yet\nbad 4\nunmet 5\nc 0\nd 0\n",
+    ),
+];
+
+#[test]
+fn lines_tell_why(rt: HostRuntime) {
+    expect_runs(&rt, Reasons::Added, &REASONED);
+}
+
+/// Slaves of the table in which OLD became NEW, what the start-up of the three slaves fails by over them, and what stands behind that.
+type Failure<'a> = (&'a str, &'a str, u8, &'a str);
+
+// Each is worked out from the table by hand. The steps of the start-up: 6 for all slaves, 3 station addresses, 6 each for who they
+// are, 2 for the mailboxes of s2, 2 for PREOP of each; so step 35 is the first request to s2, and step 36 awaits its reply.
+const FAILURES: [Failure; 6] = [
+    (
+        ", { name = \"s2\", type = \"mix\" }",
+        "",
+        26,
+        "26 Count 2: 2 slaves answered, and the table has 3",
+    ),
+    (
+        "product = 2, revision = 1",
+        "product = 2, revision = 0x12",
+        27,
+        "27 Identity 1 43981 2 18: slave 1 s1 shows vendor 0x0000ABCD, product 0x00000002, revision 0x00000012; what couldn't be read is 0",
+    ),
+    (
+        "mailbox = [0x1000, 128,",
+        "mailbox = [0x1000, 64,",
+        29,
+        "29 AlError 2 22: slave 2 s2 refused a state, AL status code 0x0016: the sync managers of its mailboxes aren't set as it needs them",
+    ),
+    (
+        "0x1600, entries = [[0x7010",
+        "0x1601, entries = [[0x7010",
+        30,
+        "30 Abort 2 100794368: slave 2 s2 aborted an SDO transfer, code 0x06020000: it has no such object",
+    ),
+    (
+        "mailbox = [0x1000, 128, 0x1080, 128], ",
+        "",
+        31,
+        "31 TooSlow 36: step 36 is for slave 2 s2: a reply is awaited in its mailbox: the upload of 0x1600:0, how many entries the PDO has; it wasn't over after 1000 polls",
+    ),
+    (
+        "[0x7010, 1, 12]",
+        "[0x7010, 1, 11]",
+        38,
+        "38 Mapping 2 5632 1 1880097035: slave 2 s2 has 0x7010010B in its object 0x1600:1",
+    ),
+];
+
+/// The slaves of the three, without variables and links, in which OLD became NEW.
+fn other_slaves(rt: &(impl AllocGlobal + Abort), old: &str, new: &str) -> Machine {
+    let (slaves, _) = THREE_SLAVES
+        .split_once("variable = [")
+        .expect(rt, "variables");
+    let text = slaves.replace(rt.alloc(), old, new).expect(rt, "memory");
+    Machine::read(rt.alloc(), text.as_str()).expect(rt, "a good table")
+}
+
+/// Runs `ready` of the three slaves over other ones, with reasons.
+fn ready_over(rt: &(impl AllocGlobal + Abort), slaves: &Machine) -> Vec<u8> {
+    let mut mastered = mastered_over(rt, wire_of(rt, slaves, NEVER), Reasons::Added);
+    let mut output = OutputStream::new(Vec::new(rt.alloc()));
+    let ended = run_all(rt.alloc(), &mut mastered, "ready\n", &mut output);
+    expect_same(rt, &ended, &Ok(0), "ready");
+    output.into_stream()
+}
+
+/// Compares what is printed of a start-up over other slaves.
+fn expect_failure(rt: &(impl AllocGlobal + Abort), failure: &Failure) {
+    let (old, new, number, words) = *failure;
+    let output = ready_over(rt, &other_slaves(rt, old, new));
+    let wanted = format!(in rt.alloc(); "failed {number}\n  {words}\n").expect(rt, "memory");
+    expect_same(rt, &output.as_slice(), &wanted.as_bytes(), words);
+}
+
+#[test]
+fn failed_start_ups_tell_why(rt: HostRuntime) {
+    for failure in &FAILURES {
+        expect_failure(&rt, failure);
+    }
+}

@@ -1,0 +1,120 @@
+//! Slaves that were just switched on, by the words of a line.
+use crate::compare::{expect, parts};
+use ec_coe::Dictionary;
+use ec_device::{Device, Entry, Face, MAX_NAME, Mailbox, Pdo, SlaveType};
+use ec_listed::Listed;
+use ec_slave::Slave;
+use std::alloc::{AllocError, Global};
+use std::process::Abort;
+
+/// What the slave's type stands for.
+pub(crate) const DEVICE: Device = Device {
+    vendor: 0xABCD,
+    product: 3,
+    revision: 1,
+};
+
+/// PDOs: the index of each, the object of its entries, how many bits one of them has, and how many there are, up to 33.
+type Pdos<'a> = &'a [(u16, u16, u8, usize)];
+
+/// Entries of a PDO.
+fn entries_of(index: u16, bits: u8) -> [Entry; 33] {
+    let entry = Entry {
+        index,
+        subindex: 1,
+        bits,
+    };
+    [entry; 33]
+}
+
+/// A list of PDOs.
+fn pdos_of(alloc: Global, rows: Pdos<'_>) -> Result<Listed<Pdo>, AllocError> {
+    let mut pdos = Listed::new(alloc);
+    for (index, object, bits, count) in rows {
+        let all = entries_of(*object, *bits);
+        let entries = Listed::copied(alloc, all.get(..*count).unwrap_or(&[]))?;
+        pdos.push(Pdo {
+            index: *index,
+            entries,
+        })?;
+    }
+    Ok(pdos)
+}
+
+/// The type of a slave of these outputs and inputs.
+fn kind_of(
+    rt: &impl Abort,
+    mailbox: Option<Mailbox>,
+    outputs: Listed<Pdo>,
+    inputs: Listed<Pdo>,
+) -> SlaveType {
+    let fits = SlaveType::is_within_limits(mailbox, outputs.as_slice(), inputs.as_slice());
+    expect(rt, fits, "the limits of a type");
+    SlaveType::new(DEVICE, mailbox, 0x1100, 0x1400, outputs, inputs, true)
+}
+
+/// A mailbox that sends so many bytes.
+fn mailbox_of(send_size: u16) -> Mailbox {
+    Mailbox {
+        receive_start: 0x1000,
+        receive_size: 128,
+        send_start: 0x1080,
+        send_size,
+    }
+}
+
+/// The output PDOs and the input PDOs of a word.
+fn objects_of(rt: &impl Abort, word: &str) -> (Pdos<'static>, Pdos<'static>) {
+    match word {
+        "mixed" => (&[(0x1600, 0x7010, 12, 1)], &[(0x1A00, 0x6010, 16, 1)]),
+        "four" => (&[(0x1600, 0x7000, 4, 1)], &[]),
+        "two" => (&[(0x1600, 0x7000, 64, 1), (0x1601, 0x7001, 64, 1)], &[]),
+        "long32" => (&[(0x1600, 0x7000, 64, 32)], &[]),
+        "long33" => (&[(0x1600, 0x7000, 64, 33)], &[]),
+        _ => panic!(rt; "{word}"),
+    }
+}
+
+/// The type of a slave with the PDOs of a word, whose mailbox sends so many bytes, if it has one.
+fn plain_kind(rt: &(impl AllocGlobal + Abort), word: &str, send_size: Option<u16>) -> SlaveType {
+    let (outputs, inputs) = objects_of(rt, word);
+    let outputs = pdos_of(rt.alloc(), outputs).expect(rt, "memory");
+    let inputs = pdos_of(rt.alloc(), inputs).expect(rt, "memory");
+    kind_of(rt, send_size.map(mailbox_of), outputs, inputs)
+}
+
+/// A slave of a type is the last of its ring, and has a name.
+fn show_named(rt: &impl Abort, kind: &mut SlaveType, name: Listed<u8>) {
+    let is_short = name.as_slice().len() <= MAX_NAME;
+    expect(rt, !name.as_slice().is_empty() && is_short, "a name");
+    kind.show(Face {
+        name,
+        is_last: true,
+    });
+}
+
+/// The type of the words `KIND NAME SEND`: its PDOs; the name of a full slave, or `-` of one that isn't; how many bytes its mailbox sends,
+/// or `-` if it has none.
+fn kind_in(rt: &(impl AllocGlobal + Abort), words: &str) -> SlaveType {
+    let (word, about) = parts(rt, words, " ");
+    let (name, send_size) = parts(rt, about, " ");
+    let mut kind = plain_kind(rt, word, send_size.parse::<u16>().ok());
+    if name != "-" {
+        let name = Listed::copied(rt.alloc(), name.as_bytes());
+        show_named(rt, &mut kind, name.expect(rt, "memory"));
+    }
+    kind
+}
+
+/// The objects of a slave of that type.
+pub(crate) fn dictionary_in(
+    rt: &(impl AllocGlobal + Abort),
+    words: &str,
+) -> Result<Dictionary, AllocError> {
+    Dictionary::new(rt.alloc(), kind_in(rt, words), DEVICE.identity(0))
+}
+
+/// A slave of that type.
+pub(crate) fn slave_in(rt: &(impl AllocGlobal + Abort), words: &str) -> Result<Slave, AllocError> {
+    Slave::new(rt.alloc(), kind_in(rt, words), DEVICE.identity(0))
+}
