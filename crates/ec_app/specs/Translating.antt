@@ -4,7 +4,7 @@ use Rattle.std.specs.Str.Lines.{lines}
 use Rattle.ec_frame.specs.Frame.{Payload}
 use Rattle.ec_decode.specs.Answers.{AreSpelled, DecodesLines}
 use Rattle.ec_decode.specs.Reading.{frames_of}
-use Rattle.ec_script.specs.declared.error.ScriptError.TheVariants as script
+use Rattle.ec_decode.specs.declared.error.DecodeError.TheVariants as script
 use Rattle.ec_console.specs.declared.refusal.Refusal.{Refusal}
 use Rattle.ec_console.specs.declared.refusal.Refusal.TheVariants.{Memory, Script, BadHex, Output}
 use Rattle.ec_console.specs.Given.{Given, GivesText, IsInputRefusal}

@@ -7,7 +7,7 @@ use Rattle.ec_table.specs.Contents.{Contents}
 use Rattle.ec_table.specs.Reading.{table_of}
 use Rattle.ec_link.specs.Faults.{Fails as LinkFails, compile_fault}
 use Rattle.ec_link.proofs.AdvertisedFull.{faces}
-use Rattle.ec_script.specs.declared.error.ScriptError.{ScriptError}
+use Rattle.ec_decode.specs.declared.error.DecodeError.{DecodeError}
 use Rattle.ec_script.specs.Halves.{Splits}
 use Rattle.ec_script.specs.Scripts.{Fails as ScriptFails, script_of}
 use Rattle.ec_console.specs.declared.form.SlaveForm.{SlaveForm}
@@ -81,7 +81,7 @@ table_refused (Ok v) form table script x is why = tt
 table_refused (Err e) form table script x is why = half_of_table form table script e (subst (IsTableRefusal table) (sym is) why)
 
 -- and the script's
-pub script_refused : {T : Type 0} (r : Result T Refusal) (form : SlaveForm) (table script : List ℕ) (t u : Contents) (error : ScriptError) → IsErrAnd r (λ e. e ≡ refusal.Script error) → StatesIn form table t → u ≡ t
+pub script_refused : {T : Type 0} (r : Result T Refusal) (form : SlaveForm) (table script : List ℕ) (t u : Contents) (error : DecodeError) → IsErrAnd r (λ e. e ≡ refusal.Script error) → StatesIn form table t → u ≡ t
     → ScriptFails error (script_of u script) → IfErr r (RefusesHalves form table script)
 script_refused (Ok v) form table script t u error is states same why = tt
 script_refused (Err e) form table script t u error is states same why =

@@ -1,8 +1,7 @@
 -- The refusals of the program: the number, name and values of each, and how it ends the program (this project's profile).
 use Rattle.std.specs.Prelude.{ℕ, ◌==◌, ◌||◌, List, [], ◌∷◌, if◌then◌else◌, codes}
-use Rattle.ec_text.specs.RefusalText.{RefusalRow, frame_row, link_row, plain_row, start_row, table_row, row_line, row_text}
+use Rattle.ec_text.specs.RefusalText.{RefusalRow, decode_row, frame_row, link_row, plain_row, start_row, table_row, row_line, row_text}
 use Rattle.ec_wire.specs.Errors.{run_number, run_name}
-use Rattle.ec_script.specs.Scripts as script
 use Rattle.ec_console.specs.declared.refusal.Refusal.{Refusal}
 use Rattle.ec_console.specs.declared.refusal.Refusal.TheVariants.{Memory, Frame, Table, Link, Start, Run, Socket, Script, BadHex, Output, Input, Unmet}
 
@@ -14,7 +13,7 @@ refusal_row (Link error) = link_row error
 refusal_row (Start error) = start_row error
 refusal_row (Run error) = plain_row (run_number error) (run_name error)
 refusal_row Socket = plain_row 43 (codes "Socket")
-refusal_row (Script error) = script.error_row error
+refusal_row (Script error) = decode_row error
 refusal_row BadHex = plain_row 40 (codes "BadHex")
 refusal_row Output = plain_row 41 (codes "Output")
 refusal_row Input = plain_row 42 (codes "Input")

@@ -1,11 +1,11 @@
-//! Why a text of frames was not read.
+//! Why a text was not read.
 ghost use Rattle.std.specs.Prelude.{◌≡◌};
 ghost use Rattle.ec_decode.specs.Reading.{error_name, error_number, error_line};
 
 use std::alloc::{AllocError, AllocFailed};
 use thiserror::Error;
 
-/// Why no frame was read.
+/// Why a text of frames, or of lines of a script, was not read.
 #[derive(Clone, Copy, Debug, PartialEq, Eq, Drop, Error)]
 pub enum DecodeError {
     /// Memory ran out; the text may be good or bad.

@@ -7,7 +7,6 @@ pub mod Hex
 -- one line of a script, and the end
 pub mod LineReading
 -- the names of a script's refusals are short
-pub mod Names
 -- what `parse` returns is the number of a word that doesn't begin with a plus
 pub mod Numbers
 -- what is written for a line is read back

@@ -4,35 +4,16 @@ use Rattle.std.specs.Prelude.{◌≡◌, ℕ, ◌+◌, List, [], ◌∷◌, ◌+
 use Rattle.std.specs.Str.{bytes_eq}
 use Rattle.std.specs.Str.Lines.{lines}
 use Rattle.ec_table.specs.Contents.{Contents}
-use Rattle.ec_text.specs.RefusalText.{RefusalRow, one_value}
 use Rattle.ec_script.specs.declared.line.LineAction.{LineAction}
 use Rattle.ec_script.specs.declared.line.LineAction.TheVariants.{Report}
 use Rattle.ec_script.specs.declared.line.Line.{Line}
 use Rattle.ec_script.specs.declared.read.Reading.{Reading}
 use Rattle.ec_script.specs.declared.read.Reading.TheVariants as reading
-use Rattle.ec_script.specs.declared.error.ScriptError.{ScriptError}
-use Rattle.ec_script.specs.declared.error.ScriptError.TheVariants.{Memory, BadScript}
+use Rattle.ec_decode.specs.declared.error.DecodeError.{DecodeError}
+use Rattle.ec_decode.specs.declared.error.DecodeError.TheVariants.{Memory, BadScript}
 use Rattle.ec_script.specs.Words.{Text, times_of, uncommented, words_of}
 use Rattle.ec_script.specs.Actions.{action_of_words}
 use Rattle.ec_script.specs.Operands.{◌>>=◌}
-
--- ---- errors
-
-abbrev pub error_number : ScriptError → ℕ
-error_number Memory = 1
-error_number (BadScript n) = 39
-
-abbrev pub error_name : ScriptError → List ℕ
-error_name Memory = codes "Memory"
-error_name (BadScript n) = codes "BadScript"
-
-abbrev pub error_line : ScriptError → Option ℕ
-error_line Memory = None
-error_line (BadScript n) = Some n
-
--- the refusal of an error: behind its name stands the number of the bad line
-abbrev pub error_row : ScriptError → RefusalRow
-error_row error = record { number = error_number error; name = error_name error; values = one_value (error_line error) }
 
 -- ---- lines
 
@@ -108,11 +89,11 @@ abbrev pub script_of : Contents → Text → Result (List Line) ℕ
 script_of t text = script_from t 1 (lines text)
 
 -- what a reader returns is what the definition gives, unless memory ran out
-abbrev pub Fails : ScriptError → Result (List Line) ℕ → Type 0
+abbrev pub Fails : DecodeError → Result (List Line) ℕ → Type 0
 Fails Memory read = Unit {0}
 Fails (BadScript n) read = read ≡ Err n
 
-abbrev pub Gives : Result (List Line) ScriptError → Result (List Line) ℕ → Type 0
+abbrev pub Gives : Result (List Line) DecodeError → Result (List Line) ℕ → Type 0
 Gives (Ok lines) read = read ≡ Ok lines
 Gives (Err e) read = Fails e read
 

@@ -1,7 +1,6 @@
 //! The language of `ecat sim` and `ecat master`: what lines stand for, and what they print.
 #![tactic(auto)]
 
-mod error;
 mod expectation;
 mod forms;
 mod halves;
@@ -15,7 +14,6 @@ mod value;
 mod view;
 mod words;
 
-pub use crate::error::ScriptError;
 pub use crate::expectation::Expectation;
 pub use crate::forms::{ExpectForm, FORMS, Form, REPEAT};
 pub use crate::halves::split_script;
@@ -27,3 +25,4 @@ pub use crate::read::{Reading, read_line, read_script, uncommented};
 pub use crate::value::hex_of;
 pub use crate::view::MasterView;
 pub use crate::words::{byte_of, code_of, number_of, times_of};
+pub use ec_decode::DecodeError as ScriptError;

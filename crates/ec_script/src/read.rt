@@ -4,10 +4,10 @@ ghost use Rattle.std.specs.Str.Lines.{lines};
 ghost use Rattle.ec_script.specs.Words.{uncommented, without_end_blanks, words_of};
 ghost use Rattle.ec_script.specs.Scripts.{Gives, is_simulated, line_of_words, line_on, reading_of, repeated_line, script_of, taken_by};
 
-use crate::error::ScriptError;
 use crate::forms::action_of_words;
 use crate::line::{Line, is_simulated};
 use crate::words::times_of;
+use ec_decode::DecodeError as ScriptError;
 use ec_listed::Listed;
 use ec_table::Table;
 use std::alloc::{AllocError, Global};
