@@ -19,7 +19,6 @@ mod master;
 #[cfg(test)]
 mod runs;
 #[cfg(test)]
-mod script;
 #[cfg(test)]
 mod streams;
 #[cfg(test)]
