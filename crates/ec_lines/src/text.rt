@@ -1,5 +1,5 @@
 //! The text before a line `%%`.
-ghost use Rattle.std.specs.Prelude.{◌≡◌, ◌≤◌, ◌^◌, ◌++◌, IfErr, IfOk, OnErr, OnOk, length, string_bytes};
+ghost use Rattle.std.specs.Prelude.{◌≡◌, ◌≤◌, ◌^◌, ◌++◌, IfErr, IfOk, OnOk, length, string_bytes};
 ghost use Rattle.std.specs.Str.{IsUtf8};
 ghost use Rattle.ec_lines.specs.Inputs.{bytes_left};
 ghost use Rattle.ec_lines.specs.Kept.{IsAddFault, RefusesLines, is_last};

@@ -122,6 +122,16 @@ pub enum LinkError {
 }
 
 impl LinkError {
+    /// The place of the fault, or how many slaves or parts there are; none for memory.
+    pub fn value(self) -> Option<usize>
+        ensures { result ≡ error_value self }
+    {
+        match self {
+            LinkError::Memory => None,
+            LinkError::Refused(fault) => Some(fault.value()),
+        }
+    }
+
     /// The number of the refusal: 1 for memory, else the fault's.
     pub fn number(self) -> u8
         ensures { result ≡ error_number self }
@@ -139,16 +149,6 @@ impl LinkError {
         match self {
             LinkError::Memory => "Memory",
             LinkError::Refused(fault) => fault.name(),
-        }
-    }
-
-    /// The place of the fault, or how many slaves or parts there are; none for memory.
-    pub fn value(self) -> Option<usize>
-        ensures { result ≡ error_value self }
-    {
-        match self {
-            LinkError::Memory => None,
-            LinkError::Refused(fault) => Some(fault.value()),
         }
     }
 }

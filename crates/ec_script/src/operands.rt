@@ -3,7 +3,7 @@ ghost use Rattle.std.specs.Prelude.{◌≡◌, ◌<◌, IfSome, length, map};
 ghost use Rattle.std.specs.Char.{is_ascii_digit};
 ghost use Rattle.std.specs.List.{list_all, slice_get};
 ghost use Rattle.std.specs.Option.{option_map};
-ghost use Rattle.ec_script.specs.Operands.{assignment_at, byte_at, code_at, number_at, slave_at, slave_in, slave_named, state_at, state_named, value_for, variable_at, variable_named};
+ghost use Rattle.ec_script.specs.Operands.{assignment_at, byte_at, code_at, number_at, slave_at, slave_in, slave_named, state_at, state_named, value_for, variable_named};
 
 use crate::value::{WrittenValue, value_of};
 use crate::words::{byte_of, code_of, number_of};
