@@ -19,7 +19,8 @@ pub struct DatagramSpan {
 }
 
 /// The datagrams of a checked frame, one after another, each once. It holds no reference: the frame stands beside it and is
-/// passed to each step. [`Datagrams::next`] lends a datagram, [`Datagrams::next_part`] its bytes alone, and [`Datagrams::next_place`] returns its place.
+/// passed to each step. [`Datagrams::next`] lends a datagram, [`Datagrams::next_part`] its bytes alone, and
+/// [`Datagrams::next_place`] returns its place.
 #[derive(Clone, Copy, Debug, PartialEq, Eq, Drop)]
 pub struct Datagrams {
     /// Where the next datagram begins.
