@@ -1,13 +1,10 @@
 //! Why a value doesn't fit what its key takes.
-use crate::rule::{DIRECTIONS, Rule, TRUTHS, last_index, word_of};
-use ec_device::{MAX_ENTRIES, MAX_MAILBOX_SIZE, MAX_NAME, MAX_PDOS, MIN_MAILBOX_SIZE};
-use ec_diagnostic::{Diagnosis, MarkedPart, PathStep, Printable, is_among, printed};
-use ec_table::{LAST_BIT, MAX_U8, MAX_U16, MAX_VALUE_BITS, Position, Section};
+use crate::rule::{DIRECTIONS, Lacking, TRUTHS, is_key, word_of};
+use ec_device::{MAX_ENTRIES, MAX_NAME, MAX_PDOS};
+use ec_diagnostic::{Diagnosis, MarkedPart, PathStep, Printable, printed};
+use ec_table::{ENTRY, LINK_BITS, MAILBOX, Position, Rule, Section, Shape, Version};
 use std::fmt;
 use toml::{Table, Value};
-
-/// The fewest and the most bytes of a mailbox.
-const MAILBOX_SIZES: (u32, u32) = (MIN_MAILBOX_SIZE as u32, MAX_MAILBOX_SIZE as u32);
 
 /// Room for the steps to a value. The longest path in a link table, to a number of an entry of a PDO of a type, has 7.
 const STEPS: usize = 8;
@@ -33,8 +30,8 @@ pub enum Misfit<'v> {
     Length(usize, usize),
     /// There are more of some things, by their number, than the most.
     TooMany(usize, usize, &'static str),
-    /// A PDO lacks these keys.
-    Lacks(&'static str),
+    /// A PDO lacks keys.
+    Lacks(Lacking<'v>),
     /// A PDO has this key.
     NoKey(&'v str),
     /// A gap has a subindex.
@@ -48,15 +45,6 @@ pub struct Mark<'s> {
     count: usize,
     part: MarkedPart,
 }
-
-/// The keys of a PDO.
-pub static PDO_KEYS: [&str; 2] = ["index", "entries"];
-
-static MAILBOX: [(u32, u32); 4] = [(0, MAX_U16), MAILBOX_SIZES, (0, MAX_U16), MAILBOX_SIZES];
-
-static LINK_BITS: [(u32, u32); 3] = [(0, LAST_BIT), (0, LAST_BIT), (1, MAX_VALUE_BITS)];
-
-static ENTRY: [(u32, u32); 3] = [(0, MAX_U16), (0, MAX_U8), (1, MAX_VALUE_BITS)];
 
 impl<'s> Mark<'s> {
     /// Where an element begins.
@@ -100,12 +88,18 @@ impl<'s> Mark<'s> {
             Rule::Name => hold_name(value),
             Rule::Number(low, high) => hold_number(value, low, high),
             Rule::Mailbox => self.hold_numbers(value, &MAILBOX),
-            Rule::Indices(first) => self.hold_indices(value, first),
-            Rule::Pdos(first) => self.hold_pdos(value, first),
+            Rule::Indices(first, last) => self.hold_indices(value, first, last),
+            Rule::Pdos(first, last) => self.hold_pdos(value, first, last),
+            Rule::Index => hold_index(value, 0, u16::MAX),
+            Rule::Entries => self.hold_entries(value),
             Rule::LinkBits => self.hold_numbers(value, &LINK_BITS),
             Rule::Direction => hold_direction(value),
             Rule::Truth => {
                 wanted(value, value.as_bool(), TRUTHS)?;
+                Ok(())
+            }
+            Rule::Tables => {
+                listed(value, "a list of tables")?;
                 Ok(())
             }
         }
@@ -125,53 +119,56 @@ impl<'s> Mark<'s> {
         Ok(())
     }
 
-    fn hold_indices(&mut self, value: &'s Value, first: u16) -> Result<(), Misfit<'s>> {
+    fn hold_indices(&mut self, value: &'s Value, first: u16, last: u16) -> Result<(), Misfit<'s>> {
         let indices = listed(value, "a list of PDO indices")?;
         for (place, index) in indices.iter().enumerate() {
             self.enter(PathStep::Item(place));
-            hold_index(index, first)?;
+            hold_index(index, first, last)?;
             self.leave();
         }
         Ok(())
     }
 
-    fn hold_pdos(&mut self, value: &'s Value, first: u16) -> Result<(), Misfit<'s>> {
+    fn hold_pdos(&mut self, value: &'s Value, first: u16, last: u16) -> Result<(), Misfit<'s>> {
         let pdos = listed(value, "a list of PDOs")?;
         for (place, pdo) in pdos.iter().enumerate() {
             self.enter(PathStep::Item(place));
-            self.hold_pdo(pdo, first)?;
+            self.hold_pdo(pdo, first, last)?;
             self.leave();
         }
         hold_count(pdos.len(), MAX_PDOS, "PDOs")
     }
 
-    fn hold_pdo(&mut self, value: &'s Value, first: u16) -> Result<(), Misfit<'s>> {
+    fn hold_pdo(&mut self, value: &'s Value, first: u16, last: u16) -> Result<(), Misfit<'s>> {
         let pdo = "a PDO, `{ index = .., entries = [..] }`,";
         let members = wanted(value, value.as_table(), pdo)?;
         self.hold_pdo_keys(members)?;
-        let (index, entries) = match (members.get("index"), members.get("entries")) {
-            (Some(index), Some(entries)) => (index, entries),
-            (Some(_), None) => return Err(Misfit::Lacks("entries")),
-            (None, Some(_)) => return Err(Misfit::Lacks("index")),
-            (None, None) => return Err(Misfit::Lacks("index and entries")),
-        };
-        self.enter(PathStep::Key("index"));
-        hold_index(index, first)?;
-        self.leave();
-        self.enter(PathStep::Key("entries"));
-        self.hold_entries(entries)?;
-        self.leave();
+        for (key, rule, _) in Shape::Pdo.keys(Version::Two) {
+            if let Some(value) = members.get(*key) {
+                self.enter(PathStep::Key(*key));
+                match *rule {
+                    Rule::Entries => self.hold_entries(value)?,
+                    _ => hold_index(value, first, last)?,
+                }
+                self.leave();
+            }
+        }
         Ok(())
     }
 
     /// Checks the keys of a PDO.
     fn hold_pdo_keys(&mut self, members: &'s Table) -> Result<(), Misfit<'s>> {
+        let keys = Shape::Pdo.keys(Version::Two);
         for key in members.keys() {
-            if !is_among(key.as_str(), &PDO_KEYS) {
+            if !is_key(key.as_str(), keys) {
                 self.enter(PathStep::Key(key.as_str()));
                 self.part = MarkedPart::Key;
                 return Err(Misfit::NoKey(key.as_str()));
             }
+        }
+        let lacks = Lacking { members, keys };
+        if lacks.count() > 0 {
+            return Err(Misfit::Lacks(lacks));
         }
         Ok(())
     }
@@ -248,7 +245,7 @@ impl fmt::Display for Misfit<'_> {
             Misfit::TooMany(count, most, things) => {
                 write!(f, "{count} {things}, and {most} are the most")
             }
-            Misfit::Lacks(keys) => write!(f, "this PDO lacks {keys}"),
+            Misfit::Lacks(lacks) => write!(f, "this PDO lacks {lacks}"),
             Misfit::NoKey(key) => {
                 let shown = Printable(key);
                 write!(f, "`{shown}` is no key of a PDO")
@@ -284,8 +281,7 @@ fn hold_number(value: &Value, low: u32, high: u32) -> Result<(), Misfit<'_>> {
 }
 
 /// Checks the index of a PDO.
-fn hold_index(value: &Value, first: u16) -> Result<(), Misfit<'_>> {
-    let last = last_index(first);
+fn hold_index(value: &Value, first: u16, last: u16) -> Result<(), Misfit<'_>> {
     let number = wanted(value, value.as_integer(), "the index of a PDO")?;
     if i64::from(first) <= number && number <= i64::from(last) {
         Ok(())

@@ -1,9 +1,9 @@
 //! Why a text is no link table: refusals 11 to 15.
-use crate::misfit::{Mark, Misfit, PDO_KEYS};
+use crate::misfit::{Mark, Misfit};
 use crate::numbers::Numbers;
-use crate::rule::{Lacking, Named, Rule, Taken, is_key, keys_of, word_of};
+use crate::rule::{Lacking, Named, Taken, is_key, shape_of, word_of};
 use ec_diagnostic::{Diagnosis, MarkedPart, Meant, Nearest, PathStep, Printable, Span};
-use ec_table::{Fault, Position, Section};
+use ec_table::{Fault, Key, Position, Rule, Section, Shape, Version};
 use toml::{Table, Value};
 
 /// The keys by which elements name others, and the sections of those.
@@ -35,6 +35,16 @@ impl<'d> Element<'d> {
             place,
             members,
         })
+    }
+
+    /// The kind of table that it is.
+    fn shape(self) -> Shape {
+        shape_of(self.place.section)
+    }
+
+    /// The keys that it may have, those of the newest version of the format.
+    fn keys(self) -> &'static [Key] {
+        self.shape().keys(Version::Two)
     }
 
     /// The text under a key.
@@ -90,13 +100,13 @@ fn explain_document(diagnosis: &mut Diagnosis<'_>, document: &Table, fault: Faul
 
 /// Adds remarks on a key that is unknown or missing.
 fn explain_bad_key(diagnosis: &mut Diagnosis<'_>, element: Element<'_>) {
-    let section = element.place.section;
+    let (shape, version) = (element.shape(), version_of(element.document));
     for key in element.members.keys() {
         let key = key.as_str();
-        if !is_key(key, keys_of(section)) {
+        if !is_key(key, shape.keys(Version::Two)) {
             return explain_unknown_key(diagnosis, element, key);
         }
-        if section == Section::Slave && key == "unit" && !is_version_2(element.document) {
+        if !is_key(key, shape.keys(version)) {
             return explain_early_unit(diagnosis, element);
         }
     }
@@ -105,9 +115,9 @@ fn explain_bad_key(diagnosis: &mut Diagnosis<'_>, element: Element<'_>) {
 
 /// Adds remarks on a key that no element of its section has.
 fn explain_unknown_key(diagnosis: &mut Diagnosis<'_>, element: Element<'_>, key: &str) {
-    let section = element.place.section;
-    let (word, shown, all) = (word_of(section), Printable(key), Named(keys_of(section)));
-    let near = Meant(meant_key(diagnosis, key, section));
+    let (section, keys) = (element.place.section, element.keys());
+    let (word, shown, all) = (word_of(section), Printable(key), Named(keys));
+    let near = Meant(meant_key(diagnosis, key, keys));
     let mark = Mark::under(element.place, key, MarkedPart::Key);
     match section {
         Section::Top => mark.say(diagnosis, format_args!("`{shown}` is no section{near}")),
@@ -119,9 +129,13 @@ fn explain_unknown_key(diagnosis: &mut Diagnosis<'_>, element: Element<'_>, key:
     diagnosis.advise(format_args!("leave it out or correct it; a {word} has the keys {all}"));
 }
 
-/// The key of a section's elements that may have been meant.
-fn meant_key(diagnosis: &mut Diagnosis<'_>, key: &str, section: Section) -> Option<&'static str> {
-    let (keys, mut near) = (keys_of(section), Nearest::to(key));
+/// The name of the one of these keys that may have been meant.
+fn meant_key(
+    diagnosis: &mut Diagnosis<'_>,
+    key: &str,
+    keys: &'static [Key],
+) -> Option<&'static str> {
+    let mut near = Nearest::to(key);
     for (place, (name, _, _)) in keys.iter().enumerate() {
         near = diagnosis.nearer(near, key, place, name);
     }
@@ -136,11 +150,11 @@ fn explain_early_unit(diagnosis: &mut Diagnosis<'_>, element: Element<'_>) {
     diagnosis.advise("write `version = 2` above all tables, or leave `unit` out");
 }
 
-/// Whether the document is of version 2.
-fn is_version_2(document: &Table) -> bool {
+/// The version of the document.
+fn version_of(document: &Table) -> Version {
     match document.get("version") {
-        Some(version) => version.as_integer() == Some(2),
-        None => false,
+        Some(version) if version.as_integer() == Some(2) => Version::Two,
+        _ => Version::One,
     }
 }
 
@@ -149,7 +163,7 @@ fn explain_missing(diagnosis: &mut Diagnosis<'_>, element: Element<'_>) {
     let place = element.place;
     let lacks = Lacking {
         members: element.members,
-        keys: keys_of(place.section),
+        keys: element.keys(),
     };
     let (mark, word, number) = (Mark::of(place), word_of(place.section), place.element);
     match place.section {
@@ -170,14 +184,29 @@ fn explain_bad_value(diagnosis: &mut Diagnosis<'_>, element: Element<'_>) {
 
 /// Adds remarks on a value of the document that isn't what its key takes.
 fn explain_bad_top(diagnosis: &mut Diagnosis<'_>, element: Element<'_>) {
-    if explain_misfit_under(diagnosis, element, "version", Rule::Number(1, 2)) {
-        return diagnosis.advise("give version 1 or 2; 2 has sync units, the key `unit` of a slave");
-    }
-    for section in ["type", "slave", "variable", "link"] {
-        if explain_bad_section(diagnosis, element.document, section) {
+    for (key, rule, _) in element.keys() {
+        let is_bad = match *rule {
+            Rule::Tables => explain_bad_section(diagnosis, element.document, *key),
+            rule => explain_bad_version(diagnosis, element, *key, rule),
+        };
+        if is_bad {
             return;
         }
     }
+}
+
+/// Adds remarks on a version that there isn't; returns whether it is none.
+fn explain_bad_version(
+    diagnosis: &mut Diagnosis<'_>,
+    element: Element<'_>,
+    key: &'static str,
+    rule: Rule,
+) -> bool {
+    let is_bad = explain_misfit_under(diagnosis, element, key, rule);
+    if is_bad {
+        diagnosis.advise("give version 1 or 2; 2 has sync units, the key `unit` of a slave");
+    }
+    is_bad
 }
 
 /// Adds remarks on a section that is no list of tables; returns whether it is none.
@@ -232,7 +261,7 @@ fn explain_no_table(
 
 /// Adds remarks on a value of an element that isn't what its key takes; returns whether there is one.
 fn explain_misfit(diagnosis: &mut Diagnosis<'_>, element: Element<'_>) -> bool {
-    for (key, rule, _) in keys_of(element.place.section) {
+    for (key, rule, _) in element.keys() {
         if explain_misfit_under(diagnosis, element, *key, *rule) {
             let taken = Taken(*rule);
             diagnosis.advise(format_args!("give `{key}` what it takes: {taken}"));
@@ -266,11 +295,7 @@ fn meant_in_pdo(diagnosis: &mut Diagnosis<'_>, misfit: Misfit<'_>) -> Option<&'s
     let Misfit::NoKey(key) = misfit else {
         return None;
     };
-    let mut near = Nearest::to(key);
-    for (place, name) in PDO_KEYS.iter().enumerate() {
-        near = diagnosis.nearer(near, key, place, name);
-    }
-    PDO_KEYS.get(near.place?).copied()
+    meant_key(diagnosis, key, Shape::Pdo.keys(Version::Two))
 }
 
 /// Adds remarks on a slave that assigns PDOs of its own choice, though its type has no mailbox.

@@ -1,7 +1,7 @@
 -- The values under the keys of a table, found in one pass over its members.
-use Rattle.std.proofs.Common.{drop, ◌≡◌, ◌≢◌, ◌<◌, ◌≤◌, ◌+◌, ℕ, zero, suc, slice_set, get_or-set_same, get_or-set_other, Bool, true, false, ◌&&◌, not, List, [], ◌∷◌, ◌++◌, length, take, map, get_or, Option, Some, None, is_some, Ordering, Less, Equal, Greater, nat_cmp, Bor, codes, refl, ap, sym, ◌∙◌, subst, arith}
+use Rattle.std.proofs.Common.{drop, ◌≡◌, ◌≢◌, ◌<◌, ◌≤◌, ◌+◌, ℕ, slice_set, get_or-set_same, get_or-set_other, Bool, true, false, ◌&&◌, ◌||◌, not, List, [], ◌∷◌, ◌++◌, length, map, get_or, Option, Some, None, is_some, Ordering, Less, Equal, Greater, nat_cmp, Bor, codes, refl, ap, sym, ◌∙◌, subst, arith}
 use mathlib.Core.Bool.{cond}
-use Rattle.std.specs.List.{list_all, position, position_or_len}
+use Rattle.std.specs.List.{list_all, list_any, position, position_or_len, zip}
 use Rattle.std.specs.Str.{bytes_eq}
 use Rattle.std.specs.Cmp.Lexicographic.{slice_cmp}
 use Rattle.std.specs.Ordering.{match_ordering, is_eq}
@@ -10,30 +10,97 @@ use Rattle.std.proofs.lemmas.Slice.Eq.{bytes_eq-Decides}
 use Rattle.std.proofs.lemmas.Map.Text.{is_eq-slice_cmp}
 use Rattle.std.specs.Prelude.{nat_lt}
 use Rattle.std.proofs.lemmas.Bool.Decides.{nat_tests}
-use Rattle.std.proofs.lemmas.List.{take-map, length-map, drop_more, get_or-map}
+use Rattle.std.proofs.lemmas.List.{length-map, drop_more, get_or-map}
 use Rattle.std.proofs.lemmas.List.Sums.{passes_at_first}
 use Rattle.std.proofs.lemmas.List.Folds.{list_any-append}
 use Rattle.toml.specs.Data.{Data, Members, no_members, member, get_member}
 use Rattle.toml.specs.declared.value.Value.{Value}
+use Rattle.ec_table.specs.declared.keys.Rule.{Rule}
+use Rattle.ec_table.specs.declared.keys.Rule.TheVariants.{Tables}
 use Rattle.ec_table.specs.declared.keys.Shape.{Shape}
 use Rattle.ec_table.specs.declared.keys.Shape.TheVariants as shape
 use Rattle.ec_table.specs.declared.rows.Version.{Version}
 use Rattle.ec_table.specs.declared.rows.Version.TheVariants as versions
 use Rattle.ec_table.specs.Fields.{viewed, required, optional, is_key, each_key, has_required, keys_are}
-use Rattle.ec_table.specs.Values.{keys_of, AreUnder}
+use Rattle.ec_table.specs.Keys.{KeyRow, key_row, keys_of, names_of, rule_at}
+use Rattle.ec_table.specs.Values.{AreUnder}
 use Rattle.ec_table.proofs.NameIndex.{has_place}
 use Rattle.ec_table.proofs.OnePass.{one_more_key, or_none}
 
+-- ---- names that are the same, in another order
+
+-- each of some names is among others
+abbrev AreAmong : List (List ℕ) → List (List ℕ) → Type 0
+AreAmong xs ys = list_all (λ x. list_any (bytes_eq x) ys) xs ≡ true
+
+both : (a b : Bool) → (a && b) ≡ true → (a ≡ true) × (b ≡ true)
+both true b e = (refl, e)
+both false b e = cc
+
+same_bool : (a b : Bool) → (a ≡ true → b ≡ true) → (b ≡ true → a ≡ true) → a ≡ b
+same_bool true true to back = refl
+same_bool true false to back = sym (to refl)
+same_bool false true to back = back refl
+same_bool false false to back = refl
+
+in_others : (name : List ℕ) (x : List ℕ) (rest : Bool) (ys : List (List ℕ)) (b : Bool) → bytes_eq name x ≡ b → (b || rest) ≡ true → list_any (bytes_eq x) ys ≡ true → (rest ≡ true → list_any (bytes_eq name) ys ≡ true) → list_any (bytes_eq name) ys ≡ true
+in_others name x rest ys true is h here more = subst (λ n. list_any (bytes_eq n) ys ≡ true) (sym ((bytes_eq-Decides name x).0 is)) here
+in_others name x rest ys false is h here more = more h
+
+any_among : (name : List ℕ) (xs ys : List (List ℕ)) → AreAmong xs ys → list_any (bytes_eq name) xs ≡ true → list_any (bytes_eq name) ys ≡ true
+any_among name [] ys among h = cc
+any_among name (x ∷ xs) ys among h =
+    let two = both (list_any (bytes_eq x) ys) (list_all (λ x. list_any (bytes_eq x) ys) xs) among in
+    in_others name x (list_any (bytes_eq name) xs) ys (bytes_eq name x) refl h two.0 (any_among name xs ys two.1)
+
+same_any : (name : List ℕ) (xs ys : List (List ℕ)) → AreAmong xs ys → AreAmong ys xs → list_any (bytes_eq name) xs ≡ list_any (bytes_eq name) ys
+same_any name xs ys to back = same_bool _ _ (any_among name xs ys to) (any_among name ys xs back)
+
+passes_at : (p : List ℕ → Bool) (name y : List ℕ) (rest : Bool) (b : Bool) → bytes_eq name y ≡ b → (b || rest) ≡ true → p y ≡ true → (rest ≡ true → p name ≡ true) → p name ≡ true
+passes_at p name y rest true is h here more = subst (λ n. p n ≡ true) (sym ((bytes_eq-Decides name y).0 is)) here
+passes_at p name y rest false is h here more = more h
+
+passes_in : (p : List ℕ → Bool) (name : List ℕ) (ys : List (List ℕ)) → list_any (bytes_eq name) ys ≡ true → list_all p ys ≡ true → p name ≡ true
+passes_in p name [] h all = cc
+passes_in p name (y ∷ ys) h all =
+    let two = both (p y) (list_all p ys) all in
+    passes_at p name y (list_any (bytes_eq name) ys) (bytes_eq name y) refl h two.0 (λ e. passes_in p name ys e two.1)
+
+all_among : (p : List ℕ → Bool) (xs ys : List (List ℕ)) → AreAmong xs ys → list_all p ys ≡ true → list_all p xs ≡ true
+all_among p [] ys among all = refl
+all_among p (x ∷ xs) ys among all =
+    let two = both (list_any (bytes_eq x) ys) (list_all (λ x. list_any (bytes_eq x) ys) xs) among in
+    rw (passes_in p x ys two.0 all, all_among p xs ys two.1 all) refl
+
+same_all : (p : List ℕ → Bool) (xs ys : List (List ℕ)) → AreAmong xs ys → AreAmong ys xs → list_all p xs ≡ list_all p ys
+same_all p xs ys to back = same_bool _ _ (all_among p ys xs back) (all_among p xs ys to)
+
 -- ---- the keys of a version
 
-pub known_of : (s : Shape) (v : Version) → take (length (keys_of s v)) (keys_of s versions.Two) ≡ keys_of s v
-known_of shape.Document v = refl
-known_of shape.Type v = refl
-known_of shape.Pdo v = refl
-known_of shape.Slave versions.One = refl
-known_of shape.Slave versions.Two = refl
-known_of shape.Variable v = refl
-known_of shape.Link v = refl
+-- the names of the keys that a table must have
+abbrev needed : List KeyRow → List (List ℕ)
+needed [] = []
+needed ((name, rule, true) ∷ keys) = name ∷ needed keys
+needed ((name, rule, false) ∷ keys) = needed keys
+
+-- the table of keys has those that the definitions of a section name, and no others
+abbrev IsOfKeys : Shape → Version → Type 0
+IsOfKeys s v = AreAmong (names_of s v) (required s ++ optional s v) × AreAmong (required s ++ optional s v) (names_of s v) × AreAmong (needed (keys_of s v)) (required s) × AreAmong (required s) (needed (keys_of s v))
+
+of_keys : (s : Shape) (v : Version) → IsOfKeys s v
+of_keys shape.Document v = (refl, refl, refl, refl)
+of_keys shape.Type v = (refl, refl, refl, refl)
+of_keys shape.Pdo v = (refl, refl, refl, refl)
+of_keys shape.Slave versions.One = (refl, refl, refl, refl)
+of_keys shape.Slave versions.Two = (refl, refl, refl, refl)
+of_keys shape.Variable v = (refl, refl, refl, refl)
+of_keys shape.Link v = (refl, refl, refl, refl)
+
+-- a key is known where it has a place
+pub has_key : (s : Shape) (v : Version) (key : List ℕ) → is_some (position (bytes_eq key) (names_of s v)) ≡ is_key s v key
+has_key s v key =
+    let (to, back, _, _) = of_keys s v in
+    has_place (bytes_eq key) (names_of s v) ∙ (same_any key (names_of s v) (required s ++ optional s v) to back ∙ list_any-append (bytes_eq key) (required s) (optional s v))
 
 first_mapped : {A B : Type 0} (p : B → Bool) (f : A → B) (xs : List A) → position_or_len p (map f xs) ≡ position_or_len (λ x. p (f x)) xs
 first_mapped p f [] = refl
@@ -42,46 +109,23 @@ first_mapped p f (x ∷ xs) = ap (λ n. cond (not (p (f x))) (1 + n) 0) (first_m
 place_mapped : {A B : Type 0} (p : B → Bool) (f : A → B) (xs : List A) → position p (map f xs) ≡ position (λ x. p (f x)) xs
 place_mapped p f xs = rw (first_mapped p f xs, length-map xs f) refl
 
--- the names that the code has are the keys that are known
-pub place_known : (s : Shape) (v : Version) (names : List (Bor (List ℕ))) (n : ℕ) (key : List ℕ) → map (λ k. k.now) names ≡ keys_of s versions.Two → n ≡ length (keys_of s v)
-    → position (λ k. bytes_eq key k.now) (take n names) ≡ position (bytes_eq key) (keys_of s v)
-place_known s v names n key all count =
-    let some : map (λ k. k.now) (take n names) ≡ keys_of s v = sym (take-map (λ k. k.now) n names) ∙ (ap (take n) all ∙ (ap (λ m. take m (keys_of s versions.Two)) count ∙ known_of s v)) in
-    sym (place_mapped (bytes_eq key) (λ k. k.now) (take n names)) ∙ ap (position (bytes_eq key)) some
+-- a key of the code
+abbrev pub CodeKey : Type 0
+CodeKey = Bor (List ℕ) × Rule × Bool
 
--- each key of a list has its own place among others, counted from one on
-abbrev Own : List (List ℕ) → ℕ → List (List ℕ) → Type 0
-Own whole place [] = Unit {0}
-Own whole place (key ∷ keys) = (position (bytes_eq key) whole ≡ Some place) × Own whole (place + 1) keys
+-- the keys that the code has are those that are known
+pub place_known : (s : Shape) (v : Version) (keys : List CodeKey) (name : List ℕ) → map key_row keys ≡ keys_of s v → position (λ (k : CodeKey). bytes_eq name k.0.now) keys ≡ position (bytes_eq name) (names_of s v)
+place_known s v keys name all =
+    sym (place_mapped (λ (k : KeyRow). bytes_eq name k.0) key_row keys) ∙ (sym (place_mapped (bytes_eq name) (λ (k : KeyRow). k.0) (map key_row keys)) ∙ ap (λ (ks : List KeyRow). position (bytes_eq name) (map (λ k. k.0) ks)) all)
 
-own_from : (whole : List (List ℕ)) (place : ℕ) (keys : List (List ℕ)) (i : ℕ) → Own whole place keys → i < length keys → position (bytes_eq (get_or keys i [])) whole ≡ Some (place + i)
-own_from whole place [] i own lt = absurd (omega (arith, lt))
-own_from whole place (key ∷ keys) zero own lt = own.0 ∙ ap Some (omega arith)
-own_from whole place (key ∷ keys) (suc i) own lt = own_from whole (place + 1) keys i own.1 (omega (arith, lt)) ∙ ap Some (omega arith)
+rules_mapped : (keys : List CodeKey) → map (λ (k : CodeKey). k.1) keys ≡ map (λ (k : KeyRow). k.1) (map key_row keys)
+rules_mapped [] = refl
+rules_mapped (k ∷ keys) = ap (λ rules. k.1 ∷ rules) (rules_mapped keys)
 
-own_keys : (s : Shape) (v : Version) → Own (keys_of s v) 0 (keys_of s v)
-own_keys shape.Document v = (refl, (refl, (refl, (refl, (refl, tt)))))
-own_keys shape.Type v = (refl, (refl, (refl, (refl, (refl, (refl, (refl, (refl, (refl, (refl, tt))))))))))
-own_keys shape.Pdo v = (refl, (refl, tt))
-own_keys shape.Slave versions.One = (refl, (refl, (refl, (refl, (refl, tt)))))
-own_keys shape.Slave versions.Two = (refl, (refl, (refl, (refl, (refl, (refl, tt))))))
-own_keys shape.Variable v = (refl, (refl, (refl, tt)))
-own_keys shape.Link v = (refl, (refl, (refl, (refl, (refl, tt)))))
-
--- a key that is the one at a place has this place
-pub place_next : (s : Shape) (v : Version) (names : List (Bor (List ℕ))) (n next : ℕ) (key : List ℕ) (d : Bor (List ℕ)) → map (λ k. k.now) names ≡ keys_of s versions.Two → n ≡ length (keys_of s v)
-    → next < length (take n names) → bytes_eq key (get_or (take n names) next d).now ≡ true → Some next ≡ position (bytes_eq key) (keys_of s v)
-place_next s v names n next key d all count lt same =
-    let some : map (λ k. k.now) (take n names) ≡ keys_of s v = sym (take-map (λ k. k.now) n names) ∙ (ap (take n) all ∙ (ap (λ m. take m (keys_of s versions.Two)) count ∙ known_of s v)) in
-    let long : length (take n names) ≡ length (keys_of s v) = sym (length-map (take n names) (λ k. k.now)) ∙ ap length some in
-    let here : (get_or (take n names) next d).now ≡ get_or (keys_of s v) next [] = sym (get_or-map (λ k. k.now) (take n names) next d [] lt) ∙ ap (λ ks. get_or ks next []) some in
-    let is : key ≡ get_or (keys_of s v) next [] = (bytes_eq-Decides key (get_or (take n names) next d).now).0 same ∙ here in
-    let own = own_from (keys_of s v) 0 (keys_of s v) next (own_keys s v) (omega (arith, lt, long)) ∙ ap Some (omega arith) in
-    sym (ap (λ k. position (bytes_eq k) (keys_of s v)) is ∙ own)
-
--- a key is known where it has a place
-pub has_key : (s : Shape) (v : Version) (key : List ℕ) → is_some (position (bytes_eq key) (keys_of s v)) ≡ is_key s v key
-has_key s v key = has_place (bytes_eq key) (keys_of s v) ∙ list_any-append (bytes_eq key) (required s) (optional s v)
+-- what the key at a place takes
+pub rule_found : (s : Shape) (keys : List CodeKey) (place : ℕ) (d : CodeKey) → map key_row keys ≡ keys_of s versions.Two → place < length keys → (get_or keys place d).1 ≡ rule_at s place
+rule_found s keys place d all lt =
+    sym (get_or-map (λ (k : CodeKey). k.1) keys place d Tables lt) ∙ ap (λ (rules : List Rule). get_or rules place Tables) (rules_mapped keys ∙ ap (λ (ks : List KeyRow). map (λ k. k.1) ks) all)
 
 -- ---- one more key
 
@@ -137,10 +181,6 @@ Found found keys ms = (name : List ℕ) (i : ℕ) → position (bytes_eq name) k
 pub found_all : (found : List (Option (Bor Value))) (keys : List (List ℕ)) (ms : Members) → Finds found keys no_members ms → Found found keys ms
 found_all found keys ms h name i is = sym (or_none (viewed (get_or found i None))) ∙ h name i is
 
-both : (a b : Bool) → (a && b) ≡ true → (a ≡ true) × (b ≡ true)
-both true b e = (refl, e)
-both false b e = cc
-
 other : (test : List ℕ → Bool) (name : List ℕ) → test name ≡ false → (key : List ℕ) (d : Data) (rest : Option Data) → test key ≡ true → rest ≡ None → (o : Ordering) (b : Bool) → is_eq o ≡ b → bytes_eq name key ≡ b → match_ordering o rest (Some d) rest ≡ None
 other test name unknown key d rest known none Less b e h = none
 other test name unknown key d rest known none Greater b e h = none
@@ -153,17 +193,17 @@ not_there test name unknown (member key d ms) each =
     let two : (test key ≡ true) × (each_key test ms ≡ true) = both (test key) (each_key test ms) each in
     other test name unknown key d (get_member name ms) two.0 (not_there test name unknown ms two.1) (slice_cmp nat_cmp name key) (bytes_eq name key) (is_eq-slice_cmp name key) refl
 
-under_known : (s : Shape) (v : Version) (found : List (Option (Bor Value))) (ms : Members) → Found found (keys_of s v) ms → AreUnder found 0 (keys_of s v) ms
-under_known shape.Document v found ms h = (h (codes "link") 0 refl, (h (codes "slave") 1 refl, (h (codes "type") 2 refl, (h (codes "variable") 3 refl, (h (codes "version") 4 refl, tt)))))
-under_known shape.Type v found ms h = (h (codes "in_start") 0 refl, (h (codes "name") 1 refl, (h (codes "out_start") 2 refl, (h (codes "product") 3 refl, (h (codes "revision") 4 refl, (h (codes "vendor") 5 refl, (h (codes "lrw") 6 refl, (h (codes "mailbox") 7 refl, (h (codes "rxpdo") 8 refl, (h (codes "txpdo") 9 refl, tt))))))))))
-under_known shape.Pdo v found ms h = (h (codes "entries") 0 refl, (h (codes "index") 1 refl, tt))
-under_known shape.Slave versions.One found ms h = (h (codes "name") 0 refl, (h (codes "type") 1 refl, (h (codes "in") 2 refl, (h (codes "out") 3 refl, (h (codes "serial") 4 refl, tt)))))
-under_known shape.Slave versions.Two found ms h = (h (codes "name") 0 refl, (h (codes "type") 1 refl, (h (codes "in") 2 refl, (h (codes "out") 3 refl, (h (codes "serial") 4 refl, (h (codes "unit") 5 refl, tt))))))
-under_known shape.Variable v found ms h = (h (codes "bits") 0 refl, (h (codes "dir") 1 refl, (h (codes "name") 2 refl, tt)))
-under_known shape.Link v found ms h = (h (codes "index") 0 refl, (h (codes "slave") 1 refl, (h (codes "sub") 2 refl, (h (codes "var") 3 refl, (h (codes "bits") 4 refl, tt)))))
+under_known : (s : Shape) (v : Version) (found : List (Option (Bor Value))) (ms : Members) → Found found (names_of s v) ms → AreUnder found 0 (names_of s v) ms
+under_known shape.Document v found ms h = (h (codes "version") 0 refl, (h (codes "type") 1 refl, (h (codes "slave") 2 refl, (h (codes "variable") 3 refl, (h (codes "link") 4 refl, tt)))))
+under_known shape.Type v found ms h = (h (codes "name") 0 refl, (h (codes "vendor") 1 refl, (h (codes "product") 2 refl, (h (codes "revision") 3 refl, (h (codes "mailbox") 4 refl, (h (codes "out_start") 5 refl, (h (codes "in_start") 6 refl, (h (codes "rxpdo") 7 refl, (h (codes "txpdo") 8 refl, (h (codes "lrw") 9 refl, tt))))))))))
+under_known shape.Pdo v found ms h = (h (codes "index") 0 refl, (h (codes "entries") 1 refl, tt))
+under_known shape.Slave versions.One found ms h = (h (codes "name") 0 refl, (h (codes "type") 1 refl, (h (codes "out") 2 refl, (h (codes "in") 3 refl, (h (codes "serial") 4 refl, tt)))))
+under_known shape.Slave versions.Two found ms h = (h (codes "name") 0 refl, (h (codes "type") 1 refl, (h (codes "out") 2 refl, (h (codes "in") 3 refl, (h (codes "serial") 4 refl, (h (codes "unit") 5 refl, tt))))))
+under_known shape.Variable v found ms h = (h (codes "name") 0 refl, (h (codes "dir") 1 refl, (h (codes "bits") 2 refl, tt)))
+under_known shape.Link v found ms h = (h (codes "var") 0 refl, (h (codes "slave") 1 refl, (h (codes "index") 2 refl, (h (codes "sub") 3 refl, (h (codes "bits") 4 refl, tt)))))
 
 -- a key that is not known in the version has no value, as nothing was found of it
-pub under_all : (s : Shape) (v : Version) (found : List (Option (Bor Value))) (ms : Members) → Found found (keys_of s v) ms → ((i : ℕ) → length (keys_of s v) ≤ i → get_or found i None ≡ None) → each_key (is_key s v) ms ≡ true → AreUnder found 0 (keys_of s versions.Two) ms
+pub under_all : (s : Shape) (v : Version) (found : List (Option (Bor Value))) (ms : Members) → Found found (names_of s v) ms → ((i : ℕ) → length (names_of s v) ≤ i → get_or found i None ≡ None) → each_key (is_key s v) ms ≡ true → AreUnder found 0 (names_of s versions.Two) ms
 under_all shape.Document v found ms h none each = under_known shape.Document v found ms h
 under_all shape.Type v found ms h none each = under_known shape.Type v found ms h
 under_all shape.Pdo v found ms h none each = under_known shape.Pdo v found ms h
@@ -176,49 +216,27 @@ under_all shape.Link v found ms h none each = under_known shape.Link v found ms 
 
 -- ---- the keys that a table must have
 
-first_of : (found : List (Option (Bor Value))) (place : ℕ) (keys more : List (List ℕ)) (ms : Members) → AreUnder found place (keys ++ more) ms → AreUnder found place keys ms
-first_of found place [] more ms h = tt
-first_of found place (key ∷ keys) more ms h = (h.0, first_of found (place + 1) keys more ms h.1)
-
 is_seen : (o : Option (Bor Value)) → is_some o ≡ is_some (viewed o)
 is_seen None = refl
 is_seen (Some x) = refl
 
-all_from : (found : List (Option (Bor Value))) (place : ℕ) (keys : List (List ℕ)) (ms : Members) → place + length keys ≤ length found → AreUnder found place keys ms
-    → list_all is_some (take (length keys) (drop place found)) ≡ list_all (λ key. is_some (get_member key ms)) keys
-all_from found place [] ms long h = refl
-all_from found place (key ∷ keys) ms long h =
-    let rest = all_from found (place + 1) keys ms (omega arith) h.1 in
+-- each key that a table must have has a value
+abbrev HasNeeded : List KeyRow → Members → Bool
+HasNeeded keys ms = list_all (λ (k : KeyRow). not k.2 || is_some (get_member k.0 ms)) keys
+
+needed_from : (found : List (Option (Bor Value))) (place : ℕ) (keys : List CodeKey) (ms : Members) → place + length keys ≤ length found → AreUnder found place (map (λ (k : KeyRow). k.0) (map key_row keys)) ms
+    → list_all (λ (p : CodeKey × Option (Bor Value)). not p.0.2 || is_some p.1) (zip keys (drop place found)) ≡ HasNeeded (map key_row keys) ms
+needed_from found place [] ms long h = refl
+needed_from found place (key ∷ keys) ms long h =
+    let rest = needed_from found (place + 1) keys ms (omega arith) h.1 in
     rw (drop_more found place None (omega arith), is_seen (get_or found place None), h.0, rest) refl
 
-pub has_all : (s : Shape) (v : Version) (found : List (Option (Bor Value))) (ms : Members) → length found ≡ 10 → Found found (keys_of s v) ms → list_all is_some (take (length (required s)) found) ≡ has_required s ms
-has_all s v found ms long h =
-    let few : length (required s) ≤ 10 = by s in
-    all_from found 0 (required s) ms (omega arith) (first_of found 0 (required s) (optional s v) ms (under_known s v found ms h))
-  where
-    by : (t : Shape) → length (required t) ≤ 10
-    by shape.Document = omega arith
-    by shape.Type = omega arith
-    by shape.Pdo = omega arith
-    by shape.Slave = omega arith
-    by shape.Variable = omega arith
-    by shape.Link = omega arith
+needed_all : (keys : List KeyRow) (ms : Members) → HasNeeded keys ms ≡ list_all (λ key. is_some (get_member key ms)) (needed keys)
+needed_all [] ms = refl
+needed_all ((name, rule, true) ∷ keys) ms = ap (λ b. is_some (get_member name ms) && b) (needed_all keys ms)
+needed_all ((name, rule, false) ∷ keys) ms = needed_all keys ms
 
--- after the last member: whether the keys are as they must be, and what stands under each
-module _ (s : Shape) (v : Version) (found : List (Option (Bor Value))) (ms : Members) (each : each_key (is_key s v) no_members ≡ each_key (is_key s v) ms) (long : length found ≡ 10) (finds : Finds found (keys_of s v) no_members ms) where
-  pub keys_at_end : list_all is_some (take (length (required s)) found) ≡ keys_are s v ms
-  keys_at_end = has_all s v found ms long (found_all found (keys_of s v) ms finds) ∙ ap (λ b. b && has_required s ms) each
-
-  pub values_at_end : ((i : ℕ) → length (keys_of s v) ≤ i → get_or found i None ≡ None) → AreUnder found 0 (keys_of s versions.Two) ms
-  values_at_end none = under_all s v found ms (found_all found (keys_of s v) ms finds) none (sym each)
-
--- ---- places
-
-before_end : {X : Type 0} (p : X → Bool) (xs : List X) (i : ℕ) (b : Bool) → nat_lt (position_or_len p xs) (length xs) ≡ b → cond b (Some (position_or_len p xs)) None ≡ Some i → i < length xs
-before_end p xs i true lt is = let e : position_or_len p xs ≡ i = cc in grind (arith, nat_tests)
-before_end p xs i false lt is = absurd (cc)
-
-few_keys : (s : Shape) (v : Version) → length (keys_of s v) ≤ 10
+few_keys : (s : Shape) (v : Version) → length (names_of s v) ≤ 10
 few_keys shape.Document v = omega arith
 few_keys shape.Type v = omega arith
 few_keys shape.Pdo v = omega arith
@@ -227,8 +245,30 @@ few_keys shape.Slave versions.Two = omega arith
 few_keys shape.Variable v = omega arith
 few_keys shape.Link v = omega arith
 
+pub has_all : (s : Shape) (v : Version) (keys : List CodeKey) (found : List (Option (Bor Value))) (ms : Members) → map key_row keys ≡ keys_of s v → length found ≡ 10 → Found found (names_of s v) ms
+    → list_all (λ (p : CodeKey × Option (Bor Value)). not p.0.2 || is_some p.1) (zip keys found) ≡ has_required s ms
+has_all s v keys found ms all long h =
+    let few : length keys ≤ 10 = omega (arith, few_keys s v, length-map keys key_row, ap length all, length-map (keys_of s v) (λ k. k.0)) in
+    let (_, _, to, back) = of_keys s v in
+    let under : AreUnder found 0 (map (λ (k : KeyRow). k.0) (map key_row keys)) ms = subst (λ (ks : List KeyRow). AreUnder found 0 (map (λ k. k.0) ks) ms) (sym all) (under_known s v found ms h) in
+    needed_from found 0 keys ms (omega arith) under ∙ (ap (λ ks. HasNeeded ks ms) all ∙ (needed_all (keys_of s v) ms ∙ same_all (λ key. is_some (get_member key ms)) (needed (keys_of s v)) (required s) to back))
+
+-- after the last member: whether the keys are as they must be, and what stands under each
+module _ (s : Shape) (v : Version) (found : List (Option (Bor Value))) (ms : Members) (each : each_key (is_key s v) no_members ≡ each_key (is_key s v) ms) (long : length found ≡ 10) (finds : Finds found (names_of s v) no_members ms) where
+  pub keys_at_end : (keys : List CodeKey) → map key_row keys ≡ keys_of s v → list_all (λ (p : CodeKey × Option (Bor Value)). not p.0.2 || is_some p.1) (zip keys found) ≡ keys_are s v ms
+  keys_at_end keys all = has_all s v keys found ms all long (found_all found (names_of s v) ms finds) ∙ ap (λ b. b && has_required s ms) each
+
+  pub values_at_end : ((i : ℕ) → length (names_of s v) ≤ i → get_or found i None ≡ None) → AreUnder found 0 (names_of s versions.Two) ms
+  values_at_end none = under_all s v found ms (found_all found (names_of s v) ms finds) none (sym each)
+
+-- ---- places
+
+before_end : {X : Type 0} (p : X → Bool) (xs : List X) (i : ℕ) (b : Bool) → nat_lt (position_or_len p xs) (length xs) ≡ b → cond b (Some (position_or_len p xs)) None ≡ Some i → i < length xs
+before_end p xs i true lt is = let e : position_or_len p xs ≡ i = cc in grind (arith, nat_tests)
+before_end p xs i false lt is = absurd (cc)
+
 -- a place of a key is below their number, and one of ten
-pub place_inside : (s : Shape) (v : Version) (key : List ℕ) (i : ℕ) → position (bytes_eq key) (keys_of s v) ≡ Some i → (i < length (keys_of s v)) × (i < 10)
+pub place_inside : (s : Shape) (v : Version) (key : List ℕ) (i : ℕ) → position (bytes_eq key) (names_of s v) ≡ Some i → (i < length (names_of s v)) × (i < 10)
 place_inside s v key i is =
-    let inside : i < length (keys_of s v) = before_end (bytes_eq key) (keys_of s v) i (nat_lt (position_or_len (bytes_eq key) (keys_of s v)) (length (keys_of s v))) refl is in
+    let inside : i < length (names_of s v) = before_end (bytes_eq key) (names_of s v) i (nat_lt (position_or_len (bytes_eq key) (names_of s v)) (length (names_of s v))) refl is in
     (inside, omega (arith, few_keys s v))

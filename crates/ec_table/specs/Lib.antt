@@ -3,6 +3,7 @@
 pub mod Contents
 pub mod Faults
 pub mod Fields
+pub mod Keys
 pub mod Names
 pub mod InOrder
 pub mod Pdos

@@ -1,29 +1,19 @@
 //! Reads the values of keys, and checks their ranges.
-ghost use Rattle.std.specs.Prelude.{◌≡◌, ◌≤◌, [], IfOk, option_map};
+ghost use Rattle.std.specs.Prelude.{◌≡◌, ◌<◌, ◌≤◌, [], IfOk, get_or, length, option_map};
 ghost use Rattle.std.specs.List.{list_all};
 ghost use Rattle.std.specs.Str.{bytes_eq};
-ghost use Rattle.toml.specs.Data.{get_member};
+ghost use Rattle.toml.specs.Data.{at, get_member};
 ghost use Rattle.toml.specs.View.{view, table_view, items_view};
 ghost use Rattle.ec_table.specs.Fields.{number_or_0, version_in, is_name_byte, is_name, number_in, name_in, is_table, are_tables, section_in, viewed, result_elements, result_items};
 ghost use Rattle.ec_table.specs.InOrder.{Gives, rows_after};
 ghost use Rattle.ec_table.specs.Pdos.{number_row, number_list, numbers_in};
 
 use crate::fault::{Fault, Position, TableError};
+use crate::keys::Shape;
 use crate::rows::{Name, Version};
 use ec_listed::Listed;
 use std::alloc::Global;
 use toml::Value;
-
-/// The largest number of 16 bits, as an address or an index has.
-pub const MAX_U16: u32 = u16::MAX as u32;
-/// The largest number of 8 bits, as a subindex has.
-pub const MAX_U8: u32 = u8::MAX as u32;
-/// The largest sync unit.
-pub const MAX_UNIT: u32 = 63;
-/// The most bits of a variable, of an entry and of a link.
-pub const MAX_VALUE_BITS: u32 = 64;
-/// The highest bit of a variable or an entry.
-pub const LAST_BIT: u32 = 63;
 
 /// Whether a text is a name: 1 to 32 ASCII letters, digits and `_`.
 pub fn is_name(text: &str) -> bool
@@ -79,6 +69,23 @@ pub fn number_in(
     }
 }
 
+/// The number at a place of a list, in the range at this place, or the fault `BadValue`.
+pub fn item_in(
+    position: Position,
+    value: &Value,
+    ranges: &[(u32, u32)],
+    place: usize,
+) -> Result<u32, Fault>
+    requires { place < length ranges.now }
+    ensures value { let range = get_or ranges.now place (0, 0) in
+        result ≡ number_in position range.0 range.1 (at place (view value.now)) }
+    ensures range { let range = get_or ranges.now place (0, 0) in
+        IfOk result (λ n. (range.0 ≤ n) × (n ≤ range.1)) }
+{
+    let (low, high) = ranges[place];
+    number_in(position, value.get(place), low, high)
+}
+
 /// A name, or the fault `BadValue`.
 #[tactic(auto, unfolding(crate::specs::Fields::name_in), using(crate::proofs::NameIndex::name_fits))]
 pub fn name_in(position: Position, value: Option<&Value>) -> Result<Name, Fault>
@@ -105,7 +112,8 @@ pub fn version_in(position: Position, value: Option<&Value>) -> Result<Version, 
     let Some(value) = value else {
         return Ok(Version::One);
     };
-    let number = number_in(position, Some(value), 1, 2)?;
+    let (low, high) = Shape::Document.rule(0).range();
+    let number = number_in(position, Some(value), low, high)?;
     if number == 1 {
         Ok(Version::One)
     } else {

@@ -1,16 +1,11 @@
-//! The keys of the tables in a document, and the values under them.
-ghost use Rattle.std.specs.Prelude.{◌≡◌, ◌<◌, IfSome, None, Some, get_or, is_some, length, map};
-ghost use Rattle.std.specs.List.{list_all, position};
-ghost use Rattle.std.specs.Option.{option_or};
-ghost use Rattle.std.specs.Str.{bytes_eq};
-ghost use Rattle.toml.specs.View.{view, table_view};
-ghost use Rattle.ec_table.specs.Fields.{keys_are, required, viewed};
-ghost use Rattle.ec_table.specs.Values.{AreUnder, keys_of};
-ghost use Rattle.ec_table.specs.declared.rows.Version.TheVariants.{Two};
+//! The keys of the tables in a document, and what each takes.
+ghost use Rattle.std.specs.Prelude.{◌≡◌, map};
+ghost use Rattle.ec_table.specs.Keys.{index_range, key_row, keys_of, number_range, rule_at};
+ghost use Rattle.ec_table.specs.declared.keys.Shape.TheVariants.{Slave};
 
-use crate::fields::are_same;
+use crate::pdos::{LAST_INPUT_INDEX, LAST_OUTPUT_INDEX};
 use crate::rows::Version;
-use toml::Value;
+use ec_device::{FIRST_INPUT_INDEX, FIRST_OUTPUT_INDEX, MAX_MAILBOX_SIZE, MIN_MAILBOX_SIZE};
 
 /// A kind of table in a document.
 #[derive(Clone, Copy)]
@@ -23,142 +18,183 @@ pub enum Shape {
     Link,
 }
 
-/// The values under the keys of a table, in the order of its shape's keys, none for a key that the table doesn't have.
+/// What a key takes.
 #[derive(Clone, Copy)]
-pub struct Values<'a> {
-    found: [Option<&'a Value>; MAX_KEYS],
+pub enum Rule {
+    /// The tables of a section.
+    Tables,
+    /// A name.
+    Name,
+    /// A number from the first to the second.
+    Number(u32, u32),
+    /// The starts and sizes of the mailboxes, each in its range of `MAILBOX`.
+    Mailbox,
+    /// Indices of PDOs, each from the first to the second.
+    Indices(u16, u16),
+    /// PDOs, each with an index from the first to the second.
+    Pdos(u16, u16),
+    /// The index of a PDO, in the range of its list.
+    Index,
+    /// The entries of a PDO, the numbers of each in the ranges of `ENTRY`.
+    Entries,
+    /// A direction.
+    Direction,
+    /// Which bits a link joins, in the ranges of `LINK_BITS`.
+    LinkBits,
+    /// A truth value.
+    Truth,
 }
 
-impl<'a> Values<'a> {
-    /// The value under a key, by the key's place among the keys of the table's shape.
-    pub fn at(&self, place: usize) -> Option<&'a Value>
-        requires { place < 10 }
-        ensures { result ≡ get_or self.now.found place None }
-    {
-        let found = &self.found[..];
-        found[place]
-    }
-}
+/// The largest number of 16 bits, as an address or an index has.
+const MAX_U16: u32 = u16::MAX as u32;
+/// The largest number of 8 bits, as a subindex has.
+const MAX_U8: u32 = u8::MAX as u32;
+/// The largest sync unit.
+const MAX_UNIT: u32 = 63;
+/// The most bits of a variable, of an entry and of a link.
+const MAX_VALUE_BITS: u32 = 64;
+/// The highest bit of a variable or an entry.
+const LAST_BIT: u32 = 63;
 
-/// The values under the keys of a table; none if some key isn't known in this version of the format, or one is missing that
-/// the table must have.
-pub fn values_of<'a>(shape: Shape, version: Version, members: &'a toml::Table) -> Option<Values<'a>>
-    ensures keys { is_some result ≡ keys_are shape version (table_view members.now) }
-    ensures values { IfSome result (λ v. AreUnder v.found 0 (keys_of shape Two) (table_view members.now)) }
-{
-    let mut found = [None; MAX_KEYS];
-    let mut next = 0;
-    for (key, value) in members.iter() {
-        let place = shape.place_of(version, key.as_str(), next)?;
-        found[place] = first(found[place], value);
-        next = place + 1;
-    }
-    if are_all(&found[..shape.required()]) {
-        Some(Values { found })
-    } else {
-        None
-    }
-}
+/// A key of a table: its name, what it takes, and whether the table must have it.
+pub type Key = (&'static str, Rule, bool);
 
 /// The most keys of a table.
-const MAX_KEYS: usize = 10;
+pub const MAX_KEYS: usize = 10;
 
-// The keys of each shape: first those that a table must have, and then the others. Both are in the order in which a document's
-// map has its keys, so that most keys stand behind the one before them.
-static DOCUMENT_KEYS: [&str; 5] = ["link", "slave", "type", "variable", "version"];
-
-static TYPE_KEYS: [&str; MAX_KEYS] = [
-    "in_start",
-    "name",
-    "out_start",
-    "product",
-    "revision",
-    "vendor",
-    "lrw",
-    "mailbox",
-    "rxpdo",
-    "txpdo",
+// The keys of each shape, in the order in which their values are read.
+static DOCUMENT_KEYS: [Key; 5] = [
+    ("version", Rule::Number(1, 2), false),
+    ("type", Rule::Tables, false),
+    ("slave", Rule::Tables, false),
+    ("variable", Rule::Tables, false),
+    ("link", Rule::Tables, false),
 ];
 
-static PDO_KEYS: [&str; 2] = ["entries", "index"];
+static TYPE_KEYS: [Key; MAX_KEYS] = [
+    ("name", Rule::Name, true),
+    ("vendor", Rule::Number(0, u32::MAX), true),
+    ("product", Rule::Number(0, u32::MAX), true),
+    ("revision", Rule::Number(0, u32::MAX), true),
+    ("mailbox", Rule::Mailbox, false),
+    ("out_start", Rule::Number(0, MAX_U16), true),
+    ("in_start", Rule::Number(0, MAX_U16), true),
+    (
+        "rxpdo",
+        Rule::Pdos(FIRST_OUTPUT_INDEX, LAST_OUTPUT_INDEX),
+        false,
+    ),
+    (
+        "txpdo",
+        Rule::Pdos(FIRST_INPUT_INDEX, LAST_INPUT_INDEX),
+        false,
+    ),
+    ("lrw", Rule::Truth, false),
+];
 
-static SLAVE_KEYS: [&str; 6] = ["name", "type", "in", "out", "serial", "unit"];
+static PDO_KEYS: [Key; 2] = [
+    ("index", Rule::Index, true),
+    ("entries", Rule::Entries, true),
+];
 
-static VARIABLE_KEYS: [&str; 3] = ["bits", "dir", "name"];
+static SLAVE_KEYS: [Key; 6] = [
+    ("name", Rule::Name, true),
+    ("type", Rule::Name, true),
+    (
+        "out",
+        Rule::Indices(FIRST_OUTPUT_INDEX, LAST_OUTPUT_INDEX),
+        false,
+    ),
+    (
+        "in",
+        Rule::Indices(FIRST_INPUT_INDEX, LAST_INPUT_INDEX),
+        false,
+    ),
+    ("serial", Rule::Number(0, u32::MAX), false),
+    ("unit", Rule::Number(0, MAX_UNIT), false),
+];
 
-static LINK_KEYS: [&str; 5] = ["index", "slave", "sub", "var", "bits"];
+static VARIABLE_KEYS: [Key; 3] = [
+    ("name", Rule::Name, true),
+    ("dir", Rule::Direction, true),
+    ("bits", Rule::Number(1, MAX_VALUE_BITS), true),
+];
+
+static LINK_KEYS: [Key; 5] = [
+    ("var", Rule::Name, true),
+    ("slave", Rule::Name, true),
+    ("index", Rule::Number(1, MAX_U16), true),
+    ("sub", Rule::Number(0, MAX_U8), true),
+    ("bits", Rule::LinkBits, false),
+];
+
+const MAILBOX_SIZES: (u32, u32) = (MIN_MAILBOX_SIZE as u32, MAX_MAILBOX_SIZE as u32);
+
+/// The ranges of the numbers of a mailbox: receive start and size, send start and size.
+pub static MAILBOX: [(u32, u32); 4] = [(0, MAX_U16), MAILBOX_SIZES, (0, MAX_U16), MAILBOX_SIZES];
+
+/// The ranges of the numbers of a link's bits: first bit of the variable, first bit of the entry, number of bits.
+pub static LINK_BITS: [(u32, u32); 3] = [(0, LAST_BIT), (0, LAST_BIT), (1, MAX_VALUE_BITS)];
+
+/// The ranges of the numbers of an entry: index, subindex, number of bits.
+pub static ENTRY: [(u32, u32); 3] = [(0, MAX_U16), (0, MAX_U8), (1, MAX_VALUE_BITS)];
 
 impl Shape {
-    /// The keys that a table may have: those that it must have, and then the others.
-    fn keys(self) -> &'static [&'static str]
-        ensures { map (λ k. k.now) result.now ≡ keys_of self Two }
+    /// The keys that a table of this shape may have in a version of the format, in the order in which their values are read.
+    pub fn keys(self, version: Version) -> &'static [Key]
+        ensures { map key_row result.now ≡ keys_of self version }
     {
         match self {
             Shape::Document => &DOCUMENT_KEYS,
             Shape::Type => &TYPE_KEYS,
             Shape::Pdo => &PDO_KEYS,
-            Shape::Slave => &SLAVE_KEYS,
+            Shape::Slave => slave_keys(version),
             Shape::Variable => &VARIABLE_KEYS,
             Shape::Link => &LINK_KEYS,
         }
     }
 
-    /// How many keys there are in a version of the format.
-    fn known(self, version: Version) -> usize
-        ensures { result ≡ length (keys_of self version) }
+    /// What the key at a place takes; behind the last key `Tables`.
+    pub fn rule(self, place: usize) -> Rule
+        ensures { result ≡ rule_at self place }
     {
-        match (self, version) {
-            (Shape::Slave, Version::One) => 5,
-            _ => self.keys().len(),
-        }
-    }
-
-    /// The place of a key among those that are known in a version of the format. It tries the place `next` first.
-    fn place_of(self, version: Version, key: &str, next: usize) -> Option<usize>
-        ensures { result ≡ position (bytes_eq key.now) (keys_of self version) }
-    {
-        let names = &self.keys()[..self.known(version)];
-        if next < names.len() && are_same(key, names[next]) {
-            Some(next)
+        let keys = self.keys(Version::Two);
+        if place < keys.len() {
+            keys[place].1
         } else {
-            place_among(names, key)
+            Rule::Tables
         }
     }
+}
 
-    /// How many keys a table must have.
-    fn required(self) -> usize
-        ensures { result ≡ length (required self) }
+impl Rule {
+    /// The range of the number that the key takes; 0 to 0 if it takes no number.
+    pub fn range(self) -> (u32, u32)
+        ensures { result ≡ number_range self }
     {
         match self {
-            Shape::Document => 0,
-            Shape::Type => 6,
-            Shape::Link => 4,
-            Shape::Variable => 3,
-            Shape::Pdo | Shape::Slave => 2,
+            Rule::Number(low, high) => (low, high),
+            _ => (0, 0),
+        }
+    }
+
+    /// The range of the PDO indices that the key takes; 0 to 0 if it takes none.
+    pub fn indices(self) -> (u16, u16)
+        ensures { result ≡ index_range self }
+    {
+        match self {
+            Rule::Indices(first, last) | Rule::Pdos(first, last) => (first, last),
+            _ => (0, 0),
         }
     }
 }
 
-/// The place of a key among names.
-fn place_among(names: &[&str], key: &str) -> Option<usize>
-    ensures { result ≡ position (λ n. bytes_eq key.now n.now) names.now }
+/// The keys of a slave; version 1 doesn't have the last, `unit`.
+fn slave_keys(version: Version) -> &'static [Key]
+    ensures { map key_row result.now ≡ keys_of Slave version }
 {
-    names.iter().position(|name| are_same(key, *name))
-}
-
-/// The first value that was met under a key: `found` if there is one, else `value`.
-fn first<'a>(found: Option<&'a Value>, value: &'a Value) -> Option<&'a Value>
-    ensures { viewed result ≡ option_or (viewed found.entry) (Some (view value.now)) }
-{
-    match found {
-        Some(_) => found,
-        None => Some(value),
+    match version {
+        Version::One => &SLAVE_KEYS[..5],
+        Version::Two => &SLAVE_KEYS,
     }
-}
-
-/// Whether each key has a value.
-fn are_all(values: &[Option<&Value>]) -> bool
-    ensures { result ≡ list_all is_some values.now }
-{
-    values.iter().all(|value| value.is_some())
 }

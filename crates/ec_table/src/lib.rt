@@ -13,10 +13,11 @@ mod rows;
 mod slaves;
 mod table;
 mod types;
+mod values;
 mod variables;
 
 pub use crate::fault::{Fault, Position, Section, TableError};
-pub use crate::fields::{LAST_BIT, MAX_U8, MAX_U16, MAX_UNIT, MAX_VALUE_BITS};
+pub use crate::keys::{ENTRY, Key, LINK_BITS, MAILBOX, Rule, Shape};
 pub use crate::read::read_table;
 pub use crate::rows::{
     Direction, LinkBits, LinkRow, Name, ProcessData, SlaveRow, TypeRow, VariableRow, Version,

@@ -6,10 +6,11 @@ ghost use Rattle.ec_table.specs.InOrder.{Gives, rows_after};
 ghost use Rattle.ec_table.specs.Reading.{all_bits, link_at, link_element};
 
 use crate::fault::{Fault, Position, Section, TableError};
-use crate::fields::{LAST_BIT, MAX_U8, MAX_U16, MAX_VALUE_BITS, name_in, number_in};
-use crate::keys::{Shape, values_of};
+use crate::fields::{item_in, name_in};
+use crate::keys::{LINK_BITS, Shape};
 use crate::named::NamedRows;
 use crate::rows::{LinkBits, LinkRow, SlaveRow, VariableRow, Version};
+use crate::values::values_of;
 use ec_listed::Listed;
 use std::alloc::Global;
 use toml::Value;
@@ -85,13 +86,11 @@ fn link_at(
     let Some(values) = values_of(Shape::Link, version, members) else {
         return Err(Fault::BadKey(position));
     };
-    let (index, slave, subindex) = (values.at(0), values.at(1), values.at(2));
-    let (variable, bits) = (values.at(3), values.at(4));
-    let variable_name = name_in(position, variable)?;
-    let slave_name = name_in(position, slave)?;
-    let index = number_in(position, index, 1, MAX_U16)?;
-    let subindex = number_in(position, subindex, 0, MAX_U8)?;
-    let bits = link_bits_in(position, bits)?;
+    let variable_name = name_in(position, values.at(0))?;
+    let slave_name = name_in(position, values.at(1))?;
+    let index = values.number(position, 2)?;
+    let subindex = values.number(position, 3)?;
+    let bits = link_bits_in(position, values.at(4))?;
     let Some((at, variable)) = variables.find(&variable_name, near.variable) else {
         return Err(Fault::UnknownName(position));
     };
@@ -122,9 +121,9 @@ fn link_bits_in(position: Position, value: Option<&Value>) -> Result<Option<Link
 fn link_bits_of(position: Position, value: &Value) -> Result<LinkBits, Fault>
     ensures { result ≡ link_bits_of position (view value.now) }
 {
-    let variable_bit = number_in(position, value.get(0), 0, LAST_BIT)?;
-    let entry_bit = number_in(position, value.get(1), 0, LAST_BIT)?;
-    let count = number_in(position, value.get(2), 1, MAX_VALUE_BITS)?;
+    let variable_bit = item_in(position, value, &LINK_BITS, 0)?;
+    let entry_bit = item_in(position, value, &LINK_BITS, 1)?;
+    let count = item_in(position, value, &LINK_BITS, 2)?;
     if value.get(3).is_some() {
         return Err(Fault::BadValue(position));
     }

@@ -7,9 +7,10 @@ ghost use Rattle.ec_table.specs.InOrder.{Gives, rows_after};
 ghost use Rattle.ec_table.specs.Pdos.{entry_of, entry_row, array_of, array_in, pdo_of, pdo_row, pdos_in, indices_of, has_twice};
 
 use crate::fault::{Fault, Position, TableError};
-use crate::fields::{MAX_U8, MAX_U16, MAX_VALUE_BITS, number_in};
-use crate::keys::{Shape, values_of};
+use crate::fields::{item_in, number_in};
+use crate::keys::{ENTRY, Shape};
 use crate::rows::Version;
+use crate::values::values_of;
 use ec_device::{
     Entry, FIRST_INPUT_INDEX, FIRST_OUTPUT_INDEX, MAX_ENTRIES, MAX_PDOS, PDO_INDICES, Pdo,
 };
@@ -152,9 +153,8 @@ fn pdo_of(
     let Some(values) = values_of(Shape::Pdo, Version::Two, members) else {
         return Err(TableError::Refused(Fault::BadValue(position)));
     };
-    let (entries, index) = (values.at(0), values.at(1));
-    let index = number_in(position, index, u32::from(low), u32::from(high))?;
-    let entries = entries_in(alloc, position, entries)?;
+    let index = number_in(position, values.at(0), u32::from(low), u32::from(high))?;
+    let entries = entries_in(alloc, position, values.at(1))?;
     Ok(Pdo {
         index: index as u16,
         entries,
@@ -212,9 +212,9 @@ fn entries_of(
 fn entry_of(position: Position, value: &Value) -> Result<Entry, Fault>
     ensures { result ≡ entry_of position (view value.now) }
 {
-    let index = number_in(position, value.get(0), 0, MAX_U16)?;
-    let subindex = number_in(position, value.get(1), 0, MAX_U8)?;
-    let bits = number_in(position, value.get(2), 1, MAX_VALUE_BITS)?;
+    let index = item_in(position, value, &ENTRY, 0)?;
+    let subindex = item_in(position, value, &ENTRY, 1)?;
+    let bits = item_in(position, value, &ENTRY, 2)?;
     if value.get(3).is_some() || is_bad_gap(index, subindex) {
         return Err(Fault::BadValue(position));
     }

@@ -9,12 +9,13 @@ ghost use Rattle.ec_table.specs.Reading.{table_of_document, table_of_sections, t
 
 use crate::fault::{Fault, Position, Section, TableError};
 use crate::fields::{elements_in, member, section_in, version_in};
-use crate::keys::{Shape, values_of};
+use crate::keys::Shape;
 use crate::links::links_of;
 use crate::rows::Version;
 use crate::slaves::slaves_of;
 use crate::table::Table;
 use crate::types::types_of;
+use crate::values::values_of;
 use crate::variables::variables_of;
 use std::alloc::Global;
 use toml::Value;

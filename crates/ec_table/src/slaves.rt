@@ -8,12 +8,13 @@ ghost use Rattle.ec_table.specs.declared.rows.SlaveRow.{SlaveRow};
 ghost use Rattle.ec_table.specs.Reading.{all_in, assigned_in, same_list, slave_at, slave_element, slave_of_type};
 
 use crate::fault::{Fault, Position, Section, TableError};
-use crate::fields::{MAX_UNIT, name_in, number_or_0, numbers_in};
-use crate::keys::{Shape, values_of};
+use crate::fields::{name_in, numbers_in};
+use crate::keys::Shape;
 use crate::named::{Named, NamedRows};
-use crate::pdos::{LAST_INPUT_INDEX, LAST_OUTPUT_INDEX, has_twice, indices_of, is_index};
+use crate::pdos::{has_twice, indices_of, is_index};
 use crate::rows::{Name, ProcessData, SlaveRow, TypeRow, Version};
-use ec_device::{FIRST_INPUT_INDEX, FIRST_OUTPUT_INDEX, Pdo};
+use crate::values::values_of;
+use ec_device::Pdo;
 use ec_listed::Listed;
 use std::alloc::{AllocError, Global};
 use toml::Value;
@@ -91,17 +92,14 @@ fn slave_at(
     let Some(values) = values_of(Shape::Slave, version, members) else {
         return Err(TableError::Refused(Fault::BadKey(position)));
     };
-    let (name, type_name) = (values.at(0), values.at(1));
-    let (inputs, outputs) = (values.at(2), values.at(3));
-    let (serial, unit) = (values.at(4), values.at(5));
-    let name = name_in(position, name)?;
-    let type_name = name_in(position, type_name)?;
-    let (first, last) = (FIRST_OUTPUT_INDEX, LAST_OUTPUT_INDEX);
-    let outputs = numbers_in(alloc, position, outputs, first, last)?;
-    let (first, last) = (FIRST_INPUT_INDEX, LAST_INPUT_INDEX);
-    let inputs = numbers_in(alloc, position, inputs, first, last)?;
-    let serial = number_or_0(position, serial, u32::MAX)?;
-    let unit = number_or_0(position, unit, MAX_UNIT)?;
+    let name = name_in(position, values.at(0))?;
+    let type_name = name_in(position, values.at(1))?;
+    let (first, last) = values.indices(2);
+    let outputs = numbers_in(alloc, position, values.at(2), first, last)?;
+    let (first, last) = values.indices(3);
+    let inputs = numbers_in(alloc, position, values.at(3), first, last)?;
+    let serial = values.number_or_0(position, 4)?;
+    let unit = values.number_or_0(position, 5)?;
     if is_twice(found.has(&name), &outputs, &inputs) {
         return Err(TableError::Refused(Fault::TwiceNamed(position)));
     }

@@ -1,21 +1,21 @@
 //! Reads the types of slaves that elements state.
-ghost use Rattle.std.specs.Prelude.{◌≡◌, ◌||◌, [], false, IfOk};
+ghost use Rattle.std.specs.Prelude.{◌≡◌, ◌||◌, [], false, IfOk, None, get_or};
 ghost use Rattle.toml.specs.View.{view, table_view, items_view};
 ghost use Rattle.ec_table.specs.Fields.{mailbox_of, mailbox_in, viewed, truth_in};
 ghost use Rattle.ec_table.specs.InOrder.{Gives, rows_after};
 ghost use Rattle.ec_table.specs.Names.{is_named};
+ghost use Rattle.ec_table.specs.declared.keys.Shape.TheVariants as shape;
 ghost use Rattle.ec_table.specs.declared.rows.TypeRow.{TypeRow};
 ghost use Rattle.ec_table.specs.Reading.{device_in, process_in, process_twice, type_at, type_element};
 
 use crate::fault::{Fault, Position, Section, TableError};
-use crate::fields::{MAX_U16, name_in, number_in};
-use crate::keys::{Shape, values_of};
+use crate::fields::{item_in, name_in};
+use crate::keys::{MAILBOX, Shape};
 use crate::named::{Named, NamedRows};
-use crate::pdos::{LAST_INPUT_INDEX, LAST_OUTPUT_INDEX, have_twice, pdos_in};
+use crate::pdos::{have_twice, pdos_in};
 use crate::rows::{Name, ProcessData, TypeRow, Version};
-use ec_device::{
-    Device, FIRST_INPUT_INDEX, FIRST_OUTPUT_INDEX, MAX_MAILBOX_SIZE, MIN_MAILBOX_SIZE, Mailbox,
-};
+use crate::values::{Values, values_of};
+use ec_device::{Device, Mailbox};
 use std::alloc::Global;
 use toml::Value;
 
@@ -80,15 +80,11 @@ fn type_at(
     let Some(values) = values_of(Shape::Type, version, members) else {
         return Err(TableError::Refused(Fault::BadKey(position)));
     };
-    let (in_start, name, out_start) = (values.at(0), values.at(1), values.at(2));
-    let (product, revision, vendor) = (values.at(3), values.at(4), values.at(5));
-    let (lrw, mailbox) = (values.at(6), values.at(7));
-    let (outputs, inputs) = (values.at(8), values.at(9));
-    let name = name_in(position, name)?;
-    let device = device_in(position, vendor, product, revision)?;
-    let mailbox = mailbox_in(position, mailbox)?;
-    let process = process_in(alloc, position, out_start, in_start, outputs, inputs)?;
-    let lrw = truth_in(position, lrw)?;
+    let name = name_in(position, values.at(0))?;
+    let device = device_in(position, &values)?;
+    let mailbox = mailbox_in(position, values.at(4))?;
+    let process = process_in(alloc, position, &values)?;
+    let lrw = truth_in(position, values.at(9))?;
     if found.has(&name) || is_twice(&process) {
         return Err(TableError::Refused(Fault::TwiceNamed(position)));
     }
@@ -113,23 +109,18 @@ fn is_twice(process: &ProcessData) -> bool
 fn process_in(
     alloc: Global,
     position: Position,
-    out_start: Option<&Value>,
-    in_start: Option<&Value>,
-    outputs: Option<&Value>,
-    inputs: Option<&Value>,
+    values: &Values<'_>,
 ) -> Result<ProcessData, TableError>
-    ensures { Gives result (process_in position (viewed out_start.entry) (viewed in_start.entry) (viewed outputs.entry) (viewed inputs.entry)) }
+    requires { values.now.shape ≡ shape.Type }
+    ensures { let found = values.now.found in
+        Gives result (process_in position (viewed (get_or found 5 None)) (viewed (get_or found 6 None)) (viewed (get_or found 7 None)) (viewed (get_or found 8 None))) }
 {
-    let out_start = number_in(position, out_start, 0, MAX_U16)?;
-    let in_start = number_in(position, in_start, 0, MAX_U16)?;
-    let outputs = pdos_in(
-        alloc,
-        position,
-        outputs,
-        FIRST_OUTPUT_INDEX,
-        LAST_OUTPUT_INDEX,
-    )?;
-    let inputs = pdos_in(alloc, position, inputs, FIRST_INPUT_INDEX, LAST_INPUT_INDEX)?;
+    let out_start = values.number(position, 5)?;
+    let in_start = values.number(position, 6)?;
+    let (first, last) = values.indices(7);
+    let outputs = pdos_in(alloc, position, values.at(7), first, last)?;
+    let (first, last) = values.indices(8);
+    let inputs = pdos_in(alloc, position, values.at(8), first, last)?;
     Ok(ProcessData {
         out_start: out_start as u16,
         in_start: in_start as u16,
@@ -140,21 +131,15 @@ fn process_in(
 
 /// Vendor, product and revision.
 #[tactic(auto, unfolding(crate::specs::Reading::device_in))]
-fn device_in(
-    position: Position,
-    vendor: Option<&Value>,
-    product: Option<&Value>,
-    revision: Option<&Value>,
-) -> Result<Device, Fault>
-    ensures { result ≡ device_in position (viewed vendor.entry) (viewed product.entry) (viewed revision.entry) }
+fn device_in(position: Position, values: &Values<'_>) -> Result<Device, Fault>
+    requires { values.now.shape ≡ shape.Type }
+    ensures { let found = values.now.found in
+        result ≡ device_in position (viewed (get_or found 1 None)) (viewed (get_or found 2 None)) (viewed (get_or found 3 None)) }
 {
-    let vendor = number_in(position, vendor, 0, u32::MAX)?;
-    let product = number_in(position, product, 0, u32::MAX)?;
-    let revision = number_in(position, revision, 0, u32::MAX)?;
     Ok(Device {
-        vendor,
-        product,
-        revision,
+        vendor: values.number(position, 1)?,
+        product: values.number(position, 2)?,
+        revision: values.number(position, 3)?,
     })
 }
 
@@ -173,11 +158,10 @@ fn mailbox_in(position: Position, value: Option<&Value>) -> Result<Option<Mailbo
 fn mailbox_of(position: Position, value: &Value) -> Result<Mailbox, Fault>
     ensures { result ≡ mailbox_of position (view value.now) }
 {
-    let (least, most) = (MIN_MAILBOX_SIZE as u32, MAX_MAILBOX_SIZE as u32);
-    let receive_start = number_in(position, value.get(0), 0, MAX_U16)?;
-    let receive_size = number_in(position, value.get(1), least, most)?;
-    let send_start = number_in(position, value.get(2), 0, MAX_U16)?;
-    let send_size = number_in(position, value.get(3), least, most)?;
+    let receive_start = item_in(position, value, &MAILBOX, 0)?;
+    let receive_size = item_in(position, value, &MAILBOX, 1)?;
+    let send_start = item_in(position, value, &MAILBOX, 2)?;
+    let send_size = item_in(position, value, &MAILBOX, 3)?;
     if value.get(4).is_some() {
         return Err(Fault::BadValue(position));
     }

@@ -8,10 +8,11 @@ ghost use Rattle.ec_table.specs.InOrder.{Gives, rows_after};
 ghost use Rattle.ec_table.specs.Reading.{variable_at, variable_element};
 
 use crate::fault::{Fault, Position, Section, TableError};
-use crate::fields::{MAX_VALUE_BITS, name_in, number_in};
-use crate::keys::{Shape, values_of};
+use crate::fields::name_in;
+use crate::keys::Shape;
 use crate::named::{Named, NamedRows};
 use crate::rows::{Direction, Name, VariableRow, Version};
+use crate::values::values_of;
 use std::alloc::Global;
 use toml::Value;
 
@@ -74,9 +75,9 @@ fn variable_at(
     let Some(values) = values_of(Shape::Variable, version, members) else {
         return Err(Fault::BadKey(position));
     };
-    let name = name_in(position, values.at(2))?;
+    let name = name_in(position, values.at(0))?;
     let direction = direction_in(position, values.at(1))?;
-    let bits = number_in(position, values.at(0), 1, MAX_VALUE_BITS)?;
+    let bits = values.number(position, 2)?;
     if found.has(&name) {
         return Err(Fault::TwiceNamed(position));
     }

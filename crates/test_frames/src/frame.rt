@@ -11,9 +11,8 @@ ghost use Rattle.ec_frame.specs.FieldChanges.{IsDatagram-with_data};
 
 use crate::compare::{bytes_of, expect_row, expect_same};
 use ec_frame::{
-    Builder, Command, Datagrams, Frame, Handler, Header, Sent, check, cut_counter,
-    cut_heading, pass, read_counter, read_data, write_address, write_adp, write_counter,
-    write_pair,
+    Builder, Command, Datagrams, Frame, Handler, Header, Sent, check, cut_counter, cut_heading,
+    pass, read_counter, read_data, write_address, write_adp, write_counter, write_pair,
 };
 use std::process::Abort;
 

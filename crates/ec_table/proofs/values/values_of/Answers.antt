@@ -7,14 +7,14 @@ use Rattle.std.specs.Str.{bytes_eq}
 use Rattle.toml.specs.View.{view, members_view}
 use Rattle.toml.proofs.Views.{Entry}
 use Rattle.ec_table.specs.Fields.{is_key, viewed}
-use Rattle.ec_table.specs.Values.{keys_of}
+use Rattle.ec_table.specs.Keys.{names_of}
 use Rattle.ec_table.proofs.KeyPlaces.{has_key, keys_at_end, one_more, place_inside, values_at_end}
-use Rattle.ec_table.proofs.keys.values_of.Goals as goal
+use Rattle.ec_table.proofs.values.values_of.Goals as goal
 
 pub loop-key-preserved : goal.loop-key-preserved
 loop-key-preserved c =
     let (keys, long, finds, none) = c.loop-key.invariant in
-    let ks = keys_of c.args.shape c.args.version in
+    let ks = names_of c.args.shape c.args.version in
     let e : Entry = (c.in-Some.key.now, c.in-Some.value.now) in
     let iter : c.loop-key.key-iterator ≡ e ∷ c.next.new.self = grind (arith, common_steps) in
     let at : position (bytes_eq (string_bytes e.0)) ks ≡ Some c.in_ok-place.place = sym (rw c.as_str.ensures.value at c.in_ok-place.ensures) in
@@ -27,20 +27,20 @@ loop-key-preserved c =
       (λ i after. get_or-set_other c.loop-key.found c.in_ok-place.place i c.first.result None (λ e. absurd (omega (arith, inside.0, after, e))) ∙ none i after),
     )
 
-pub returns-then-are_all-clause-keys : goal.returns-then-are_all-clause-keys
-returns-then-are_all-clause-keys c =
+pub returns-then-has_needed-clause-keys : goal.returns-then-has_needed-clause-keys
+returns-then-has_needed-clause-keys c =
     let (keys, long, finds, _) = c.loop-key.invariant in
     let over : c.loop-key.key-iterator ≡ [] = grind (arith, common_steps) in
-    sym c.if-are_all.true ∙ (rw c.required.ensures at c.are_all.ensures) ∙ keys_at_end c.args.shape c.args.version c.loop-key.found (members_view c.args.members.now.entries) (rw over at keys) long (rw over at finds)
+    sym c.if-has_needed.true ∙ c.has_needed.ensures ∙ keys_at_end c.args.shape c.args.version c.loop-key.found (members_view c.args.members.now.entries) (rw over at keys) long (rw over at finds) c.keys.result.now c.keys.ensures
 
-pub returns-then-are_all-clause-values : goal.returns-then-are_all-clause-values
-returns-then-are_all-clause-values c =
+pub returns-then-has_needed-clause-values : goal.returns-then-has_needed-clause-values
+returns-then-has_needed-clause-values c =
     let (keys, long, finds, none) = c.loop-key.invariant in
     let over : c.loop-key.key-iterator ≡ [] = grind (arith, common_steps) in
     values_at_end c.args.shape c.args.version c.loop-key.found (members_view c.args.members.now.entries) (rw over at keys) long (rw over at finds) none
 
-pub returns-else-are_all-clause-keys : goal.returns-else-are_all-clause-keys
-returns-else-are_all-clause-keys c =
+pub returns-else-has_needed-clause-keys : goal.returns-else-has_needed-clause-keys
+returns-else-has_needed-clause-keys c =
     let (keys, long, finds, _) = c.loop-key.invariant in
     let over : c.loop-key.key-iterator ≡ [] = grind (arith, common_steps) in
-    sym c.if-are_all.false ∙ (rw c.required.ensures at c.are_all.ensures) ∙ keys_at_end c.args.shape c.args.version c.loop-key.found (members_view c.args.members.now.entries) (rw over at keys) long (rw over at finds)
+    sym c.if-has_needed.false ∙ c.has_needed.ensures ∙ keys_at_end c.args.shape c.args.version c.loop-key.found (members_view c.args.members.now.entries) (rw over at keys) long (rw over at finds) c.keys.result.now c.keys.ensures

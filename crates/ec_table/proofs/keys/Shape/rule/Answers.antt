@@ -1,0 +1,5 @@
+use Rattle.ec_table.proofs.KeyPlaces.{rule_found}
+use Rattle.ec_table.proofs.keys.Shape.rule.Goals as goal
+
+pub returns-then-place-keys : goal.returns-then-place-keys
+returns-then-place-keys c = rule_found c.args.self c.keys-keys.result.now c.args.place _ c.keys-keys.ensures c.if-place-keys.true
