@@ -80,8 +80,11 @@ fn first_number(
 fn become_ready(rt: &impl Abort, master: &mut Master, startup: &Startup<'_>, number: u64)
     requires { startup.now.plan ≡ master.old.plan.slaves }
 {
-    assert!(rt; startup.phase() == Phase::Ready && startup.next_number() == number);
-    master.ready(startup);
+    expect_same(rt, &startup.next_number(), &number, "a next number");
+    match startup.phase() {
+        Phase::Ready => master.ready(startup),
+        _ => expect(rt, false, "slaves that come up"),
+    }
 }
 
 /// The master becomes ready by a start-up of its plan whose next number is this.
