@@ -1,6 +1,6 @@
 //! Captures byte by byte, by the public calls of `ec_capture`.
-ghost use Rattle.std.specs.Prelude.{option_map};
-ghost use Rattle.ec_capture.specs.Captures.{IsComment, IsCaptured, captured_as};
+ghost use Rattle.std.specs.Prelude.{All, map, option_map};
+ghost use Rattle.ec_capture.specs.Captures.{IsComment, IsCaptured, IsText, captured_as};
 
 use crate::compare::{bytes_of, expect, expect_row, expect_same};
 use ec_capture::{Packet, Recorder, write_packet};
@@ -109,8 +109,10 @@ fn lost() -> Packet<'static>
     }
 }
 
-/// A capture in memory.
-fn capture_of(rt: &(impl AllocGlobal + Abort), names: &[&str]) -> Recorder<Vec<u8>> {
+/// A capture in memory, of interfaces with these names.
+fn capture_of(rt: &(impl AllocGlobal + Abort), names: &[&str]) -> Recorder<Vec<u8>>
+    requires { All IsText (map (λ n. n.now) names.now) }
+{
     Recorder::open(Vec::new(rt.alloc()), names).expect(rt, "a capture")
 }
 

@@ -1,6 +1,6 @@
 //! Frames changed and built, by the public calls of `ec_frame`. Which payloads are frames is shown by cases
 //! (`tools/cases/data/frames.cases`, `pass.cases`).
-ghost use Rattle.std.specs.Prelude.{◌≡◌, ◌<◌, ◌+◌, ◌%◌, length, slice_set};
+ghost use Rattle.std.specs.Prelude.{◌≡◌, ◌<◌, ◌≤◌, ◌+◌, ◌%◌, length, slice_set};
 ghost use Rattle.std.proofs.Common.{lit<};
 ghost use Rattle.std.proofs.Math.Nat.{mod-lt};
 ghost use Rattle.std.proofs.lemmas.List.{length-set};
@@ -59,9 +59,14 @@ fn pair_makes_the_frame(rt: HostRuntime) {
     expect_row(&rt, written.as_slice(), PAIR);
 }
 
-/// Whether a datagram of these data is added.
-fn is_added(builder: &mut Builder, content: &[u8]) -> bool {
-    builder.add(Command::Nop, 0, 0, content).is_ok()
+/// Whether a datagram of these data is added. None is taken away.
+fn is_added(builder: &mut Builder, content: &[u8]) -> bool
+    ensures { length builder.old ≤ length builder.new }
+{
+    match builder.add(Command::Nop, 0, 0, content) {
+        Ok(()) => true,
+        Err(_) => false,
+    }
 }
 
 #[test]
