@@ -54,7 +54,7 @@ pub use Rattle.ec_start.specs.declared.error.StartError.TheVariants.{Lost, Numbe
 pub use Rattle.ec_start.specs.declared.phase.NextFrame.TheVariants.{Send, Ended}
 pub use Rattle.ec_start.specs.declared.phase.Phase.{Phase}
 pub use Rattle.ec_start.specs.declared.phase.Phase.TheVariants.{Idle, Ready, Failed, Sent}
-pub use Rattle.ec_start.specs.Interface.{script, StartState, last_number, HasFewAssigned, IsStartable, numbered, datagram_of, IsStartTaken, IsOutstanding, action_of, second, sending, shape as shape_sent, frame_of, taken, given_up_by, asked, asked_by, next_frame, next_frame_by, IsStartAnswer, is_accepted}
+pub use Rattle.ec_start.specs.Interface.{script, StartState, last_number, HasFewAssigned, IsStartable, name_datagram, datagram_of, IsStartTaken, IsOutstanding, action_of, second, sending, shape as shape_sent, frame_of, taken, given_up_by, asked, asked_by, next_frame, next_frame_by, IsStartAnswer, is_accepted}
 unfoldable pub use Rattle.ec_start.specs.Running.{begun}
 pub use Rattle.ec_start.proofs.Assigned.{startable_is_taken}
 pub use Rattle.ec_start.proofs.LawLemmas.{plans_stay}

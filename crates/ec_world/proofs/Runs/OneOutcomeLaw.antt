@@ -1,5 +1,5 @@
 -- A run of a new world has one outcome: its slots hold frames, and of a frame each event makes one thing.
-use Rattle.ec_world.proofs.Words.{ℕ, zero, suc, ◌+◌, ◌<◌, ◌≡◌, Bool, true, false, Some, None, refl, sym, ◌∙◌, ap, subst, arith, List, [], ◌∷◌, length, map, get_or, set, slice_get, if◌then◌else◌, false≢true, ext_get_or, Got, Datagram, Payload, IsFrame, SlaveState, output_taken, IsPassedAt, numbered, datagram_of, StartState, IsStartTaken, IsOutstanding, action_of, second, sending, shape_sent, report_of, MasterState, OpenCycle, Begun, IsTaken, closed, Event, StartNext, Begin, Pass, Lose, Return, Close, AppPut, AppGet, filled, WorldState, Flight, slave_of, flight_at, flights_from, with_slave, resumed, ready_with, awaits, Happens, Begins, Passes, Returns, StartReturns, GivesUp, Closes, ByStart, IsStep, IsRun, slot_count, OneOutcomeLaw, none_some, some_same, rest_same, none_free}
+use Rattle.ec_world.proofs.Words.{ℕ, zero, suc, ◌+◌, ◌<◌, ◌≡◌, Bool, true, false, Some, None, refl, sym, ◌∙◌, ap, subst, arith, List, [], ◌∷◌, length, map, get_or, set, slice_get, if◌then◌else◌, false≢true, ext_get_or, Got, Datagram, Payload, IsFrame, SlaveState, output_taken, IsPassedAt, name_datagram, datagram_of, StartState, IsStartTaken, IsOutstanding, action_of, second, sending, shape_sent, report_of, MasterState, OpenCycle, Begun, IsTaken, closed, Event, StartNext, Begin, Pass, Lose, Return, Close, AppPut, AppGet, filled, WorldState, Flight, slave_of, flight_at, flights_from, with_slave, resumed, ready_with, awaits, Happens, Begins, Passes, Returns, StartReturns, GivesUp, Closes, ByStart, IsStep, IsRun, slot_count, OneOutcomeLaw, none_some, some_same, rest_same, none_free}
 use Rattle.ec_world.proofs.Runs.SnapshotsLaw.{filled_has, set_has}
 
 -- ---- a frame that comes back
@@ -24,7 +24,7 @@ start_taken_one s payload true false n k x y = let o = x.only refl in absurd (fa
 start_taken_one s payload false true n k x y = let o = y.only refl in absurd (false≢true ((x.answers o.number o.frame o.sent o.spelled).1 o.answer))
 start_taken_one s payload true true n k x y =
     let o : IsOutstanding s payload = x.only refl in
-    let d = second_there o.frame.datagrams (numbered o.number 0) (datagram_of (action_of s) o.number) o.answer.shapes in
+    let d = second_there o.frame.datagrams (name_datagram o.number 0) (datagram_of (action_of s) o.number) o.answer.shapes in
     x.kept o.frame d.0 refl o.spelled d.1 ∙ sym (y.kept o.frame d.0 refl o.spelled d.1)
 
 -- ---- slots hold frames

@@ -1,5 +1,5 @@
 -- Every event keeps a world that starts up one.
-use Rattle.ec_world.proofs.Words.{ℕ, zero, suc, ◌+◌, ◌<◌, ◌≤◌, ◌≡◌, ◌≢◌, ◌==◌, ◌||◌, not, Bool, true, false, Option, Some, None, refl, sym, ◌∙◌, ap, subst, inl, inr, arith, if◌then◌else◌, List, [], ◌∷◌, length, set, get_or, option_map, is_some, nat_lt, unwrap_or, cases_Bool, cases_eq, both_ways, and_parts, eqb-true, ltb-true, length-set, list_get_or-set_same as get_or-set_same, list_get_or-set_other as get_or-set_other, State, Op, Payload, with_datagrams, bare_payload, SlaveState, power_on, passes, Passed, slave_met, datagram_met, input_put, output_got, output_taken, Got, served, faulted, SlavePlan, nones, MasterState, OpenCycle, IsAnswer, readied, numbered, frame_of, datagram_of, StartError, Lost, StartState, action_of, sending, begun, taken, given_up_by, second, Phase, Idle, Sent, Ready, Failed, Config, Starting, Carried, trouble_at, Starts, Between, UnderWay, Adrift, Over, IsReady, IsCarried, AreStartable, ends_of, flags_sent, with_begun, with_slave_at, SendsNext, PassesOne, LosesOne, ReturnsOne, Strays, ClosesOne, BringupServes as Serves, PutsOne, GetsOne, Faults, Resets, taken-plan, happens-starts, begun-starts, frame-passes, Event, StartNext, Set, Begin, Pass, Lose, Return, Close, Serve, AppPut, AppGet, Fault, ResetSlave, filled, may_pass, may_return, WorldState, Flight, no_slave, slave_of, flight_at, flight_progress, flights_progress, is_up, awaits, phase_awaits, phase_ready, is_slave, can_happen, resumed, ready_with, ByStart, Sends, Passes, Returns, StartReturns, GivesUp, Closes, Happens, with_slave, AreWhole, flags_after, IsInSlot, SlotsHold, starting_of, Rising, stay_whole, on_whole, get_or-set_default, none_some, some_same, variable_set, filled-none, filled-length, set-get_or, some_of}
+use Rattle.ec_world.proofs.Words.{ℕ, zero, suc, ◌+◌, ◌<◌, ◌≤◌, ◌≡◌, ◌≢◌, ◌==◌, ◌||◌, not, Bool, true, false, Option, Some, None, refl, sym, ◌∙◌, ap, subst, inl, inr, arith, if◌then◌else◌, List, [], ◌∷◌, length, set, get_or, option_map, is_some, nat_lt, unwrap_or, cases_Bool, cases_eq, both_ways, and_parts, eqb-true, ltb-true, length-set, list_get_or-set_same as get_or-set_same, list_get_or-set_other as get_or-set_other, State, Op, Payload, with_datagrams, bare_payload, SlaveState, power_on, passes, Passed, slave_met, datagram_met, input_put, output_got, output_taken, Got, served, faulted, SlavePlan, nones, MasterState, OpenCycle, IsAnswer, readied, name_datagram, frame_of, datagram_of, StartError, Lost, StartState, action_of, sending, begun, taken, given_up_by, second, Phase, Idle, Sent, Ready, Failed, Config, Starting, Carried, trouble_at, Starts, Between, UnderWay, Adrift, Over, IsReady, IsCarried, AreStartable, ends_of, flags_sent, with_begun, with_slave_at, SendsNext, PassesOne, LosesOne, ReturnsOne, Strays, ClosesOne, BringupServes as Serves, PutsOne, GetsOne, Faults, Resets, taken-plan, happens-starts, begun-starts, frame-passes, Event, StartNext, Set, Begin, Pass, Lose, Return, Close, Serve, AppPut, AppGet, Fault, ResetSlave, filled, may_pass, may_return, WorldState, Flight, no_slave, slave_of, flight_at, flight_progress, flights_progress, is_up, awaits, phase_awaits, phase_ready, is_slave, can_happen, resumed, ready_with, ByStart, Sends, Passes, Returns, StartReturns, GivesUp, Closes, Happens, with_slave, AreWhole, flags_after, IsInSlot, SlotsHold, starting_of, Rising, stay_whole, on_whole, get_or-set_default, none_some, some_same, variable_set, filled-none, filled-length, set-get_or, some_of}
 use Rattle.ec_world.proofs.StartUp.TurnEvents.{second-good}
 use Rattle.ec_world.proofs.SlotLaws.Clearance.{at_set}
 use Rattle.ec_al.specs.Al as al
@@ -131,7 +131,7 @@ module _ (flags : List Bool) (w : WorldState) (r : Rising flags w) where
       let s = slave_of w p.flight.passed in
       let car : IsCarried p.flight.bytes c = subst (λ (f : Flight). IsCarried f.bytes c) one.same holds.carried in
       let load : Payload = car.payload in
-      let m : passes s load.datagrams ≡ record { slave = slave_met s c.datagram; datagrams = numbered c.number 0 ∷ datagram_met s c.datagram ∷ [] }
+      let m : passes s load.datagrams ≡ record { slave = slave_met s c.datagram; datagrams = name_datagram c.number 0 ∷ datagram_met s c.datagram ∷ [] }
       = ap (passes s) car.datagrams ∙ frame-passes s c.number c.datagram in
       let inside : c.passed < length w.start.plan = omega (arith, few p.flight p.there, place, starts.slaves.slaves) in
       let next : Carried = record { number = c.number; passed = c.passed + 1; datagram = datagram_met (slave_of w c.passed) c.datagram } in

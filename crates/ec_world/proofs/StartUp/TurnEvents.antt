@@ -1,5 +1,5 @@
 -- The events of a frame of a start-up: it is sent, it passes a slave, it comes back.
-use Rattle.ec_world.proofs.Words.{ℕ, zero, suc, ◌+◌, ◌<◌, ◌≡◌, ◌==◌, nat_lt, Bool, true, false, Option, Some, None, refl, sym, ◌∙◌, ap, subst, arith, List, [], ◌∷◌, ◌++◌, length, get_or, set, replicate, option_map, eq-eqb, lt-ltb, le-ltb, list_all, AllByRecursion, length-map, Datagram, IsDatagram, Payload, with_datagrams, bare_payload, SlaveState, passes, Passed, slave_met, datagram_met, served, nones, cycle_limit, numbered, frame_of, datagram_of, StartState, action_of, sending, taken, IsStartAnswer, second, all_passed, all_met, BringupRising as Rising, turned, IsRound, round, Carried, IsCarried, frame-passes, StartNext, Pass, Return, Progress, filled, may_pass, may_return, lets_by, is_older, WorldState, Flight, no_slave, slave_of, flight_at, flight_progress, flights_progress, can_happen, awaits, resumed, is_up, ready_with, ByStart, Sends, Passes, Returns, StartReturns, IsStep, some_same, length-append, filled-none, nones-all, get_or-append_seam, set-append_seam, length-replicate}
+use Rattle.ec_world.proofs.Words.{ℕ, zero, suc, ◌+◌, ◌<◌, ◌≡◌, ◌==◌, nat_lt, Bool, true, false, Option, Some, None, refl, sym, ◌∙◌, ap, subst, arith, List, [], ◌∷◌, ◌++◌, length, get_or, set, replicate, option_map, eq-eqb, lt-ltb, le-ltb, list_all, AllByRecursion, length-map, Datagram, IsDatagram, Payload, with_datagrams, bare_payload, SlaveState, passes, Passed, slave_met, datagram_met, served, nones, cycle_limit, name_datagram, frame_of, datagram_of, StartState, action_of, sending, taken, IsStartAnswer, second, all_passed, all_met, BringupRising as Rising, turned, IsRound, round, Carried, IsCarried, frame-passes, StartNext, Pass, Return, Progress, filled, may_pass, may_return, lets_by, is_older, WorldState, Flight, no_slave, slave_of, flight_at, flight_progress, flights_progress, can_happen, awaits, resumed, is_up, ready_with, ByStart, Sends, Passes, Returns, StartReturns, IsStep, some_same, length-append, filled-none, nones-all, get_or-append_seam, set-append_seam, length-replicate}
 
 -- ---- lists
 
@@ -54,7 +54,7 @@ one-past n m c pre s ss u one i at e step =
     let car : IsCarried p.flight.bytes c = subst (λ (x : Flight). IsCarried x.bytes c) (sym same) i.carried in
     let load : Payload = car.payload in
     let x : SlaveState = slave_of m p.flight.passed in
-    let met : passes x load.datagrams ≡ record { slave = slave_met x c.datagram; datagrams = numbered c.number 0 ∷ datagram_met x c.datagram ∷ [] }
+    let met : passes x load.datagrams ≡ record { slave = slave_met x c.datagram; datagrams = name_datagram c.number 0 ∷ datagram_met x c.datagram ∷ [] }
     = ap (passes x) car.datagrams ∙ frame-passes x c.number c.datagram in
     record {
       made = step.can ∙ can;
@@ -70,15 +70,15 @@ one-past n m c pre s ss u one i at e step =
         carried = record {
           payload = with_datagrams load (passes x load.datagrams).datagrams;
           spelled = p.passed.frame load car.spelled;
-          datagrams = ap (λ (y : Passed). y.datagrams) met ∙ ap (λ (y : SlaveState). numbered c.number 0 ∷ datagram_met y c.datagram ∷ []) own;
+          datagrams = ap (λ (y : Passed). y.datagrams) met ∙ ap (λ (y : SlaveState). name_datagram c.number 0 ∷ datagram_met y c.datagram ∷ []) own;
         };
       };
     }
 
 -- ---- it is sent
 
-pub second-good : (ds : List Datagram) (number : ℕ) (d : Datagram) → AllByRecursion IsDatagram ds → ds ≡ numbered number 0 ∷ d ∷ [] → IsDatagram d
-second-good ds number d h e = let q : AllByRecursion IsDatagram (numbered number 0 ∷ d ∷ []) = subst (AllByRecursion IsDatagram) e h in q.1.0
+pub second-good : (ds : List Datagram) (number : ℕ) (d : Datagram) → AllByRecursion IsDatagram ds → ds ≡ name_datagram number 0 ∷ d ∷ [] → IsDatagram d
+second-good ds number d h e = let q : AllByRecursion IsDatagram (name_datagram number 0 ∷ d ∷ []) = subst (AllByRecursion IsDatagram) e h in q.1.0
 
 -- a world that can send a frame, of a start-up that is then in this state
 pub record Sending (w : WorldState) (s : StartState) : Type 0 where
