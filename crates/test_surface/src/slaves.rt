@@ -194,6 +194,9 @@ fn status_of(slave: &Slave) -> Option<u8> {
     slave.byte(0x0130)
 }
 
+/// The broadcast without its last byte, which is no frame.
+const CUT: [u8; 15] = [14, 16, 7, 1, 0, 0, 0x30, 1, 2, 0, 0, 0, 0, 0, 0];
+
 /// The frame passes one slave, and then all of them. What is no frame passes none, and stays as it is.
 fn expect_ring(rt: &impl Abort, ring: Result<Ring, AllocError>) {
     let mut ring = ring.expect(rt, "memory");
@@ -203,9 +206,12 @@ fn expect_ring(rt: &impl Abort, ring: Result<Ring, AllocError>) {
     ring.pass_all(&mut all).expect(rt, "a frame");
     let mut cut = CUT;
     let refused = [ring.pass_one(&mut cut, 1), ring.pass_all(&mut cut)];
-    expect(rt, refused == [Err(NotAFrame); 2], "no frames");
-    let wanted = (BACK, BACK_FROM_THREE, CUT);
-    expect_same(rt, &(one, all, cut), &wanted, "frames");
+    expect(
+        rt,
+        refused == [Err(NotAFrame); 2] && cut == CUT,
+        "no frames",
+    );
+    expect_same(rt, &(one, all), &(BACK, BACK_FROM_THREE), "frames");
     expect_same(rt, &status_of(ring.slave(1)), &Some(1), "the AL status");
     expect(rt, !ring.slave_mut(1).fault(), "no fault in INIT");
 }
