@@ -194,9 +194,6 @@ fn status_of(slave: &Slave) -> Option<u8> {
     slave.byte(0x0130)
 }
 
-/// The broadcast without its last byte, which is no frame.
-const CUT: [u8; 15] = [14, 16, 7, 1, 0, 0, 0x30, 1, 2, 0, 0, 0, 0, 0, 0];
-
 /// The frame passes one slave, and then all of them. What is no frame passes none, and stays as it is.
 fn expect_ring(rt: &impl Abort, ring: Result<Ring, AllocError>) {
     let mut ring = ring.expect(rt, "memory");
