@@ -16,7 +16,7 @@ returns-in_default-clause-ends g c =
     (record { old = c.args.console.now.faults; new = c.explained_status.new.faults }) c.explained_status.result) (sym c.in-Ok.is)
     (inl (
       none_right c.wrong_of.result _ c.in_default.not-Some c.wrong_of.ensures.right,
-      (ran.result, ran.new.console.faults, c.as_bytes.result.now, ran.ensures.runs, search rules, c.explained_status.ensures),
+      (ran.result, ran.new.console.faults, c.as_bytes-in-Ok.result.now, ran.ensures.runs, search rules, c.explained_status.ensures),
     ))
 
 pub returns-in_default-clause-alone : goal.returns-in_default-clause-alone
