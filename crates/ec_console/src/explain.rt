@@ -83,17 +83,31 @@ impl Explanation {
 
 /// What a fault of a socket means, by what the system said, and what to do.
 fn socket_text(alloc: Global, trouble: Trouble) -> Result<String, AllocError> {
-    let todo = match trouble {
-        Trouble::Silence => "start the other side in time, or wait longer with `--idle`",
-        Trouble::System(98) => "end what listens there, or take another `--port`",
-        Trouble::System(1 | 13) => "run it with the right to open this socket",
-        Trouble::System(_) | Trouble::Unmade => {
-            "see the address and the port, and open a card as `tools/with_card` does"
-        }
-    };
+    let todo = advice_on(trouble);
     format!(in alloc;
         "There is no such socket, or a call on it failed: {trouble}.\nTo do: {todo}.\n"
     )
+}
+
+/// What to do about a socket, if nothing better is known.
+const LOOK: &str = "see the address and the port, and open a card as `tools/with_card` does";
+
+/// What to do about a fault of a socket.
+fn advice_on(trouble: Trouble) -> &'static str {
+    match trouble {
+        Trouble::Silence => "start the other side in time, or wait longer with `--idle`",
+        Trouble::System(number) => advice_on_error(number),
+        Trouble::Unmade => LOOK,
+    }
+}
+
+/// What to do about an error of Linux with this number.
+fn advice_on_error(number: i32) -> &'static str {
+    match number {
+        1 | 13 => "run it with the right to open this socket",
+        98 => "end what listens there, or take another `--port`",
+        _ => LOOK,
+    }
 }
 
 /// What a fault of the input or the output means, and what to do. `None` for other refusals.
