@@ -1,9 +1,9 @@
 //! Why bytes open nothing.
-ghost use Rattle.std.specs.Prelude.{◌≡◌, length, option_map};
-ghost use Rattle.ec_link.specs.Faults.{fault_value};
+ghost use Rattle.std.specs.Prelude.{◌≡◌, length};
+ghost use Rattle.ec_link.specs.Faults.{error_value};
 ghost use Rattle.ec_library.specs.Opening.{of_position, of_value, open_name, open_number, open_values, with_values};
 
-use ec_link::{LinkFault, MachineError};
+use ec_link::{LinkError, MachineError};
 use ec_table::Position;
 
 /// Why bytes open nothing.
@@ -47,7 +47,7 @@ impl OpenError {
         match self {
             OpenError::Text => (0, 0, 0),
             OpenError::Machine(MachineError::Table(error)) => values_of_position(error.place()),
-            OpenError::Machine(MachineError::Link(error)) => values_of_fault(error.fault()),
+            OpenError::Machine(MachineError::Link(error)) => values_of_fault(error),
         }
     }
 }
@@ -63,14 +63,14 @@ impl From<MachineError> for OpenError {
     }
 }
 
-/// The value of a plan's fault, a place or a count, if there is one.
-fn values_of_fault(fault: Option<LinkFault>) -> (usize, u64, u64)
-    ensures count { result.0 ≡ length (of_value (option_map fault_value fault)) }
-    ensures values { with_values result.0 result.1 result.2 ≡ of_value (option_map fault_value fault) }
+/// The value of a plan's fault, a place or a count; none for memory.
+fn values_of_fault(error: LinkError) -> (usize, u64, u64)
+    ensures count { result.0 ≡ length (of_value (error_value error)) }
+    ensures values { with_values result.0 result.1 result.2 ≡ of_value (error_value error) }
 {
-    match fault {
-        None => (0, 0, 0),
-        Some(fault) => (1, fault.value() as u64, 0),
+    match error {
+        LinkError::Memory => (0, 0, 0),
+        LinkError::Refused(fault) => (1, fault.value() as u64, 0),
     }
 }
 

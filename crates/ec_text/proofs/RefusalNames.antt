@@ -7,12 +7,11 @@ use Rattle.ec_decode.specs.declared.error.DecodeError.TheVariants as decode
 use Rattle.ec_table.specs.declared.fault.Fault.{Fault}
 use Rattle.ec_table.specs.declared.fault.Fault.TheVariants as fault
 use Rattle.ec_table.specs.Errors.{TableError}
-use Rattle.ec_table.specs.declared.or_memory.OrMemory.TheVariants as table
+use Rattle.ec_table.specs.declared.or_memory.OrMemory.TheVariants as or_memory
 use Rattle.ec_table.specs.Faults as table_names
 use Rattle.ec_link.specs.declared.fault.LinkFault.{LinkFault}
 use Rattle.ec_link.specs.declared.fault.LinkFault.TheVariants as misfit
 use Rattle.ec_link.specs.Errors.{LinkError}
-use Rattle.ec_table.specs.declared.or_memory.OrMemory.TheVariants as link
 use Rattle.ec_link.specs.Faults as link_names
 use Rattle.ec_start.specs.declared.error.StartError.{StartError}
 use Rattle.ec_start.specs.declared.error.StartError.TheVariants as start
@@ -43,8 +42,8 @@ short_fault (fault.TwiceNamed p) = omega arith
 short_fault (fault.UnknownName p) = omega arith
 
 pub short_table : (e : TableError) → IsShort (table_row e)
-short_table table.Memory = omega arith
-short_table (table.Refused f) = short_fault f
+short_table or_memory.Memory = omega arith
+short_table (or_memory.Refused f) = short_fault f
 
 short_misfit : (f : LinkFault) → length (link_names.fault_name f) ≤ 16
 short_misfit (misfit.WrongDirection k) = omega arith
@@ -60,8 +59,8 @@ short_misfit (misfit.OutsideRam k) = omega arith
 short_misfit (misfit.SplitVariable k) = omega arith
 
 pub short_link : (e : LinkError) → IsShort (link_row e)
-short_link link.Memory = omega arith
-short_link (link.Refused f) = short_misfit f
+short_link or_memory.Memory = omega arith
+short_link (or_memory.Refused f) = short_misfit f
 
 pub short_start : (e : StartError) → IsShort (start_row e)
 short_start (start.BadMailbox slave) = omega arith

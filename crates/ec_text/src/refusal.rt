@@ -132,9 +132,9 @@ impl Refused for LinkError {
     }
 
     fn values(&self) -> Values {
-        match self.fault() {
-            None => Values::new(),
-            Some(fault) => listed(&[fault.value() as u64]),
+        match self {
+            LinkError::Memory => Values::new(),
+            LinkError::Refused(fault) => listed(&[fault.value() as u64]),
         }
     }
 }
