@@ -197,7 +197,7 @@ fn expect_start<H: Abort + Clock>(rt: &H, machine: &Machine, wire: &mut MemoryWi
 
 /// The same over memory.
 fn expect_cycles_of<H: AllocGlobal + Abort + Clock>(rt: &H, machine: &Machine) {
-    let wire = MemoryWire::new(rt.alloc(), ring_of(rt, machine), 100, u64::MAX);
+    let wire = MemoryWire::new(rt.alloc(), ring_of(rt, machine), 200, u64::MAX);
     let mut wire = wire.expect(rt, "memory");
     expect_cycles(rt, machine, &mut master_of(rt, machine), &mut wire);
     expect_start(rt, machine, &mut wire);

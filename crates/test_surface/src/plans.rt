@@ -66,10 +66,11 @@ fn refusal_of(rt: &(impl AllocGlobal + Abort), text: &str) -> TableError {
 
 #[test]
 fn refused_tables(rt: HostRuntime) {
+    let refusal = refusal_of(&rt, "[[");
     expect_same(
         &rt,
-        &refusal_of(&rt, "[["),
-        &TableError::Refused(Fault::Toml),
+        &(refusal, refusal.fault()),
+        &(TableError::Refused(Fault::Toml), Some(Fault::Toml)),
         "refused tables",
     );
 }
