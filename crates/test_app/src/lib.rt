@@ -19,7 +19,6 @@ mod master;
 #[cfg(test)]
 mod runs;
 #[cfg(test)]
-#[cfg(test)]
 mod streams;
 #[cfg(test)]
 mod translate;
