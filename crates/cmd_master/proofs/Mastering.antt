@@ -19,22 +19,22 @@ use Rattle.ec_console.proofs.EndLemmas.{run_cut, run_ended, run_refused}
 use Rattle.cmd_master.specs.State.{MasteredState}
 use Rattle.cmd_master.specs.Taking.{takes_action}
 use Rattle.cmd_master.specs.Saying.{SaysLine}
-use Rattle.cmd_master.specs.Mastering.{RunsMachine, RunsOver, begun_over}
+use Rattle.cmd_master.specs.Mastering.{RunsMachine, RunsOver, begun_over, reasons_in}
 use Rattle.cmd_master.specs.Stages.{RunsTarget}
 
 -- ---- a target
 
 -- all lines are done
-pub target_ran : {S : Type 0} (r : Result Unit Refusal) (one : S → Line → S → List ℕ → ℕ → Type 0) (read : ℕ → List ℕ → Reading) (begun last : S) (count : ℕ) (input : Given) (old new : OutputState) → r ≡ ended_by count
-    → (unmet : ℕ) × (count ≡ counted unmet) × ComesOut one read begun input.bytes last unmet old new → RunsTarget one read begun last input old new r
-target_ran r one read begun last count input old new ended all =
-    run_ended r (λ (unmet : ℕ). ComesOut one read begun input.bytes last unmet old new) (ComesPart one read begun input.bytes last old new) input.is_refused old new count ended all
+pub target_ran : {S : Type 0} (r : Result Unit Refusal) (one : S → Line → S → List ℕ → ℕ → Type 0) (told : S → Reasons) (read : ℕ → List ℕ → Reading) (begun last : S) (count : ℕ) (input : Given) (old new : OutputState) → r ≡ ended_by count
+    → (unmet : ℕ) × (count ≡ counted unmet) × ComesOut one told read begun input.bytes last unmet old new → RunsTarget one told read begun last input old new r
+target_ran r one told read begun last count input old new ended all =
+    run_ended r (λ (unmet : ℕ). ComesOut one told read begun input.bytes last unmet old new) (ComesPart one told read begun input.bytes last old new) input.is_refused old new count ended all
 
 -- or they are cut short
-pub target_cut : {S T : Type 0} (r : Result Unit Refusal) (printed : Result T Refusal) (e : Refusal) (one : S → Line → S → List ℕ → ℕ → Type 0) (read : ℕ → List ℕ → Reading) (begun last : S) (input : Given) (old new : OutputState)
-    → printed ≡ Err e → OnErr printed (ComesPart one read begun input.bytes last old new) → IfErr printed (IsLate input.is_refused new) → IsErrAnd r (λ x. x ≡ e) → RunsTarget one read begun last input old new r
-target_cut r printed e one read begun last input old new is some late same =
-    run_cut r printed e (λ (unmet : ℕ). ComesOut one read begun input.bytes last unmet old new) (ComesPart one read begun input.bytes last old new) (ComesPart one read begun input.bytes last old new) input.is_refused old new is some late (λ part. part) same
+pub target_cut : {S T : Type 0} (r : Result Unit Refusal) (printed : Result T Refusal) (e : Refusal) (one : S → Line → S → List ℕ → ℕ → Type 0) (told : S → Reasons) (read : ℕ → List ℕ → Reading) (begun last : S) (input : Given) (old new : OutputState)
+    → printed ≡ Err e → OnErr printed (ComesPart one told read begun input.bytes last old new) → IfErr printed (IsLate input.is_refused new) → IsErrAnd r (λ x. x ≡ e) → RunsTarget one told read begun last input old new r
+target_cut r printed e one told read begun last input old new is some late same =
+    run_cut r printed e (λ (unmet : ℕ). ComesOut one told read begun input.bytes last unmet old new) (ComesPart one told read begun input.bytes last old new) (ComesPart one told read begun input.bytes last old new) input.is_refused old new is some late (λ part. part) same
 
 -- ---- over a wire
 
@@ -66,6 +66,6 @@ never_begun r reasons t input known is =
     let begun = begun_over reasons t (silent 0) in
     inl (
       begun,
-      run_refused r (λ (unmet : ℕ). ComesOut SaysLine (reading_at takes_action t) begun input.bytes begun unmet known known) (ComesPart SaysLine (reading_at takes_action t) begun input.bytes begun known known) input.is_refused
+      run_refused r (λ (unmet : ℕ). ComesOut SaysLine reasons_in (reading_at takes_action t) begun input.bytes begun unmet known known) (ComesPart SaysLine reasons_in (reading_at takes_action t) begun input.bytes begun known known) input.is_refused
           known is,
     )

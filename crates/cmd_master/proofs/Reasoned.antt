@@ -22,6 +22,7 @@ use Rattle.ec_console.specs.Unmet.{unmet_of}
 use Rattle.cmd_master.specs.State.{MasteredState}
 use Rattle.cmd_master.specs.Doing.{Does, Either, RunsCycle, Sets, StopsMachine, Tells, view_of}
 use Rattle.cmd_master.specs.Saying.{SaysLine, is_reasoned, plain_text}
+use Rattle.cmd_master.specs.Mastering.{reasons_in}
 use Rattle.cmd_master.specs.Stages.{IsLineText, IsReasonedText}
 use Rattle.cmd_master.specs.Laws.{ReasonsOnlyAdd, SaysUntold, untold}
 
@@ -129,4 +130,4 @@ line_adds s line t printed unmet h =
     (record { said = plain_text t.session t.states line.number h.said; why = h.why; is = reason_if _ h.why h.reason }, h.text, untold_line s line t printed unmet h)
 
 pub reasons_only_add : ReasonsOnlyAdd
-reasons_only_add = only_adds SaysLine SaysUntold line_adds
+reasons_only_add = only_adds SaysLine SaysUntold line_adds reasons_in

@@ -8,11 +8,12 @@ use Rattle.ec_session.specs.Wired.{run_refusal}
 use Rattle.ec_script.specs.declared.line.Line.{Line}
 use Rattle.ec_console.specs.declared.wanted.Reasons.{Reasons}
 use Rattle.ec_console.specs.declared.wanted.Reasons.TheVariants.{Omitted}
+use Rattle.ec_console.specs.Coming.{ComingOnlyAdds}
 use Rattle.ec_console.specs.Reasons.{OnlyAdds}
 use Rattle.ec_console.specs.Saying.{Says}
 use Rattle.cmd_master.specs.State.{MasteredState}
 use Rattle.cmd_master.specs.Saying.{SaysLine}
-use Rattle.cmd_master.specs.Mastering.{begun_over}
+use Rattle.cmd_master.specs.Mastering.{begun_over, reasons_in}
 
 -- ---- cycles
 
@@ -35,6 +36,7 @@ untold s = record s { reasons = Omitted }
 abbrev pub SaysUntold : MasteredState → Line → MasteredState → List ℕ → ℕ → Type 0
 SaysUntold s line t printed unmet = SaysLine (untold s) line (untold t) printed unmet
 
--- With reasons, lines leave the session and its wire as without them, and are unmet as often. They print the same but for the reasons.
+-- With reasons, lines leave the session and its wire as without them, and are unmet as often. They print the same but for the reasons. So
+-- do lines that come, bad ones among them.
 abbrev pub ReasonsOnlyAdd : Type 0
-ReasonsOnlyAdd = OnlyAdds SaysLine SaysUntold
+ReasonsOnlyAdd = OnlyAdds SaysLine SaysUntold × ComingOnlyAdds SaysLine SaysUntold reasons_in

@@ -19,12 +19,16 @@ use Rattle.cmd_master.specs.Saying.{SaysLine}
 abbrev pub begun_over : Reasons → Contents → WireState → MasteredState
 begun_over reasons t w = record { session = new_session t; wire = w; reasons = reasons; states = replicate (length t.slaves) None }
 
+-- whether a master says why a line is bad
+abbrev pub reasons_in : MasteredState → Reasons
+reasons_in s = s.reasons
+
 -- The lines of an input lead a master of a table to another state. All are done, and what they expect holds, or doesn't so many times.
 -- Or they are cut short, and what was printed until then stays. Or memory is refused before the first line.
 abbrev pub RunsOver : Contents → (begun last : MasteredState) → (input : Given) → (old new : OutputState) → Result Unit Refusal → Type 0
 RunsOver t begun last input old new ended =
-    EndsRun (λ unmet. ComesOut SaysLine (reading_at takes_action t) begun input.bytes last unmet old new)
-    (ComesPart SaysLine (reading_at takes_action t) begun input.bytes last old new) input.is_refused old new ended
+    EndsRun (λ unmet. ComesOut SaysLine reasons_in (reading_at takes_action t) begun input.bytes last unmet old new)
+    (ComesPart SaysLine reasons_in (reading_at takes_action t) begun input.bytes last old new) input.is_refused old new ended
 
 -- over a socket or a card that was just opened, whose state has no payloads
 abbrev pub RunsOnWire : Reasons → Contents → (input : Given) → (old new : OutputState) → Result Unit Refusal → Type 0

@@ -24,6 +24,6 @@ abbrev pub IsLineText : Reasons → SessionState → List (Option AlStatus) → 
 IsLineText reasons s states n said text = (why : List ℕ) × ReasonIf (is_reasoned reasons s said) why × (text ≡ plain_text s states n said ++ why)
 
 -- the lines of an input lead a target to another state, or some of them do
-abbrev pub RunsTarget : {S : Type 0} → (S → Line → S → List ℕ → ℕ → Type 0) → (read : ℕ → List ℕ → Reading) → (begun last : S) → (input : Given) → (old new : OutputState) → Result Unit Refusal → Type 0
-RunsTarget {S} one read begun last input old new ended =
-    EndsRun (λ unmet. ComesOut one read begun input.bytes last unmet old new) (ComesPart one read begun input.bytes last old new) input.is_refused old new ended
+abbrev pub RunsTarget : {S : Type 0} → (S → Line → S → List ℕ → ℕ → Type 0) → (told : S → Reasons) → (read : ℕ → List ℕ → Reading) → (begun last : S) → (input : Given) → (old new : OutputState) → Result Unit Refusal → Type 0
+RunsTarget {S} one told read begun last input old new ended =
+    EndsRun (λ unmet. ComesOut one told read begun input.bytes last unmet old new) (ComesPart one told read begun input.bytes last old new) input.is_refused old new ended

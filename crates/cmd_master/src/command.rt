@@ -30,8 +30,8 @@ pub struct MasterOptions<'a> {
 }
 
 /// Runs the lines of an input with a new master of a machine over a socket or a card. The text of a line is printed before the next
-/// is read, and with reasons also why it can't be done or has failed. What the master sends and receives goes into an open capture, if
-/// there is one.
+/// is read, and with reasons also why it is bad, can't be done or has failed. What the master sends and receives goes into an open
+/// capture, if there is one.
 ///
 /// # Errors
 ///
@@ -123,7 +123,7 @@ fn run_all<T: Target, R: Read + Drop, O: Write + Drop>(
     input: &mut InputStream<R>,
     output: &mut OutputStream<O>,
 ) -> Result<(), Refusal>
-    ensures { RunsTarget T.says (reading_at T.takes (T.table target.old)) target.old target.new
+    ensures { RunsTarget T.says T.reasons (reading_at T.takes (T.table target.old)) target.old target.new
         (given_by R.remaining input.old input.new) output.old output.new result }
 {
     let unmet = run_input(alloc, target, input, output)?;

@@ -26,7 +26,7 @@ use std::marker::Model;
 use std::time::Clock;
 
 /// A master over a wire, which lines move. It owns its session and its wire, and a clock measures how long it waits and rests. With
-/// reasons, it also says why a line can't be done or has failed.
+/// reasons, it also says why a line is bad, can't be done or has failed.
 #[derive(Drop)]
 pub struct Mastered<'c, W: Wire + Drop, C: Clock> {
     pub(crate) session: Session,
@@ -183,12 +183,15 @@ impl<'c, W: Wire + Drop, C: Clock> Mastered<'c, W, C> {
 }
 
 impl<W: Wire + Drop, C: Clock> Target for Mastered<'_, W, C> {
+    ghost use Rattle.cmd_master.specs.Mastering.{reasons_in};
     ghost use Rattle.cmd_master.specs.Saying.{SaysLine};
     ghost use Rattle.cmd_master.specs.Taking.{takes_action};
 
     ghost table = { λ m. m.session.table };
 
     ghost takes = { takes_action };
+
+    ghost reasons = { reasons_in };
 
     ghost says = { SaysLine };
 
@@ -223,6 +226,10 @@ impl<W: Wire + Drop, C: Clock> Target for Mastered<'_, W, C> {
             | LineAction::Output(_)
             | LineAction::Served => false,
         }
+    }
+
+    fn reasons(&self) -> Reasons {
+        self.reasons
     }
 
     fn obey(&mut self, alloc: Global, line: &Line) -> Result<Said, AllocError> {

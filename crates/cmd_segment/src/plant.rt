@@ -25,8 +25,8 @@ use std::time::{Clock, Duration};
 const PATIENCE: u16 = 1;
 
 /// Serves payloads as [`run_segment`](crate::run_segment) does, with slaves that have no application, while it does the lines of an input
-/// as they come. The text of a line is printed before the next thing is done, and with `reasons` also why it can't be done. The end of the
-/// input changes nothing.
+/// as they come. The text of a line is printed before the next thing is done, and with `reasons` also why it is bad or can't be done. The
+/// end of the input changes nothing.
 ///
 /// # Errors
 ///

@@ -32,4 +32,4 @@ line_adds reasons t w line new printed unmet h =
     (record { said = output_text t line.number (view_of new) (statuses new) h.said; why = h.why; is = reason_if _ h.why h.reason }, h.text, untold reasons t w line new printed unmet h)
 
 pub reasons_only_add : ReasonsOnlyAdd
-reasons_only_add reasons t = only_adds (SaysLine reasons t) (SaysLine Omitted t) (line_adds reasons t)
+reasons_only_add reasons t = only_adds (SaysLine reasons t) (SaysLine Omitted t) (line_adds reasons t) (λ v. reasons)

@@ -23,7 +23,7 @@ does_append [] ys a b c first rest = subst (λ (w : WorldState). DoesAll ys w c)
 does_append (x ∷ xs) ys a b c (mid, word, does, more) rest = (mid, word, does, does_append xs ys mid b c more rest)
 
 -- a line and what follows it
-line_done : (reasons : Reasons) (t : Contents) (w mid new : WorldState) (n : ℕ) (r : Reading) (text : List ℕ) (one : ℕ) (lines : List Line) → SaysReading (SaysLine reasons t) w n r mid text one
+line_done : (reasons : Reasons) (t : Contents) (w mid new : WorldState) (n : ℕ) (r : Reading) (text : List ℕ) (one : ℕ) (lines : List Line) → SaysReading (SaysLine reasons t) reasons w n r mid text one
     → DoesAll (repeated lines) mid new → DoesAll (repeated (with_line r lines)) w new
 unfolding repeated
 line_done reasons t w mid new n reading.Empty text one lines said rest = subst (λ (v : WorldState). DoesAll (repeated lines) v new) said.0 rest

@@ -97,20 +97,21 @@ module _ {S : Type 0} (observed : S → WorldState → Event → WorldState → 
   part_over (Err e) a b lines old new part = part_mapped (λ (s : Simulated S). s.world) (IsSame a) (Simulates observed) (SaysLine a.reasons a.table) (each_line a) a lines b old new (refl, refl) part
 
   pub out_over : (r : Result ℕ Refusal) (a b : Simulated S) (given : Option (List ℕ)) (old new : OutputState)
-      → IfOk r (λ count. (unmet : ℕ) × (count ≡ counted unmet) × ComesOut (Simulates observed) (line_read a.table) a given b unmet old new)
-      → IfOk r (λ count. (unmet : ℕ) × (count ≡ counted unmet) × ComesOut (SaysLine a.reasons a.table) (line_read a.table) a.world given b.world unmet old new)
+      → IfOk r (λ count. (unmet : ℕ) × (count ≡ counted unmet) × ComesOut (Simulates observed) (λ (s : Simulated S). s.reasons) (line_read a.table) a given b unmet old new)
+      → IfOk r (λ count. (unmet : ℕ) × (count ≡ counted unmet) × ComesOut (SaysLine a.reasons a.table) (λ (v : WorldState). a.reasons) (line_read a.table) a.world given b.world unmet old new)
   out_over (Ok count) a b given old new (unmet, counts, all) = (
     unmet,
     counts,
-    out_mapped (λ (s : Simulated S). s.world) (IsSame a) (Simulates observed) (SaysLine a.reasons a.table) (each_line a) (line_read a.table) a given b unmet old new (refl, refl) all,
+    out_mapped (λ (s : Simulated S). s.world) (IsSame a) (Simulates observed) (SaysLine a.reasons a.table) (each_line a) (λ (s : Simulated S). s.reasons) (λ (v : WorldState). a.reasons) (λ (s : Simulated S) (same : IsSame a s). same.1) (line_read a.table) a given b unmet old new (refl, refl) all,
   )
   out_over (Err e) a b given old new all = tt
 
-  pub come_over : (r : Result ℕ Refusal) (a b : Simulated S) (given : Option (List ℕ)) (old new : OutputState) → OnErr r (ComesPart (Simulates observed) (line_read a.table) a given b old new)
-      → OnErr r (ComesPart (SaysLine a.reasons a.table) (line_read a.table) a.world given b.world old new)
+  pub come_over : (r : Result ℕ Refusal) (a b : Simulated S) (given : Option (List ℕ)) (old new : OutputState) → OnErr r (ComesPart (Simulates observed) (λ (s : Simulated S). s.reasons) (line_read a.table) a given b old new)
+      → OnErr r (ComesPart (SaysLine a.reasons a.table) (λ (v : WorldState). a.reasons) (line_read a.table) a.world given b.world old new)
   come_over (Ok count) a b given old new part = tt
   come_over (Err e) a b given old new part =
-      come_part_mapped (λ (s : Simulated S). s.world) (IsSame a) (Simulates observed) (SaysLine a.reasons a.table) (each_line a) (line_read a.table) a given b old new (refl, refl) part
+      come_part_mapped (λ (s : Simulated S). s.world) (IsSame a) (Simulates observed) (SaysLine a.reasons a.table) (each_line a) (λ (s : Simulated S). s.reasons) (λ (v : WorldState). a.reasons)
+      (λ (s : Simulated S) (same : IsSame a s). same.1) (line_read a.table) a given b old new (refl, refl) part
 
   -- ---- what the watcher sees
 
@@ -142,16 +143,16 @@ module _ {S : Type 0} (d : S) where
   part_last (Err e) s reasons t w last lines old new is part = (last, subst (λ (x : Simulated S). PrintsPart (SaysLine x.reasons x.table) x.world lines last old new) is part)
 
   pub out_last : (r : Result ℕ Refusal) (s : Simulated S) (reasons : Reasons) (t : Contents) (w last : WorldState) (given : Option (List ℕ)) (old new : OutputState) → s ≡ simulated w d t reasons
-      → IfOk r (λ count. (unmet : ℕ) × (count ≡ counted unmet) × ComesOut (SaysLine s.reasons s.table) (line_read s.table) s.world given last unmet old new)
-      → IfOk r (λ count. (unmet : ℕ) × (count ≡ counted unmet) × (v : WorldState) × ComesOut (SaysLine reasons t) (line_read t) w given v unmet old new)
+      → IfOk r (λ count. (unmet : ℕ) × (count ≡ counted unmet) × ComesOut (SaysLine s.reasons s.table) (λ (v : WorldState). s.reasons) (line_read s.table) s.world given last unmet old new)
+      → IfOk r (λ count. (unmet : ℕ) × (count ≡ counted unmet) × (v : WorldState) × ComesOut (SaysLine reasons t) (λ (v : WorldState). reasons) (line_read t) w given v unmet old new)
   out_last (Ok count) s reasons t w last given old new is (unmet, counts, all) =
-      (unmet, counts, last, subst (λ (x : Simulated S). ComesOut (SaysLine x.reasons x.table) (line_read x.table) x.world given last unmet old new) is all)
+      (unmet, counts, last, subst (λ (x : Simulated S). ComesOut (SaysLine x.reasons x.table) (λ (v : WorldState). x.reasons) (line_read x.table) x.world given last unmet old new) is all)
   out_last (Err e) s reasons t w last given old new is all = tt
 
   pub come_last : (r : Result ℕ Refusal) (s : Simulated S) (reasons : Reasons) (t : Contents) (w last : WorldState) (given : Option (List ℕ)) (old new : OutputState) → s ≡ simulated w d t reasons
-      → OnErr r (ComesPart (SaysLine s.reasons s.table) (line_read s.table) s.world given last old new) → OnErr r ((v : WorldState) × ComesPart (SaysLine reasons t) (line_read t) w given v old new)
+      → OnErr r (ComesPart (SaysLine s.reasons s.table) (λ (v : WorldState). s.reasons) (line_read s.table) s.world given last old new) → OnErr r ((v : WorldState) × ComesPart (SaysLine reasons t) (λ (v : WorldState). reasons) (line_read t) w given v old new)
   come_last (Ok count) s reasons t w last given old new is part = tt
-  come_last (Err e) s reasons t w last given old new is part = (last, subst (λ (x : Simulated S). ComesPart (SaysLine x.reasons x.table) (line_read x.table) x.world given last old new) is part)
+  come_last (Err e) s reasons t w last given old new is part = (last, subst (λ (x : Simulated S). ComesPart (SaysLine x.reasons x.table) (λ (v : WorldState). x.reasons) (line_read x.table) x.world given last old new) is part)
 
 -- ---- how a run ends
 
@@ -174,17 +175,17 @@ module _ {S : Type 0} (b : S) where
 
   pub live_ran : (r : Result Unit Refusal) (given : Given) (old new : OutputState) (reasons : Reasons) (t : Contents) (w : WorldState) (s : Simulated S) (count : ℕ)
       → s ≡ simulated w b t reasons → IsOfMachine t w → r ≡ ended_by count
-      → (unmet : ℕ) × (count ≡ counted unmet) × (last : WorldState) × ComesOut (SaysLine s.reasons s.table) (line_read s.table) s.world given.bytes last unmet old new → RunsLive reasons t given old new r
+      → (unmet : ℕ) × (count ≡ counted unmet) × (last : WorldState) × ComesOut (SaysLine s.reasons s.table) (λ (v : WorldState). s.reasons) (line_read s.table) s.world given.bytes last unmet old new → RunsLive reasons t given old new r
   live_ran r given old new reasons t w s count of_it begins is (unmet, counts, last, all) =
-      let here : ComesOut (SaysLine reasons t) (line_read t) w given.bytes last unmet old new =
-      subst (λ (x : Simulated S). ComesOut (SaysLine x.reasons x.table) (line_read x.table) x.world given.bytes last unmet old new) of_it all in
+      let here : ComesOut (SaysLine reasons t) (λ (v : WorldState). reasons) (line_read t) w given.bytes last unmet old new =
+      subst (λ (x : Simulated S). ComesOut (SaysLine x.reasons x.table) (λ (v : WorldState). x.reasons) (line_read x.table) x.world given.bytes last unmet old new) of_it all in
       run_ended r (LivesAll reasons t given.bytes old new) (LivesPart reasons t given.bytes old new) given.is_refused old new count is (unmet, counts, (w, begins, last, here))
 
   pub live_cut : (r : Result Unit Refusal) (printed : Result ℕ Refusal) (e : Refusal) (given : Given) (old new : OutputState) (reasons : Reasons) (t : Contents) (w : WorldState) (s : Simulated S)
       → s ≡ simulated w b t reasons → IsOfMachine t w → printed ≡ Err e
-      → OnErr printed ((last : WorldState) × ComesPart (SaysLine s.reasons s.table) (line_read s.table) s.world given.bytes last old new) → IfErr printed (IsLate given.is_refused new) → IsErrAnd r (λ x. x ≡ e)
+      → OnErr printed ((last : WorldState) × ComesPart (SaysLine s.reasons s.table) (λ (v : WorldState). s.reasons) (line_read s.table) s.world given.bytes last old new) → IfErr printed (IsLate given.is_refused new) → IsErrAnd r (λ x. x ≡ e)
       → RunsLive reasons t given old new r
   live_cut r printed e given old new reasons t w s of_it begins is some late same =
-      run_cut r printed e (LivesAll reasons t given.bytes old new) (LivesPart reasons t given.bytes old new) ((last : WorldState) × ComesPart (SaysLine s.reasons s.table) (line_read s.table) s.world given.bytes last old new)
+      run_cut r printed e (LivesAll reasons t given.bytes old new) (LivesPart reasons t given.bytes old new) ((last : WorldState) × ComesPart (SaysLine s.reasons s.table) (λ (v : WorldState). s.reasons) (line_read s.table) s.world given.bytes last old new)
       given.is_refused old new is some late
-      (λ part. (w, begins, part.0, subst (λ (x : Simulated S). ComesPart (SaysLine x.reasons x.table) (line_read x.table) x.world given.bytes part.0 old new) of_it part.1)) same
+      (λ part. (w, begins, part.0, subst (λ (x : Simulated S). ComesPart (SaysLine x.reasons x.table) (λ (v : WorldState). x.reasons) (line_read x.table) x.world given.bytes part.0 old new) of_it part.1)) same

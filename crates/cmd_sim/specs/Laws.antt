@@ -11,13 +11,14 @@ use Rattle.ec_script.specs.Scripts.{repeated}
 use Rattle.ec_simulation.specs.Events.{DoesAll}
 use Rattle.ec_console.specs.declared.wanted.Reasons.{Reasons}
 use Rattle.ec_console.specs.declared.wanted.Reasons.TheVariants.{Omitted}
-use Rattle.ec_console.specs.Coming.{SaysFrom}
+use Rattle.ec_console.specs.Coming.{ComingOnlyAdds, SaysFrom}
 use Rattle.ec_console.specs.Reasons.{OnlyAdds}
 use Rattle.cmd_sim.specs.Simulating.{SaysLine, line_read}
 
--- With reasons, lines leave the world that they leave without, and are unmet as often. They print the same but for the reasons.
+-- With reasons, lines leave the world that they leave without, and are unmet as often. They print the same but for the reasons. So do
+-- lines that come, bad ones among them.
 abbrev pub ReasonsOnlyAdd : Type 0
-ReasonsOnlyAdd = (reasons : Reasons) (t : Contents) → OnlyAdds (SaysLine reasons t) (SaysLine Omitted t)
+ReasonsOnlyAdd = (reasons : Reasons) (t : Contents) → OnlyAdds (SaysLine reasons t) (SaysLine Omitted t) × ComingOnlyAdds (SaysLine reasons t) (SaysLine Omitted t) (λ v. reasons)
 
 -- a line before others, if it stands for something
 abbrev pub with_line : Reading → List Line → List Line
@@ -34,9 +35,9 @@ live_lines t n (line ∷ lines) = with_line (line_read t n line) (live_lines t (
 -- difference.
 abbrev pub LivesAreScripts : Type 0
 LivesAreScripts = (reasons : Reasons) (t : Contents) (w : WorldState) (n : ℕ) (lines : List (List ℕ)) (new : WorldState) (printed : List ℕ) (unmet : ℕ)
-    → SaysFrom (SaysLine reasons t) (line_read t) w n lines new printed unmet → DoesAll (repeated (live_lines t n lines)) w new
+    → SaysFrom (SaysLine reasons t) (λ v. reasons) (line_read t) w n lines new printed unmet → DoesAll (repeated (live_lines t n lines)) w new
 
 -- A run of events leads to that world.
 abbrev pub LivesRun : Type 0
 LivesRun = (reasons : Reasons) (t : Contents) (w : WorldState) (n : ℕ) (lines : List (List ℕ)) (new : WorldState) (printed : List ℕ) (unmet : ℕ)
-    → SaysFrom (SaysLine reasons t) (line_read t) w n lines new printed unmet → (events : List Event) × IsRun w events new (length events)
+    → SaysFrom (SaysLine reasons t) (λ v. reasons) (line_read t) w n lines new printed unmet → (events : List Event) × IsRun w events new (length events)

@@ -85,13 +85,13 @@ RunsPart reasons t lines old new = (w : WorldState) × IsOfMachine t w × (last 
 abbrev pub RunsLines : Reasons → Contents → List Line → (old new : OutputState) → Result Unit Refusal → Type 0
 RunsLines reasons t lines old new ended = EndsRun (RunsAll reasons t lines old new) (RunsPart reasons t lines old new) false old new ended
 
--- the same for the lines of an input, which are done as they come
+-- the same for the lines of an input, which are done as they come; reasons also stand behind bad ones
 abbrev pub LivesAll : Reasons → Contents → (given : Option (List ℕ)) → (old new : OutputState) → (unmet : ℕ) → Type 0
 LivesAll reasons t given old new unmet =
-    (w : WorldState) × IsOfMachine t w × (last : WorldState) × ComesOut (SaysLine reasons t) (line_read t) w given last unmet old new
+    (w : WorldState) × IsOfMachine t w × (last : WorldState) × ComesOut (SaysLine reasons t) (λ v. reasons) (line_read t) w given last unmet old new
 
 abbrev pub LivesPart : Reasons → Contents → (given : Option (List ℕ)) → (old new : OutputState) → Type 0
-LivesPart reasons t given old new = (w : WorldState) × IsOfMachine t w × (last : WorldState) × ComesPart (SaysLine reasons t) (line_read t) w given last old new
+LivesPart reasons t given old new = (w : WorldState) × IsOfMachine t w × (last : WorldState) × ComesPart (SaysLine reasons t) (λ v. reasons) (line_read t) w given last old new
 
 abbrev pub RunsLive : Reasons → Contents → (given : Given) → (old new : OutputState) → Result Unit Refusal → Type 0
 RunsLive reasons t given old new ended = EndsRun (LivesAll reasons t given.bytes old new) (LivesPart reasons t given.bytes old new) given.is_refused old new ended

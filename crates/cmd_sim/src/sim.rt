@@ -48,8 +48,8 @@ pub fn run_script<F: Write + Drop, W: Write + Drop>(
 }
 
 /// Runs the lines that an input gives over a new segment of a machine, each as it comes. The text of a line is printed before the next
-/// one is read, and with `reasons` also why it says `no`. A line that can't be read prints `bad` and its number, and does nothing.
-/// The slaves begin at power-on, with the identities of the table. The frames go into an open capture, if there is one.
+/// one is read. A line that can't be read prints `bad` and its number, and does nothing. With `reasons`, why a line is bad or says `no`
+/// stands behind its text. The slaves begin at power-on, with the identities of the table. The frames go into an open capture, if there is one.
 ///
 /// # Errors
 ///
@@ -123,10 +123,10 @@ fn print_input<S: Watcher + Drop, R: Read + Drop, W: Write + Drop>(
     output: &mut OutputStream<W>,
 ) -> Result<u64, Refusal>
     ensures all { IfOk result (λ count. (unmet : ℕ) × (count ≡ counted unmet)
-        × ComesOut (SaysLine simulation.old.reasons simulation.old.table) (line_read simulation.old.table) simulation.old.world
-        (bytes_left R.remaining input.old) simulation.new.world unmet output.old output.new) }
-    ensures part { OnErr result (ComesPart (SaysLine simulation.old.reasons simulation.old.table) (line_read simulation.old.table)
-        simulation.old.world (bytes_left R.remaining input.old) simulation.new.world output.old output.new) }
+        × ComesOut (SaysLine simulation.old.reasons simulation.old.table) (λ w. simulation.old.reasons)
+        (line_read simulation.old.table) simulation.old.world (bytes_left R.remaining input.old) simulation.new.world unmet output.old output.new) }
+    ensures part { OnErr result (ComesPart (SaysLine simulation.old.reasons simulation.old.table) (λ w. simulation.old.reasons)
+        (line_read simulation.old.table) simulation.old.world (bytes_left R.remaining input.old) simulation.new.world output.old output.new) }
     ensures late { IfErr result (IsLate input.new.is_refused output.new) }
 {
     run_input(alloc, simulation, input, output)
@@ -171,10 +171,10 @@ fn print_coming<F: Write + Drop, R: Read + Drop, W: Write + Drop>(
     output: &mut OutputStream<W>,
 ) -> Result<u64, Refusal>
     ensures all { IfOk result (λ count. (unmet : ℕ) × (count ≡ counted unmet) × (last : WorldState)
-        × ComesOut (SaysLine simulation.entry.reasons simulation.entry.table) (line_read simulation.entry.table) simulation.entry.world
-        (bytes_left R.remaining input.old) last unmet output.old output.new) }
+        × ComesOut (SaysLine simulation.entry.reasons simulation.entry.table) (λ w. simulation.entry.reasons)
+        (line_read simulation.entry.table) simulation.entry.world (bytes_left R.remaining input.old) last unmet output.old output.new) }
     ensures part { OnErr result ((last : WorldState) × ComesPart (SaysLine simulation.entry.reasons simulation.entry.table)
-        (line_read simulation.entry.table) simulation.entry.world (bytes_left R.remaining input.old) last output.old output.new) }
+        (λ w. simulation.entry.reasons) (line_read simulation.entry.table) simulation.entry.world (bytes_left R.remaining input.old) last output.old output.new) }
     ensures late { IfErr result (IsLate input.new.is_refused output.new) }
     ensures still_open { is_some capture.new ≡ is_some capture.old }
 {

@@ -16,7 +16,7 @@ use ec_world::{Watcher, World};
 use std::alloc::{AllocError, Global};
 use std::marker::Model;
 
-/// A simulated segment that lines act on, and what watches its events. With reasons, it also says why a line can't be done.
+/// A simulated segment that lines act on, and what watches its events. With reasons, it also says why a line is bad or can't be done.
 #[derive(Drop)]
 pub struct Simulation<'m, S: Watcher + Drop> {
     world: World<'m>,
@@ -87,13 +87,6 @@ impl<'m, S: Watcher + Drop> Simulation<'m, S> {
         self.world.plan()
     }
 
-    /// Whether it says why a line can't be done.
-    pub fn reasons(&self) -> Reasons
-        ensures { result ≡ self.now.reasons }
-    {
-        self.reasons
-    }
-
     /// The watcher, with what it kept.
     pub fn into_watcher(self) -> S
         ensures { result ≡ self.entry.watcher }
@@ -109,6 +102,8 @@ impl<'m, S: Watcher + Drop> Target for Simulation<'m, S> {
 
     ghost takes = { takes_action };
 
+    ghost reasons = { λ s. s.reasons };
+
     ghost says = { Simulates S.observed };
 
     fn table(&self) -> &Table {
@@ -117,6 +112,10 @@ impl<'m, S: Watcher + Drop> Target for Simulation<'m, S> {
 
     fn takes(&self, action: LineAction) -> bool {
         is_simulated(action)
+    }
+
+    fn reasons(&self) -> Reasons {
+        self.reasons
     }
 
     fn obey(&mut self, alloc: Global, line: &Line) -> Result<Said, AllocError> {

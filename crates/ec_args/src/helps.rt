@@ -272,7 +272,8 @@ Other lines print nothing. A repeated line prints each time.
 
 With `--live` each line is run as it comes. What it prints is written out before the next one is
 read. So another program can be the plant, or the control program, through a pipe. A line without a
-valid form then prints `bad LINE` instead of 39, and changes nothing.
+valid form then prints `bad LINE` instead of 39, and changes nothing. With `--explain` the line
+behind it says why.
 
 Exit status:
   0  the script was run to its end, even if lines printed `no` or `failed`
@@ -394,7 +395,8 @@ Lines of `--live`:
 
 What a line prints, before the next one runs:
   no LINE         the line of this number can't be done. With `--explain` the next line says why
-  bad LINE        it has none of these forms, and did nothing
+  bad LINE        it has none of these forms, and did nothing. With `--explain` the next line says
+                  why
   byte BYTE       what `get` read, in hex
   NAME VALUE      the output variable, after `out`
   served N refused M
@@ -479,7 +481,8 @@ What a line prints; lines count from 1 behind `%%`:
                     `set` of an input variable, or of a value that the variable can't hold
                     `report` before the first one
   bad LINE        the line is none of these, and nothing was done. `expect` of an output variable is
-                  bad too: no frame carries what slaves show of it
+                  bad too: no frame carries what slaves show of it. With `--explain` the line behind
+                  it says why
 Other lines print nothing. A repeated line prints each time.
 
 Exit status:

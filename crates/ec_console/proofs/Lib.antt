@@ -18,5 +18,6 @@ pub mod EndLemmas
 pub mod MapLemmas
 -- reasons between what lines print
 pub mod ReasonLemmas
--- a line that was taken
+-- a line that was taken, and bad ones
 mod TakenLines
+mod BadLines

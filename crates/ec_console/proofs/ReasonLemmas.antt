@@ -1,10 +1,15 @@
 -- Reasons between what lines print.
-use Rattle.std.proofs.Common.{◌≡◌, ◌≢◌, ◌∙◌, inl, inr, ℕ, List, [], ◌∷◌, ◌++◌, Bool, true, false, refl, ap, arith}
+use Rattle.std.proofs.Common.{◌≡◌, ◌≢◌, ◌∙◌, inl, inr, ℕ, ◌+◌, List, [], ◌∷◌, ◌++◌, replicate, Bool, true, false, refl, sym, ap, append_assoc, append-nil, arith}
 use Rattle.std.specs.Prelude.{◌⊎◌, codes}
 use Rattle.std.proofs.lemmas.List.Elements.{All-cons, All-nil}
 use Rattle.ec_diagnostic.specs.Reason.{IsReason}
 use Rattle.ec_script.specs.declared.line.Line.{Line}
-use Rattle.ec_console.specs.Reasons.{OnlyAdds, Part, ReasonIf, with_reasons, without_reasons}
+use Rattle.ec_script.specs.declared.read.Reading.{Reading}
+use Rattle.ec_script.specs.declared.read.Reading.TheVariants as reading
+use Rattle.ec_console.specs.declared.wanted.Reasons.{Reasons}
+use Rattle.ec_console.specs.declared.wanted.Reasons.TheVariants.{Omitted}
+use Rattle.ec_console.specs.Coming.{ComingOnlyAdds, SaysReading, bad_text}
+use Rattle.ec_console.specs.Reasons.{OnlyAdds, Part, ReasonIf, is_added, with_reasons, without_reasons}
 
 pub reason_if : (b : Bool) (why : List ℕ) → ReasonIf b why → (why ≡ []) ⊎ IsReason why
 reason_if true why h = inr h
@@ -36,14 +41,50 @@ pub some_why : (b : Bool) → (why : List ℕ) × ReasonIf b why
 some_why true = (codes "  " ++ (mark ++ (10 ∷ [])), some_reason)
 some_why false = ([], refl)
 
+with_append : (ps qs : List Part) → with_reasons (ps ++ qs) ≡ with_reasons ps ++ with_reasons qs
+with_append [] qs = refl
+with_append (p ∷ ps) qs = ap (λ (r : List ℕ). (p.said ++ p.why) ++ r) (with_append ps qs) ∙ sym (append_assoc (p.said ++ p.why) (with_reasons ps) (with_reasons qs))
+
+without_append : (ps qs : List Part) → without_reasons (ps ++ qs) ≡ without_reasons ps ++ without_reasons qs
+without_append [] qs = refl
+without_append (p ∷ ps) qs = ap (λ (r : List ℕ). p.said ++ r) (without_append ps qs) ∙ sym (append_assoc p.said (without_reasons ps) (without_reasons qs))
+
 -- lines that only add reasons, since each of them does
 module _ {S : Type 0} (reasoned plain : S → Line → S → List ℕ → ℕ → Type 0) (each : (s : S) (line : Line) (new : S) (text : List ℕ) (unmet : ℕ) → reasoned s line new text unmet → (part : Part) × (text ≡ part.said ++ part.why) × plain s line new part.said unmet) where
-  pub only_adds : OnlyAdds reasoned plain
-  only_adds s [] new printed unmet h = ([], h.1, (h.0, refl, h.2))
-  only_adds s (line ∷ lines) new printed unmet (mid, text, more, first, rest, said, says, is, count) =
+  lines_add : OnlyAdds reasoned plain
+  lines_add s [] new printed unmet h = ([], h.1, (h.0, refl, h.2))
+  lines_add s (line ∷ lines) new printed unmet (mid, text, more, first, rest, said, says, is, count) =
       let here = each s line mid text first said in
-      let behind = only_adds mid lines new more rest says in (
+      let behind = lines_add mid lines new more rest says in (
         here.0 ∷ behind.0,
         is ∙ joined text more (here.0.said ++ here.0.why) (with_reasons behind.0) here.1 behind.1,
         (mid, here.0.said, without_reasons behind.0, first, rest, here.2, behind.2, refl, count),
       )
+
+  -- ---- lines that come
+
+  -- a bad line has one reason, and another has those of each time that it is done
+  reading_adds : (reasons : Reasons) (s : S) (n : ℕ) (r : Reading) (new : S) (printed : List ℕ) (unmet : ℕ) → SaysReading reasoned reasons s n r new printed unmet
+      → (parts : List Part) × (printed ≡ with_reasons parts) × SaysReading plain Omitted s n r new (without_reasons parts) unmet
+  reading_adds reasons s n reading.Empty new printed unmet h = ([], h.1, (h.0, refl, h.2))
+  reading_adds reasons s n reading.Bad new printed unmet (same, (why, reason, is), none) = (
+    record { said = bad_text n; why = why; is = reason_if (is_added reasons) why reason } ∷ [],
+    is ∙ sym (append-nil (bad_text n ++ why)),
+    (same, ([], refl, refl), none),
+  )
+  reading_adds reasons s n (reading.Line line) new printed unmet h = lines_add s (replicate line.times line) new printed unmet h
+
+  coming_adds : (told : S → Reasons) → ComingOnlyAdds reasoned plain told
+  coming_adds told read s n [] new printed unmet h = ([], h.1, (h.0, refl, h.2))
+  coming_adds told read s n (line ∷ lines) new printed unmet (mid, text, more, first, rest, said, says, is, count) =
+      let here = reading_adds (told s) s n (read n line) mid text first said in
+      let behind = coming_adds told read mid (n + 1) lines new more rest says in (
+        here.0 ++ behind.0,
+        is ∙ (joined text more (with_reasons here.0) (with_reasons behind.0) here.1 behind.1 ∙ sym (with_append here.0 behind.0)),
+        (mid, without_reasons here.0, without_reasons behind.0, first, rest, here.2, behind.2, without_append here.0 behind.0, count),
+      )
+
+  -- ---- both
+
+  pub only_adds : (told : S → Reasons) → OnlyAdds reasoned plain × ComingOnlyAdds reasoned plain told
+  only_adds told = (lines_add, coming_adds told)

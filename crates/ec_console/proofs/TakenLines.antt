@@ -8,6 +8,7 @@ use Rattle.ec_script.specs.declared.line.LineAction.{LineAction}
 use Rattle.ec_script.specs.declared.read.Reading.{Reading}
 use Rattle.ec_script.specs.declared.read.Reading.TheVariants as reading
 use Rattle.ec_script.specs.Scripts.{reading_of, taken_by}
+use Rattle.ec_console.specs.declared.wanted.Reasons.{Reasons}
 use Rattle.ec_console.specs.Coming.{DoesTaken, PartOf, SaysReading, StopsIn, reading_at, reading_if}
 use Rattle.ec_console.specs.Printing.{IsPrinted, OutputState}
 use Rattle.ec_console.specs.Stages.{IsNext}
@@ -43,51 +44,51 @@ next_taken read old new next found (line, takes, taken) is = subst (IsNext read 
 
 -- ---- what becomes of it
 
-module _ {S : Type 0} (one : S → Line → S → List ℕ → ℕ → Type 0) (read : ℕ → List ℕ → Reading) where
+module _ {S : Type 0} (one : S → Line → S → List ℕ → ℕ → Type 0) (reasons : Reasons) (read : ℕ → List ℕ → Reading) where
   -- at the end of an input nothing is done
-  pub does_none : (s : S) (n : ℕ) (line : List ℕ) (output : OutputState) → None ≡ reading_if (read n) line → DoesTaken one read s n line s 0 output output
+  pub does_none : (s : S) (n : ℕ) (line : List ℕ) (output : OutputState) → None ≡ reading_if (read n) line → DoesTaken one reasons read s n line s 0 output output
   does_none s n [] output is = (refl, refl, refl)
   does_none s n (b ∷ bs) output is = absurd (none_some (read n (b ∷ bs)) is)
     where
       none_some : (r : Reading) → None ≡ Some r → ⊥
       none_some r e = cc
 
-  does_some : (s t : S) (n unmet : ℕ) (r : Reading) (line printed : List ℕ) (old new : OutputState) → Some r ≡ reading_if (read n) line → SaysReading one s n r t printed unmet → IsPrinted old new printed
-      → DoesTaken one read s n line t unmet old new
+  does_some : (s t : S) (n unmet : ℕ) (r : Reading) (line printed : List ℕ) (old new : OutputState) → Some r ≡ reading_if (read n) line → SaysReading one reasons s n r t printed unmet → IsPrinted old new printed
+      → DoesTaken one reasons read s n line t unmet old new
   does_some s t n unmet r [] printed old new is says prints = absurd (some_none r is)
     where
       some_none : (x : Reading) → Some x ≡ None → ⊥
       some_none x e = cc
-  does_some s t n unmet r (b ∷ bs) printed old new is says prints = (printed, subst (λ (x : Reading). SaysReading one s n x t printed unmet) (same r (read n (b ∷ bs)) is) says, prints)
+  does_some s t n unmet r (b ∷ bs) printed old new is says prints = (printed, subst (λ (x : Reading). SaysReading one reasons s n x t printed unmet) (same r (read n (b ∷ bs)) is) says, prints)
     where
       same : (x y : Reading) → Some x ≡ Some y → x ≡ y
       same x y e = cc
 
-  stops_some : (s t : S) (n : ℕ) (r : Reading) (line : List ℕ) (old new : OutputState) → Some r ≡ reading_if (read n) line → PartOf one s n r t old new → StopsIn one read s n line t old new
+  stops_some : (s t : S) (n : ℕ) (r : Reading) (line : List ℕ) (old new : OutputState) → Some r ≡ reading_if (read n) line → PartOf one reasons s n r t old new → StopsIn one reasons read s n line t old new
   stops_some s t n r [] old new is part = absurd (some_none r is)
     where
       some_none : (x : Reading) → Some x ≡ None → ⊥
       some_none x e = cc
-  stops_some s t n r (b ∷ bs) old new is part = inr (subst (λ (x : Reading). PartOf one s n x t old new) (same r (read n (b ∷ bs)) is) part)
+  stops_some s t n r (b ∷ bs) old new is part = inr (subst (λ (x : Reading). PartOf one reasons s n x t old new) (same r (read n (b ∷ bs)) is) part)
     where
       same : (x y : Reading) → Some x ≡ Some y → x ≡ y
       same x y e = cc
 
   -- a line is done
   pub taken_does : {E : Type 0} (result : Result ℕ E) (s t : S) (n : ℕ) (r : Reading) (next : NextLine) (old new : OutputState) → ((line : List ℕ) → IsTaken line next → Some r ≡ reading_if (read n) line)
-      → IfOk result (λ count. (unmet : ℕ) × (count ≡ counted unmet) × (printed : List ℕ) × SaysReading one s n r t printed unmet × IsPrinted old new printed)
-      → IfOk result (λ count. (unmet : ℕ) × (count ≡ counted unmet) × ((line : List ℕ) → IsTaken line next → DoesTaken one read s n line t unmet old new))
+      → IfOk result (λ count. (unmet : ℕ) × (count ≡ counted unmet) × (printed : List ℕ) × SaysReading one reasons s n r t printed unmet × IsPrinted old new printed)
+      → IfOk result (λ count. (unmet : ℕ) × (count ≡ counted unmet) × ((line : List ℕ) → IsTaken line next → DoesTaken one reasons read s n line t unmet old new))
   taken_does {E} (Ok count) s t n r next old new is (unmet, counts, printed, says, prints) =
       (unmet, counts, λ line taken. does_some s t n unmet r line printed old new (is line taken) says prints)
   taken_does {E} (Err e) s t n r next old new is h = tt
 
   -- or cut short
   pub taken_stops : {E : Type 0} (result : Result ℕ E) (s t : S) (n : ℕ) (r : Reading) (next : NextLine) (old new : OutputState) → ((line : List ℕ) → IsTaken line next → Some r ≡ reading_if (read n) line)
-      → OnErr result (PartOf one s n r t old new) → OnErr result ((line : List ℕ) → IsTaken line next → StopsIn one read s n line t old new)
+      → OnErr result (PartOf one reasons s n r t old new) → OnErr result ((line : List ℕ) → IsTaken line next → StopsIn one reasons read s n line t old new)
   taken_stops {E} (Ok count) s t n r next old new is h = tt
   taken_stops {E} (Err e) s t n r next old new is h = λ line taken. stops_some s t n r line old new (is line taken) h
 
   -- or not begun
-  pub taken_unread : {E : Type 0} (result : Result ℕ E) (s : S) (n : ℕ) (next : NextLine) (output : OutputState) → OnErr result ((line : List ℕ) → IsTaken line next → StopsIn one read s n line s output output)
+  pub taken_unread : {E : Type 0} (result : Result ℕ E) (s : S) (n : ℕ) (next : NextLine) (output : OutputState) → OnErr result ((line : List ℕ) → IsTaken line next → StopsIn one reasons read s n line s output output)
   taken_unread {E} (Ok count) s n next output = tt
   taken_unread {E} (Err e) s n next output = λ line taken. inl (refl, refl)

@@ -1,7 +1,7 @@
 -- To be believed by reading, in this order: the refusals, what an input gives and its refusals, and what is left on the output.
 -- Then how a run with expectations ends, what stands behind a refusal's line, and what a capture adds to a command. Then what all
--- commands have in common that run a machine. Last what lines do to a target, as they stand in a script or come from an input, and the
--- reasons between what they print.
+-- commands have in common that run a machine. Last what lines do to a target, as they stand in a script; the reasons between what they
+-- print; and lines that come from an input.
 pub mod Refusals
 pub mod Given
 pub mod Printing
@@ -10,8 +10,8 @@ pub mod Explaining
 pub mod Capturing
 pub mod Stating
 pub mod Saying
-pub mod Coming
 pub mod Reasons
+pub mod Coming
 -- Laws: what the definitions say together.
 pub mod Laws
 -- Private: these serve private code and its proofs alone.

@@ -11,6 +11,11 @@ abbrev pub reasons_of : Bool → Reasons
 reasons_of true = Added
 reasons_of false = Omitted
 
+-- whether they are wanted
+abbrev pub is_added : Reasons → Bool
+is_added Added = true
+is_added Omitted = false
+
 -- a reason, or nothing
 abbrev pub ReasonIf : Bool → List ℕ → Type 0
 ReasonIf true why = IsReason why

@@ -3,6 +3,7 @@
 //! table is accepted, and is whole if a run ends well. One interpreter runs lines, whatever they act on.
 #![tactic(auto)]
 
+mod bad;
 mod captures;
 mod console;
 mod explain;

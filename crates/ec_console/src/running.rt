@@ -3,13 +3,14 @@ ghost use Rattle.std.specs.Prelude.{◌≡◌, ◌∷◌, [], ℕ, List, IfErr, 
 ghost use Rattle.ec_lines.specs.Inputs.{bytes_left};
 ghost use Rattle.ec_lines.specs.Taking.{IsTaken};
 ghost use Rattle.ec_script.specs.Scripts.{repeated, taken_by};
-ghost use Rattle.ec_console.specs.Coming.{ComesOut, ComesPart, DoesTaken, PartOf, SaysReading, StopsIn, bad_text, reading_at, reading_if};
+ghost use Rattle.ec_console.specs.Coming.{ComesOut, ComesPart, DoesTaken, IsBadText, PartOf, SaysReading, StopsIn, reading_at, reading_if};
 ghost use Rattle.ec_console.specs.Given.{IsReadRefusal};
 ghost use Rattle.ec_console.specs.Printing.{IsPartPrinted, IsPrinted};
 ghost use Rattle.ec_console.specs.Saying.{IsLate, PrintsAll, PrintsPart};
 ghost use Rattle.ec_console.specs.Stages.{IsNext};
 ghost use Rattle.ec_console.specs.Unmet.{counted, unmet_of};
 
+use crate::bad::bad_text;
 use crate::printing::print_text;
 use crate::{OutputStream, Refusal, Target};
 use ec_lines::{InputStream, NextLine, take_line};
@@ -44,8 +45,8 @@ pub fn run_lines<T: Target, W: Write + Drop>(
 }
 
 /// Does the lines that an input gives, each as it comes. The text of a line is printed before the next one is taken. A line that can't be
-/// read, or whose action the target doesn't take, prints `bad` and its number, and does nothing. Returns how often what lines expect
-/// isn't so.
+/// read, or whose action the target doesn't take, prints `bad` and its number, also why if the target gives reasons, and does nothing.
+/// Returns how often what lines expect isn't so.
 ///
 /// # Errors
 ///
@@ -58,19 +59,20 @@ pub fn run_input<T: Target, R: Read + Drop, W: Write + Drop>(
     output: &mut OutputStream<W>,
 ) -> Result<u64, Refusal>
     ensures all { IfOk result (λ count. (unmet : ℕ) × (count ≡ counted unmet)
-        × ComesOut T.says (reading_at T.takes (T.table target.old)) target.old (bytes_left R.remaining input.old) target.new unmet
+        × ComesOut T.says T.reasons (reading_at T.takes (T.table target.old)) target.old (bytes_left R.remaining input.old) target.new unmet
         output.old output.new) }
-    ensures part { OnErr result (ComesPart T.says (reading_at T.takes (T.table target.old)) target.old (bytes_left R.remaining input.old) target.new
-        output.old output.new) }
+    ensures part { OnErr result (ComesPart T.says T.reasons (reading_at T.takes (T.table target.old)) target.old (bytes_left R.remaining input.old)
+        target.new output.old output.new) }
     ensures late { IfErr result (IsLate input.new.is_refused output.new) }
     ensures table { T.table target.new ≡ T.table target.old }
 {
     let mut unmet: u64 = 0;
     for place in 0..usize::MAX {
-        let Some(reading) = next_reading(alloc, target, place + 1, input)? else {
+        let next = next_line(alloc, target, place + 1, input)?;
+        let Some(reading) = next.reading else {
             return Ok(unmet);
         };
-        let count = obey_reading(alloc, target, place + 1, reading, output)?;
+        let count = obey_reading(alloc, target, place + 1, &next.taken, reading, output)?;
         unmet = unmet.saturating_add(count);
     }
     // There is no number for a further line.
@@ -78,8 +80,8 @@ pub fn run_input<T: Target, R: Read + Drop, W: Write + Drop>(
 }
 
 /// Does a line of an input, line `number`, that was taken, and prints its text. One that can't be read, or whose action the target doesn't
-/// take, prints `bad` and its number, and does nothing. At the end of the input nothing is done. Returns how often what the line expects
-/// isn't so.
+/// take, prints `bad` and its number, also why if the target gives reasons, and does nothing. At the end of the input nothing is done.
+/// Returns how often what the line expects isn't so.
 ///
 /// # Errors
 ///
@@ -92,31 +94,33 @@ pub fn obey_taken<T: Target, W: Write + Drop>(
     output: &mut OutputStream<W>,
 ) -> Result<u64, Refusal>
     ensures all { IfOk result (λ count. (unmet : ℕ) × (count ≡ counted unmet)
-        × ((line : List ℕ) → IsTaken line taken → DoesTaken T.says (reading_at T.takes (T.table target.old)) target.old number line
-        target.new unmet output.old output.new)) }
+        × ((line : List ℕ) → IsTaken line taken → DoesTaken T.says (T.reasons target.old) (reading_at T.takes (T.table target.old)) target.old
+        number line target.new unmet output.old output.new)) }
     ensures part { OnErr result ((line : List ℕ) → IsTaken line taken
-        → StopsIn T.says (reading_at T.takes (T.table target.old)) target.old number line target.new output.old output.new) }
+        → StopsIn T.says (T.reasons target.old) (reading_at T.takes (T.table target.old)) target.old number line target.new
+        output.old output.new) }
     ensures late { IfErr result (IsLate false output.new) }
     ensures table { T.table target.new ≡ T.table target.old }
 {
-    match reading_of(alloc, target, number, taken)? {
+    match reading_of(alloc, target, number, &taken)? {
         None => Ok(0),
-        Some(reading) => obey_reading(alloc, target, number, reading, output),
+        Some(reading) => obey_reading(alloc, target, number, &taken, reading, output),
     }
 }
 
-/// Does what line `number` of an input is, and prints its text. Returns how often what it expects isn't so.
+/// Does what line `number` of an input is, as it was taken, and prints its text. Returns how often what it expects isn't so.
 fn obey_reading<T: Target, W: Write + Drop>(
     alloc: Global,
     target: &mut T,
     number: usize,
+    taken: &NextLine,
     reading: Reading,
     output: &mut OutputStream<W>,
 ) -> Result<u64, Refusal>
     ensures all { IfOk result (λ count. (unmet : ℕ) × (count ≡ counted unmet) × (printed : List ℕ)
-        × SaysReading T.says target.old number reading target.new printed unmet
+        × SaysReading T.says (T.reasons target.old) target.old number reading target.new printed unmet
         × IsPrinted output.old output.new printed) }
-    ensures part { OnErr result (PartOf T.says target.old number reading target.new output.old output.new) }
+    ensures part { OnErr result (PartOf T.says (T.reasons target.old) target.old number reading target.new output.old output.new) }
     ensures late { IfErr result (IsLate false output.new) }
     ensures table { T.table target.new ≡ T.table target.old }
 {
@@ -124,7 +128,7 @@ fn obey_reading<T: Target, W: Write + Drop>(
         Reading::Empty => Ok(0),
         Reading::Line(line) => obey_line(alloc, target, &line, output),
         Reading::Bad => {
-            print_bad(alloc, number, output)?;
+            print_bad(alloc, target, number, taken, output)?;
             Ok(0)
         }
     }
@@ -171,35 +175,47 @@ fn obey_once<T: Target, W: Write + Drop>(
     Ok(said.is_unmet)
 }
 
-/// Prints `bad` and the number of a line.
-#[tactic(auto, using(crate::proofs::Late::write_late, crate::proofs::Late::cut_part))]
-fn print_bad<W: Write + Drop>(
+/// Prints the text of a bad line, line `number`, as it was taken.
+#[tactic(auto, using(crate::proofs::Late::write_late))]
+fn print_bad<T: Target, W: Write + Drop>(
     alloc: Global,
+    target: &T,
     number: usize,
+    taken: &NextLine,
     output: &mut OutputStream<W>,
 ) -> Result<(), Refusal>
-    ensures all { OnOk result (IsPrinted output.old output.new (bad_text number)) }
-    ensures part { OnErr result (IsPartPrinted output.old output.new (bad_text number)) }
+    ensures all { OnOk result ((printed : List ℕ) × IsBadText (T.reasons target.now) number printed
+        × IsPrinted output.old output.new printed) }
+    ensures part { OnErr result ((printed : List ℕ) × IsBadText (T.reasons target.now) number printed
+        × IsPartPrinted output.old output.new printed) }
     ensures late { IfErr result (IsLate false output.new) }
 {
-    let text = format!(in alloc; "bad {number}\n")?;
+    let text = bad_text(alloc, target, number, taken)?;
     print_text(text.as_bytes(), output)
 }
 
-/// What the next line of an input, line `number`, is to a target. A line that isn't text is bad. `None` if the input has ended.
+/// A line that was taken, and what it is to a target: nothing at the end of an input.
+#[derive(Drop)]
+struct TakenLine {
+    taken: NextLine,
+    reading: Option<Reading>,
+}
+
+/// Takes the next line of an input, line `number`. A line that isn't text is bad.
 #[tactic(auto, using(crate::proofs::Late::unread))]
-fn next_reading<T: Target, R: Read + Drop>(
+fn next_line<T: Target, R: Read + Drop>(
     alloc: Global,
     target: &T,
     number: usize,
     input: &mut InputStream<R>,
-) -> Result<Option<Reading>, Refusal>
-    ensures next { IfOk result (IsNext (reading_at T.takes (T.table target.now) number)
-        (bytes_left R.remaining input.old) (bytes_left R.remaining input.new)) }
+) -> Result<TakenLine, Refusal>
+    ensures next { IfOk result (λ line. IsNext (reading_at T.takes (T.table target.now) number)
+        (bytes_left R.remaining input.old) (bytes_left R.remaining input.new) line.reading) }
     ensures late { IfErr result (IsReadRefusal input.new.is_refused) }
 {
     let taken = take_line(alloc, input)?;
-    Ok(reading_of(alloc, target, number, taken)?)
+    let reading = reading_of(alloc, target, number, &taken)?;
+    Ok(TakenLine { taken, reading })
 }
 
 /// What a line of an input, line `number`, is to a target. A line that isn't text is bad. `None` at the end of the input.
@@ -207,9 +223,9 @@ fn reading_of<T: Target>(
     alloc: Global,
     target: &T,
     number: usize,
-    taken: NextLine,
+    taken: &NextLine,
 ) -> Result<Option<Reading>, AllocError>
-    ensures { IfOk result (λ found. (line : List ℕ) → IsTaken line taken
+    ensures { IfOk result (λ found. (line : List ℕ) → IsTaken line taken.now
         → found ≡ reading_if (reading_at T.takes (T.table target.now) number) line) }
 {
     match taken {

@@ -2,6 +2,7 @@
 ghost use Rattle.std.specs.Prelude.{◌≡◌, ℕ, List, IfOk, OnErr, string_bytes};
 ghost use Rattle.ec_console.specs.Unmet.{unmet_of};
 
+use crate::Reasons;
 use ec_script::{Line, LineAction};
 use ec_table::Table;
 use std::alloc::{AllocError, Global};
@@ -19,12 +20,16 @@ pub trait Target {
     ghost use Rattle.ec_table.specs.Contents.{Contents};
     ghost use Rattle.ec_script.specs.declared.line.Line.{Line};
     ghost use Rattle.ec_script.specs.declared.line.LineAction.{LineAction};
+    ghost use Rattle.ec_console.specs.declared.wanted.Reasons.{Reasons};
 
     /// The table whose names lines use. It stays the same.
     ghost table: { Self → Contents };
 
     /// The actions that a target of a table can do at all. A line of an input with another action is bad.
     ghost takes: { Contents → LineAction → Bool };
+
+    /// Whether a target says why a line is bad.
+    ghost reasons: { Self → Reasons };
 
     /// What a line does once: the target before it, the line, the target behind it, its text, and 1 if what it expects isn't so, else 0.
     ghost says: { Self → Line → Self → List ℕ → ℕ → Type 0 };
@@ -36,6 +41,10 @@ pub trait Target {
     /// Whether the target can do such an action at all.
     fn takes(&self, action: LineAction) -> bool
         ensures { result ≡ takes (table self.now) action };
+
+    /// Whether the target says why a line is bad.
+    fn reasons(&self) -> Reasons
+        ensures { result ≡ reasons self.now };
 
     /// Does a line once, and returns what it says.
     ///

@@ -2,7 +2,7 @@
 ghost use Rattle.std.specs.Prelude.{◌≡◌};
 ghost use Rattle.ec_console.specs.Reasons.{reasons_of};
 
-/// Whether a line that says why follows each line that can't be done.
+/// Whether a line that says why follows each line that is bad or can't be done.
 #[derive(Clone, Copy, Drop)]
 pub enum Reasons {
     /// It does.

@@ -3,12 +3,28 @@ use crate::word::Line;
 use ec_diagnostic::{Diagnosis, Nearest};
 use ec_script::{FORMS, Form, REPEAT, WordKind, bounds_of};
 
-/// The form that a line of a script begins as. `is_variable` says whether it is an `expect` of three words whose second is the
+/// The forms that lines may have.
+#[derive(Clone, Copy, PartialEq, Eq)]
+pub enum Forms {
+    /// Those of a script of simulated slaves.
+    Script,
+    /// All.
+    All,
+}
+
+impl Forms {
+    /// Whether lines may have this form.
+    fn has(self, form: Form) -> bool {
+        self == Forms::All || is_scripted(form)
+    }
+}
+
+/// The form that a line begins as. `is_variable` says whether it is an `expect` of three words whose second is the
 /// name of a variable: then it has a form of three words.
-pub fn form_of(line: Line<'_>, is_variable: bool) -> Option<&'static str> {
+pub fn form_of(forms: Forms, line: Line<'_>, is_variable: bool) -> Option<&'static str> {
     for (form, text) in &FORMS {
         let has_room = !is_variable || text.split(' ').count() == 3;
-        if is_scripted(*form) && has_room && begins(line, text) {
+        if forms.has(*form) && has_room && begins(line, text) {
             return Some(*text);
         }
     }
@@ -47,11 +63,11 @@ fn has_range(line: Line<'_>, place: usize) -> bool {
     }
 }
 
-/// The first word of a script's line that may have been meant.
-pub fn verb_near(diagnosis: &mut Diagnosis<'_>, word: &str) -> Option<&'static str> {
+/// The first word of a line that may have been meant.
+pub fn verb_near(diagnosis: &mut Diagnosis<'_>, forms: Forms, word: &str) -> Option<&'static str> {
     let mut near = Nearest::to(word);
     for (place, (form, text)) in FORMS.iter().enumerate() {
-        if is_scripted(*form) {
+        if forms.has(*form) {
             near = diagnosis.nearer(near, word, place, first_word(text));
         }
     }

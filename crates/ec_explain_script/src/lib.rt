@@ -1,4 +1,5 @@
-//! Why a line of a script stands for nothing, for people: which word of it is at fault, and what to do.
+//! Why a line of a script stands for nothing, for people: which word of it is at fault, and what to do. Of a line that comes to a program,
+//! also why the program doesn't take it.
 #![tactic(auto)]
 
 mod form;
@@ -6,4 +7,4 @@ mod misfit;
 mod script;
 mod word;
 
-pub use crate::script::{explain_bad_line, explain_unmet};
+pub use crate::script::{bad_words, explain_bad_line, explain_unmet};

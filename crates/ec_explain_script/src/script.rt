@@ -1,10 +1,30 @@
 //! Which line of a script stands for nothing: refusal 39; and that what lines expect doesn't hold: 45.
-use crate::form::{form_of, verb_near};
+use crate::form::{Forms, form_of, verb_near};
 use crate::misfit::{SEE_HELP, explain_misfit};
 use crate::word::{Line, Word};
 use ec_diagnostic::{Diagnosis, Meant, Printable, Span};
-use ec_script::{REPEAT, WordKind, uncommented, variable_named};
-use ec_table::{Table, read_table};
+use ec_script::{
+    Expectation, LineAction, REPEAT, Reading, WordKind, read_line, uncommented, variable_named,
+};
+use ec_table::{Direction, Table, VariableRow, read_table};
+use std::alloc::{AllocError, Global};
+
+/// What is known of lines: the table, if there is one, and the forms that they may have.
+#[derive(Clone, Copy)]
+struct Known<'t> {
+    table: Option<&'t Table>,
+    forms: Forms,
+}
+
+impl<'t> Known<'t> {
+    /// What is known of the lines of a script of simulated slaves.
+    fn script(table: Option<&'t Table>) -> Known<'t> {
+        Known {
+            table,
+            forms: Forms::Script,
+        }
+    }
+}
 
 /// Adds remarks on line `line`, counted from 1, of the script that begins at the byte `from` of a text. They say which word of
 /// it is at fault, and how it is written.
@@ -12,6 +32,53 @@ pub fn explain_bad_line(diagnosis: &mut Diagnosis<'_>, text: &str, from: usize, 
     match line_start(text.as_bytes(), from, line) {
         Some(start) => explain_in_text(diagnosis, table_before(text, from), line_at(text, start)),
         None => diagnosis.note(format_args!("line {line} of the script isn't found in the text")),
+    }
+}
+
+/// Why a line that comes to a program of a table is bad, in one sentence. It stands for nothing, or for what the program doesn't do.
+///
+/// # Errors
+///
+/// `AllocError` if memory ran out.
+pub fn bad_words(alloc: Global, table: &Table, text: &str) -> Result<String, AllocError> {
+    if let Reading::Line(line) = read_line(alloc, table, 1, text)? {
+        return untaken_words(alloc, table, line.action);
+    }
+    let mut diagnosis = Diagnosis::new(alloc, text)?;
+    let (table, forms) = (Some(table), Forms::All);
+    explain_line(&mut diagnosis, Known { table, forms }, line_at(text, 0));
+    let remarks = diagnosis.into_remarks(text)?;
+    match remarks.list().first() {
+        Some(remark) => String::from_str(alloc, remark.words.as_str()),
+        None => Ok(String::new(alloc)),
+    }
+}
+
+/// Why a program doesn't take an action, in one sentence.
+fn untaken_words(alloc: Global, table: &Table, action: LineAction) -> Result<String, AllocError> {
+    let Some(row) = expected_row(table, action) else {
+        return String::from_str(
+            alloc,
+            "lines of this form aren't taken here; `--help` lists those that are",
+        );
+    };
+    let name = Printable(row.name.as_str());
+    let direction = match row.direction {
+        Direction::In => "input",
+        Direction::Out => "output",
+    };
+    format!(in alloc; "`{name}` is an {direction} variable, whose value isn't seen here")
+}
+
+/// The variable of which an action expects something.
+fn expected_row(table: &Table, action: LineAction) -> Option<&VariableRow> {
+    let LineAction::Expect(expected) = action else {
+        return None;
+    };
+    match expected {
+        Expectation::Is(place, _) | Expectation::Holds(place, _) | Expectation::Never(place) =>
+            table.variables().get(place),
+        _ => None,
     }
 }
 
@@ -28,18 +95,18 @@ pub fn explain_unmet(diagnosis: &mut Diagnosis<'_>, count: u64) {
 /// Adds remarks on what is wrong with a line, by the names of the table in the text before it, if that states one.
 fn explain_in_text(diagnosis: &mut Diagnosis<'_>, before: &str, line: Line<'_>) {
     match read_table(diagnosis.alloc, before) {
-        Ok(table) => explain_line(diagnosis, Some(&table), line),
+        Ok(table) => explain_line(diagnosis, Known::script(Some(&table)), line),
         Err(error) if error.number() == 1 => diagnosis.fall_short(),
-        Err(_) => explain_line(diagnosis, None, line),
+        Err(_) => explain_line(diagnosis, Known::script(None), line),
     }
 }
 
-/// Adds remarks on what is wrong with a line, by the names of the table, if there is one.
-fn explain_line(diagnosis: &mut Diagnosis<'_>, table: Option<&Table>, line: Line<'_>) {
+/// Adds remarks on what is wrong with a line, by what is known.
+fn explain_line(diagnosis: &mut Diagnosis<'_>, known: Known<'_>, line: Line<'_>) {
     match line.gap() {
         Some(gap) => explain_gap(diagnosis, gap),
-        None if line.has(0, "repeat") => explain_repeat(diagnosis, table, line),
-        None => explain_words(diagnosis, table, line),
+        None if line.has(0, "repeat") => explain_repeat(diagnosis, known, line),
+        None => explain_words(diagnosis, known, line),
     }
 }
 
@@ -54,7 +121,7 @@ fn explain_gap(diagnosis: &mut Diagnosis<'_>, gap: Span) {
 }
 
 /// Adds remarks on what is wrong with a line that repeats another.
-fn explain_repeat(diagnosis: &mut Diagnosis<'_>, table: Option<&Table>, line: Line<'_>) {
+fn explain_repeat(diagnosis: &mut Diagnosis<'_>, known: Known<'_>, line: Line<'_>) {
     let (Some(times), Some(next)) = (line.word(1), line.word(2)) else {
         return explain_form(diagnosis, line, REPEAT);
     };
@@ -64,7 +131,7 @@ fn explain_repeat(diagnosis: &mut Diagnosis<'_>, table: Option<&Table>, line: Li
     if next.text == "repeat" {
         explain_repeat_again(diagnosis, next)
     } else {
-        explain_words(diagnosis, table, line.from(next))
+        explain_words(diagnosis, known, line.from(next))
     }
 }
 
@@ -86,10 +153,10 @@ fn explain_plain(diagnosis: &mut Diagnosis<'_>, span: Span, wrong: &str, advice:
 
 /// Adds remarks on the words of a line that isn't repeated: on the first that isn't what its form needs there, or on their
 /// number.
-fn explain_words(diagnosis: &mut Diagnosis<'_>, table: Option<&Table>, line: Line<'_>) {
-    match form_of(line, expects_variable(table, line)) {
-        Some(form) => explain_by_form(diagnosis, table, line, form),
-        None => explain_unknown_verb(diagnosis, line),
+fn explain_words(diagnosis: &mut Diagnosis<'_>, known: Known<'_>, line: Line<'_>) {
+    match form_of(known.forms, line, expects_variable(known.table, line)) {
+        Some(form) => explain_by_form(diagnosis, known, line, form),
+        None => explain_unknown_verb(diagnosis, known.forms, line),
     }
 }
 
@@ -107,16 +174,11 @@ fn expects_variable(table: Option<&Table>, line: Line<'_>) -> bool {
 }
 
 /// Adds remarks on the first word of a line that isn't what a form needs there, or on the number of its words.
-fn explain_by_form(
-    diagnosis: &mut Diagnosis<'_>,
-    table: Option<&Table>,
-    line: Line<'_>,
-    form: &str,
-) {
+fn explain_by_form(diagnosis: &mut Diagnosis<'_>, known: Known<'_>, line: Line<'_>, form: &str) {
     for (place, part) in form.split(' ').enumerate() {
         if let Some(word) = line.word(place)
             && let Some(kind) = WordKind::of(part)
-            && explain_misfit(diagnosis, table, kind, word)
+            && explain_misfit(diagnosis, known.table, kind, word)
         {
             return;
         }
@@ -134,11 +196,12 @@ fn explain_form(diagnosis: &mut Diagnosis<'_>, line: Line<'_>, form: &str) {
 }
 
 /// Adds remarks on a line whose first word begins no form.
-fn explain_unknown_verb(diagnosis: &mut Diagnosis<'_>, line: Line<'_>) {
+fn explain_unknown_verb(diagnosis: &mut Diagnosis<'_>, forms: Forms, line: Line<'_>) {
     let Some(word) = line.word(0) else {
         return;
     };
-    let (shown, near) = (Printable(word.text), Meant(verb_near(diagnosis, word.text)));
+    let near = Meant(verb_near(diagnosis, forms, word.text));
+    let shown = Printable(word.text);
     diagnosis.at_span(
         word.span(),
         format_args!("no line of a script begins with `{shown}`{near}"),

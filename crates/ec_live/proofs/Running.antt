@@ -82,18 +82,18 @@ none_more s live output l part kept count unmet is_open old new is taken a b h =
 
 -- a line is whole, and done
 pub obeys_line : (s : RunState) (live next : LiveState) (before after : OutputState) (l m : LinesState) (old new : Option (List ℕ)) (line : List ℕ) (more unmet : ℕ) → s.live ≡ live → s.output ≡ before
-    → FitsLines s l old → TakesLine s.left new line → 0 < length line → DoesTaken SaysLive (line_read live.table) live m.count line next unmet before after → m.count ≡ l.count + 1
+    → FitsLines s l old → TakesLine s.left new line → 0 < length line → DoesTaken SaysLive live.reasons (line_read live.table) live m.count line next unmet before after → m.count ≡ l.count + 1
     → more ≡ counted unmet → m.unmet ≡ min (l.unmet + more) (2 ^ 64 - 1) → m.part ≡ [] → ObeysSome s next m new after
 obeys_line s live next before after l m old new line more unmet a b h taken some does one counts sum none = by line taken some here
   where
     number : m.count ≡ s.number + 1
     number = one ∙ ap (λ (n : ℕ). n + 1) h.number
 
-    here : DoesTaken SaysLive (line_read s.live.table) s.live (s.number + 1) line next unmet s.output after
+    here : DoesTaken SaysLive s.live.reasons (line_read s.live.table) s.live (s.number + 1) line next unmet s.output after
     here =
-        subst (λ (o : OutputState). DoesTaken SaysLive (line_read s.live.table) s.live (s.number + 1) line next unmet o after) (sym b)
-        (subst (λ (n : ℕ). DoesTaken SaysLive (line_read s.live.table) s.live n line next unmet before after) number
-        (subst (λ (x : LiveState). DoesTaken SaysLive (line_read x.table) x m.count line next unmet before after) (sym a) does))
+        subst (λ (o : OutputState). DoesTaken SaysLive s.live.reasons (line_read s.live.table) s.live (s.number + 1) line next unmet o after) (sym b)
+        (subst (λ (n : ℕ). DoesTaken SaysLive s.live.reasons (line_read s.live.table) s.live n line next unmet before after) number
+        (subst (λ (x : LiveState). DoesTaken SaysLive x.reasons (line_read x.table) x m.count line next unmet before after) (sym a) does))
 
     then : RunState
     then = record { live = next; wire = s.wire; left = new; number = s.number + 1; unmet = s.unmet + unmet; output = after }
@@ -106,24 +106,24 @@ obeys_line s live next before after l m old new line more unmet a b h taken some
       part = λ is. none_so_far new max_kept m.part none;
     }
 
-    by : (x : List ℕ) → TakesLine s.left new x → 0 < length x → DoesTaken SaysLive (line_read s.live.table) s.live (s.number + 1) x next unmet s.output after → ObeysSome s next m new after
+    by : (x : List ℕ) → TakesLine s.left new x → 0 < length x → DoesTaken SaysLive s.live.reasons (line_read s.live.table) s.live (s.number + 1) x next unmet s.output after → ObeysSome s next m new after
     by [] taken some does = absurd (omega arith)
     by (c ∷ cs) taken some (printed, says, prints) =
         inr (c ∷ cs, then, record { taken = taken; some = some; printed = printed; unmet = unmet; says = says; prints = prints; is = refl }, refl, refl, fits)
 
 -- or it is cut short
 pub cuts_line : (s : RunState) (live next : LiveState) (before after : OutputState) (l : LinesState) (old new : Option (List ℕ)) (n : ℕ) (line : List ℕ) (x : Refusal) → s.live ≡ live → s.output ≡ before
-    → FitsLines s l old → TakesLine s.left new line → StopsIn SaysLive (line_read live.table) live n line next before after → n ≡ l.count + 1 → IsLate false after x → ObeysCut s next after x
+    → FitsLines s l old → TakesLine s.left new line → StopsIn SaysLive live.reasons (line_read live.table) live n line next before after → n ≡ l.count + 1 → IsLate false after x → ObeysCut s next after x
 cuts_line s live next before after l old new n line x a b h taken stops one late = (then, by x late, refl, refl)
   where
     number : n ≡ s.number + 1
     number = one ∙ ap (λ (k : ℕ). k + 1) h.number
 
-    here : StopsIn SaysLive (line_read s.live.table) s.live (s.number + 1) line next s.output after
+    here : StopsIn SaysLive s.live.reasons (line_read s.live.table) s.live (s.number + 1) line next s.output after
     here =
-        subst (λ (o : OutputState). StopsIn SaysLive (line_read s.live.table) s.live (s.number + 1) line next o after) (sym b)
-        (subst (λ (k : ℕ). StopsIn SaysLive (line_read s.live.table) s.live k line next before after) number
-        (subst (λ (y : LiveState). StopsIn SaysLive (line_read y.table) y n line next before after) (sym a) stops))
+        subst (λ (o : OutputState). StopsIn SaysLive s.live.reasons (line_read s.live.table) s.live (s.number + 1) line next o after) (sym b)
+        (subst (λ (k : ℕ). StopsIn SaysLive s.live.reasons (line_read s.live.table) s.live k line next before after) number
+        (subst (λ (y : LiveState). StopsIn SaysLive y.reasons (line_read y.table) y n line next before after) (sym a) stops))
 
     then : RunState
     then = record s { live = next; left = new; output = after }
@@ -155,7 +155,7 @@ some_taken line taken.NoText is some = is.0
 pub whole_obeyed : (s : RunState) (live next : LiveState) (before after : OutputState) (l : LinesState) (part kept : List ℕ) (count unmet n more sum : ℕ) (is_open : Bool) (old new : Option (List ℕ)) (took : NextLine)
     → lines_of part count unmet is_open ≡ l → is_open ≡ true → count < 2 ^ 64 - 1 → n ≡ min (count + 1) (2 ^ 64 - 1) → sum ≡ min (unmet + more) (2 ^ 64 - 1)
     → ((start : Option (List ℕ)) → IsSoFar start old max_kept part → GoesOn start new kept (Some took)) → (took ≡ taken.End → ⊥)
-    → ((u : ℕ) × (more ≡ counted u) × ((line : List ℕ) → IsTaken line took → DoesTaken SaysLive (line_read live.table) live n line next u before after))
+    → ((u : ℕ) × (more ≡ counted u) × ((line : List ℕ) → IsTaken line took → DoesTaken SaysLive live.reasons (line_read live.table) live n line next u before after))
     → s.live ≡ live → s.output ≡ before → FitsLines s l old → ObeysSome s next (lines_of kept n sum is_open) new after
 whole_obeyed s live next before after l part kept count unmet n more sum is_open old new took is opened few one sums goes some (u, counts, does) a b h = by (goes s.left (fits.part opened))
   where
@@ -172,7 +172,7 @@ whole_obeyed s live next before after l part kept count unmet n more sum is_open
 pub whole_cut : (s : RunState) (live next : LiveState) (before after : OutputState) (l : LinesState) (part kept : List ℕ) (count unmet n : ℕ) (is_open : Bool) (old new : Option (List ℕ)) (took : NextLine) (x : Refusal)
     → lines_of part count unmet is_open ≡ l → is_open ≡ true → count < 2 ^ 64 - 1 → n ≡ min (count + 1) (2 ^ 64 - 1)
     → ((start : Option (List ℕ)) → IsSoFar start old max_kept part → GoesOn start new kept (Some took))
-    → ((line : List ℕ) → IsTaken line took → StopsIn SaysLive (line_read live.table) live n line next before after) → IsLate false after x
+    → ((line : List ℕ) → IsTaken line took → StopsIn SaysLive live.reasons (line_read live.table) live n line next before after) → IsLate false after x
     → s.live ≡ live → s.output ≡ before → FitsLines s l old → ObeysCut s next after x
 whole_cut s live next before after l part kept count unmet n is_open old new took x is opened few one goes stops late a b h = by (goes s.left (fits.part opened))
   where

@@ -61,7 +61,7 @@ pub record ObeysOne (s : RunState) (line : List ℕ) (t : RunState) : Type 0 whe
   pub some : 0 < length line
   pub printed : List ℕ
   pub unmet : ℕ
-  pub says : SaysReading SaysLive s.live (s.number + 1) (line_read s.live.table (s.number + 1) line) t.live printed unmet
+  pub says : SaysReading SaysLive s.live.reasons s.live (s.number + 1) (line_read s.live.table (s.number + 1) line) t.live printed unmet
   pub prints : IsPrinted s.output t.output printed
   pub is : t ≡ record s { live = t.live; left = t.left; number = s.number + 1; unmet = s.unmet + unmet; output = t.output }
 
@@ -95,7 +95,7 @@ pub record HearsNone (s t : RunState) : Type 0 where
 pub record StopsInLine (s t : RunState) : Type 0 where
   pub line : List ℕ
   pub taken : TakesLine s.left t.left line
-  pub stops : StopsIn SaysLive (line_read s.live.table) s.live (s.number + 1) line t.live s.output t.output
+  pub stops : StopsIn SaysLive s.live.reasons (line_read s.live.table) s.live (s.number + 1) line t.live s.output t.output
   pub is : t ≡ record s { live = t.live; left = t.left; output = t.output }
 
 -- by the refusal: of a socket, of memory, or of a write

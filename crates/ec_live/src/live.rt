@@ -26,7 +26,7 @@ use std::marker::Model;
 const LINE_SIZE: usize = 80;
 
 /// Slaves that frames of a master elsewhere move, and lines as the plant does. Lines also drop frames. With reasons, it says why a line
-/// can't be done.
+/// is bad or can't be done.
 #[derive(Drop)]
 pub struct Live<'m> {
     simulation: Simulation<'m, Unwatched>,
@@ -157,6 +157,8 @@ impl Target for Live<'_> {
 
     ghost takes = { takes_action };
 
+    ghost reasons = { λ l. l.reasons };
+
     ghost says = { SaysLive };
 
     fn table(&self) -> &Table {
@@ -190,6 +192,10 @@ impl Target for Live<'_> {
             | LineAction::Stop
             | LineAction::Report => false,
         }
+    }
+
+    fn reasons(&self) -> Reasons {
+        self.simulation.reasons()
     }
 
     fn obey(&mut self, alloc: Global, line: &Line) -> Result<Said, AllocError> {
