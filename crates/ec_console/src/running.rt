@@ -102,9 +102,30 @@ pub fn obey_taken<T: Target, W: Write + Drop>(
     ensures late { IfErr result (IsLate false output.new) }
     ensures table { T.table target.new ≡ T.table target.old }
 {
-    match reading_of(alloc, target, number, &taken)? {
+    obey_next(alloc, target, number, &taken, output)
+}
+
+/// Does line `number` of an input, as it was taken, and prints its text. At the end of the input nothing is done. Returns how often what
+/// the line expects isn't so.
+fn obey_next<T: Target, W: Write + Drop>(
+    alloc: Global,
+    target: &mut T,
+    number: usize,
+    taken: &NextLine,
+    output: &mut OutputStream<W>,
+) -> Result<u64, Refusal>
+    ensures all { IfOk result (λ count. (unmet : ℕ) × (count ≡ counted unmet) × ((line : List ℕ) → IsTaken line taken.now
+        → DoesTaken T.says (T.reasons target.old) (reading_at T.takes (T.table target.old)) target.old
+        number line target.new unmet output.old output.new)) }
+    ensures part { OnErr result ((line : List ℕ) → IsTaken line taken.now
+        → StopsIn T.says (T.reasons target.old) (reading_at T.takes (T.table target.old)) target.old number line target.new
+        output.old output.new) }
+    ensures late { IfErr result (IsLate false output.new) }
+    ensures table { T.table target.new ≡ T.table target.old }
+{
+    match reading_of(alloc, target, number, taken)? {
         None => Ok(0),
-        Some(reading) => obey_reading(alloc, target, number, &taken, reading, output),
+        Some(reading) => obey_reading(alloc, target, number, taken, reading, output),
     }
 }
 
