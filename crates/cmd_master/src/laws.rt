@@ -8,7 +8,6 @@ pub fn cycles_can_run()
 {}
 
 /// With reasons, lines do and print the same as without them; the reasons are added.
-#[tactic(auto, using(crate::proofs::Reasoned::reasons_only_add))]
 pub fn reasons_only_add()
     ensures { ReasonsOnlyAdd }
 {}

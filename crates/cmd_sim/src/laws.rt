@@ -2,7 +2,6 @@
 ghost use Rattle.cmd_sim.specs.Laws.{LivesAreScripts, LivesRun, ReasonsOnlyAdd};
 
 /// With reasons, lines do and print what they do and print without them, and the reasons stand between.
-#[tactic(auto, using(crate::proofs::Reasoned::reasons_only_add))]
 pub fn reasons_only_add()
     ensures { ReasonsOnlyAdd }
 {}

@@ -1,0 +1,5 @@
+use Rattle.cmd_sim.proofs.Reasoned.{reasons_only_add}
+use Rattle.cmd_sim.proofs.laws.reasons_only_add.Goals as goal
+
+pub returns : goal.returns
+returns c = reasons_only_add
