@@ -203,13 +203,14 @@ const REASONED: [Run; 4] = [
          no 4\n  the last start-up failed, 32 Lost: given up; `ready` makes one more\n\
          report taken missing 0 counters 6 al 0008\n",
     ),
-    // A fault of the wire has one. Bad lines have none, nor has what is expected.
+    // A fault of the wire has one, and so has a bad line. What is expected has none.
     (
         "ready\ncycle\nreport\nbegin\nexpect taken\nshow\n",
         150,
         1,
         "ready\nfault 37 Wire\n  a call on the socket failed: there is no such address, or a payload is too long\n\
-         no 3\n  no cycle has ended with a report yet\nbad 4\nunmet 5\nc 0\nd 0\n",
+         no 3\n  no cycle has ended with a report yet\nbad 4\n  lines of this form aren't taken here; `--help` lists those that are\n\
+         unmet 5\nc 0\nd 0\n",
     ),
 ];
 
