@@ -21,9 +21,12 @@ def say(line, answers=1):
 
 
 def start_up():
-    """Starts the slaves up, as often as it takes."""
-    while say("ready")[0][0] != "ready":
+    """Starts the slaves up. A press that isn't there for ten seconds ends the program."""
+    for _ in range(200):
+        if say("ready")[0][0] == "ready":
+            return
         time.sleep(0.05)
+    sys.exit("the press doesn't answer")
 
 
 print(pathlib.Path(__file__).with_name("press.toml").read_text(), "%%", sep="", file=master.stdin)

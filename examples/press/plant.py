@@ -4,7 +4,7 @@
     plant.py PORT ECAT..
 
 The valve moves the press down, a spring moves it up. In the second stroke the guard door opens for a while, and in the third the press
-loses its power. The program ends when no frame came for a second.
+loses its power. The program ends when no frame came for three seconds.
 """
 import pathlib
 import subprocess
@@ -13,7 +13,7 @@ import time
 
 BOTTOM, TICK = 10, 0.005
 
-command = [*sys.argv[2:], "segment", "--live", "--port", sys.argv[1], "--idle", "1"]
+command = [*sys.argv[2:], "segment", "--live", "--port", sys.argv[1], "--idle", "3"]
 segment = subprocess.Popen(command, stdin=subprocess.PIPE, stdout=subprocess.PIPE, text=True)
 
 
