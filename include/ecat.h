@@ -42,14 +42,15 @@ extern "C" {
 #define ECAT_NONE NULL
 #endif
 
-/* The most bytes that a frame has. A buffer for frames needs so many. */
+/* The most bytes that a frame has, and the words of `ecat_explain` with the zero byte behind them. A buffer for them needs so many. */
 #define ECAT_FRAME 1472
+#define ECAT_WORDS 512
 
 struct ecat { void *at; };
 struct ecat_segment { void *at; };
 
-/* Why a table was refused, as `ecat plan` prints it: the number and the name of the refusal, and `count` values, with 0 behind
-   them. The name ends with a zero byte. */
+/* Why a table was refused, as `ecat plan` prints it, or a start-up failed, as `ecat loop` does: the number and the name of the
+   refusal, and `count` values, with 0 behind them. The name ends with a zero byte. */
 struct ecat_refusal {
     uint8_t number;
     char name[24];
@@ -57,10 +58,24 @@ struct ecat_refusal {
     uint64_t values[4];
 };
 
+/* A variable: its name, which ends with a zero byte, how many bits it has, whether your program sets it, and whether it is signed.
+   `bit` is its first bit in the image of `ecat_outputs` or `ecat_inputs`; bit 0 is the lowest of the first byte. No table says yet that
+   a variable is signed, so none is. */
+struct ecat_variable_info {
+    char name[33];
+    uint8_t bits;
+    bool is_output;
+    bool is_signed;
+    size_t bit;
+};
+
 /* ---- exports of the library: call the functions below instead */
 
 struct ecat_done { uint8_t number; bool is_done; size_t count; uint64_t value; };
 struct ecat_refused { bool is_open; uint8_t number; size_t name; size_t count; uint64_t first, second; };
+struct ecat_status { bool is_known; uint16_t word, code; };
+struct ecat_placed { bool is_there, is_output, is_signed; uint8_t bits; size_t from; };
+struct ecat_counted { size_t count, first, second; };
 
 void ecat_c_open(const uint8_t *table, size_t len, uint8_t *name, size_t room, struct ecat_refused *refused, struct ecat *out);
 void ecat_c_drop(struct ecat machine);
@@ -68,15 +83,27 @@ void ecat_c_next(struct ecat machine, uint8_t *frame, size_t room, struct ecat_d
 void ecat_c_take(struct ecat machine, const uint8_t *payload, size_t len, struct ecat_done *done, struct ecat *out);
 void ecat_c_phase(struct ecat machine, struct ecat_done *done, struct ecat *out);
 void ecat_c_give_up(struct ecat machine, struct ecat *out);
+void ecat_c_waits(struct ecat machine, bool *done, struct ecat *out);
+void ecat_c_failure(struct ecat machine, uint64_t *values, size_t room, struct ecat_done *done, struct ecat *out);
+void ecat_c_failure_name(struct ecat machine, uint8_t *name, size_t room, struct ecat_done *done, struct ecat *out);
+void ecat_c_explain(struct ecat machine, uint8_t *words, size_t room, struct ecat_done *done, struct ecat *out);
+void ecat_c_state_next(struct ecat machine, size_t slave, uint8_t *frame, size_t room, struct ecat_done *done, struct ecat *out);
+void ecat_c_state(struct ecat machine, size_t slave, struct ecat_status *told, struct ecat *out);
+void ecat_c_slaves(struct ecat machine, struct ecat_done *done, struct ecat *out);
 void ecat_c_begin(struct ecat machine, struct ecat_done *done, struct ecat *out);
 void ecat_c_part(struct ecat machine, size_t part, uint8_t *frame, size_t room, struct ecat_done *done, struct ecat *out);
 void ecat_c_close(struct ecat machine, struct ecat_done *done, struct ecat *out);
 void ecat_c_unit(struct ecat machine, uint8_t unit, struct ecat_done *done, struct ecat *out);
+void ecat_c_counters(struct ecat machine, size_t part, struct ecat_counted *counters, struct ecat *out);
 void ecat_c_set(struct ecat machine, size_t variable, uint64_t value, struct ecat_done *done, struct ecat *out);
 void ecat_c_get(struct ecat machine, size_t variable, struct ecat_done *done, struct ecat *out);
 void ecat_c_outputs(struct ecat machine, const uint8_t *outputs, size_t len, struct ecat_done *done, struct ecat *out);
 void ecat_c_inputs(struct ecat machine, uint8_t *inputs, size_t room, struct ecat_done *done, struct ecat *out);
 void ecat_c_variable(struct ecat machine, const uint8_t *name, size_t len, struct ecat_done *done, struct ecat *out);
+void ecat_c_get_signed(struct ecat machine, size_t variable, struct ecat_done *done, struct ecat *out);
+void ecat_c_variables(struct ecat machine, struct ecat_done *done, struct ecat *out);
+void ecat_c_place(struct ecat machine, size_t variable, struct ecat_placed *place, struct ecat *out);
+void ecat_c_name(struct ecat machine, size_t variable, uint8_t *name, size_t room, struct ecat_done *done, struct ecat *out);
 void ecat_c_segment_open(const uint8_t *table, size_t len, bool full, uint8_t *name, size_t room, struct ecat_refused *refused, struct ecat_segment *out);
 void ecat_c_segment_drop(struct ecat_segment segment);
 void ecat_c_segment_pass(struct ecat_segment segment, uint8_t *frame, size_t len, bool *done, struct ecat_segment *out);
@@ -104,13 +131,18 @@ static inline uint8_t *ecat_room(uint8_t *bytes, size_t *len) {
     return *len ? bytes : &none;
 }
 
+/* Copies a name, as much of it as fits, and a zero byte. */
+static inline void ecat_named(char *to, size_t room, const uint8_t *name, size_t len) {
+    size_t k;
+    for (k = 0; k + 1 < room && k < len; k++) to[k] = ECAT_AS(char, name[k]);
+    to[k] = 0;
+}
+
 static inline uint8_t ecat_told(const struct ecat_refused *told, const uint8_t *name, struct ecat_refusal *refusal) {
     uint8_t number = told->is_open ? ECAT_AS(uint8_t, 0) : told->number;
-    size_t k;
     if (refusal) {
         refusal->number = number;
-        for (k = 0; k + 1 < sizeof refusal->name && k < told->name; k++) refusal->name[k] = ECAT_AS(char, name[k]);
-        refusal->name[k] = 0;
+        ecat_named(refusal->name, sizeof refusal->name, name, told->name);
         refusal->count = told->count;
         refusal->values[0] = told->first;
         refusal->values[1] = told->second;
@@ -154,8 +186,18 @@ ECAT_CALL size_t ecat_next(struct ecat *m, uint8_t *frame, size_t room) {
     return done.count;
 }
 
-/* Takes a payload of `len` bytes that came in. Returns true if it answers the outstanding frame of the start-up, or a frame of
-   the open cycle. Returns false and changes nothing for any other payload. `missing` becomes the number of frames of the open
+/* Returns true if the frame that `ecat_next` wrote last asks again what the frame before it asked, so that you may rest before you
+   send it: 1 ms, say. Returns false for any other frame, or without a handle. */
+ECAT_CALL bool ecat_waits(const struct ecat *m) {
+    bool done = false;
+    struct ecat same = {ECAT_NONE};
+    if (!m || !m->at) return false;
+    ecat_c_waits(*m, &done, &same);
+    return done;
+}
+
+/* Takes a payload of `len` bytes that came in. Returns true if it answers the outstanding frame of the start-up, a frame of the open
+   cycle, or the last frame of `ecat_state_next`. Returns false and changes nothing for any other payload. `missing` becomes the number of frames of the open
    cycle that aren't back; it stays as it was if there is no handle. */
 ECAT_CALL bool ecat_take(struct ecat *m, const uint8_t *payload, size_t len, size_t *missing) {
     struct ecat_done done = {0, 0, 0, 0};
@@ -178,6 +220,68 @@ ECAT_CALL int ecat_phase(const struct ecat *m) {
 /* Ends a start-up that runs, with failure 32: call this when no answer comes. One that has ended stays as it is. */
 ECAT_CALL void ecat_give_up(struct ecat *m) {
     if (m && m->at) ecat_c_give_up(ecat_lent(m), m);
+}
+
+/* Returns true if the last start-up failed. Writes how into `failure` unless that is null; its number is 0 if no start-up failed. */
+ECAT_CALL bool ecat_failure(const struct ecat *m, struct ecat_refusal *failure) {
+    struct ecat_refusal told = {0, {0}, 0, {0, 0, 0, 0}};
+    struct ecat_done done = {0, 0, 0, 0}, named = {0, 0, 0, 0};
+    struct ecat same = {ECAT_NONE};
+    uint8_t name[24] = {0};
+    if (m && m->at) {
+        ecat_c_failure(*m, told.values, 4, &done, &same);
+        ecat_c_failure_name(*m, name, sizeof name, &named, &same);
+        told.number = done.number;
+        told.count = done.count;
+        ecat_named(told.name, sizeof told.name, name, named.count);
+    }
+    if (failure) *failure = told;
+    return done.is_done;
+}
+
+/* Writes in words how the last start-up failed into `text`, with a zero byte behind them, and returns their length in bytes. Writes
+   nothing if they don't fit; ECAT_WORDS bytes are enough. Returns 0 if no start-up failed. */
+ECAT_CALL size_t ecat_explain(const struct ecat *m, char *text, size_t room) {
+    struct ecat_done done = {0, 0, 0, 0};
+    struct ecat same = {ECAT_NONE};
+    size_t len = text && room ? room - 1 : 0;
+    uint8_t *bytes = ecat_room(ECAT_AS(uint8_t *, ECAT_AS(void *, text)), &len);
+    if (!m || !m->at) return 0;
+    ecat_c_explain(*m, bytes, len, &done, &same);
+    if (done.is_done) text[done.count] = 0;
+    return done.count;
+}
+
+/* Writes the frame that asks for the AL state of a slave into `frame`, and returns its length in bytes. Slaves are counted from 0. An
+   answer to the frame that it wrote before is foreign from now on. Returns 0 and changes nothing if there is no such slave, or `room`
+   is less than ECAT_FRAME. A start-up or a cycle may be under way. */
+ECAT_CALL size_t ecat_state_next(struct ecat *m, size_t slave, uint8_t *frame, size_t room) {
+    struct ecat_done done = {0, 0, 0, 0};
+    uint8_t *bytes = ecat_room(frame, &room);
+    if (!m || !m->at) return 0;
+    ecat_c_state_next(ecat_lent(m), slave, bytes, room, &done, m);
+    return done.count;
+}
+
+/* Returns the AL status word that the last answer said of a slave. Bits 0 to 3 are its state: 1 INIT, 2 PREOP, 3 BOOT, 4 SAFEOP,
+   8 OP. Bit 4 is set after an error, and `code` becomes the AL status code. Returns -1, and `code` stays, if there was no answer yet,
+   the slave didn't touch the last one, or there is no such slave. */
+ECAT_CALL int ecat_state(const struct ecat *m, size_t slave, uint16_t *code) {
+    struct ecat_status told = {0, 0, 0};
+    struct ecat same = {ECAT_NONE};
+    if (!m || !m->at) return -1;
+    ecat_c_state(*m, slave, &told, &same);
+    if (told.is_known && code) *code = told.code;
+    return told.is_known ? ECAT_AS(int, told.word) : -1;
+}
+
+/* Returns how many slaves the table has, or 0 without a handle. */
+ECAT_CALL size_t ecat_slaves(const struct ecat *m) {
+    struct ecat_done done = {0, 0, 0, 0};
+    struct ecat same = {ECAT_NONE};
+    if (!m || !m->at) return 0;
+    ecat_c_slaves(*m, &done, &same);
+    return done.count;
 }
 
 /* Begins a cycle with the outputs as they are, and returns its number of parts: one frame each. Returns minus the number of the
@@ -222,6 +326,19 @@ ECAT_CALL int ecat_unit(const struct ecat *m, size_t unit) {
     return done.count ? ECAT_AS(int, done.is_done) : -1;
 }
 
+/* Returns how many working counters a part has in the report of the last closed cycle: 1 if it went by an LRW, 2 if by an LWR and an
+   LRD, and 0 if its frame wasn't back, there is no such part, or no cycle was closed yet. `first` and `second` become the counters, as
+   far as there are any, else they stay. */
+ECAT_CALL unsigned ecat_counters(const struct ecat *m, size_t part, uint16_t *first, uint16_t *second) {
+    struct ecat_counted counted = {0, 0, 0};
+    struct ecat same = {ECAT_NONE};
+    if (!m || !m->at) return 0;
+    ecat_c_counters(*m, part, &counted, &same);
+    if (first && counted.count > 0) *first = ECAT_AS(uint16_t, counted.first);
+    if (second && counted.count > 1) *second = ECAT_AS(uint16_t, counted.second);
+    return ECAT_AS(unsigned, counted.count);
+}
+
 /* Sets a variable of the outputs. Returns false if there is no such variable, it is an input, or it has too few bits. */
 ECAT_CALL bool ecat_set(struct ecat *m, size_t variable, uint64_t value) {
     struct ecat_done done = {0, 0, 0, 0};
@@ -237,6 +354,16 @@ ECAT_CALL uint64_t ecat_get(const struct ecat *m, size_t variable) {
     if (!m || !m->at) return 0;
     ecat_c_get(*m, variable, &done, &same);
     return done.value;
+}
+
+/* As `ecat_get`, with the sign of the variable (`is_signed` of `ecat_variable_info`). The value of one that isn't signed is that of
+   `ecat_get`; of its 64 bits the highest then counts as a sign. */
+ECAT_CALL int64_t ecat_get_signed(const struct ecat *m, size_t variable) {
+    struct ecat_done done = {0, 0, 0, 0};
+    struct ecat same = {ECAT_NONE};
+    if (!m || !m->at) return 0;
+    ecat_c_get_signed(*m, variable, &done, &same);
+    return ECAT_AS(int64_t, done.value);
 }
 
 /* Returns the length in bytes of the image of all outputs, or 0 without a handle. Sets the image if `len` is this length. The
@@ -270,6 +397,44 @@ ECAT_CALL long ecat_variable(const struct ecat *m, const char *name) {
     ecat_c_variable(*m, ecat_bytes(name, &len), len, &done, &same);
     return done.is_done ? ECAT_AS(long, done.count) : -1;
 }
+
+/* Returns how many variables the table has, or 0 without a handle. They are numbered from 0, in the order of the table. */
+ECAT_CALL size_t ecat_variables(const struct ecat *m) {
+    struct ecat_done done = {0, 0, 0, 0};
+    struct ecat same = {ECAT_NONE};
+    if (!m || !m->at) return 0;
+    ecat_c_variables(*m, &done, &same);
+    return done.count;
+}
+
+/* in C++ the call below hides the constructor of the struct with its name, which nobody calls */
+#if defined(__cplusplus) && defined(__GNUC__)
+#pragma GCC diagnostic push
+#pragma GCC diagnostic ignored "-Wshadow"
+#endif
+
+/* Describes the variable with this number in `info`, unless that is null. Returns false and changes nothing if there is no such
+   variable. */
+ECAT_CALL bool ecat_variable_info(const struct ecat *m, size_t variable, struct ecat_variable_info *info) {
+    struct ecat_placed place = {0, 0, 0, 0, 0};
+    struct ecat_done named = {0, 0, 0, 0};
+    struct ecat same = {ECAT_NONE};
+    uint8_t name[33] = {0};
+    if (!m || !m->at) return false;
+    ecat_c_place(*m, variable, &place, &same);
+    if (!place.is_there || !info) return place.is_there;
+    ecat_c_name(*m, variable, name, sizeof name, &named, &same);
+    ecat_named(info->name, sizeof info->name, name, named.count);
+    info->bits = place.bits;
+    info->is_output = place.is_output;
+    info->is_signed = place.is_signed;
+    info->bit = place.from;
+    return true;
+}
+
+#if defined(__cplusplus) && defined(__GNUC__)
+#pragma GCC diagnostic pop
+#endif
 
 /* ---- a segment: the slaves of a link table */
 

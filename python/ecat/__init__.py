@@ -16,9 +16,12 @@ import collections
 import ctypes
 import os
 import pathlib
-from typing import Any, Callable, Deque, Dict, List, NamedTuple, Optional, Protocol, Tuple, Union
+import time
+from typing import Any, Callable, Deque, Dict, List, NamedTuple, Optional, Protocol, Sequence, Tuple, Union
 
 ABI, FRAME = 1, 1472
+# the most bytes of the words for a failure, and the seconds between two polls of a start-up
+WORDS, REST = 512, 0.001
 
 
 class Refused(Exception):
@@ -30,11 +33,26 @@ class Refused(Exception):
 
 
 class Failed(Exception):
-    """A start-up failed, or a cycle can't begin: the number of the failure."""
+    """A start-up failed, or a cycle can't begin: the number of the failure. Of a start-up also its name, its values, and it in words."""
 
-    def __init__(self, number: int) -> None:
-        super().__init__(str(number))
-        self.number = number
+    def __init__(self, number: int, name: str = "", values: Sequence[int] = (), words: str = "") -> None:
+        super().__init__(" ".join(filter(None, [str(number), name, *map(str, values)])) + (f": {words}" if words else ""))
+        self.number, self.name, self.values, self.words = number, name, list(values), words
+
+
+class Variable(NamedTuple):
+    """A variable: `bit` is its first bit in the image of its direction."""
+    name: str
+    bits: int
+    is_output: bool
+    is_signed: bool
+    bit: int
+
+
+class State(NamedTuple):
+    """What a slave said of its AL state: the AL status word, of which bits 0 to 3 are the state, and the AL status code."""
+    word: int
+    code: int
 
 
 class Report(NamedTuple):
@@ -60,12 +78,19 @@ class _Refusal(ctypes.Structure):
     _fields_ = [("number", ctypes.c_uint8), ("name", ctypes.c_char * 24), ("count", ctypes.c_size_t), ("values", ctypes.c_uint64 * 4)]
 
 
+class _Info(ctypes.Structure):
+    _fields_ = [("name", ctypes.c_char * 33), ("bits", ctypes.c_uint8), ("is_output", ctypes.c_bool), ("is_signed", ctypes.c_bool), ("bit", ctypes.c_size_t)]
+
+
 _H, _BYTES, _AT = ctypes.POINTER(_Handle), ctypes.c_char_p, ctypes.c_void_p
-_SIZE, _BOOL, _INT, _U64, _U8 = ctypes.c_size_t, ctypes.c_bool, ctypes.c_int, ctypes.c_uint64, ctypes.c_uint8
+_SIZE, _BOOL, _INT, _U64, _I64, _U8 = ctypes.c_size_t, ctypes.c_bool, ctypes.c_int, ctypes.c_uint64, ctypes.c_int64, ctypes.c_uint8
 # the result and the parameters of each call
 _CALLS: Dict[str, Tuple[Any, List[Any]]] = {
     "version": (_BYTES, []), "open": (_U8, [_H, _BYTES, _SIZE, _AT]), "drop": (None, [_H]), "next": (_SIZE, [_H, _AT, _SIZE]),
     "take": (_BOOL, [_H, _BYTES, _SIZE, _AT]), "phase": (_INT, [_H]), "give_up": (None, [_H]), "begin": (_INT, [_H]),
+    "waits": (_BOOL, [_H]), "failure": (_BOOL, [_H, _AT]), "explain": (_SIZE, [_H, _AT, _SIZE]), "slaves": (_SIZE, [_H]),
+    "state_next": (_SIZE, [_H, _SIZE, _AT, _SIZE]), "state": (_INT, [_H, _SIZE, _AT]), "counters": (ctypes.c_uint, [_H, _SIZE, _AT, _AT]),
+    "get_signed": (_I64, [_H, _SIZE]), "variables": (_SIZE, [_H]), "variable_info": (_BOOL, [_H, _SIZE, _AT]),
     "part": (_SIZE, [_H, _SIZE, _AT, _SIZE]), "close": (_BOOL, [_H, _AT, _AT]), "unit": (_INT, [_H, _SIZE]),
     "set": (_BOOL, [_H, _SIZE, _U64]), "get": (_U64, [_H, _SIZE]), "outputs": (_SIZE, [_H, _BYTES, _SIZE]),
     "inputs": (_SIZE, [_H, _AT, _SIZE]), "variable": (ctypes.c_long, [_H, _BYTES]),
@@ -131,6 +156,28 @@ class Master(_Owner):
     def give_up(self) -> None:
         _lib.ecat_give_up(self._handle)
 
+    def waits(self) -> bool:
+        return _lib.ecat_waits(self._handle)
+
+    def failure(self) -> Optional[Failed]:
+        """How the last start-up failed, if it did."""
+        told, words = _Refusal(), ctypes.create_string_buffer(WORDS)
+        if not _lib.ecat_failure(self._handle, ctypes.byref(told)):
+            return None
+        _lib.ecat_explain(self._handle, words, WORDS)
+        return Failed(told.number, told.name.decode(), told.values[:told.count], words.value.decode())
+
+    def slaves(self) -> int:
+        return _lib.ecat_slaves(self._handle)
+
+    def state_next(self, slave: int) -> bytes:
+        return ctypes.string_at(self._room, _lib.ecat_state_next(self._handle, slave, self._room, FRAME))
+
+    def state(self, slave: int) -> Optional[State]:
+        code = ctypes.c_uint16()
+        word = _lib.ecat_state(self._handle, slave, ctypes.byref(code))
+        return State(word, code.value) if word >= 0 else None
+
     def begin(self) -> int:
         parts = _lib.ecat_begin(self._handle)
         if parts < 0:
@@ -147,6 +194,17 @@ class Master(_Owner):
     def unit(self, unit: int) -> Optional[bool]:
         return {0: False, 1: True}.get(_lib.ecat_unit(self._handle, unit))
 
+    def counters(self, part: int) -> Tuple[int, ...]:
+        found = ctypes.c_uint16(), ctypes.c_uint16()
+        return tuple(counter.value for counter in found[:_lib.ecat_counters(self._handle, part, *map(ctypes.byref, found))])
+
+    def variables(self) -> List[Variable]:
+        info, found = _Info(), []
+        for number in range(_lib.ecat_variables(self._handle)):
+            _lib.ecat_variable_info(self._handle, number, ctypes.byref(info))
+            found.append(Variable(info.name.decode(), info.bits, info.is_output, info.is_signed, info.bit))
+        return found
+
     def variable(self, name: str) -> int:
         if name not in self._numbers:
             number = _lib.ecat_variable(self._handle, name.encode())
@@ -157,6 +215,10 @@ class Master(_Owner):
 
     def __getitem__(self, name: str) -> int:
         return _lib.ecat_get(self._handle, self.variable(name))
+
+    def signed(self, name: str) -> int:
+        """The value of a variable with its sign, if it has one."""
+        return _lib.ecat_get_signed(self._handle, self.variable(name))
 
     def __setitem__(self, name: str, value: int) -> None:
         if not 0 <= value < 1 << 64 or not _lib.ecat_set(self._handle, self.variable(name), value):
@@ -170,8 +232,11 @@ class Master(_Owner):
         return image.raw[:_lib.ecat_inputs(self._handle, image, len(image))]
 
     def bring_up(self, wire: Wire) -> None:
-        """Sends each frame of the start-up, and receives until its answer came. Raises Failed if one doesn't come, or the start-up fails."""
+        """Sends each frame of the start-up, and receives until its answer came; rests before a poll that asks again. Raises Failed if an
+        answer doesn't come, or the start-up fails."""
         while frame := self.next():
+            if self.waits():
+                time.sleep(REST)
             wire.send(frame)
             while (payload := wire.receive()) and not self.take(payload):
                 pass
@@ -180,7 +245,16 @@ class Master(_Owner):
             if self.phase() < 0:
                 break
         if self.phase() != 1:
-            raise Failed(-self.phase())
+            raise self.failure() or Failed(-self.phase())
+
+    def read_state(self, wire: Wire, slave: int) -> Optional[State]:
+        """Asks a slave for its AL state, and receives until the answer came."""
+        if frame := self.state_next(slave):
+            wire.send(frame)
+            while payload := wire.receive():
+                if self.take(payload):
+                    return self.state(slave)
+        return None
 
     def cycle(self, wire: Wire) -> Report:
         """Sends the frames of a cycle, and receives until none is missing. A late or foreign payload changes nothing."""

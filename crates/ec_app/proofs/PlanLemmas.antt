@@ -11,14 +11,14 @@ use Rattle.ec_app.specs.declared.plan.PlanForm.{PlanForm}
 use Rattle.ec_app.specs.declared.plan.PlanForm.TheVariants.{Fixed, Explained, Header}
 use Rattle.ec_app.specs.Planning.{IsTextOfPlan}
 
-pub shown_fixed : (form : PlanForm) (table : Contents) (answer : List ℕ) → form ≡ Fixed → answer ≡ plan_text table.version (plan_of table) → IsTextOfPlan form table answer
-shown_fixed form table answer is same = subst (λ f. IsTextOfPlan f table answer) (sym is) same
+pub shown_fixed : (form : PlanForm) (prefix : List ℕ) (table : Contents) (answer : List ℕ) → form ≡ Fixed → answer ≡ plan_text table.version (plan_of table) → IsTextOfPlan form prefix table answer
+shown_fixed form prefix table answer is same = subst (λ f. IsTextOfPlan f prefix table answer) (sym is) same
 
-pub shown_explained : (form : PlanForm) (table : Contents) (answer : List ℕ) → form ≡ Explained → IsTextOfPlan form table answer
-shown_explained form table answer is = subst (λ f. IsTextOfPlan f table answer) (sym is) tt
+pub shown_explained : (form : PlanForm) (prefix : List ℕ) (table : Contents) (answer : List ℕ) → form ≡ Explained → IsTextOfPlan form prefix table answer
+shown_explained form prefix table answer is = subst (λ f. IsTextOfPlan f prefix table answer) (sym is) tt
 
-pub shown_header : (form : PlanForm) (table : Contents) (answer : List ℕ) → form ≡ Header → answer ≡ header_text table.variables → IsTextOfPlan form table answer
-shown_header form table answer is same = subst (λ f. IsTextOfPlan f table answer) (sym is) same
+pub shown_header : (form : PlanForm) (prefix : List ℕ) (table : Contents) (answer : List ℕ) → form ≡ Header → answer ≡ header_text prefix table.variables (plan_of table).variables → IsTextOfPlan form prefix table answer
+shown_header form prefix table answer is same = subst (λ f. IsTextOfPlan f prefix table answer) (sym is) same
 
 -- memory may be refused of any text
 pub memory_refused : {T : Type 0} (r : Result T Refusal) (text : List ℕ) → IfErr r (λ refusal. refusal ≡ Memory) → IfErr r (IsTableRefusal text)

@@ -19,7 +19,7 @@ use Rattle.ec_console.specs.declared.refusal.Refusal.{Refusal}
 use Rattle.ec_console.specs.declared.refusal.Refusal.TheVariants.{Memory}
 use Rattle.cmd_loop.specs.Looping.{LoopsOnSockets}
 use Rattle.ec_app.specs.Passing.{RunsPass}
-use Rattle.ec_app.specs.Planning.{RunsPlan, form_of as plan_form_of}
+use Rattle.ec_app.specs.Planning.{RunsPlan, form_of as plan_form_of, prefix_or}
 use Rattle.ec_console.specs.Given.{Given, given_by}
 use Rattle.ec_console.specs.Printing.{IsEprinted, OutputState, PrintsText}
 use Rattle.ec_console.specs.Refusals.{line_of, status_of}
@@ -150,7 +150,7 @@ RunsSlaves true a octets file explained = RunsWork takes.Lines (slave_form a.ful
 -- what a command does with the output, and what it says while it runs, by what the input gives, if that is known
 abbrev pub Runs : Command → (given : Given) → (output stderr : Stream) → Result Unit Refusal → Type 0
 Runs (PassOf slaves text) given output stderr ended = RunsPass slaves text output.old output.new ended × IsQuiet stderr
-Runs (PlanOf header explained) given output stderr ended = RunsPlan (plan_form_of header explained) given output.old output.new ended × IsQuiet stderr
+Runs (PlanOf header prefix explained) given output stderr ended = RunsPlan (plan_form_of header explained) (prefix_or prefix) given output.old output.new ended × IsQuiet stderr
 Runs (DecodeOf table explained) given output stderr ended = RunsDecodeWith table (names_of explained) given output.old output.new ended × IsQuiet stderr
 Runs EncodeOf given output stderr ended = RunsEncode given output.old output.new ended × IsQuiet stderr
 Runs (SimOf live capture explained) given output stderr ended = RunsSim live capture explained given output stderr ended
@@ -169,7 +169,7 @@ LeavesIf false old new = Unit {0}
 -- none
 abbrev pub LeavesAlone : {R A : Type 0} → Command → (input_old input_new : R) → (app_old app_new : A) → Type 0
 LeavesAlone (PassOf slaves text) input_old input_new app_old app_new = (input_new ≡ input_old) × (app_new ≡ app_old)
-LeavesAlone (PlanOf header explained) input_old input_new app_old app_new = app_new ≡ app_old
+LeavesAlone (PlanOf header prefix explained) input_old input_new app_old app_new = app_new ≡ app_old
 LeavesAlone (DecodeOf table explained) input_old input_new app_old app_new = app_new ≡ app_old
 LeavesAlone EncodeOf input_old input_new app_old app_new = app_new ≡ app_old
 LeavesAlone (SimOf live capture explained) input_old input_new app_old app_new = app_new ≡ app_old
@@ -251,7 +251,7 @@ pub record EndsOwning {R A : Type 0} (remaining : R → Option (List ℕ)) (word
 -- what a command leaves of the input: all of it, if it reads none
 abbrev pub LeavesInput : {R : Type 0} → Command → (old new : R) → Type 0
 LeavesInput (PassOf slaves text) old new = new ≡ old
-LeavesInput (PlanOf header explained) old new = Unit {0}
+LeavesInput (PlanOf header prefix explained) old new = Unit {0}
 LeavesInput (DecodeOf table explained) old new = Unit {0}
 LeavesInput EncodeOf old new = Unit {0}
 LeavesInput (SimOf live capture explained) old new = Unit {0}

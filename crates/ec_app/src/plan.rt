@@ -1,8 +1,8 @@
 //! `ecat plan`: a link table on the input, and its plan.
-ghost use Rattle.std.specs.Prelude.{◌≡◌, IfErr, IfOk};
+ghost use Rattle.std.specs.Prelude.{◌≡◌, IfErr, IfOk, option_map};
 ghost use Rattle.std.specs.String.{string_bytes};
 ghost use Rattle.ec_console.specs.Explaining.{IsLeft};
-ghost use Rattle.ec_app.specs.Planning.{IsPlanAnswer, IsTextOfPlan, RunsPlan, form_of};
+ghost use Rattle.ec_app.specs.Planning.{IsPlanAnswer, IsTextOfPlan, RunsPlan, form_of, prefix_or};
 ghost use Rattle.ec_console.specs.Given.{IsTableRefusal, given_by};
 
 use ec_console::{
@@ -39,17 +39,27 @@ impl PlanForm {
     }
 }
 
-/// The plan of the table that the text states, in a form.
+/// What the names of a C header begin with: `ECAT_` if nothing else is given.
+pub fn prefix_or(prefix: Option<&str>) -> &str
+    ensures { result.now ≡ prefix_or (option_map (λ x. x.now) prefix.entry) }
+{
+    match prefix {
+        Some(prefix) => prefix,
+        None => "ECAT_",
+    }
+}
+
+/// The plan of the table that the text states, in a form; the names of a header begin with `prefix`.
 ///
 /// # Errors
 ///
 /// What [`read_machine`] refuses, and `Refusal::Memory` if memory ran out.
-pub fn show_plan(alloc: Global, form: PlanForm, text: &str) -> Result<String, Refusal>
-    ensures answer { IfOk result (λ answer. IsPlanAnswer form text.now (string_bytes answer)) }
+pub fn show_plan(alloc: Global, form: PlanForm, prefix: &str, text: &str) -> Result<String, Refusal>
+    ensures answer { IfOk result (λ answer. IsPlanAnswer form prefix.now text.now (string_bytes answer)) }
     ensures refused { IfErr result (IsTableRefusal text.now) }
 {
     let machine = read_machine(alloc, SlaveForm::Plain, text)?;
-    text_of(alloc, form, &machine)
+    text_of(alloc, form, prefix, &machine)
 }
 
 /// Prints what [`show_plan`] returns for the whole text of the input, and explains its refusal in
@@ -62,16 +72,17 @@ pub fn show_plan(alloc: Global, form: PlanForm, text: &str) -> Result<String, Re
 pub fn print_plan<R: Read + Drop, W: Write + Drop>(
     alloc: Global,
     form: PlanForm,
+    prefix: &str,
     input: &mut InputStream<R>,
     output: &mut OutputStream<W>,
     behind: &mut Explanation,
 ) -> Result<(), Refusal>
-    ensures runs { RunsPlan form (given_by R.remaining input.old input.new) output.old
+    ensures runs { RunsPlan form prefix.now (given_by R.remaining input.old input.new) output.old
         output.new result }
     ensures explains { IsLeft behind.old behind.new }
 {
     let text = read_text(alloc, input)?;
-    match show_plan(alloc, form, text.as_str()) {
+    match show_plan(alloc, form, prefix, text.as_str()) {
         Ok(answer) => print_text(answer.as_bytes(), output),
         Err(refusal) => {
             behind.explain(alloc, Source::Table, text.as_str(), &Err(refusal));
@@ -82,14 +93,19 @@ pub fn print_plan<R: Read + Drop, W: Write + Drop>(
 
 /// The plan of a machine in a form.
 #[tactic(auto, using(crate::proofs::PlanLemmas::shown_fixed, crate::proofs::PlanLemmas::shown_explained, crate::proofs::PlanLemmas::shown_header))]
-fn text_of(alloc: Global, form: PlanForm, machine: &Machine) -> Result<String, Refusal>
-    ensures shown { IfOk result (λ answer. IsTextOfPlan form machine.now (string_bytes answer)) }
+fn text_of(
+    alloc: Global,
+    form: PlanForm,
+    prefix: &str,
+    machine: &Machine,
+) -> Result<String, Refusal>
+    ensures shown { IfOk result (λ answer. IsTextOfPlan form prefix.now machine.now (string_bytes answer)) }
     ensures memory { IfErr result (λ refusal. refusal ≡ Refusal.Memory) }
 {
     let (table, plan) = (machine.table(), machine.plan());
     match form {
         PlanForm::Fixed => Ok(plan_text(alloc, table.version(), plan)?),
         PlanForm::Explained => Ok(explain_text(alloc, table, plan)?),
-        PlanForm::Header => Ok(header_text(alloc, table)?),
+        PlanForm::Header => Ok(header_text(alloc, prefix, table, plan)?),
     }
 }

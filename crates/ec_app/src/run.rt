@@ -8,7 +8,7 @@ ghost use Rattle.ec_app.specs.Running.{Ends, EndsAlone, EndsOwning, IsWorkOf, Le
 ghost use Rattle.ec_console.specs.Given.{given_by};
 
 use crate::pass::print_pass;
-use crate::plan::{PlanForm, print_plan};
+use crate::plan::{PlanForm, prefix_or, print_plan};
 use crate::remarked::print_payloads;
 use crate::translate::print_encode;
 use crate::work::{Work, run_work};
@@ -184,10 +184,15 @@ fn run_request<
         Request::Pass { slaves, frame } => {
             print_pass(rt.alloc(), slaves.into(), frame, &mut console.output)
         }
-        Request::Plan { header, explained } => {
+        Request::Plan {
+            header,
+            prefix,
+            explained,
+        } => {
             print_plan(
                 rt.alloc(),
                 PlanForm::of(header, explained),
+                prefix_or(prefix),
                 &mut console.input,
                 &mut console.output,
                 &mut console.explanation,

@@ -74,7 +74,7 @@ other_word a b differ same = let bad : true ≡ false = sym ((bytes_eq-Decides a
 -- so a word is that of one command
 pub is_pass : (command : Command) → word_of command ≡ codes "pass" → (n : ℕ) × (f : Text) × (command ≡ PassOf n f)
 is_pass (PassOf n f) called = (n, f, refl)
-is_pass (PlanOf h e) called = absurd (other_word (codes "plan") (codes "pass") refl called)
+is_pass (PlanOf h p e) called = absurd (other_word (codes "plan") (codes "pass") refl called)
 is_pass (DecodeOf t e) called = absurd (other_word (codes "decode") (codes "pass") refl called)
 is_pass EncodeOf called = absurd (other_word (codes "encode") (codes "pass") refl called)
 is_pass (SimOf l c e) called = absurd (other_word (codes "sim") (codes "pass") refl called)
@@ -82,9 +82,9 @@ is_pass (LoopOf n c e) called = absurd (other_word (codes "loop") (codes "pass")
 is_pass (SegmentOf a c e) called = absurd (other_word (codes "segment") (codes "pass") refl called)
 is_pass (MasterOf t d p c e) called = absurd (other_word (codes "master") (codes "pass") refl called)
 
-pub is_plan : (command : Command) → word_of command ≡ codes "plan" → (h : Bool) × (e : Bool) × (command ≡ PlanOf h e)
+pub is_plan : (command : Command) → word_of command ≡ codes "plan" → (h : Bool) × (p : Option Text) × (e : Bool) × (command ≡ PlanOf h p e)
 is_plan (PassOf n f) called = absurd (other_word (codes "pass") (codes "plan") refl called)
-is_plan (PlanOf h e) called = (h, e, refl)
+is_plan (PlanOf h p e) called = (h, p, e, refl)
 is_plan (DecodeOf t e) called = absurd (other_word (codes "decode") (codes "plan") refl called)
 is_plan EncodeOf called = absurd (other_word (codes "encode") (codes "plan") refl called)
 is_plan (SimOf l c e) called = absurd (other_word (codes "sim") (codes "plan") refl called)
@@ -94,7 +94,7 @@ is_plan (MasterOf t d p c e) called = absurd (other_word (codes "master") (codes
 
 pub is_loop : (command : Command) → word_of command ≡ codes "loop" → (n : ℕ) × (c : Option Text) × (e : Bool) × (command ≡ LoopOf n c e)
 is_loop (PassOf n f) called = absurd (other_word (codes "pass") (codes "loop") refl called)
-is_loop (PlanOf h e) called = absurd (other_word (codes "plan") (codes "loop") refl called)
+is_loop (PlanOf h p e) called = absurd (other_word (codes "plan") (codes "loop") refl called)
 is_loop (DecodeOf t e) called = absurd (other_word (codes "decode") (codes "loop") refl called)
 is_loop EncodeOf called = absurd (other_word (codes "encode") (codes "loop") refl called)
 is_loop (SimOf l c e) called = absurd (other_word (codes "sim") (codes "loop") refl called)
@@ -104,7 +104,7 @@ is_loop (MasterOf t d p c e) called = absurd (other_word (codes "master") (codes
 
 pub is_segment : (command : Command) → word_of command ≡ codes "segment" → (a : SegmentArguments) × (c : Option Text) × (e : Bool) × (command ≡ SegmentOf a c e)
 is_segment (PassOf n f) called = absurd (other_word (codes "pass") (codes "segment") refl called)
-is_segment (PlanOf h e) called = absurd (other_word (codes "plan") (codes "segment") refl called)
+is_segment (PlanOf h p e) called = absurd (other_word (codes "plan") (codes "segment") refl called)
 is_segment (DecodeOf t e) called = absurd (other_word (codes "decode") (codes "segment") refl called)
 is_segment EncodeOf called = absurd (other_word (codes "encode") (codes "segment") refl called)
 is_segment (SimOf l c e) called = absurd (other_word (codes "sim") (codes "segment") refl called)
@@ -114,7 +114,7 @@ is_segment (MasterOf t d p c e) called = absurd (other_word (codes "master") (co
 
 pub is_master : (command : Command) → word_of command ≡ codes "master" → (t : Text) × (d : Option ℕ) × (p : ℕ) × (c : Option Text) × (e : Bool) × (command ≡ MasterOf t d p c e)
 is_master (PassOf n f) called = absurd (other_word (codes "pass") (codes "master") refl called)
-is_master (PlanOf h e) called = absurd (other_word (codes "plan") (codes "master") refl called)
+is_master (PlanOf h p e) called = absurd (other_word (codes "plan") (codes "master") refl called)
 is_master (DecodeOf t e) called = absurd (other_word (codes "decode") (codes "master") refl called)
 is_master EncodeOf called = absurd (other_word (codes "encode") (codes "master") refl called)
 is_master (SimOf l c e) called = absurd (other_word (codes "sim") (codes "master") refl called)
@@ -146,7 +146,7 @@ not_asked (Some request) name word rows called never = tt
 pub no_such_word : (name : Text) (rows : List Row) → (name ≡ codes "pass" → ⊥) → (name ≡ codes "plan" → ⊥) → (name ≡ codes "decode" → ⊥) → (name ≡ codes "encode" → ⊥)
     → (name ≡ codes "sim" → ⊥) → (name ≡ codes "loop" → ⊥) → (name ≡ codes "segment" → ⊥) → (name ≡ codes "master" → ⊥) → MeetsCommand (Some (name, rows)) → ⊥
 no_such_word name rows pass plan decode encode sim loop segment master (PassOf n f, met) = pass (ap name_in met.named)
-no_such_word name rows pass plan decode encode sim loop segment master (PlanOf h e, met) = plan (ap name_in met.named)
+no_such_word name rows pass plan decode encode sim loop segment master (PlanOf h p e, met) = plan (ap name_in met.named)
 no_such_word name rows pass plan decode encode sim loop segment master (DecodeOf t e, met) = decode (ap name_in met.named)
 no_such_word name rows pass plan decode encode sim loop segment master (EncodeOf, met) = encode (ap name_in met.named)
 no_such_word name rows pass plan decode encode sim loop segment master (SimOf l c e, met) = sim (ap name_in met.named)
@@ -343,14 +343,18 @@ finds_no_header : (explained : Bool) → FindsFlag (plan_rows explained) (codes 
 finds_no_header true = record { given = λ found. other_flag (sym found); absent = λ found. refl }
 finds_no_header false = record { given = λ found. other_flag (sym found); absent = λ found. refl }
 
+no_prefix : (explained : Bool) → FindsText (plan_rows explained) (codes "prefix") None
+no_prefix true = refl
+no_prefix false = refl
+
 finds_explain : (explained : Bool) → FindsFlag (plan_rows explained) (codes "explain") explained
 finds_explain true = record { given = λ found. refl; absent = λ found. other_flag found }
 finds_explain false = record { given = λ found. other_flag (sym found); absent = λ found. refl }
 
-finds-plan : (explained : Bool) → Finds (plan_rows explained) (PlanOf false explained)
-finds-plan explained = record { for_header = finds_no_header explained; for_explain = finds_explain explained }
+finds-plan : (explained : Bool) → Finds (plan_rows explained) (PlanOf false None explained)
+finds-plan explained = record { for_header = finds_no_header explained; for_prefix = no_prefix explained; for_explain = finds_explain explained }
 
-pub meets-plan : (args : List Text) (explained : Bool) → ArePlanArguments args explained → MeetsAs (subcommand_of ecat args) (PlanOf false explained)
+pub meets-plan : (args : List Text) (explained : Bool) → ArePlanArguments args explained → MeetsAs (subcommand_of ecat args) (PlanOf false None explained)
 meets-plan args explained w = record {
   rows = plan_rows explained;
   named = subcommand_of-plan args explained w;
@@ -365,20 +369,21 @@ same_flag : (explained e : Bool) → FindsFlag (plan_rows explained) (codes "exp
 same_flag true e flag = flag.given refl
 same_flag false e flag = flag.absent refl
 
-same_plan : (explained h e : Bool) → Finds (plan_rows explained) (PlanOf h e) → PlanOf h e ≡ PlanOf false explained
-same_plan explained h e found =
+same_plan : (explained h e : Bool) (p : Option Text) → Finds (plan_rows explained) (PlanOf h p e) → PlanOf h p e ≡ PlanOf false None explained
+same_plan explained h e p found =
     let header = no_header explained h found.for_header in
+    let prefix : p ≡ None = sym found.for_prefix ∙ no_prefix explained in
     let flag = same_flag explained e found.for_explain in
-    (λ i. PlanOf (header i) (flag i))
+    (λ i. PlanOf (header i) (prefix i) (flag i))
 
-pub only-plan : (args : List Text) (explained : Bool) → ArePlanArguments args explained → (command : Command) → MeetsAs (subcommand_of ecat args) command → command ≡ PlanOf false explained
+pub only-plan : (args : List Text) (explained : Bool) → ArePlanArguments args explained → (command : Command) → MeetsAs (subcommand_of ecat args) command → command ≡ PlanOf false None explained
 only-plan args explained w command met =
     let is = sym met.named ∙ subcommand_of-plan args explained w in
     let it = is_plan command (ap name_in is) in
     let found = subst (λ (l : List Row). Finds l command) (ap rows_in is) met.found in
-    it.2 ∙ same_plan explained it.0 it.1 (subst (Finds (plan_rows explained)) it.2 found)
+    it.3 ∙ same_plan explained it.0 it.2 it.1 (subst (Finds (plan_rows explained)) it.3 found)
 
 pub plan_is_read : PlanIsRead
 plan_is_read args explained (Ok request) w (none, asks) = only-plan args explained w (command_of request) asks
 plan_is_read args explained (Err notice) w (kind, fault, told) =
-    memory_notice kind notice (no_other_fault args kind (no_fault-plan args explained w) (PlanOf false explained, meets-plan args explained w) fault) told
+    memory_notice kind notice (no_other_fault args kind (no_fault-plan args explained w) (PlanOf false None explained, meets-plan args explained w) fault) told

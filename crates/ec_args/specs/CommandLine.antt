@@ -27,6 +27,10 @@ needed rule = record rule { required = true }
 abbrev pub or_else : Text → Rule → Rule
 or_else text rule = record rule { defaults = text ∷ [] }
 
+-- `--NAME TEXT`, any text
+abbrev pub text_rule : Text → Rule
+text_rule name = record (new_rule name) { long = Some name; action = Some Set; value_names = 1 }
+
 -- how many slaves a ring has
 abbrev pub slaves_rule : Rule
 slaves_rule = needed (number_rule (codes "slaves") 0 64)
@@ -43,13 +47,13 @@ explain_rule = flag_rule (codes "explain")
 abbrev pub header_rule : Rule
 header_rule = flag_rule (codes "header")
 
+-- what the names of the header begin with
+abbrev pub prefix_rule : Rule
+prefix_rule = text_rule (codes "prefix")
+
 -- whether lines are run as they come
 abbrev pub live_rule : Rule
 live_rule = flag_rule (codes "live")
-
--- `--NAME TEXT`, any text
-abbrev pub text_rule : Text → Rule
-text_rule name = record (new_rule name) { long = Some name; action = Some Set; value_names = 1 }
 
 -- the file of a capture
 abbrev pub capture_rule : Rule
@@ -101,7 +105,7 @@ abbrev pub pass_shape : Shape
 pass_shape = (with_rule (with_rule (new_app (codes "pass")) slaves_rule) frame_rule).top
 
 abbrev pub plan_shape : Shape
-plan_shape = (with_rule (with_rule (new_app (codes "plan")) header_rule) explain_rule).top
+plan_shape = (with_rule (with_rule (with_rule (new_app (codes "plan")) header_rule) prefix_rule) explain_rule).top
 
 abbrev pub decode_shape : Shape
 decode_shape = (with_rule (with_rule (new_app (codes "decode")) table_rule) explain_rule).top

@@ -36,8 +36,9 @@ pub record SegmentArguments : Type 0 where
 pub data Command : Type 0 where
   -- `ecat pass`: the number of slaves, and the text of a frame
   PassOf : ℕ → Text → Command
-  -- `ecat plan`: whether it prints a C header, and whether it explains the plan and a refusal
-  PlanOf : Bool → Bool → Command
+  -- `ecat plan`: whether it prints a C header, what its names begin with if that is given, and whether it explains the plan and a
+  -- refusal
+  PlanOf : Bool → Option Text → Bool → Command
   -- `ecat decode`: the file of a link table, if one is named, and whether the frames are to be explained
   DecodeOf : Option Text → Bool → Command
   -- `ecat encode`
@@ -56,7 +57,7 @@ pub data Command : Type 0 where
 -- the word that asks for a command
 abbrev pub word_of : Command → Text
 word_of (PassOf slaves frame) = codes "pass"
-word_of (PlanOf header explained) = codes "plan"
+word_of (PlanOf header prefix explained) = codes "plan"
 word_of (DecodeOf table explained) = codes "decode"
 word_of EncodeOf = codes "encode"
 word_of (SimOf live capture explained) = codes "sim"
@@ -67,7 +68,7 @@ word_of (MasterOf to descriptor patience capture explained) = codes "master"
 -- whether it is to explain a refusal
 abbrev pub is_explained : Command → Bool
 is_explained (PassOf slaves text) = false
-is_explained (PlanOf header explained) = explained
+is_explained (PlanOf header prefix explained) = explained
 is_explained (DecodeOf table explained) = false
 is_explained EncodeOf = false
 is_explained (SimOf live capture explained) = explained
@@ -103,8 +104,9 @@ pub record FindsPass (rows : List Row) (slaves : ℕ) (frame : Text) : Type 0 wh
   pub for_slaves : FindsNumber rows (codes "slaves") slaves (2 ^ 8)
   pub for_frame : FindsText rows (codes "frame") (Some frame)
 
-pub record FindsPlan (rows : List Row) (header : Bool) (explained : Bool) : Type 0 where
+pub record FindsPlan (rows : List Row) (header : Bool) (prefix : Option Text) (explained : Bool) : Type 0 where
   pub for_header : FindsFlag rows (codes "header") header
+  pub for_prefix : FindsText rows (codes "prefix") prefix
   pub for_explain : FindsFlag rows (codes "explain") explained
 
 pub record FindsDecode (rows : List Row) (table : Option Text) (explained : Bool) : Type 0 where
@@ -142,7 +144,7 @@ pub record FindsMaster (rows : List Row) (to : Text) (descriptor : Option ℕ) (
 -- for the arguments of a command
 abbrev pub Finds : List Row → Command → Type 0
 Finds rows (PassOf slaves frame) = FindsPass rows slaves frame
-Finds rows (PlanOf header explained) = FindsPlan rows header explained
+Finds rows (PlanOf header prefix explained) = FindsPlan rows header prefix explained
 Finds rows (DecodeOf table explained) = FindsDecode rows table explained
 Finds rows EncodeOf = Unit {0}
 Finds rows (SimOf live capture explained) = FindsSim rows live capture explained
@@ -175,7 +177,7 @@ arguments_of options = record {
 -- the command that is asked for
 abbrev pub command_of : Request → Command
 command_of (Pass slaves frame) = PassOf slaves frame.now
-command_of (Plan header explained) = PlanOf header explained
+command_of (Plan header prefix explained) = PlanOf header (option_map (λ x. x.now) prefix) explained
 command_of (Decode table explained) = DecodeOf (option_map (λ file. file.now) table) explained
 command_of Encode = EncodeOf
 command_of (Sim live capture explained) = SimOf live (option_map (λ file. file.now) capture) explained
@@ -242,4 +244,4 @@ pub record ArePlanArguments (args : List Text) (explained : Bool) : Type 0 where
 abbrev pub PlanIsRead : Type 0
 PlanIsRead = (args : List Text) (explained : Bool) (read : Result Request Notice)
     → ArePlanArguments args explained → Reads args read
-    → MatchResult read (λ request. command_of request ≡ PlanOf false explained) (λ notice. notice ≡ Memory)
+    → MatchResult read (λ request. command_of request ≡ PlanOf false None explained) (λ notice. notice ≡ Memory)

@@ -59,15 +59,18 @@ fn pass_command<'a>(alloc: Global) -> Made<'a>
     with_argument(command, required(text(alloc, "frame", "HEX", help)))
 }
 
-/// `ecat plan [--header] [--explain]`.
+/// `ecat plan [--header] [--prefix PREFIX] [--explain]`.
 fn plan_command<'a>(alloc: Global) -> Made<'a>
     ensures { IsMadeAs result (alone plan_shape) }
 {
-    let usage = "ecat plan [--header] [--explain] < TABLE";
+    let usage = "ecat plan [--header] [--prefix <PREFIX>] [--explain] < TABLE";
     let about = "Reads a link table from standard input and prints its plan";
     let command = used_as(alloc, "plan", usage, about, PLAN_EXAMPLE, PLAN_LINES);
     let help = "Print the variables as a C header instead of the plan";
     let command = with_argument(command, flag(alloc, "header", help));
+    let help =
+        "With --header: what its names begin with, letters, digits and `_`, in place of ECAT_";
+    let command = with_argument(command, option(alloc, "prefix", "PREFIX", help));
     let help = "Print the plan as tables of bits, for people, and explain a refusal";
     with_argument(command, flag(alloc, "explain", help))
 }

@@ -30,6 +30,8 @@ pub enum Request<'a> {
     Plan {
         /// Whether the C header is printed instead of the plan.
         header: bool,
+        /// What the names of the header begin with, if it is given.
+        prefix: Option<&'a str>,
         /// Whether the plan and a refusal are explained.
         explained: bool,
     },
@@ -293,6 +295,7 @@ fn read_plan<'a>(given: &ArgMatches<'a>) -> Request<'a>
 {
     Request::Plan {
         header: given.get_flag("header"),
+        prefix: given.get_str("prefix"),
         explained: given.get_flag("explain"),
     }
 }

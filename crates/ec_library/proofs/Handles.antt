@@ -17,11 +17,11 @@ use denote.Struct.Owning.{shape}
 use Rattle.libc.specs.Heap.{chunk}
 use Rattle.ec_library.specs.Keeping.{keeps}
 use Rattle.ec_library.proofs.Values.{alone}
-use Rattle.ec_session.specs.Sessions.{SessionState}
-use Rattle.ec_session.specs.contracts.session.Session.{the_row as session_row}
+use Rattle.ec_library.specs.declared.held.HeldMaster.{HeldMaster}
+use Rattle.ec_library.specs.contracts.held.HeldMaster.{the_row as master_row}
 use Rattle.ec_ring.specs.contracts.ring.Ring.{the_row as ring_row}
 use Rattle.ec_slave.specs.State.{SlaveState}
-use Rattle.ec_library.specs.Owning.{owns_session, owns_slaves}
+use Rattle.ec_library.specs.Owning.{owns_master, owns_slaves}
 use Rattle.ec_library.specs.contracts.handle.MasterHandle as master
 use Rattle.ec_library.specs.contracts.handle.SegmentHandle as segment
 
@@ -41,19 +41,19 @@ within_some None e = absurd (false≢true e)
 within_some (Some x) e = record { inside = x; is_it = refl }
 
 module _ {M : Type 1} {𝓤 : Ura M} {𝓛 : Logic 𝓤} {K : Type 0} {Γ : List (Item 𝓤)} {G : Goal 𝓤 𝓛.H} where
-  pub master_in : K → (b o : ℕ) (x : SessionState)
-      → Step K 𝓛 (‵ (Master.own_val (record { at = block_ptr b o; session = Some x }) (alone (vptr b o) ∷ [])) ∷ Γ) G (‵ (keeps session_row (block_ptr b o) x) ∷ Γ) G
+  pub master_in : K → (b o : ℕ) (x : HeldMaster)
+      → Step K 𝓛 (‵ (Master.own_val (record { at = block_ptr b o; held = Some x }) (alone (vptr b o) ∷ [])) ∷ Γ) G (‵ (keeps master_row (block_ptr b o) x) ∷ Γ) G
   master_in t b o x = step (λ s. let v : Val = alone (vptr b o) in
       nothing t $ feq_i t (List Val) (vptr b o ∷ []) (vptr b o ∷ []) refl $ fjoin t $ feq_i t (List Val) (v ∷ []) (v ∷ []) refl $ fjoin t $
       fpack t (Valss (RawPtr ∷ [])) (within (shape master.the_type) (block_ptr b o, tt) (v ∷ [])) (vptr b o ∷ [], tt) $ fjoin t $ s)
 
-  pub master_out : K → (d : Master.Denot) (vs : List Val) (x : SessionState) → d.session ≡ Some x
-      → ((b o : ℕ) → d.at ≡ block_ptr b o → vs ≡ alone (vptr b o) ∷ [] → Seq K 𝓛 (‵ (keeps session_row (block_ptr b o) x) ∷ Γ) G)
+  pub master_out : K → (d : Master.Denot) (vs : List Val) (x : HeldMaster) → d.held ≡ Some x
+      → ((b o : ℕ) → d.at ≡ block_ptr b o → vs ≡ alone (vptr b o) ∷ [] → Seq K 𝓛 (‵ (keeps master_row (block_ptr b o) x) ∷ Γ) G)
       → Seq K 𝓛 (‵ (Master.own_val d vs) ∷ Γ) G
   master_out t d vs x some k =
       fsplit t $ fpick t (λ vss. fsplit t $ feq_l t (λ ev. fsplit t $ feq_l t (λ ep. drop t $
-      rewrite t 0 (λ (m : Option (SessionState)). ‵ (owns_session d.at m)) some refl $
-      in_a_block t d.at (λ p. keeps session_row p x) (fst∗ 𝓤 (never 𝓤) (sem 𝓛 (chunk (bare (lone session_row.mir)) null_ptr))) (λ b o e. k b o e
+      rewrite t 0 (λ (m : Option (HeldMaster)). ‵ (owns_master d.at m)) some refl $
+      in_a_block t d.at (λ p. keeps master_row p x) (fst∗ 𝓤 (never 𝓤) (sem 𝓛 (chunk (bare (lone master_row.mir)) null_ptr))) (λ b o e. k b o e
       (subst (λ (p : Ptr). vs ≡ vstruct (of_list (ptr_val p ∷ [])) ∷ []) e
       (subst (λ (ps : List Val). vs ≡ vstruct (of_list (ps ++ [])) ∷ []) ep ev))))))
 

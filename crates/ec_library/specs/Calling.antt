@@ -14,8 +14,17 @@ use Rattle.ec_start.specs.Errors.{error_number}
 use Rattle.ec_start.specs.Running.{asked, given_up, next_frame, outcome_of}
 use Rattle.ec_start.specs.declared.error.StartError.{StartError}
 use Rattle.ec_start.specs.declared.phase.NextFrame.TheVariants.{Send}
+use Rattle.ec_frame.specs.Building.{bare_payload}
+use Rattle.ec_frame.specs.Frame.{IsFrame}
+use Rattle.ec_asking.specs.Questions.{question_frame}
+use Rattle.ec_asking.specs.declared.question.Question.TheVariants.{Status}
 use Rattle.ec_session.specs.Sessions.{IsGiven, IsNextFrame, SessionState, resumed, unit_taken, variable_named}
+use Rattle.ec_library.specs.Polls.{AsksAgain}
+use Rattle.ec_library.specs.Statuses.{TakesStatus, next_count, status_asked}
 use Rattle.ec_library.specs.declared.done.Done.{Done}
+use Rattle.ec_library.specs.declared.held.HeldMaster.{HeldMaster}
+use Rattle.ec_library.specs.declared.polling.Polling.{Polling}
+use Rattle.ec_library.specs.declared.statuses.Statuses.{Statuses}
 
 -- A step leads from the value behind the handle that is passed to the value behind the one that is handed back; both have one.
 pub record Leads {S : Type 0} (old new : Option S) (step : S → S → Type 0) : Type 0 where
@@ -40,14 +49,36 @@ pub record AreCopied (bytes room : List ℕ) (done : Done) (shown : List ℕ) : 
 
 -- ---- the start-up
 
-pub record AsksNext (old : SessionState) (room : List ℕ) (done : Done) (shown : List ℕ) (new : SessionState) : Type 0 where
-  pub short : length room < 1472 → (done.count ≡ 0) × (new ≡ old)
-  pub state : 1472 ≤ length room → new ≡ record old { startup = asked (resumed old.startup) }
-  pub frame : 1472 ≤ length room → next_frame (resumed old.startup) ≡ Send → IsNextFrame (resumed old.startup) (take done.count shown)
-  pub none : next_frame (resumed old.startup) ≢ Send → done.count ≡ 0
+-- the frame is noted if there is one: it may ask again what the last one asked
+abbrev pub IsNoted : Bool → Polling → List ℕ → Polling → Type 0
+IsNoted true old frame new = (IsTrue new.is_again ↔ AsksAgain old.last.items frame) × (new.last.items ≡ take 1472 frame)
+IsNoted false old frame new = new ≡ old
 
-abbrev pub Takes : SessionState → List ℕ → Done → SessionState → Type 0
-Takes old payload done new = IsGiven old payload done.is_done new × (done.count ≡ missing_of new.master.cycle)
+pub record AsksNext (old : HeldMaster) (room : List ℕ) (done : Done) (shown : List ℕ) (new : HeldMaster) : Type 0 where
+  pub short : length room < 1472 → (done.count ≡ 0) × (new.session ≡ old.session)
+  pub state : 1472 ≤ length room → new.session ≡ record old.session { startup = asked (resumed old.session.startup) }
+  pub frame : 1472 ≤ length room → next_frame (resumed old.session.startup) ≡ Send → IsNextFrame (resumed old.session.startup) (take done.count shown)
+  pub none : next_frame (resumed old.session.startup) ≢ Send → done.count ≡ 0
+  pub noted : IsNoted (nat_lt 0 done.count) old.polling (take done.count shown) new.polling
+  pub statuses : new.statuses ≡ old.statuses
+
+-- the session takes the payload, or else it may say the AL state of a slave
+abbrev pub TakesBeside : Bool → Statuses → List ℕ → Bool → Statuses → Type 0
+TakesBeside true old payload is_done new = (is_done ≡ true) × (new ≡ old)
+TakesBeside false old payload is_done new = TakesStatus old payload is_done new
+
+pub record Takes (old : HeldMaster) (payload : List ℕ) (done : Done) (new : HeldMaster) : Type 0 where
+  pub is_kept : Bool
+  pub session : IsGiven old.session payload is_kept new.session
+  pub statuses : TakesBeside is_kept old.statuses payload done.is_done new.statuses
+  pub count : done.count ≡ missing_of new.session.master.cycle
+  pub polling : new.polling ≡ old.polling
+
+-- A question for the AL state of a slave is written into the room.
+pub record AsksState (old : HeldMaster) (slave : ℕ) (room : List ℕ) (done : Done) (shown : List ℕ) (new : HeldMaster) : Type 0 where
+  pub there : slave < length old.session.master.plan.slaves → 1472 ≤ length room → IsFrame (take done.count shown) (bare_payload (question_frame (Status slave) (next_count old.statuses)))
+  pub asked : slave < length old.session.master.plan.slaves → 1472 ≤ length room → new ≡ record old { statuses = status_asked old.statuses slave }
+  pub none : (slave < length old.session.master.plan.slaves → 1472 ≤ length room → ⊥) → (done ≡ counted false 0) × (shown ≡ room) × (new ≡ old)
 
 -- done if Ready, not done if it runs, or a failure's number
 abbrev pub phase_result : Option (Result Unit StartError) → Done
@@ -55,11 +86,11 @@ phase_result None = counted false 0
 phase_result (Some (Ok done)) = counted true 0
 phase_result (Some (Err error)) = refused (error_number error)
 
-abbrev pub ReturnsPhase : SessionState → Done → SessionState → Type 0
-ReturnsPhase old done new = (new ≡ old) × (done ≡ phase_result (outcome_of old.startup.phase))
+abbrev pub ReturnsPhase : HeldMaster → Done → HeldMaster → Type 0
+ReturnsPhase old done new = (new ≡ old) × (done ≡ phase_result (outcome_of old.session.startup.phase))
 
-abbrev pub GivesUp : SessionState → SessionState → Type 0
-GivesUp old new = new ≡ record old { startup = given_up old.startup }
+abbrev pub GivesUp : HeldMaster → HeldMaster → Type 0
+GivesUp old new = new ≡ record old { session = record old.session { startup = given_up old.session.startup } }
 
 -- ---- cycles
 
@@ -67,60 +98,60 @@ abbrev pub begin_result : Option CycleError → ℕ → Done
 begin_result None parts = counted true parts
 begin_result (Some error) parts = refused (refusal_number error)
 
-pub record Begins (old : SessionState) (done : Done) (new : SessionState) : Type 0 where
-  pub told : done ≡ begin_result (begin_refusal old.master) (length new.master.plan.parts)
-  pub begun : begin_refusal old.master ≡ None → (c : OpenCycle) × Begun old.master new.master c
+pub record Begins (old : HeldMaster) (done : Done) (new : HeldMaster) : Type 0 where
+  pub told : done ≡ begin_result (begin_refusal old.session.master) (length new.session.master.plan.parts)
+  pub begun : begin_refusal old.session.master ≡ None → (c : OpenCycle) × Begun old.session.master new.session.master c
   pub kept : done.is_done ≡ false → new ≡ old
-  pub rest : new ≡ record old { master = new.master }
+  pub rest : new ≡ record old { session = record old.session { master = new.session.master } }
 
-pub record CopiesPart (old : SessionState) (part : ℕ) (room : List ℕ) (done : Done) (shown : List ℕ) (new : SessionState) : Type 0 where
-  pub there : is_some old.master.cycle ≡ true → part < length old.master.plan.parts → AreCopied (frame_of old.master.cycle part) room done shown
-  pub none : (is_some old.master.cycle ≡ true → part < length old.master.plan.parts → ⊥) → (done ≡ counted false 0) × (shown ≡ room)
+pub record CopiesPart (old : HeldMaster) (part : ℕ) (room : List ℕ) (done : Done) (shown : List ℕ) (new : HeldMaster) : Type 0 where
+  pub there : is_some old.session.master.cycle ≡ true → part < length old.session.master.plan.parts → AreCopied (frame_of old.session.master.cycle part) room done shown
+  pub none : (is_some old.session.master.cycle ≡ true → part < length old.session.master.plan.parts → ⊥) → (done ≡ counted false 0) × (shown ≡ room)
   pub same : new ≡ old
 
 abbrev pub report_result : ReportState → Done
 report_result r = record { number = 0; is_done = list_all (λ (t : Bool). t) r.taken; count = r.missing; value = r.al_word }
 
-pub record Closes (old : SessionState) (done : Done) (new : SessionState) : Type 0 where
-  pub closed : is_some old.master.cycle ≡ true → (r : ReportState) × (new.report ≡ Some r) × IsClosed old.master new.master r × (done ≡ report_result r)
-  pub not_open : old.master.cycle ≡ None → (done ≡ refused 35) × (new ≡ old)
-  pub rest : new ≡ record old { master = new.master; report = new.report }
+pub record Closes (old : HeldMaster) (done : Done) (new : HeldMaster) : Type 0 where
+  pub closed : is_some old.session.master.cycle ≡ true → (r : ReportState) × (new.session.report ≡ Some r) × IsClosed old.session.master new.session.master r × (done ≡ report_result r)
+  pub not_open : old.session.master.cycle ≡ None → (done ≡ refused 35) × (new ≡ old)
+  pub rest : new ≡ record old { session = record old.session { master = new.session.master; report = new.session.report } }
 
 abbrev pub unit_result : Option Bool → Done
 unit_result None = counted false 0
 unit_result (Some is_taken) = counted is_taken 1
 
-abbrev pub ReturnsUnit : SessionState → ℕ → Done → SessionState → Type 0
-ReturnsUnit old unit done new = (new ≡ old) × (done ≡ unit_result (option_and_then (unit_taken unit) old.report))
+abbrev pub ReturnsUnit : HeldMaster → ℕ → Done → HeldMaster → Type 0
+ReturnsUnit old unit done new = (new ≡ old) × (done ≡ unit_result (option_and_then (unit_taken unit) old.session.report))
 
 -- ---- variables
 
-pub record Sets (old : SessionState) (variable value : ℕ) (done : Done) (new : SessionState) : Type 0 where
-  pub told : done ≡ counted (holds_value value (slice_get old.master.plan.variables variable)) 0
-  pub is : done.is_done ≡ true → new ≡ record old { master = variable_set old.master variable value }
+pub record Sets (old : HeldMaster) (variable value : ℕ) (done : Done) (new : HeldMaster) : Type 0 where
+  pub told : done ≡ counted (holds_value value (slice_get old.session.master.plan.variables variable)) 0
+  pub is : done.is_done ≡ true → new ≡ record old { session = record old.session { master = variable_set old.session.master variable value } }
   pub kept : done.is_done ≡ false → new ≡ old
 
-pub record Gets (old : SessionState) (variable : ℕ) (done : Done) (new : SessionState) : Type 0 where
+pub record Gets (old : HeldMaster) (variable : ℕ) (done : Done) (new : HeldMaster) : Type 0 where
   pub same : new ≡ old
-  pub there : variable < length old.master.plan.variables → done.value ≡ value_at old.master (slice_get old.master.plan.variables variable)
-  pub none : length old.master.plan.variables ≤ variable → done ≡ counted false 0
+  pub there : variable < length old.session.master.plan.variables → done.value ≡ value_at old.session.master (slice_get old.session.master.plan.variables variable)
+  pub none : length old.session.master.plan.variables ≤ variable → done ≡ counted false 0
 
-pub record SetsOutputs (old : SessionState) (outputs : List ℕ) (done : Done) (new : SessionState) : Type 0 where
-  pub size : done.count ≡ length old.master.outputs
-  pub is : length outputs ≡ done.count → new ≡ record old { master = record old.master { outputs = outputs } }
+pub record SetsOutputs (old : HeldMaster) (outputs : List ℕ) (done : Done) (new : HeldMaster) : Type 0 where
+  pub size : done.count ≡ length old.session.master.outputs
+  pub is : length outputs ≡ done.count → new ≡ record old { session = record old.session { master = record old.session.master { outputs = outputs } } }
   pub kept : length outputs ≢ done.count → new ≡ old
 
-abbrev pub CopiesInputs : SessionState → List ℕ → Done → List ℕ → SessionState → Type 0
-CopiesInputs old room done shown new = (new ≡ old) × AreCopied old.master.inputs room done shown
+abbrev pub CopiesInputs : HeldMaster → List ℕ → Done → List ℕ → HeldMaster → Type 0
+CopiesInputs old room done shown new = (new ≡ old) × AreCopied old.session.master.inputs room done shown
 
 abbrev pub index_result : Option ℕ → Done
 index_result None = counted false 0
 index_result (Some index) = counted true index
 
 -- a name that is not UTF-8 is no variable's
-pub record Finds (old : SessionState) (name : List ℕ) (done : Done) (new : SessionState) : Type 0 where
+pub record Finds (old : HeldMaster) (name : List ℕ) (done : Done) (new : HeldMaster) : Type 0 where
   pub same : new ≡ old
-  pub found : IsUtf8 name → done ≡ index_result (variable_named old.table name)
+  pub found : IsUtf8 name → done ≡ index_result (variable_named old.session.table name)
   pub none : (IsUtf8 name → ⊥) → done ≡ counted false 0
 
 -- ---- a segment

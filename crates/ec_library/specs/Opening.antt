@@ -8,17 +8,23 @@ use Rattle.ec_link.specs.Faults.{error_name as link_name, error_number as link_n
 use Rattle.ec_link.specs.Machine.{Refuses, StatesMachine}
 use Rattle.ec_link.specs.declared.machine.MachineError.TheVariants.{Table, Link}
 use Rattle.ec_bringup.specs.SwitchedOn.{AreSlavesOf}
-use Rattle.ec_session.specs.Sessions.{IsOpened, SessionState}
+use Rattle.ec_session.specs.Sessions.{IsOpened}
+use Rattle.ec_library.specs.Holding.{IsUnasked}
 use Rattle.ec_library.specs.declared.error.OpenError.{OpenError}
 use Rattle.ec_library.specs.declared.error.OpenError.TheVariants.{Text, Machine}
+use Rattle.ec_library.specs.declared.held.HeldMaster.{HeldMaster}
 
 -- the slaves of the table that a text states, just switched on; all of them full slaves if `full`
 abbrev pub AreOpened : (full : Bool) → List ℕ → List SlaveState → Type 0
 AreOpened full text slaves = (table : Contents) × StatesMachine text table × AreSlavesOf (advertised_as full table) slaves
 
--- bytes are the text of a session, or of such slaves
-abbrev pub HasSession : List ℕ → SessionState → Type 0
-HasSession bytes s = IsUtf8 bytes × IsOpened bytes s
+-- the master of the table that a text states; nothing was asked of it
+abbrev pub IsNewMaster : List ℕ → HeldMaster → Type 0
+IsNewMaster text h = IsOpened text h.session × IsUnasked h
+
+-- bytes are the text of a master, or of such slaves
+abbrev pub HasMaster : List ℕ → HeldMaster → Type 0
+HasMaster bytes h = IsUtf8 bytes × IsNewMaster bytes h
 
 abbrev pub HasSlaves : (full : Bool) → List ℕ → List SlaveState → Type 0
 HasSlaves full bytes slaves = IsUtf8 bytes × AreOpened full bytes slaves

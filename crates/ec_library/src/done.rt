@@ -1,6 +1,6 @@
 //! What a call returns to C.
 ghost use Rattle.std.specs.Prelude.{◌≡◌};
-ghost use Rattle.ec_library.specs.Calling.{counted, refused};
+ghost use Rattle.ec_library.specs.Calling.{AreCopied, counted, refused};
 
 /// The result of a call. `number` is that of a refusal, or 0; `is_done` says that the call did what it is for. `count` is in
 /// bytes or parts, or the number of a variable. `value` is that of a variable, or the AL word of a report.
@@ -35,4 +35,16 @@ pub fn counted(is_done: bool, count: usize) -> Done
         count,
         value: 0,
     }
+}
+
+/// Writes bytes into a room if they fit; the count is how many they are.
+pub fn copy_into(bytes: &[u8], room: &mut [u8]) -> Done
+    ensures { AreCopied bytes.now room.old result room.new }
+{
+    let count = bytes.len();
+    if count > room.len() {
+        return counted(false, count);
+    }
+    room[..count].copy_from_slice(bytes);
+    counted(true, count)
 }

@@ -1,12 +1,12 @@
 //! The handles of masters and segments that C holds: structs of one pointer, each with a ghost field for what it owns.
 ghost use Rattle.std.specs.Prelude.{◌≡◌, List, Option, Some, true, is_some};
-ghost use Rattle.ec_session.specs.Sessions.{SessionState};
 ghost use Rattle.ec_slave.specs.State.{SlaveState};
 ghost use Rattle.ec_library.specs.Keeping.{keeps};
-ghost use Rattle.ec_library.specs.Owning.{owns_session, owns_slaves};
+ghost use Rattle.ec_library.specs.Owning.{owns_master, owns_slaves};
+ghost use Rattle.ec_library.specs.declared.held.HeldMaster.{HeldMaster};
 
+use crate::held::HeldMaster;
 use ec_ring::Ring;
-use ec_session::Session;
 use std::alloc::Global;
 use std::marker::Model;
 
@@ -48,16 +48,16 @@ pub struct Hidden {
     nothing: u8,
 }
 
-/// The handle of a master: it owns a session, or nothing.
+/// The handle of a master: it owns one, or nothing.
 #[repr(C)]
 #[derive(Drop)]
 pub struct MasterHandle {
     at: *mut Hidden,
-    ghost session: { Option SessionState },
+    ghost held: { Option HeldMaster },
 }
 
 impl Model for MasterHandle {
-    ghost also_owns = { λ h. owns_session h.at h.session };
+    ghost also_owns = { λ h. owns_master h.at h.held };
 }
 
 /// The handle of a segment: it owns slaves, or nothing.
@@ -72,9 +72,9 @@ impl Model for SegmentHandle {
     ghost also_owns = { λ h. owns_slaves h.at h.slaves };
 }
 
-/// The handle that owns a session.
-pub fn conceal_master(raw: RawBox<Session>) -> MasterHandle
-    ensures { result.session ≡ Some raw.value }
+/// The handle that owns a master.
+pub fn conceal_master(raw: RawBox<HeldMaster>) -> MasterHandle
+    ensures { result.held ≡ Some raw.value }
 {
     let RawBox { at } = raw;
     MasterHandle {
@@ -82,14 +82,14 @@ pub fn conceal_master(raw: RawBox<Session>) -> MasterHandle
     }
 }
 
-/// The session that a handle owns.
-pub fn reveal_master(handle: MasterHandle) -> RawBox<Session>
-    requires { is_some handle.session ≡ true }
-    ensures { Some result.value ≡ handle.session }
+/// The master that a handle owns.
+pub fn reveal_master(handle: MasterHandle) -> RawBox<HeldMaster>
+    requires { is_some handle.held ≡ true }
+    ensures { Some result.value ≡ handle.held }
 {
     let MasterHandle { at } = handle;
     RawBox {
-        at: at as *mut Session,
+        at: at as *mut HeldMaster,
     }
 }
 

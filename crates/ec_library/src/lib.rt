@@ -5,26 +5,35 @@
 //! second.
 #![tactic(auto)]
 
-ghost use Rattle.std.specs.Prelude.{◌≡◌, true, is_some};
+ghost use Rattle.std.specs.Prelude.{◌≡◌, true, is_some, length, slice_get};
 ghost use Rattle.ec_slave.specs.Serving.{served};
 ghost use Rattle.ec_slave.specs.State.{power_on};
-ghost use Rattle.ec_library.specs.Calling.{AsksNext, Begins, Closes, Does, Finds, Gets, GivesUp, HasFault, Leads, Passes, Reads, Sets, SetsOutputs, CopiesInputs, CopiesPart, Takes, ReturnsPhase, ReturnsUnit, Writes};
-ghost use Rattle.ec_library.specs.Opening.{HasSession, HasSlaves};
+ghost use Rattle.ec_library.specs.Calling.{AreCopied, AsksNext, AsksState, Begins, Closes, Does, Finds, Gets, GivesUp, HasFault, Leads, Passes, Reads, Sets, SetsOutputs, CopiesInputs, CopiesPart, Takes, ReturnsPhase, ReturnsUnit, Writes, counted};
+ghost use Rattle.ec_library.specs.Facts.{Explains, GetsSigned, ReturnsFailure, counters_of, counters_result, failure_name, name_at, place_result};
+ghost use Rattle.ec_library.specs.Holding.{failure_of};
+ghost use Rattle.ec_library.specs.Opening.{HasMaster, HasSlaves};
 ghost use Rattle.ec_library.specs.Refusing.{HasOpened};
+ghost use Rattle.ec_library.specs.Statuses.{state_result, told_of};
 
 mod calls;
 mod done;
 mod error;
+mod facts;
 mod handle;
+mod held;
 mod opening;
+mod polling;
 mod segments;
+mod statuses;
 
 use crate::done::Done;
+use crate::facts::{PartCounters, Placed};
 use crate::handle::{
     MasterHandle, RawBox, SegmentHandle, conceal_master, conceal_segment, reveal_master,
     reveal_segment,
 };
-use crate::opening::{NotOpened, boxed_session, boxed_slaves, opened, refusal_result};
+use crate::opening::{NotOpened, boxed_master, boxed_slaves, opened, refusal_result};
+use crate::statuses::Told;
 use std::alloc::Global;
 
 /// Opens the master of the table that bytes state, or writes the refusal into `told` and its name into `name`.
@@ -37,12 +46,12 @@ pub extern "C" fn ecat_c_open(
     told: &mut NotOpened,
     out: &mut MasterHandle,
 )
-    ensures { HasOpened (HasSession table.now) table.now told.new name.new out.new.session out.old out.new }
+    ensures { HasOpened (HasMaster table.now) table.now told.new name.new out.new.held out.old out.new }
 {
-    match boxed_session(alloc, table) {
-        Ok(session) => {
+    match boxed_master(alloc, table) {
+        Ok(held) => {
             *told = opened();
-            *out = conceal_master(RawBox::of(session));
+            *out = conceal_master(RawBox::of(held));
         }
         Err(error) => *told = refusal_result(error, name),
     }
@@ -51,9 +60,9 @@ pub extern "C" fn ecat_c_open(
 /// Frees a master.
 #[unsafe(no_mangle)]
 pub extern "C" fn ecat_c_drop(alloc: Global, master: MasterHandle)
-    requires { is_some master.session ≡ true }
+    requires { is_some master.held ≡ true }
 {
-    let _session = reveal_master(master).into_box(alloc);
+    let _held = reveal_master(master).into_box(alloc);
 }
 
 /// Writes the next frame of the start-up; `done.count` is its length in bytes, 0 if there is none.
@@ -66,12 +75,12 @@ pub extern "C" fn ecat_c_next(
     done: &mut Done,
     out: &mut MasterHandle,
 )
-    requires { is_some master.session ≡ true }
-    ensures { Leads master.session out.new.session (λ m n. AsksNext m frame.old done.new frame.new n) }
+    requires { is_some master.held ≡ true }
+    ensures { Leads master.held out.new.held (λ m n. AsksNext m frame.old done.new frame.new n) }
 {
-    let mut session = reveal_master(master).into_box(alloc);
-    *done = calls::next(&mut session, frame);
-    *out = conceal_master(RawBox::of(session));
+    let mut held = reveal_master(master).into_box(alloc);
+    *done = calls::next(&mut held, frame);
+    *out = conceal_master(RawBox::of(held));
 }
 
 /// Takes a payload that came; done if it was kept. `done.count` is how many parts of the open cycle are missing then.
@@ -84,12 +93,12 @@ pub extern "C" fn ecat_c_take(
     done: &mut Done,
     out: &mut MasterHandle,
 )
-    requires { is_some master.session ≡ true }
-    ensures { Leads master.session out.new.session (λ m n. Takes m payload.now done.new n) }
+    requires { is_some master.held ≡ true }
+    ensures { Leads master.held out.new.held (λ m n. Takes m payload.now done.new n) }
 {
-    let mut session = reveal_master(master).into_box(alloc);
-    *done = calls::take(&mut session, payload);
-    *out = conceal_master(RawBox::of(session));
+    let mut held = reveal_master(master).into_box(alloc);
+    *done = calls::take(&mut held, payload);
+    *out = conceal_master(RawBox::of(held));
 }
 
 /// Whether the start-up has ended Ready, or the number of its failure.
@@ -101,24 +110,149 @@ pub extern "C" fn ecat_c_phase(
     done: &mut Done,
     out: &mut MasterHandle,
 )
-    requires { is_some master.session ≡ true }
-    ensures { Leads master.session out.new.session (λ m n. ReturnsPhase m done.new n) }
+    requires { is_some master.held ≡ true }
+    ensures { Leads master.held out.new.held (λ m n. ReturnsPhase m done.new n) }
 {
-    let session = reveal_master(master).into_box(alloc);
-    *done = calls::phase(&session);
-    *out = conceal_master(RawBox::of(session));
+    let held = reveal_master(master).into_box(alloc);
+    *done = calls::phase(&held);
+    *out = conceal_master(RawBox::of(held));
 }
 
 /// Ends a start-up that runs, as lost.
 #[tactic(auto, using(crate::proofs::Leading::leads))]
 #[unsafe(no_mangle)]
 pub extern "C" fn ecat_c_give_up(alloc: Global, master: MasterHandle, out: &mut MasterHandle)
-    requires { is_some master.session ≡ true }
-    ensures { Leads master.session out.new.session (λ m n. GivesUp m n) }
+    requires { is_some master.held ≡ true }
+    ensures { Leads master.held out.new.held (λ m n. GivesUp m n) }
 {
-    let mut session = reveal_master(master).into_box(alloc);
-    calls::give_up(&mut session);
-    *out = conceal_master(RawBox::of(session));
+    let mut held = reveal_master(master).into_box(alloc);
+    calls::give_up(&mut held);
+    *out = conceal_master(RawBox::of(held));
+}
+
+/// Whether the last frame of the start-up asks again what the one before it asked.
+#[tactic(auto, using(crate::proofs::Leading::leads))]
+#[unsafe(no_mangle)]
+pub extern "C" fn ecat_c_waits(
+    alloc: Global,
+    master: MasterHandle,
+    done: &mut bool,
+    out: &mut MasterHandle,
+)
+    requires { is_some master.held ≡ true }
+    ensures { Leads master.held out.new.held (λ m n. (n ≡ m) × (done.new ≡ m.polling.is_again)) }
+{
+    let held = reveal_master(master).into_box(alloc);
+    *done = held.polling.is_again;
+    *out = conceal_master(RawBox::of(held));
+}
+
+/// The number of the last start-up's failure, or not done. `done.count` is how many values it has, and these are written into `values`.
+#[tactic(auto, using(crate::proofs::Leading::leads))]
+#[unsafe(no_mangle)]
+pub extern "C" fn ecat_c_failure(
+    alloc: Global,
+    master: MasterHandle,
+    values: &mut [u64],
+    done: &mut Done,
+    out: &mut MasterHandle,
+)
+    requires { is_some master.held ≡ true }
+    ensures { Leads master.held out.new.held (λ m n. (n ≡ m) × ReturnsFailure (failure_of m) values.old done.new values.new) }
+{
+    let held = reveal_master(master).into_box(alloc);
+    *done = facts::failure(&held, values);
+    *out = conceal_master(RawBox::of(held));
+}
+
+/// Writes the name of that failure, if it fits. `done.count` is its length in bytes, 0 if there is no failure.
+#[tactic(auto, using(crate::proofs::Leading::leads))]
+#[unsafe(no_mangle)]
+pub extern "C" fn ecat_c_failure_name(
+    alloc: Global,
+    master: MasterHandle,
+    name: &mut [u8],
+    done: &mut Done,
+    out: &mut MasterHandle,
+)
+    requires { is_some master.held ≡ true }
+    ensures { Leads master.held out.new.held (λ m n. (n ≡ m) × AreCopied (failure_name (failure_of m)) name.old done.new name.new) }
+{
+    let held = reveal_master(master).into_box(alloc);
+    *done = facts::copy_failure_name(&held, name);
+    *out = conceal_master(RawBox::of(held));
+}
+
+/// Writes in words what the last start-up failed by, if they fit. `done.count` is their length in bytes, 0 if it didn't fail.
+#[tactic(auto, using(crate::proofs::Leading::leads))]
+#[unsafe(no_mangle)]
+pub extern "C" fn ecat_c_explain(
+    alloc: Global,
+    master: MasterHandle,
+    words: &mut [u8],
+    done: &mut Done,
+    out: &mut MasterHandle,
+)
+    requires { is_some master.held ≡ true }
+    ensures { Leads master.held out.new.held (λ m n. (n ≡ m) × Explains (failure_of m) words.old done.new words.new) }
+{
+    let held = reveal_master(master).into_box(alloc);
+    *done = facts::explain(&held, words);
+    *out = conceal_master(RawBox::of(held));
+}
+
+/// Writes the frame that asks for the AL state of a slave. `done.count` is its length in bytes, 0 if there is none.
+#[tactic(auto, using(crate::proofs::Leading::leads))]
+#[unsafe(no_mangle)]
+pub extern "C" fn ecat_c_state_next(
+    alloc: Global,
+    master: MasterHandle,
+    slave: usize,
+    frame: &mut [u8],
+    done: &mut Done,
+    out: &mut MasterHandle,
+)
+    requires { is_some master.held ≡ true }
+    ensures { Leads master.held out.new.held (λ m n. AsksState m slave frame.old done.new frame.new n) }
+{
+    let mut held = reveal_master(master).into_box(alloc);
+    *done = calls::next_state(&mut held, slave, frame);
+    *out = conceal_master(RawBox::of(held));
+}
+
+/// What the last answer said of the AL state of a slave.
+#[tactic(auto, using(crate::proofs::Leading::leads))]
+#[unsafe(no_mangle)]
+pub extern "C" fn ecat_c_state(
+    alloc: Global,
+    master: MasterHandle,
+    slave: usize,
+    told: &mut Told,
+    out: &mut MasterHandle,
+)
+    requires { is_some master.held ≡ true }
+    ensures { Leads master.held out.new.held (λ m n. (n ≡ m) × (told.new ≡ state_result (told_of m.statuses slave))) }
+{
+    let held = reveal_master(master).into_box(alloc);
+    *told = held.statuses.told(slave);
+    *out = conceal_master(RawBox::of(held));
+}
+
+/// The number of slaves, in `done.count`.
+#[tactic(auto, using(crate::proofs::Leading::leads))]
+#[unsafe(no_mangle)]
+pub extern "C" fn ecat_c_slaves(
+    alloc: Global,
+    master: MasterHandle,
+    done: &mut Done,
+    out: &mut MasterHandle,
+)
+    requires { is_some master.held ≡ true }
+    ensures { Leads master.held out.new.held (λ m n. (n ≡ m) × (done.new ≡ counted true (length m.session.master.plan.slaves))) }
+{
+    let held = reveal_master(master).into_box(alloc);
+    *done = calls::slaves(&held);
+    *out = conceal_master(RawBox::of(held));
 }
 
 /// Begins a cycle. `done.count` is its number of parts.
@@ -130,12 +264,12 @@ pub extern "C" fn ecat_c_begin(
     done: &mut Done,
     out: &mut MasterHandle,
 )
-    requires { is_some master.session ≡ true }
-    ensures { Leads master.session out.new.session (λ m n. Begins m done.new n) }
+    requires { is_some master.held ≡ true }
+    ensures { Leads master.held out.new.held (λ m n. Begins m done.new n) }
 {
-    let mut session = reveal_master(master).into_box(alloc);
-    *done = calls::begin(&mut session);
-    *out = conceal_master(RawBox::of(session));
+    let mut held = reveal_master(master).into_box(alloc);
+    *done = calls::begin(&mut held);
+    *out = conceal_master(RawBox::of(held));
 }
 
 /// Writes the frame of a part of the open cycle, if it fits. `done.count` is its length in bytes.
@@ -149,12 +283,12 @@ pub extern "C" fn ecat_c_part(
     done: &mut Done,
     out: &mut MasterHandle,
 )
-    requires { is_some master.session ≡ true }
-    ensures { Leads master.session out.new.session (λ m n. CopiesPart m part frame.old done.new frame.new n) }
+    requires { is_some master.held ≡ true }
+    ensures { Leads master.held out.new.held (λ m n. CopiesPart m part frame.old done.new frame.new n) }
 {
-    let session = reveal_master(master).into_box(alloc);
-    *done = calls::copy_part(&session, part, frame);
-    *out = conceal_master(RawBox::of(session));
+    let held = reveal_master(master).into_box(alloc);
+    *done = calls::copy_part(&held, part, frame);
+    *out = conceal_master(RawBox::of(held));
 }
 
 /// Closes the cycle. `done` is its report: whether all units were taken, the missing parts, and the AL word.
@@ -166,12 +300,12 @@ pub extern "C" fn ecat_c_close(
     done: &mut Done,
     out: &mut MasterHandle,
 )
-    requires { is_some master.session ≡ true }
-    ensures { Leads master.session out.new.session (λ m n. Closes m done.new n) }
+    requires { is_some master.held ≡ true }
+    ensures { Leads master.held out.new.held (λ m n. Closes m done.new n) }
 {
-    let mut session = reveal_master(master).into_box(alloc);
-    *done = calls::close(&mut session);
-    *out = conceal_master(RawBox::of(session));
+    let mut held = reveal_master(master).into_box(alloc);
+    *done = calls::close(&mut held);
+    *out = conceal_master(RawBox::of(held));
 }
 
 /// Whether a sync unit was taken in the last report; `done.count` is 1 if the report has the unit.
@@ -184,12 +318,30 @@ pub extern "C" fn ecat_c_unit(
     done: &mut Done,
     out: &mut MasterHandle,
 )
-    requires { is_some master.session ≡ true }
-    ensures { Leads master.session out.new.session (λ m n. ReturnsUnit m unit done.new n) }
+    requires { is_some master.held ≡ true }
+    ensures { Leads master.held out.new.held (λ m n. ReturnsUnit m unit done.new n) }
 {
-    let session = reveal_master(master).into_box(alloc);
-    *done = calls::unit_result_of(&session, unit);
-    *out = conceal_master(RawBox::of(session));
+    let held = reveal_master(master).into_box(alloc);
+    *done = calls::unit_result_of(&held, unit);
+    *out = conceal_master(RawBox::of(held));
+}
+
+/// The working counters of a part in the last report.
+#[tactic(auto, using(crate::proofs::Leading::leads))]
+#[unsafe(no_mangle)]
+pub extern "C" fn ecat_c_counters(
+    alloc: Global,
+    master: MasterHandle,
+    part: usize,
+    counters: &mut PartCounters,
+    out: &mut MasterHandle,
+)
+    requires { is_some master.held ≡ true }
+    ensures { Leads master.held out.new.held (λ m n. (n ≡ m) × (counters.new ≡ counters_result (counters_of m part))) }
+{
+    let held = reveal_master(master).into_box(alloc);
+    *counters = facts::counters(&held, part);
+    *out = conceal_master(RawBox::of(held));
 }
 
 /// Sets a variable of the outputs, if there is one that holds the value.
@@ -203,12 +355,12 @@ pub extern "C" fn ecat_c_set(
     done: &mut Done,
     out: &mut MasterHandle,
 )
-    requires { is_some master.session ≡ true }
-    ensures { Leads master.session out.new.session (λ m n. Sets m variable value done.new n) }
+    requires { is_some master.held ≡ true }
+    ensures { Leads master.held out.new.held (λ m n. Sets m variable value done.new n) }
 {
-    let mut session = reveal_master(master).into_box(alloc);
-    *done = calls::set(&mut session, variable, value);
-    *out = conceal_master(RawBox::of(session));
+    let mut held = reveal_master(master).into_box(alloc);
+    *done = calls::set(&mut held, variable, value);
+    *out = conceal_master(RawBox::of(held));
 }
 
 /// The value of a variable, in `done.value`; not done if there is no such variable.
@@ -221,12 +373,12 @@ pub extern "C" fn ecat_c_get(
     done: &mut Done,
     out: &mut MasterHandle,
 )
-    requires { is_some master.session ≡ true }
-    ensures { Leads master.session out.new.session (λ m n. Gets m variable done.new n) }
+    requires { is_some master.held ≡ true }
+    ensures { Leads master.held out.new.held (λ m n. Gets m variable done.new n) }
 {
-    let session = reveal_master(master).into_box(alloc);
-    *done = calls::get(&session, variable);
-    *out = conceal_master(RawBox::of(session));
+    let held = reveal_master(master).into_box(alloc);
+    *done = calls::get(&held, variable);
+    *out = conceal_master(RawBox::of(held));
 }
 
 /// Sets the image of all outputs if the lengths agree. `done.count` is the image's number of bytes.
@@ -239,12 +391,12 @@ pub extern "C" fn ecat_c_outputs(
     done: &mut Done,
     out: &mut MasterHandle,
 )
-    requires { is_some master.session ≡ true }
-    ensures { Leads master.session out.new.session (λ m n. SetsOutputs m outputs.now done.new n) }
+    requires { is_some master.held ≡ true }
+    ensures { Leads master.held out.new.held (λ m n. SetsOutputs m outputs.now done.new n) }
 {
-    let mut session = reveal_master(master).into_box(alloc);
-    *done = calls::set_outputs(&mut session, outputs);
-    *out = conceal_master(RawBox::of(session));
+    let mut held = reveal_master(master).into_box(alloc);
+    *done = calls::set_outputs(&mut held, outputs);
+    *out = conceal_master(RawBox::of(held));
 }
 
 /// Writes the image of all inputs, if it fits. `done.count` is its number of bytes.
@@ -257,12 +409,12 @@ pub extern "C" fn ecat_c_inputs(
     done: &mut Done,
     out: &mut MasterHandle,
 )
-    requires { is_some master.session ≡ true }
-    ensures { Leads master.session out.new.session (λ m n. CopiesInputs m inputs.old done.new inputs.new n) }
+    requires { is_some master.held ≡ true }
+    ensures { Leads master.held out.new.held (λ m n. CopiesInputs m inputs.old done.new inputs.new n) }
 {
-    let session = reveal_master(master).into_box(alloc);
-    *done = calls::copy_inputs(&session, inputs);
-    *out = conceal_master(RawBox::of(session));
+    let held = reveal_master(master).into_box(alloc);
+    *done = calls::copy_inputs(&held, inputs);
+    *out = conceal_master(RawBox::of(held));
 }
 
 /// The number of the variable with a name, in `done.count`; not done if there is none.
@@ -275,12 +427,84 @@ pub extern "C" fn ecat_c_variable(
     done: &mut Done,
     out: &mut MasterHandle,
 )
-    requires { is_some master.session ≡ true }
-    ensures { Leads master.session out.new.session (λ m n. Finds m name.now done.new n) }
+    requires { is_some master.held ≡ true }
+    ensures { Leads master.held out.new.held (λ m n. Finds m name.now done.new n) }
 {
-    let session = reveal_master(master).into_box(alloc);
-    *done = calls::find(&session, name);
-    *out = conceal_master(RawBox::of(session));
+    let held = reveal_master(master).into_box(alloc);
+    *done = calls::find(&held, name);
+    *out = conceal_master(RawBox::of(held));
+}
+
+/// The value of a variable with its sign, in `done.value`.
+#[tactic(auto, using(crate::proofs::Leading::leads))]
+#[unsafe(no_mangle)]
+pub extern "C" fn ecat_c_get_signed(
+    alloc: Global,
+    master: MasterHandle,
+    variable: usize,
+    done: &mut Done,
+    out: &mut MasterHandle,
+)
+    requires { is_some master.held ≡ true }
+    ensures { Leads master.held out.new.held (λ m n. (n ≡ m) × GetsSigned m variable done.new) }
+{
+    let held = reveal_master(master).into_box(alloc);
+    *done = facts::get_signed(&held, variable);
+    *out = conceal_master(RawBox::of(held));
+}
+
+/// The number of variables, in `done.count`.
+#[tactic(auto, using(crate::proofs::Leading::leads))]
+#[unsafe(no_mangle)]
+pub extern "C" fn ecat_c_variables(
+    alloc: Global,
+    master: MasterHandle,
+    done: &mut Done,
+    out: &mut MasterHandle,
+)
+    requires { is_some master.held ≡ true }
+    ensures { Leads master.held out.new.held (λ m n. (n ≡ m) × (done.new ≡ counted true (length m.session.master.plan.variables))) }
+{
+    let held = reveal_master(master).into_box(alloc);
+    *done = calls::variables(&held);
+    *out = conceal_master(RawBox::of(held));
+}
+
+/// Where a variable is, if there is one.
+#[tactic(auto, using(crate::proofs::Leading::leads))]
+#[unsafe(no_mangle)]
+pub extern "C" fn ecat_c_place(
+    alloc: Global,
+    master: MasterHandle,
+    variable: usize,
+    place: &mut Placed,
+    out: &mut MasterHandle,
+)
+    requires { is_some master.held ≡ true }
+    ensures { Leads master.held out.new.held (λ m n. (n ≡ m) × (place.new ≡ place_result (slice_get m.session.master.plan.variables variable))) }
+{
+    let held = reveal_master(master).into_box(alloc);
+    *place = facts::place(&held, variable);
+    *out = conceal_master(RawBox::of(held));
+}
+
+/// Writes the name of a variable, if it fits. `done.count` is its length in bytes, 0 if there is no such variable.
+#[tactic(auto, using(crate::proofs::Leading::leads))]
+#[unsafe(no_mangle)]
+pub extern "C" fn ecat_c_name(
+    alloc: Global,
+    master: MasterHandle,
+    variable: usize,
+    name: &mut [u8],
+    done: &mut Done,
+    out: &mut MasterHandle,
+)
+    requires { is_some master.held ≡ true }
+    ensures { Leads master.held out.new.held (λ m n. (n ≡ m) × AreCopied (name_at m.session.table variable) name.old done.new name.new) }
+{
+    let held = reveal_master(master).into_box(alloc);
+    *done = facts::copy_name(&held, variable, name);
+    *out = conceal_master(RawBox::of(held));
 }
 
 /// Opens the slaves of the table that bytes state, just switched on, as full slaves if `full`. Refuses as `ecat_c_open` does.

@@ -1,13 +1,13 @@
-//! Boxes of opened sessions and slaves, and the refusal of a text as C sees it.
+//! Boxes of opened masters and slaves, and the refusal of a text as C sees it.
 ghost use Rattle.std.specs.Prelude.{◌≡◌, None, IfErr, IfOk, IsUtf8, OnOk, length, min, take};
 ghost use Rattle.ec_bringup.specs.SwitchedOn.{AreSlavesOf};
 ghost use Rattle.ec_link.specs.Faults.{Fails, compile_fault};
 ghost use Rattle.ec_link.specs.Machine.{Refuses};
-ghost use Rattle.ec_session.specs.Sessions.{IsOpened};
-ghost use Rattle.ec_library.specs.Opening.{AreOpened, HasSession, HasSlaves, IsOpenFault};
+ghost use Rattle.ec_library.specs.Opening.{AreOpened, HasMaster, HasSlaves, IsNewMaster, IsOpenFault};
 ghost use Rattle.ec_library.specs.Refusing.{ReturnsRefusal, no_refusal};
 
 use crate::error::OpenError;
+use crate::held::HeldMaster;
 use ec_bringup::slaves_of_machine;
 use ec_link::{LinkError, Machine, MachineError};
 use ec_ring::Ring;
@@ -57,17 +57,17 @@ pub fn refusal_result(error: OpenError, room: &mut [u8]) -> NotOpened
     }
 }
 
-/// The box of the session of the table that bytes state; the error is `Text`, or that of [`Session::open`].
-pub fn boxed_session(alloc: Global, table: &[u8]) -> Result<Box<Session>, OpenError>
-    ensures opened { IfOk result (λ boxed. HasSession table.now boxed.value) }
+/// The box of the master of the table that bytes state; the error is `Text`, or that of [`Session::open`].
+pub fn boxed_master(alloc: Global, table: &[u8]) -> Result<Box<HeldMaster>, OpenError>
+    ensures opened { IfOk result (λ boxed. HasMaster table.now boxed.value) }
     ensures refused { IfErr result (IsOpenFault table.now) }
 {
     let text = text_of(table)?;
-    Ok(session_of(alloc, text)?)
+    Ok(master_of(alloc, text)?)
 }
 
 /// The box of the slaves of the table that bytes state, just switched on; all of them full slaves if `full`. The error is that of
-/// [`boxed_session`].
+/// [`boxed_master`].
 pub fn boxed_slaves(alloc: Global, table: &[u8], full: bool) -> Result<Box<Ring>, OpenError>
     ensures opened { IfOk result (λ boxed. HasSlaves full table.now boxed.value) }
     ensures refused { IfErr result (IsOpenFault table.now) }
@@ -88,13 +88,13 @@ fn text_of(bytes: &[u8]) -> Result<&str, OpenError>
     }
 }
 
-/// The box of the session of the table that a text states; the error is that of [`Session::open`].
-fn session_of(alloc: Global, text: &str) -> Result<Box<Session>, MachineError>
-    ensures opened { IfOk result (λ boxed. IsOpened text.now boxed.value) }
+/// The box of the master of the table that a text states; the error is that of [`Session::open`].
+fn master_of(alloc: Global, text: &str) -> Result<Box<HeldMaster>, MachineError>
+    ensures opened { IfOk result (λ boxed. IsNewMaster text.now boxed.value) }
     ensures refused { IfErr result (Refuses text.now) }
 {
     let session = Session::open(alloc, text)?;
-    match Box::new(alloc, session) {
+    match Box::new(alloc, HeldMaster::new(session)) {
         Ok(boxed) => Ok(boxed),
         Err(_) => Err(MachineError::Table(TableError::Memory)),
     }

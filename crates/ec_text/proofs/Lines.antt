@@ -1,6 +1,7 @@
 -- One element of a list whose texts stand one after another, and the end.
 use Rattle.std.proofs.Common.{◌≡◌, ℕ, ◌+◌, ◌<◌, ◌≤◌, List, [], ◌∷◌, ◌++◌, length, get_or, drop, sym, ap, ◌∙◌, append_assoc, append-nil}
 use Rattle.std.proofs.lemmas.List.{at_drop_more, drop_more, drop_all}
+use Rattle.ec_link.specs.declared.image.Variable.{Variable}
 use Rattle.ec_table.specs.declared.rows.VariableRow.{VariableRow}
 use Rattle.ec_text.specs.HeaderText.{count_line, end, head, header_text, variable_lines}
 use Rattle.ec_text.specs.PlanText.{lines_from}
@@ -33,9 +34,9 @@ pub three_added : (old one two three a b c : List ℕ) → one ≡ old ++ a → 
 three_added old one two three a b c first second third =
     third ∙ ap (λ t. t ++ c) (second ∙ ap (λ t. t ++ b) first) ∙ ap (λ t. t ++ c) (append_assoc old a b) ∙ append_assoc old (a ++ b) c
 
-pub header_added : (variables : List VariableRow) (none one two three four : List ℕ) → none ≡ [] → one ≡ none ++ head → two ≡ one ++ lines_from variable_lines 0 variables
-    → three ≡ two ++ count_line (length variables) → four ≡ three ++ end → four ≡ header_text variables
-header_added variables none one two three four empty first second third last =
-    let lines = lines_from variable_lines 0 variables in
-    let begun : one ≡ head = first ∙ ap (λ t. t ++ head) empty in
-    last ∙ ap (λ t. t ++ end) (third ∙ ap (λ t. t ++ count_line (length variables)) (second ∙ ap (λ t. t ++ lines) begun))
+pub header_added : (prefix : List ℕ) (variables : List VariableRow) (places : List Variable) (none one two three four : List ℕ) → none ≡ [] → one ≡ none ++ head prefix
+    → two ≡ one ++ lines_from (variable_lines prefix places) 0 variables → three ≡ two ++ count_line prefix (length variables) → four ≡ three ++ end → four ≡ header_text prefix variables places
+header_added prefix variables places none one two three four empty first second third last =
+    let lines = lines_from (variable_lines prefix places) 0 variables in
+    let begun : one ≡ head prefix = first ∙ ap (λ t. t ++ head prefix) empty in
+    last ∙ ap (λ t. t ++ end) (third ∙ ap (λ t. t ++ count_line prefix (length variables)) (second ∙ ap (λ t. t ++ lines) begun))

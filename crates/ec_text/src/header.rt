@@ -1,59 +1,127 @@
 //! The variables of a table as a C header.
-ghost use Rattle.std.specs.Prelude.{◌≡◌, ◌++◌, IfOk, OnOk, string_bytes};
-ghost use Rattle.ec_text.specs.HeaderText.{define_line, flag, header_text, variable_lines};
+ghost use Rattle.std.specs.Prelude.{◌≡◌, ◌++◌, IfOk, OnOk, string_bytes, codes, option_map, slice_get};
+ghost use Rattle.std.specs.Fmt.{decimal};
+ghost use Rattle.ec_text.specs.HeaderText.{c_type, define_line, flag, form_lines, header_text, offset_of, size_lines, variable_lines};
 ghost use Rattle.ec_text.specs.PlanText.{lines_from};
 
+use ec_link::{Plan, Variable};
 use ec_table::{Direction, Table, VariableRow};
 use std::alloc::{AllocError, Global};
 use std::fmt::Write as _;
 
-/// The variables of a table as a C header, for programs that use the library. For each variable, in file order, it has the number,
-/// the bits, and 1 for an output or 0 for an input. Their names are the variable's behind `ECAT_NUMBER_`, `ECAT_BITS_` and
-/// `ECAT_OUTPUT_`. `ECAT_VARIABLES` is how many variables there are. `AllocError` if memory ran out.
+/// The variables of a table as a C header, for programs that use the library; `plan` is that of the table. For each variable, in file
+/// order, it defines the number, the bits, 1 for an output or 0 for an input, the C type, 0 since it has no sign, and the first bit in
+/// the image of its direction. Their names are the variable's behind the prefix and a word. The prefix and `VARIABLES` is the name
+/// of how many variables there are.
+///
+/// # Errors
+///
+/// `AllocError` if memory ran out.
 #[tactic(auto, using(crate::proofs::Lines::header_added))]
-pub fn header_text(alloc: Global, table: &Table) -> Result<String, AllocError>
-    ensures { IfOk result (λ text. string_bytes text ≡ header_text table.now.variables) }
+pub fn header_text(
+    alloc: Global,
+    prefix: &str,
+    table: &Table,
+    plan: &Plan,
+) -> Result<String, AllocError>
+    ensures { IfOk result (λ text. string_bytes text ≡ header_text prefix.now table.now.variables plan.now.variables) }
 {
     let count = table.variables().len();
     let mut text = String::new(alloc);
-    text.push_str("#ifndef ECAT_VARIABLES\n")?;
-    write_variables(&mut text, table.variables())?;
-    writeln!(text, "#define ECAT_VARIABLES {count}")?;
+    write!(text, "#ifndef {prefix}VARIABLES\n#include <stdint.h>\n")?;
+    write_variables(&mut text, prefix, table.variables(), plan.variables())?;
+    writeln!(text, "#define {prefix}VARIABLES {count}")?;
     text.push_str("#endif\n")?;
     Ok(text)
 }
 
 /// Adds the lines of the variables.
 #[tactic(auto, using(crate::proofs::Lines::line_steps))]
-fn write_variables(text: &mut String, variables: &[VariableRow]) -> Result<(), AllocError>
+fn write_variables(
+    text: &mut String,
+    prefix: &str,
+    variables: &[VariableRow],
+    places: &[Variable],
+) -> Result<(), AllocError>
     ensures { OnOk result (string_bytes text.new
-        ≡ string_bytes text.old ++ lines_from variable_lines 0 variables.now) }
+        ≡ string_bytes text.old ++ lines_from (variable_lines prefix.now places.now) 0 variables.now) }
 {
     for (number, row) in variables.iter().enumerate() {
-        write_variable(text, number, row)?;
+        write_variable(text, prefix, places, number, row)?;
     }
     Ok(())
 }
 
-/// Adds the three lines of a variable.
-#[tactic(auto, using(crate::proofs::Lines::three_added), unfolding(crate::specs::HeaderText::variable_lines))]
-fn write_variable(text: &mut String, number: usize, row: &VariableRow) -> Result<(), AllocError>
+/// Adds the lines of a variable.
+#[tactic(auto, using(crate::proofs::Lines::added))]
+fn write_variable(
+    text: &mut String,
+    prefix: &str,
+    places: &[Variable],
+    number: usize,
+    row: &VariableRow,
+) -> Result<(), AllocError>
     ensures { OnOk result
-        (string_bytes text.new ≡ string_bytes text.old ++ variable_lines number row.now) }
+        (string_bytes text.new ≡ string_bytes text.old ++ variable_lines prefix.now places.now number row.now) }
 {
-    let name = row.name.as_str();
-    write_define(text, "NUMBER", name, number)?;
-    write_define(text, "BITS", name, usize::from(row.bits))?;
-    write_define(text, "OUTPUT", name, flag(row.direction))
+    write_size(text, prefix, number, row)?;
+    write_form(text, prefix, offset_of(places.get(number)), row)
 }
 
-/// Adds the line that defines a name.
-#[tactic(auto, unfolding(crate::specs::HeaderText::define_line))]
-fn write_define(text: &mut String, what: &str, name: &str, value: usize) -> Result<(), AllocError>
-    ensures { OnOk result
-        (string_bytes text.new ≡ string_bytes text.old ++ define_line what.now name.now value) }
+/// Adds the lines of a variable's number, its bits and its direction.
+#[tactic(auto, using(crate::proofs::Lines::three_added), unfolding(crate::specs::HeaderText::size_lines))]
+fn write_size(
+    text: &mut String,
+    prefix: &str,
+    number: usize,
+    row: &VariableRow,
+) -> Result<(), AllocError>
+    ensures { OnOk result (string_bytes text.new ≡ string_bytes text.old ++ size_lines prefix.now number row.now) }
 {
-    writeln!(text, "#define ECAT_{what}_{name} {value}")
+    let name = row.name.as_str();
+    write_number(text, prefix, "NUMBER", name, number)?;
+    write_number(text, prefix, "BITS", name, usize::from(row.bits))?;
+    write_number(text, prefix, "OUTPUT", name, flag(row.direction))
+}
+
+/// Adds the lines of a variable's type, its sign and its first bit.
+#[tactic(auto, using(crate::proofs::Lines::three_added), unfolding(crate::specs::HeaderText::form_lines))]
+fn write_form(
+    text: &mut String,
+    prefix: &str,
+    offset: usize,
+    row: &VariableRow,
+) -> Result<(), AllocError>
+    ensures { OnOk result (string_bytes text.new ≡ string_bytes text.old ++ form_lines prefix.now offset row.now) }
+{
+    let name = row.name.as_str();
+    write_type(text, prefix, name, c_type(row.bits))?;
+    write_number(text, prefix, "SIGNED", name, 0)?;
+    write_number(text, prefix, "OFFSET", name, offset)
+}
+
+/// Adds the line that defines a name as a number.
+#[tactic(auto, unfolding(crate::specs::HeaderText::define_line))]
+fn write_number(
+    text: &mut String,
+    prefix: &str,
+    what: &str,
+    name: &str,
+    value: usize,
+) -> Result<(), AllocError>
+    ensures { OnOk result
+        (string_bytes text.new ≡ string_bytes text.old ++ define_line prefix.now what.now name.now (decimal value)) }
+{
+    writeln!(text, "#define {prefix}{what}_{name} {value}")
+}
+
+/// Adds the line that defines a name as the type of a variable.
+#[tactic(auto, unfolding(crate::specs::HeaderText::define_line))]
+fn write_type(text: &mut String, prefix: &str, name: &str, kind: &str) -> Result<(), AllocError>
+    ensures { OnOk result
+        (string_bytes text.new ≡ string_bytes text.old ++ define_line prefix.now (codes "TYPE") name.now kind.now) }
+{
+    writeln!(text, "#define {prefix}TYPE_{name} {kind}")
 }
 
 /// Returns 1 for an output of the image, 0 for an input.
@@ -63,5 +131,30 @@ fn flag(direction: Direction) -> usize
     match direction {
         Direction::Out => 1,
         Direction::In => 0,
+    }
+}
+
+/// The C type that holds a value of so many bits.
+fn c_type(bits: u8) -> &'static str
+    ensures { result.now ≡ c_type bits }
+{
+    if bits <= 8 {
+        "uint8_t"
+    } else if bits <= 16 {
+        "uint16_t"
+    } else if bits <= 32 {
+        "uint32_t"
+    } else {
+        "uint64_t"
+    }
+}
+
+/// The first bit of a variable in the image of its direction; 0 if there is no such variable.
+fn offset_of(place: Option<&Variable>) -> usize
+    ensures { result ≡ offset_of (option_map (λ x. x.now) place.entry) }
+{
+    match place {
+        Some(place) => place.from,
+        None => 0,
     }
 }

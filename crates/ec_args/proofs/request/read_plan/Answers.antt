@@ -1,6 +1,6 @@
 use Rattle.std.proofs.Common.{refl, codes}
 use Rattle.clap.specs.Matches.{found_of}
-use Rattle.ec_args.proofs.RequestLemmas.{finds_flag}
+use Rattle.ec_args.proofs.RequestLemmas.{finds_flag, finds_text}
 use Rattle.ec_args.proofs.request.read_plan.Goals as goal
 
 pub returns : goal.returns
@@ -9,6 +9,7 @@ returns c =
       refl,
       record {
         for_header = finds_flag found (codes "header") c.get_flag.result c.get_flag.ensures.value c.get_flag.ensures.other;
+        for_prefix = finds_text found (codes "prefix") _ c.get_str.ensures;
         for_explain = finds_flag found (codes "explain") c.get_flag-2.result c.get_flag-2.ensures.value c.get_flag-2.ensures.other;
       },
     )

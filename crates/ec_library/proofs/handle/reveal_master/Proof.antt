@@ -19,7 +19,7 @@ use denote.Triple.Walked.{Stays, stay_dropped, walk_of}
 use Rattle.core.proofs.alloc.Calls.{Goes-blank}
 use Rattle.std.proofs.raw_atomic.Walks.{proved_at, leaves}
 use Rattle.ec_library.proofs.Values.{alone, kept_in}
-use Rattle.ec_session.specs.contracts.session.Session.{the_row as session_row}
+use Rattle.ec_library.specs.contracts.held.HeldMaster.{the_row as master_row}
 use Rattle.ec_library.proofs.Handles.{Master, master_out, within_some}
 use Rattle.ec_library.specs.contracts.handle.reveal_master.{ended, clauses}
 use Rattle.ec_library.specs.contracts.handle.reveal_master.Key.{name as #self}
@@ -33,8 +33,8 @@ reveal_master_spec 𝓤 𝓛 𝓜 𝓡 wired =
     proved_at 𝓛 ended hs c 𝓜 𝓡 (Goes-blank 𝓛 0 (plain (λ _. Master)) yes (λ κs x f. tt), tt) #self fn (code.unfolded 𝓤 H 𝓜 𝓡 wired) (λ z are.
     let κs = z.0.0 in let v = z.0.3.0 in let Post : Val → SProp 𝓤 = (walk_of 𝓛 ended hs c).post z in let Run : List Val → SProp 𝓤 = λ ws. WpFn 𝓤 H 𝓣.C 𝓣.Λ fn ws Post in
     let asked = raw ((c κs z.0.3).requires z.1) in
-    qed 𝓛 ((‵ ftrue ⊛ ‵ (owns (types_at ended.signature.params κs) z.0.3 z.0.4)) ∷ asked ∷ []) ∵ move ! (1 ∷ []) $ heard ! (is_some v.session ≡ true) (λ known.
-    let x = (within_some v.session known).inside in let is = (within_some v.session known).is_it in
+    qed 𝓛 ((‵ ftrue ⊛ ‵ (owns (types_at ended.signature.params κs) z.0.3 z.0.4)) ∷ asked ∷ []) ∵ move ! (1 ∷ []) $ heard ! (is_some v.held ≡ true) (λ known.
+    let x = (within_some v.held known).inside in let is = (within_some v.held known).is_it in
     split ! $ move ! (1 ∷ []) $ fsplit ! $ master_out ! v z.0.4.0 x is (λ b o e ws.
     let w : Val = alone (vptr b o) in
     suffices ! (Run (w ∷ [])) (subst (λ (us : List Val). ent 𝓤 (Run (w ∷ [])) (Run us)) (sym (λ i. ws i ++ [])) (id⊢ 𝓤 (Run (w ∷ [])))) $
@@ -42,6 +42,6 @@ reveal_master_spec 𝓤 𝓛 𝓜 𝓡 wired =
     sets ! (of_opd ! (get_in ! (fld ! refl (stop !)) (sub ! 0 refl (whole !)))) refl (tt, tt) $
     sets ! (of_opd ! (get ! refl)) refl (tt, tt) $
     sets ! (agg ! (and_then ! (get ! refl) (no_more !))) refl (tt, (tt, tt)) $
-    kept_in session_row ! b o x $
-    use0 𝓛 (raw (fact 𝓤 (Some x ≡ v.session))) (fact_i 𝓤 (Some x ≡ v.session) (emp 𝓤) (sym is)) $ nothing ! $ nothing ! $ fjoin ! $
+    kept_in master_row ! b o x $
+    use0 𝓛 (raw (fact 𝓤 (Some x ≡ v.held))) (fact_i 𝓤 (Some x ≡ v.held) (emp 𝓤) (sym is)) $ nothing ! $ nothing ! $ fjoin ! $
     returns ! (look_at ! 0 refl) $ free_all ! refl $ keep ! (4 ∷ 0 ∷ 2 ∷ 1 ∷ []) $ by ! (leaves 𝓛 ended hs c z (alone (vptr b o)) (record { at = block_ptr b o; value = x }) (tt, tt) (tt, tt))))))

@@ -1,0 +1,16 @@
+-- A payload that the session takes, or that says an AL state.
+use Rattle.std.proofs.Common.{◌≡◌, ℕ, Bool, true, false, List}
+use Rattle.ec_cycle.specs.Master.{missing_of}
+use Rattle.ec_session.specs.Sessions.{IsGiven}
+use Rattle.ec_library.specs.Calling.{Takes}
+use Rattle.ec_library.specs.Statuses.{TakesStatus}
+use Rattle.ec_library.specs.declared.done.Done.{Done}
+use Rattle.ec_library.specs.declared.held.HeldMaster.{HeldMaster}
+
+pub kept : (old new : HeldMaster) (payload : List ℕ) (done : Done) → IsGiven old.session payload true new.session → done.is_done ≡ true → new.statuses ≡ old.statuses
+    → done.count ≡ missing_of new.session.master.cycle → new.polling ≡ old.polling → Takes old payload done new
+kept old new payload done given is_done same count polling = record { is_kept = true; session = given; statuses = (is_done, same); count = count; polling = polling }
+
+pub told : (old new : HeldMaster) (payload : List ℕ) (done : Done) → IsGiven old.session payload false new.session → TakesStatus old.statuses payload done.is_done new.statuses
+    → done.count ≡ missing_of new.session.master.cycle → new.polling ≡ old.polling → Takes old payload done new
+told old new payload done given status count polling = record { is_kept = false; session = given; statuses = status; count = count; polling = polling }

@@ -1,0 +1,50 @@
+//! Whether the next frame of a start-up polls again.
+ghost use Rattle.std.specs.Prelude.{◌≡◌, ◌↔◌, [], false, length, take, IsTrue};
+ghost use Rattle.ec_library.specs.Polls.{AsksAgain};
+
+use ec_frame::Frame;
+use ec_frame::field::{FRAME_HEADER_LEN, INDEX, MAX_FRAME_LEN, NAME_LEN, OVERHEAD};
+
+/// The place of a frame's second datagram, behind the one that names the frame.
+const ASKING: usize = FRAME_HEADER_LEN + OVERHEAD + NAME_LEN;
+
+/// The last frame of a start-up, and whether it asks again what the one before it asked.
+#[derive(Drop)]
+pub struct Polling {
+    pub last: Frame,
+    pub is_again: bool,
+}
+
+impl Polling {
+    /// No frame was made yet.
+    pub fn new() -> Polling
+        ensures none { result.last.items ≡ [] }
+        ensures first { result.is_again ≡ false }
+    {
+        Polling {
+            last: Frame::new(),
+            is_again: false,
+        }
+    }
+
+    /// Notes the next frame of the start-up, as much of it as a frame has at most.
+    pub fn note(&mut self, frame: &[u8])
+        ensures again { IsTrue self.new.is_again ↔ AsksAgain self.old.last.items frame.now }
+        ensures last { self.new.last.items ≡ take 1472 frame.now }
+    {
+        self.is_again = asks_again(self.last.as_slice(), frame);
+        self.last.clear();
+        let size = frame.len().min(MAX_FRAME_LEN);
+        let _ = self.last.try_extend_from_slice(&frame[..size]);
+    }
+}
+
+/// Whether a frame of a start-up asks what the frame before it asked: only the names and the indices differ.
+fn asks_again(last: &[u8], next: &[u8]) -> bool
+    ensures { IsTrue result ↔ AsksAgain last.now next.now }
+{
+    last.len() == next.len()
+        && last.len() > ASKING + INDEX
+        && last[ASKING] == next[ASKING]
+        && last[ASKING + INDEX + 1..] == next[ASKING + INDEX + 1..]
+}
