@@ -6,6 +6,7 @@
 #include <arpa/inet.h>
 #include <linux/if_packet.h>
 #include <net/if.h>
+#include <poll.h>
 #include <stdio.h>
 #include <stdlib.h>
 #include <string.h>
@@ -18,7 +19,7 @@
 /* the Ethernet header: to all, from this master, EtherType EtherCAT */
 static const uint8_t heading[HEADING] = {255, 255, 255, 255, 255, 255, 0, 0, 0, 0x45, 0x43, 1, 0x88, 0xA4};
 static uint8_t sent[HEADING + ECAT_FRAME], came[HEADING + 1500];
-static char table[1 << 20];
+static char table[1 << 20], words[ECAT_WORDS];
 
 static int open_card(const char *interface) {
     int card = socket(AF_PACKET, SOCK_RAW, 0);
@@ -65,11 +66,15 @@ int main(int argc, char **argv) {
     if (ecat_open(&m, table, len, &refusal)) { fprintf(stderr, "card: %d %s\n", refusal.number, refusal.name); return 3; }
     int card = open_card(argv[1]);
     while (ecat_phase(&m) == 0 && (len = ecat_next(&m, sent + HEADING, ECAT_FRAME)) != 0) {
+        if (ecat_waits(&m)) poll(NULL, 0, 1);
         send_frame(card, len);
         while ((len = receive_frame(card)) != 0 && !ecat_take(&m, came + HEADING, len, NULL)) {}
         if (!len) ecat_give_up(&m);
     }
-    if (ecat_phase(&m) != 1) { fprintf(stderr, "card: the start-up failed, %d\n", -ecat_phase(&m)); return 4; }
+    if (ecat_phase(&m) != 1) {
+        ecat_explain(&m, words, sizeof words);
+        return fprintf(stderr, "card: the start-up failed: %s\n", words), 4;
+    }
     clock_gettime(CLOCK_MONOTONIC, &begun);
     for (int k = 1; k <= cycles; k++) {
         int parts = ecat_begin(&m);

@@ -6,12 +6,14 @@
 #include "ecat.h"
 
 #include <arpa/inet.h>
+#include <poll.h>
 #include <stdio.h>
 #include <stdlib.h>
 #include <sys/socket.h>
 #include <sys/time.h>
 
 static char table[1 << 20];
+static char words[ECAT_WORDS];
 static uint8_t sent[ECAT_FRAME], came[ECAT_FRAME];
 
 /* A socket to the segment, which waits half a second for an answer. */
@@ -29,10 +31,11 @@ static size_t receive(int wire) {
     return len > 0 ? (size_t)len : 0;
 }
 
-/* Sends each frame of the start-up, and waits for its answer. */
+/* Sends each frame of the start-up, and waits for its answer. Before a poll that asks again it rests. */
 static bool start_up(struct ecat *m, int wire) {
     size_t len;
     while (ecat_phase(m) == 0 && (len = ecat_next(m, sent, sizeof sent)) != 0) {
+        if (ecat_waits(m)) poll(NULL, 0, 1);
         send(wire, sent, len, 0);
         while ((len = receive(wire)) != 0 && !ecat_take(m, came, len, NULL)) {}
         if (len == 0) ecat_give_up(m);
@@ -58,7 +61,10 @@ int main(int argc, char **argv) {
     size_t lamp = (size_t)ecat_variable(&m, "lamp"), valves = (size_t)ecat_variable(&m, "valves");
     size_t switches = (size_t)ecat_variable(&m, "switches");
     int wire = connect_segment();
-    if (!start_up(&m, wire)) return fprintf(stderr, "follow: the start-up failed, %d\n", -ecat_phase(&m)), 4;
+    if (!start_up(&m, wire)) {
+        ecat_explain(&m, words, sizeof words);
+        return fprintf(stderr, "follow: the start-up failed: %s\n", words), 4;
+    }
     ecat_set(&m, lamp, 1);
     for (int k = 0; k < cycles; k++) {
         taken += cycle(&m, wire);

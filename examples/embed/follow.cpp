@@ -14,6 +14,7 @@
 #include <stdexcept>
 #include <string>
 #include <sys/socket.h>
+#include <thread>
 #include <unistd.h>
 #include <utility>
 
@@ -77,16 +78,20 @@ public:
         if (!ecat_set(&m_, variable, value)) throw std::out_of_range("the variable doesn't hold this value");
     }
 
-    // Sends each frame of the start-up, and waits for its answer.
+    // Sends each frame of the start-up, and waits for its answer. Before a poll that asks again it rests.
     void bring_up(Wire &wire) {
         while (ecat_phase(&m_) == 0) {
             std::size_t len = ecat_next(&m_, frame_.data(), frame_.size());
             if (len == 0) break;
+            if (ecat_waits(&m_)) std::this_thread::sleep_for(std::chrono::milliseconds(1));
             wire.send(frame_, len);
             while ((len = wire.receive(payload_)) != 0 && !ecat_take(&m_, payload_.data(), len, nullptr)) {}
             if (len == 0) ecat_give_up(&m_);
         }
-        if (ecat_phase(&m_) != 1) throw std::runtime_error("the start-up failed: " + std::to_string(-ecat_phase(&m_)));
+        if (ecat_phase(&m_) == 1) return;
+        std::array<char, ECAT_WORDS> words{};
+        ecat_explain(&m_, words.data(), words.size());
+        throw std::runtime_error(std::string("the start-up failed: ") + words.data());
     }
 
     // Sends the frames of a cycle, and takes payloads until none is missing. A late or foreign one changes nothing.

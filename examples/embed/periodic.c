@@ -15,7 +15,7 @@
 
 static struct ecat m;
 static struct wire wire;
-static char table[1 << 20];
+static char table[1 << 20], words[ECAT_WORDS];
 static int64_t period = 1000000;
 static int cycles = 10000, taken, overruns;
 /* how often the thread was late by so many microseconds, and how often a cycle took so many, from its begin to its close */
@@ -37,6 +37,7 @@ static int quantile(const int *counts, int64_t millionths) {
 static bool start_up(void) {
     size_t len;
     while (ecat_phase(&m) == 0 && (len = ecat_next(&m, wire_room(&wire), ECAT_FRAME)) != 0) {
+        if (ecat_waits(&m)) poll(NULL, 0, 1);
         int64_t end = nanoseconds() + 500000000;
         wire_send(&wire, len);
         while ((len = wire_receive(&wire, end)) != 0 && !ecat_take(&m, wire_came(&wire), len, NULL)) {}
@@ -91,7 +92,10 @@ int main(int argc, char **argv) {
     size_t len = f ? fread(table, 1, sizeof table, f) : 0;
     if (ecat_open(&m, table, len, &refusal)) return fprintf(stderr, "periodic: %d %s\n", refusal.number, refusal.name), 3;
     if (!wire_open(&wire, argv[1])) return perror(argv[1]), 4;
-    if (!start_up()) return fprintf(stderr, "periodic: the start-up failed, %d\n", -ecat_phase(&m)), 4;
+    if (!start_up()) {
+        ecat_explain(&m, words, sizeof words);
+        return fprintf(stderr, "periodic: the start-up failed: %s\n", words), 4;
+    }
     if (pthread_create(&thread, NULL, run, NULL)) return perror("periodic"), 4;
     pthread_join(thread, NULL);
     printf("%d cycles of %d us: %d taken, %d left out\n", cycles, (int)(period / 1000), taken, overruns);

@@ -44,6 +44,9 @@ static bool is_refused(uint8_t number, void *at, const struct ecat_refusal *told
 
 /* Makes each call of a master and of a segment, except those that open and drop. */
 static void call_each(struct ecat *m, struct ecat_segment *slaves) {
+    struct ecat_variable_info info;
+    struct ecat_refusal failure;
+    char words[ECAT_WORDS];
     uint8_t image[64], byte;
     uint16_t al = 0;
     bring_up(m, slaves);
@@ -56,7 +59,19 @@ static void call_each(struct ecat *m, struct ecat_segment *slaves) {
     must(ecat_segment_reset(slaves, 0) && ecat_segment_serve(slaves, 0), "a slave is switched off and on");
     must(ecat_begin(m) > 0 && !ecat_take(m, image, sizeof image, NULL) && !ecat_close(m, NULL, &al), "a cycle without answers isn't taken");
     must(ecat_next(m, frame, sizeof frame) == 0, "no frame of the start-up is left");
+    must(ecat_slaves(m) == 2 && ecat_variables(m) == 5 && ecat_variable_info(m, 0, &info) && ecat_get_signed(m, 0) == 1, "there are slaves and variables");
+    must(ecat_state_next(m, 0, frame, sizeof frame) > 0 && ecat_state(m, 0, NULL) == -1 && ecat_counters(m, 0, &al, &al) == 0, "a slave is asked");
+    must(!ecat_waits(m) && !ecat_failure(m, &failure) && ecat_explain(m, words, sizeof words) == 0, "the start-up has not failed");
     ecat_give_up(m);
+}
+
+/* Gives up a start-up, and asks why it failed. */
+static void call_failed(struct ecat *m) {
+    struct ecat_refusal failure;
+    char words[ECAT_WORDS];
+    must(ecat_next(m, frame, sizeof frame) > 0, "a start-up begins");
+    ecat_give_up(m);
+    must(ecat_failure(m, &failure) && failure.number == 32 && ecat_explain(m, words, sizeof words) > 0, "its failure is explained");
 }
 
 /* Opens a master and full slaves with so many allocations granted, and calls them if both open. Returns whether one was refused. */
@@ -71,6 +86,7 @@ static bool try_opens(size_t len, long grant, bool alone) {
     granted = -1;
     if (!is_over) {
         long before = called;
+        call_failed(&m);
         call_each(&m, &slaves);
         if (called != before) fprintf(stderr, "refused: the allocator was called %ld times\n", called - before);
         must(called == before, "no call between an open and a drop calls the allocator");

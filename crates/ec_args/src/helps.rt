@@ -68,6 +68,10 @@ how many variables there are. Each variable NAME has these, in file order:
   ECAT_NUMBER_NAME           its number
   ECAT_BITS_NAME             how many bits it has
   ECAT_OUTPUT_NAME           1 for an output, 0 for an input
+  ECAT_TYPE_NAME             the C type that holds it
+  ECAT_SIGNED_NAME           0: no table says yet that a variable is signed
+  ECAT_OFFSET_NAME           its first bit in the image of all outputs, or of all inputs
+With `--prefix` PREFIX, PREFIX stands in place of `ECAT_`, so that a program may include two headers.
 
 Exit status:
   0  the plan is on standard output

@@ -1,0 +1,53 @@
+#!/usr/bin/env python3
+"""Makes the calls of the package for Python that the examples leave out, over slaves in the same process.
+
+    calls.py TABLE
+
+TABLE is examples/small_machine.toml. It ends with status 1 if a call returns something else than it must.
+"""
+import sys
+
+import ecat
+
+PANEL, PRESS = 0, 1
+
+
+def must(holds, what):
+    if not holds:
+        sys.exit(f"calls: not so: {what}")
+
+
+def fails(table, slaves):
+    """How a start-up over slaves fails."""
+    with ecat.Master(table) as m, slaves:
+        must(m.failure() is None, "a start-up that did not begin has not failed")
+        try:
+            m.bring_up(slaves)
+        except ecat.Failed as failure:
+            return failure
+    sys.exit("calls: the start-up must fail")
+
+
+def main():
+    with open(sys.argv[1]) as file:
+        table = file.read()
+    failure = fails(table, ecat.Segment(""))
+    must((failure.number, failure.name, failure.values) == (26, "Count", [0]) and "2" in failure.words, "no slave is there")
+    failure = fails(table, ecat.Segment(table.replace("0x0302", "0x0303")))
+    must((failure.number, failure.values[:3]) == (27, [PRESS, 0x5A5, 0x303]) and "press" in failure.words, "another device is there")
+    with ecat.Master(table) as m, ecat.Segment(table) as slaves:
+        must(m.slaves() == 2 and m.state(PANEL) is None and m.counters(0) == () and not m.waits(), "nothing is known at first")
+        m.bring_up(slaves)
+        must([m.read_state(slaves, slave) for slave in (PANEL, PRESS, 2)] == [ecat.State(8, 0), ecat.State(8, 0), None], "both slaves are in OP")
+        must(m.cycle(slaves).taken and m.counters(0) == (3,) and m.counters(1) == (1, 1) and m.counters(2) == (), "the counters are those of the plan")
+        names = [(v.name, v.bits, v.is_output, v.is_signed, v.bit) for v in m.variables()]
+        must(names[1] == ("valves", 2, True, False, 1) and names[4] == ("force", 16, False, False, 8) and len(names) == 5, "the variables are those of the table")
+        m["force_wanted"] = 65535
+        must(m.signed("force_wanted") == 65535, "no variable has a sign")
+        slaves.fault(PRESS)
+        state = m.read_state(slaves, PRESS)
+        must(state.word == 0x14 and state.code != 0 and m.state(PANEL) == ecat.State(8, 0), "the press is in SAFEOP, with an error")
+    print("the package's calls return what they must")
+
+
+main()
