@@ -68,8 +68,7 @@ fn plan_command<'a>(alloc: Global) -> Made<'a>
     let command = used_as(alloc, "plan", usage, about, PLAN_EXAMPLE, PLAN_LINES);
     let help = "Print the variables as a C header instead of the plan";
     let command = with_argument(command, flag(alloc, "header", help));
-    let help =
-        "With --header: what its names begin with, letters, digits and `_`, in place of ECAT_";
+    let help = "What the names of the header begin with, in place of ECAT_";
     let command = with_argument(command, option(alloc, "prefix", "PREFIX", help));
     let help = "Print the plan as tables of bits, for people, and explain a refusal";
     with_argument(command, flag(alloc, "explain", help))

@@ -71,7 +71,7 @@ how many variables there are. Each variable NAME has these, in file order:
   ECAT_TYPE_NAME             the C type that holds it
   ECAT_SIGNED_NAME           0: no table says yet that a variable is signed
   ECAT_OFFSET_NAME           its first bit in the image of all outputs, or of all inputs
-With `--prefix` PREFIX, PREFIX stands in place of `ECAT_`, so that a program may include two headers.
+With `--prefix` PREFIX, made of letters, digits and `_`, names begin with it in place of `ECAT_`.
 
 Exit status:
   0  the plan is on standard output

@@ -18,7 +18,7 @@ use Rattle.ec_frame.specs.Building.{bare_payload}
 use Rattle.ec_frame.specs.Frame.{IsFrame}
 use Rattle.ec_asking.specs.Questions.{question_frame}
 use Rattle.ec_asking.specs.declared.question.Question.TheVariants.{Status}
-use Rattle.ec_session.specs.Sessions.{IsGiven, IsNextFrame, SessionState, resumed, unit_taken, variable_named}
+use Rattle.ec_session.specs.Sessions.{IsGiven, IsNextFrame, resumed, unit_taken, variable_named}
 use Rattle.ec_library.specs.Polls.{AsksAgain}
 use Rattle.ec_library.specs.Statuses.{TakesStatus, next_count, status_asked}
 use Rattle.ec_library.specs.declared.done.Done.{Done}

@@ -1,6 +1,5 @@
 //! What a program in C can know of a master: its variables, its slaves, why its start-up failed, and the counters of its last report.
-ghost use Rattle.std.specs.Prelude.{◌≡◌, slice_get, unwrap_or, get_or, Option, None, option_and_then};
-ghost use Rattle.ec_cycle.specs.Closing.{ReportState};
+ghost use Rattle.std.specs.Prelude.{◌≡◌, Some, slice_get};
 ghost use Rattle.ec_link.specs.LinkRuns.{is_out};
 ghost use Rattle.ec_library.specs.Calling.{AreCopied};
 ghost use Rattle.ec_library.specs.Facts.{Explains, GetsSigned, ReturnsFailure, counters_in, counters_of, counters_result, extended, failure_name, is_signed, name_at, place_result, signed};
@@ -160,9 +159,10 @@ fn is_output(direction: Direction) -> bool
 }
 
 /// Whether a variable is signed. A table can't say so yet, so none is.
-fn is_signed(_place: &Variable) -> bool
-    ensures { result ≡ is_signed _place.now }
+fn is_signed(place: &Variable) -> bool
+    ensures { result ≡ is_signed place.now }
 {
+    let _ = place;
     false
 }
 

@@ -1,5 +1,5 @@
 //! AL states that are asked for by hand.
-ghost use Rattle.std.specs.Prelude.{◌≡◌, ◌≤◌, ◌<◌, ◌%◌, ◌+◌, None, length, replicate, take};
+ghost use Rattle.std.specs.Prelude.{◌≡◌, ◌≤◌, ◌<◌, None, length, replicate, take};
 ghost use Rattle.ec_frame.specs.Building.{bare_payload};
 ghost use Rattle.ec_frame.specs.Frame.{IsFrame};
 ghost use Rattle.ec_asking.specs.Questions.{question_frame};

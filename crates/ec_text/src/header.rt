@@ -1,5 +1,5 @@
 //! The variables of a table as a C header.
-ghost use Rattle.std.specs.Prelude.{◌≡◌, ◌++◌, IfOk, OnOk, string_bytes, codes, option_map, slice_get};
+ghost use Rattle.std.specs.Prelude.{◌≡◌, ◌++◌, IfOk, OnOk, string_bytes, codes, option_map};
 ghost use Rattle.std.specs.Fmt.{decimal};
 ghost use Rattle.ec_text.specs.HeaderText.{c_type, define_line, flag, form_lines, header_text, offset_of, size_lines, variable_lines};
 ghost use Rattle.ec_text.specs.PlanText.{lines_from};
