@@ -6,5 +6,5 @@ pub mod Handles
 pub mod Leading
 -- the slaves of a table advertised in full, or as it states them
 pub mod Shown
--- a payload that the session takes, or that says an AL state
+-- a payload that the session takes, or that says an AL state; and the first bytes of a frame
 pub mod Taking

@@ -1,5 +1,5 @@
 -- When a frame of a start-up polls again.
-use Rattle.std.specs.Prelude.{◌≡◌, ◌+◌, ◌<◌, ℕ, List, drop, get_or, length}
+use Rattle.std.specs.Prelude.{◌≡◌, ◌+◌, ◌<◌, ℕ, List, get_or, length, slice_range}
 
 -- the place of a frame's second datagram, which asks; the first names the frame
 abbrev pub asking : ℕ
@@ -10,4 +10,4 @@ pub record AsksAgain (last next : List ℕ) : Type 0 where
   pub size : length last ≡ length next
   pub there : asking + 1 < length last
   pub command : get_or last asking 0 ≡ get_or next asking 0
-  pub rest : drop (asking + 2) last ≡ drop (asking + 2) next
+  pub rest : slice_range last (asking + 2) (length last) ≡ slice_range next (asking + 2) (length next)

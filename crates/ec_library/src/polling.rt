@@ -1,5 +1,5 @@
 //! Whether the next frame of a start-up polls again.
-ghost use Rattle.std.specs.Prelude.{◌≡◌, ◌↔◌, [], false, length, take, IsTrue};
+ghost use Rattle.std.specs.Prelude.{◌≡◌, ◌≤◌, ◌↔◌, [], false, length, take, IsTrue};
 ghost use Rattle.ec_library.specs.Polls.{AsksAgain};
 
 use ec_frame::Frame;
@@ -33,10 +33,28 @@ impl Polling {
         ensures last { self.new.last.items ≡ take 1472 frame.now }
     {
         self.is_again = asks_again(self.last.as_slice(), frame);
-        self.last.clear();
-        let size = frame.len().min(MAX_FRAME_LEN);
-        let _ = self.last.try_extend_from_slice(&frame[..size]);
+        self.last = copy_of(first_bytes(frame));
     }
+}
+
+/// The bytes, or the first of them, as many as a frame has at most.
+#[tactic(auto, using(crate::proofs::Taking::first_bytes))]
+fn first_bytes(bytes: &[u8]) -> &[u8]
+    ensures first { result.now ≡ take 1472 bytes.now }
+    ensures few { length result.now ≤ 1472 }
+{
+    let size = MAX_FRAME_LEN.min(bytes.len());
+    &bytes[..size]
+}
+
+/// A frame of these bytes.
+fn copy_of(bytes: &[u8]) -> Frame
+    requires { length bytes.now ≤ 1472 }
+    ensures { result.items ≡ bytes.now }
+{
+    let mut frame = Frame::new();
+    let _ = frame.try_extend_from_slice(bytes);
+    frame
 }
 
 /// Whether a frame of a start-up asks what the frame before it asked: only the names and the indices differ.
@@ -46,5 +64,12 @@ fn asks_again(last: &[u8], next: &[u8]) -> bool
     last.len() == next.len()
         && last.len() > ASKING + INDEX
         && last[ASKING] == next[ASKING]
-        && last[ASKING + INDEX + 1..] == next[ASKING + INDEX + 1..]
+        && are_equal(&last[ASKING + INDEX + 1..], &next[ASKING + INDEX + 1..])
+}
+
+/// Whether two runs of bytes are equal.
+fn are_equal(bytes: &[u8], others: &[u8]) -> bool
+    ensures { IsTrue result ↔ (bytes.now ≡ others.now) }
+{
+    bytes == others
 }
