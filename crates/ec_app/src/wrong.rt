@@ -1,5 +1,5 @@
 //! Arguments that can't be right, whatever the input is.
-ghost use Rattle.std.specs.Prelude.{◌≡◌, IfNone, IfSome, option_map};
+ghost use Rattle.std.specs.Prelude.{◌≡◌, IfNone, IfSome};
 ghost use Rattle.ec_args.specs.Requests.{command_of};
 ghost use Rattle.ec_app.specs.Wrong.{IsAddress, IsPeer, IsRight, IsRightAt, IsWrong, IsWrongAt, wrong_text};
 

@@ -1,5 +1,4 @@
 use Rattle.std.proofs.Common.{inl, refl, rules, sym, subst, arith}
-use Rattle.ec_args.specs.Requests.{command_of}
 use Rattle.ec_console.specs.Given.{given_by}
 use Rattle.ec_app.specs.Running.{Ends, EndsAlone}
 use Rattle.ec_app.proofs.RunLemmas.{tells_known, tells_with_known}
