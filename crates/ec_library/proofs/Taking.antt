@@ -1,5 +1,5 @@
 -- A payload that the session takes, or that says an AL state; and the first bytes of a frame.
-use Rattle.std.proofs.Common.{◌≡◌, ◌∙◌, ℕ, Bool, true, false, List, ap, length, min, slice_range, take}
+use Rattle.std.proofs.Common.{◌≡◌, ◌∙◌, ℕ, Bool, true, false, List, ap, length, min, take}
 use Rattle.std.proofs.lemmas.List.{take_min}
 use Rattle.ec_cycle.specs.Master.{missing_of}
 use Rattle.ec_session.specs.Sessions.{IsGiven}
@@ -16,5 +16,5 @@ pub told : (old new : HeldMaster) (payload : List ℕ) (done : Done) → IsGiven
     → done.count ≡ missing_of new.session.master.cycle → new.polling ≡ old.polling → Takes old payload done new
 told old new payload done given status count polling = record { is_kept = false; session = given; statuses = status; count = count; polling = polling }
 
-pub first_bytes : (bytes shown : List ℕ) (size : ℕ) → size ≡ min 1472 (length bytes) → shown ≡ slice_range bytes 0 size → shown ≡ take 1472 bytes
-first_bytes bytes shown size is same = same ∙ ap (λ n. take n bytes) is ∙ take_min 1472 bytes
+pub first_bytes : (bytes : List ℕ) (size : ℕ) → size ≡ min 1472 (length bytes) → take size bytes ≡ take 1472 bytes
+first_bytes bytes size is = ap (λ n. take n bytes) is ∙ take_min 1472 bytes

@@ -38,7 +38,6 @@ impl Polling {
 }
 
 /// The bytes, or the first of them, as many as a frame has at most.
-#[tactic(auto, using(crate::proofs::Taking::first_bytes))]
 fn first_bytes(bytes: &[u8]) -> &[u8]
     ensures first { result.now ≡ take 1472 bytes.now }
     ensures few { length result.now ≤ 1472 }
