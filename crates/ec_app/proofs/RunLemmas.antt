@@ -48,7 +48,7 @@ tells_with_known more faults status (Err refusal) told = subst (Contains {X = �
 -- what leaves the input and the application alone leaves the input alone
 ends_unread : {R A : Type 0} (read : Result Request Notice) (old new : R) (app_old app_new : A) → EndsAlone read old new app_old app_new → EndsUnread read old new
 ends_unread (Ok (Pass n f)) old new app_old app_new alone = alone.0
-ends_unread (Ok (Plan h e)) old new app_old app_new alone = tt
+ends_unread (Ok (Plan h p e)) old new app_old app_new alone = tt
 ends_unread (Ok (Decode t e)) old new app_old app_new alone = tt
 ends_unread (Ok Encode) old new app_old app_new alone = tt
 ends_unread (Ok (Sim l c e)) old new app_old app_new alone = tt
