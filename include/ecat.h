@@ -25,7 +25,7 @@
 /* The version, and the number of the binary interface. A library of another number doesn't fit this file; include/ecat.abi lists
    what the number stands for. */
 #define ECAT_VERSION "0.1.0"
-#define ECAT_ABI 1
+#define ECAT_ABI 2
 
 /* The calls are inline functions of each file that includes this one. Define this as nothing in one file to export them from
    it, for example from a shared library. */
@@ -71,7 +71,9 @@ struct ecat_variable_info {
 
 /* ---- exports of the library: call the functions below instead */
 
-struct ecat_done { uint8_t number; bool is_done; size_t count; uint64_t value; };
+struct ecat_done { uint8_t number; bool is_done; size_t count; };
+struct ecat_closed { uint8_t number; bool is_taken; uint16_t al; size_t missing; };
+struct ecat_value { bool is_there; uint64_t value; };
 struct ecat_refused { bool is_open; uint8_t number; size_t name; size_t count; uint64_t first, second; };
 struct ecat_status { bool is_known; uint16_t word, code; };
 struct ecat_placed { bool is_there, is_output, is_signed; uint8_t bits; size_t from; };
@@ -79,39 +81,41 @@ struct ecat_counted { size_t count, first, second; };
 
 void ecat_c_open(const uint8_t *table, size_t len, uint8_t *name, size_t room, struct ecat_refused *refused, struct ecat *out);
 void ecat_c_drop(struct ecat machine);
-void ecat_c_next(struct ecat machine, uint8_t *frame, size_t room, struct ecat_done *done, struct ecat *out);
-void ecat_c_take(struct ecat machine, const uint8_t *payload, size_t len, struct ecat_done *done, struct ecat *out);
-void ecat_c_phase(struct ecat machine, struct ecat_done *done, struct ecat *out);
+struct ecat_done ecat_c_next(struct ecat machine, uint8_t *frame, size_t room, struct ecat *out);
+struct ecat_done ecat_c_take(struct ecat machine, const uint8_t *payload, size_t len, struct ecat *out);
+struct ecat_done ecat_c_phase(struct ecat machine, struct ecat *out);
 void ecat_c_give_up(struct ecat machine, struct ecat *out);
-void ecat_c_waits(struct ecat machine, bool *done, struct ecat *out);
-void ecat_c_failure(struct ecat machine, uint64_t *values, size_t room, struct ecat_done *done, struct ecat *out);
-void ecat_c_failure_name(struct ecat machine, uint8_t *name, size_t room, struct ecat_done *done, struct ecat *out);
-void ecat_c_explain(struct ecat machine, uint8_t *words, size_t room, struct ecat_done *done, struct ecat *out);
-void ecat_c_state_next(struct ecat machine, size_t slave, uint8_t *frame, size_t room, struct ecat_done *done, struct ecat *out);
-void ecat_c_state(struct ecat machine, size_t slave, struct ecat_status *told, struct ecat *out);
-void ecat_c_slaves(struct ecat machine, struct ecat_done *done, struct ecat *out);
-void ecat_c_begin(struct ecat machine, struct ecat_done *done, struct ecat *out);
-void ecat_c_part(struct ecat machine, size_t part, uint8_t *frame, size_t room, struct ecat_done *done, struct ecat *out);
-void ecat_c_close(struct ecat machine, struct ecat_done *done, struct ecat *out);
-void ecat_c_unit(struct ecat machine, uint8_t unit, struct ecat_done *done, struct ecat *out);
-void ecat_c_counters(struct ecat machine, size_t part, struct ecat_counted *counters, struct ecat *out);
-void ecat_c_set(struct ecat machine, size_t variable, uint64_t value, struct ecat_done *done, struct ecat *out);
-void ecat_c_get(struct ecat machine, size_t variable, struct ecat_done *done, struct ecat *out);
-void ecat_c_outputs(struct ecat machine, const uint8_t *outputs, size_t len, struct ecat_done *done, struct ecat *out);
-void ecat_c_inputs(struct ecat machine, uint8_t *inputs, size_t room, struct ecat_done *done, struct ecat *out);
-void ecat_c_variable(struct ecat machine, const uint8_t *name, size_t len, struct ecat_done *done, struct ecat *out);
-void ecat_c_get_signed(struct ecat machine, size_t variable, struct ecat_done *done, struct ecat *out);
-void ecat_c_variables(struct ecat machine, struct ecat_done *done, struct ecat *out);
-void ecat_c_place(struct ecat machine, size_t variable, struct ecat_placed *place, struct ecat *out);
-void ecat_c_name(struct ecat machine, size_t variable, uint8_t *name, size_t room, struct ecat_done *done, struct ecat *out);
+bool ecat_c_waits(struct ecat machine, struct ecat *out);
+struct ecat_done ecat_c_failure(struct ecat machine, uint64_t *values, size_t room, struct ecat *out);
+struct ecat_done ecat_c_failure_name(struct ecat machine, uint8_t *name, size_t room, struct ecat *out);
+struct ecat_done ecat_c_explain(struct ecat machine, uint8_t *words, size_t room, struct ecat *out);
+struct ecat_done ecat_c_state_next(struct ecat machine, size_t slave, uint8_t *frame, size_t room, struct ecat *out);
+struct ecat_status ecat_c_state(struct ecat machine, size_t slave, struct ecat *out);
+struct ecat_done ecat_c_slaves(struct ecat machine, struct ecat *out);
+struct ecat_done ecat_c_begin(struct ecat machine, struct ecat *out);
+struct ecat_done ecat_c_part(struct ecat machine, size_t part, uint8_t *frame, size_t room, struct ecat *out);
+struct ecat_closed ecat_c_close(struct ecat machine, struct ecat *out);
+struct ecat_done ecat_c_unit(struct ecat machine, uint8_t unit, struct ecat *out);
+struct ecat_counted ecat_c_counters(struct ecat machine, size_t part, struct ecat *out);
+struct ecat_done ecat_c_set(struct ecat machine, size_t variable, uint64_t value, struct ecat *out);
+struct ecat_value ecat_c_get(struct ecat machine, size_t variable, struct ecat *out);
+struct ecat_done ecat_c_outputs(struct ecat machine, const uint8_t *outputs, size_t len, struct ecat *out);
+struct ecat_done ecat_c_inputs(struct ecat machine, uint8_t *inputs, size_t room, struct ecat *out);
+struct ecat_done ecat_c_variable(struct ecat machine, const uint8_t *name, size_t len, struct ecat *out);
+struct ecat_value ecat_c_get_signed(struct ecat machine, size_t variable, struct ecat *out);
+struct ecat_done ecat_c_variables(struct ecat machine, struct ecat *out);
+struct ecat_placed ecat_c_place(struct ecat machine, size_t variable, struct ecat *out);
+struct ecat_done ecat_c_name(struct ecat machine, size_t variable, uint8_t *name, size_t room, struct ecat *out);
 void ecat_c_segment_open(const uint8_t *table, size_t len, bool full, uint8_t *name, size_t room, struct ecat_refused *refused, struct ecat_segment *out);
 void ecat_c_segment_drop(struct ecat_segment segment);
-void ecat_c_segment_pass(struct ecat_segment segment, uint8_t *frame, size_t len, bool *done, struct ecat_segment *out);
-void ecat_c_segment_serve(struct ecat_segment segment, size_t slave, bool *done, struct ecat_segment *out);
-void ecat_c_segment_get(struct ecat_segment segment, size_t slave, size_t place, uint8_t *byte, bool *done, struct ecat_segment *out);
-void ecat_c_segment_put(struct ecat_segment segment, size_t slave, size_t place, uint8_t byte, bool *done, struct ecat_segment *out);
-void ecat_c_segment_fault(struct ecat_segment segment, size_t slave, bool *done, struct ecat_segment *out);
-void ecat_c_segment_reset(struct ecat_segment segment, size_t slave, bool *done, struct ecat_segment *out);
+bool ecat_c_segment_pass(struct ecat_segment segment, uint8_t *frame, size_t len, struct ecat_segment *out);
+bool ecat_c_segment_serve(struct ecat_segment segment, size_t slave, struct ecat_segment *out);
+bool ecat_c_segment_get(struct ecat_segment segment, size_t slave, size_t place, uint8_t *byte, struct ecat_segment *out);
+bool ecat_c_segment_put(struct ecat_segment segment, size_t slave, size_t place, uint8_t byte, struct ecat_segment *out);
+struct ecat_done ecat_c_segment_outputs(struct ecat_segment segment, size_t slave, uint8_t *outputs, size_t room, struct ecat_segment *out);
+struct ecat_done ecat_c_segment_inputs(struct ecat_segment segment, size_t slave, const uint8_t *inputs, size_t len, struct ecat_segment *out);
+bool ecat_c_segment_fault(struct ecat_segment segment, size_t slave, struct ecat_segment *out);
+bool ecat_c_segment_reset(struct ecat_segment segment, size_t slave, struct ecat_segment *out);
 
 /* An export takes a handle by value and hands it back. In between, the handle of a caller whose master changes is {0}. One that
    doesn't change is handed back as it was. */
@@ -179,41 +183,35 @@ ECAT_CALL void ecat_drop(struct ecat *m) {
    outstanding, the start-up is ready, no frame number is left, or `room` is less than ECAT_FRAME. After a failure the start-up
    begins again. */
 ECAT_CALL size_t ecat_next(struct ecat *m, uint8_t *frame, size_t room) {
-    struct ecat_done done = {0, 0, 0, 0};
     uint8_t *bytes = ecat_room(frame, &room);
     if (!m || !m->at) return 0;
-    ecat_c_next(ecat_lent(m), bytes, room, &done, m);
-    return done.count;
+    return ecat_c_next(ecat_lent(m), bytes, room, m).count;
 }
 
 /* Returns true if the frame that `ecat_next` wrote last asks again what the frame before it asked, so that you may rest before you
    send it: 1 ms, say. Returns false for any other frame, or without a handle. */
 ECAT_CALL bool ecat_waits(const struct ecat *m) {
-    bool done = false;
     struct ecat same = {ECAT_NONE};
     if (!m || !m->at) return false;
-    ecat_c_waits(*m, &done, &same);
-    return done;
+    return ecat_c_waits(*m, &same);
 }
 
 /* Takes a payload of `len` bytes that came in. Returns true if it answers the outstanding frame of the start-up, a frame of the open
    cycle, or the last frame of `ecat_state_next`. Returns false and changes nothing for any other payload. `missing` becomes the number of frames of the open
    cycle that aren't back; it stays as it was if there is no handle. */
 ECAT_CALL bool ecat_take(struct ecat *m, const uint8_t *payload, size_t len, size_t *missing) {
-    struct ecat_done done = {0, 0, 0, 0};
     const uint8_t *bytes = ecat_bytes(payload, &len);
     if (!m || !m->at) return false;
-    ecat_c_take(ecat_lent(m), bytes, len, &done, m);
+    struct ecat_done done = ecat_c_take(ecat_lent(m), bytes, len, m);
     if (missing) *missing = done.count;
     return done.is_done;
 }
 
 /* Returns 1 if the slaves are up, 0 while the start-up runs or without a handle, or minus the number of its failure. */
 ECAT_CALL int ecat_phase(const struct ecat *m) {
-    struct ecat_done done = {0, 0, 0, 0};
     struct ecat same = {ECAT_NONE};
     if (!m || !m->at) return 0;
-    ecat_c_phase(*m, &done, &same);
+    struct ecat_done done = ecat_c_phase(*m, &same);
     return done.is_done ? 1 : -ECAT_AS(int, done.number);
 }
 
@@ -225,15 +223,14 @@ ECAT_CALL void ecat_give_up(struct ecat *m) {
 /* Returns true if the last start-up failed. Writes how into `failure` unless that is null; its number is 0 if no start-up failed. */
 ECAT_CALL bool ecat_failure(const struct ecat *m, struct ecat_refusal *failure) {
     struct ecat_refusal told = {0, {0}, 0, {0, 0, 0, 0}};
-    struct ecat_done done = {0, 0, 0, 0}, named = {0, 0, 0, 0};
+    struct ecat_done done = {0, 0, 0};
     struct ecat same = {ECAT_NONE};
     uint8_t name[24] = {0};
     if (m && m->at) {
-        ecat_c_failure(*m, told.values, 4, &done, &same);
-        ecat_c_failure_name(*m, name, sizeof name, &named, &same);
+        done = ecat_c_failure(*m, told.values, 4, &same);
         told.number = done.number;
         told.count = done.count;
-        ecat_named(told.name, sizeof told.name, name, named.count);
+        ecat_named(told.name, sizeof told.name, name, ecat_c_failure_name(*m, name, sizeof name, &same).count);
     }
     if (failure) *failure = told;
     return done.is_done;
@@ -242,12 +239,11 @@ ECAT_CALL bool ecat_failure(const struct ecat *m, struct ecat_refusal *failure) 
 /* Writes in words how the last start-up failed into `text`, with a zero byte behind them, and returns their length in bytes. Writes
    nothing if they don't fit; ECAT_WORDS bytes are enough. Returns 0 if no start-up failed. */
 ECAT_CALL size_t ecat_explain(const struct ecat *m, char *text, size_t room) {
-    struct ecat_done done = {0, 0, 0, 0};
     struct ecat same = {ECAT_NONE};
     size_t len = text && room ? room - 1 : 0;
     uint8_t *bytes = ecat_room(ECAT_AS(uint8_t *, ECAT_AS(void *, text)), &len);
     if (!m || !m->at) return 0;
-    ecat_c_explain(*m, bytes, len, &done, &same);
+    struct ecat_done done = ecat_c_explain(*m, bytes, len, &same);
     if (done.is_done) text[done.count] = 0;
     return done.count;
 }
@@ -256,51 +252,44 @@ ECAT_CALL size_t ecat_explain(const struct ecat *m, char *text, size_t room) {
    answer to the frame that it wrote before is foreign from now on. Returns 0 and changes nothing if there is no such slave, or `room`
    is less than ECAT_FRAME. A start-up or a cycle may be under way. */
 ECAT_CALL size_t ecat_state_next(struct ecat *m, size_t slave, uint8_t *frame, size_t room) {
-    struct ecat_done done = {0, 0, 0, 0};
     uint8_t *bytes = ecat_room(frame, &room);
     if (!m || !m->at) return 0;
-    ecat_c_state_next(ecat_lent(m), slave, bytes, room, &done, m);
-    return done.count;
+    return ecat_c_state_next(ecat_lent(m), slave, bytes, room, m).count;
 }
 
 /* Returns the AL status word that the last answer said of a slave. Bits 0 to 3 are its state: 1 INIT, 2 PREOP, 3 BOOT, 4 SAFEOP,
    8 OP. Bit 4 is set after an error, and `code` becomes the AL status code. Returns -1, and `code` stays, if there was no answer yet,
    the slave didn't touch the last one, or there is no such slave. */
 ECAT_CALL int ecat_state(const struct ecat *m, size_t slave, uint16_t *code) {
-    struct ecat_status told = {0, 0, 0};
     struct ecat same = {ECAT_NONE};
     if (!m || !m->at) return -1;
-    ecat_c_state(*m, slave, &told, &same);
+    struct ecat_status told = ecat_c_state(*m, slave, &same);
     if (told.is_known && code) *code = told.code;
     return told.is_known ? ECAT_AS(int, told.word) : -1;
 }
 
 /* Returns how many slaves the table has, or 0 without a handle. */
 ECAT_CALL size_t ecat_slaves(const struct ecat *m) {
-    struct ecat_done done = {0, 0, 0, 0};
     struct ecat same = {ECAT_NONE};
     if (!m || !m->at) return 0;
-    ecat_c_slaves(*m, &done, &same);
-    return done.count;
+    return ecat_c_slaves(*m, &same).count;
 }
 
 /* Begins a cycle with the outputs as they are, and returns its number of parts: one frame each. Returns minus the number of the
    refusal: -33 not ready, -34 a cycle is open, -36 no number is left. Returns -255 without a handle. */
 ECAT_CALL int ecat_begin(struct ecat *m) {
-    struct ecat_done done = {0, 0, 0, 0};
     if (!m || !m->at) return -255;
-    ecat_c_begin(ecat_lent(m), &done, m);
+    struct ecat_done done = ecat_c_begin(ecat_lent(m), m);
     return done.is_done ? ECAT_AS(int, done.count) : -ECAT_AS(int, done.number);
 }
 
 /* Writes the frame of a part of the open cycle into `frame`, and returns its length in bytes. Parts are counted from 0. Returns
    0 if no cycle is open, there is no such part, or the frame doesn't fit. */
 ECAT_CALL size_t ecat_part(const struct ecat *m, size_t part, uint8_t *frame, size_t room) {
-    struct ecat_done done = {0, 0, 0, 0};
     uint8_t *bytes = ecat_room(frame, &room);
     struct ecat same = {ECAT_NONE};
     if (!m || !m->at) return 0;
-    ecat_c_part(*m, part, bytes, room, &done, &same);
+    struct ecat_done done = ecat_c_part(*m, part, bytes, room, &same);
     return done.is_done ? done.count : 0;
 }
 
@@ -308,21 +297,19 @@ ECAT_CALL size_t ecat_part(const struct ecat *m, size_t part, uint8_t *frame, si
    `missing` becomes the number of frames that weren't back, and `al` the OR of the AL status words of the slaves. If no cycle
    is open, both become 0; without a handle both stay. */
 ECAT_CALL bool ecat_close(struct ecat *m, size_t *missing, uint16_t *al) {
-    struct ecat_done done = {0, 0, 0, 0};
     if (!m || !m->at) return false;
-    ecat_c_close(ecat_lent(m), &done, m);
-    if (missing) *missing = done.count;
-    if (al) *al = ECAT_AS(uint16_t, done.value);
-    return done.is_done;
+    struct ecat_closed report = ecat_c_close(ecat_lent(m), m);
+    if (missing) *missing = report.missing;
+    if (al) *al = report.al;
+    return report.is_taken;
 }
 
 /* Returns 1 if the last closed cycle took the inputs of the sync unit with this number, and 0 if not. Returns -1 if there is no
    such unit, or no cycle was closed yet. */
 ECAT_CALL int ecat_unit(const struct ecat *m, size_t unit) {
-    struct ecat_done done = {0, 0, 0, 0};
     struct ecat same = {ECAT_NONE};
     if (!m || !m->at || unit > 255) return -1;
-    ecat_c_unit(*m, ECAT_AS(uint8_t, unit), &done, &same);
+    struct ecat_done done = ecat_c_unit(*m, ECAT_AS(uint8_t, unit), &same);
     return done.count ? ECAT_AS(int, done.is_done) : -1;
 }
 
@@ -330,10 +317,9 @@ ECAT_CALL int ecat_unit(const struct ecat *m, size_t unit) {
    LRD, and 0 if its frame wasn't back, there is no such part, or no cycle was closed yet. `first` and `second` become the counters, as
    far as there are any, else they stay. */
 ECAT_CALL unsigned ecat_counters(const struct ecat *m, size_t part, uint16_t *first, uint16_t *second) {
-    struct ecat_counted counted = {0, 0, 0};
     struct ecat same = {ECAT_NONE};
     if (!m || !m->at) return 0;
-    ecat_c_counters(*m, part, &counted, &same);
+    struct ecat_counted counted = ecat_c_counters(*m, part, &same);
     if (first && counted.count > 0) *first = ECAT_AS(uint16_t, counted.first);
     if (second && counted.count > 1) *second = ECAT_AS(uint16_t, counted.second);
     return ECAT_AS(unsigned, counted.count);
@@ -341,70 +327,58 @@ ECAT_CALL unsigned ecat_counters(const struct ecat *m, size_t part, uint16_t *fi
 
 /* Sets a variable of the outputs. Returns false if there is no such variable, it is an input, or it has too few bits. */
 ECAT_CALL bool ecat_set(struct ecat *m, size_t variable, uint64_t value) {
-    struct ecat_done done = {0, 0, 0, 0};
     if (!m || !m->at) return false;
-    ecat_c_set(ecat_lent(m), variable, value, &done, m);
-    return done.is_done;
+    return ecat_c_set(ecat_lent(m), variable, value, m).is_done;
 }
 
 /* Returns the value of a variable, or 0 if there is no such variable. */
 ECAT_CALL uint64_t ecat_get(const struct ecat *m, size_t variable) {
-    struct ecat_done done = {0, 0, 0, 0};
     struct ecat same = {ECAT_NONE};
     if (!m || !m->at) return 0;
-    ecat_c_get(*m, variable, &done, &same);
-    return done.value;
+    return ecat_c_get(*m, variable, &same).value;
 }
 
 /* As `ecat_get`, with the sign of the variable (`is_signed` of `ecat_variable_info`). The value of one that isn't signed is that of
    `ecat_get`; of its 64 bits the highest then counts as a sign. */
 ECAT_CALL int64_t ecat_get_signed(const struct ecat *m, size_t variable) {
-    struct ecat_done done = {0, 0, 0, 0};
     struct ecat same = {ECAT_NONE};
     if (!m || !m->at) return 0;
-    ecat_c_get_signed(*m, variable, &done, &same);
+    struct ecat_value done = ecat_c_get_signed(*m, variable, &same);
     return ECAT_AS(int64_t, done.value);
 }
 
 /* Returns the length in bytes of the image of all outputs, or 0 without a handle. Sets the image if `len` is this length. The
    image has the output variables bit by bit, in the order of the table, without gaps. */
 ECAT_CALL size_t ecat_outputs(struct ecat *m, const uint8_t *outputs, size_t len) {
-    struct ecat_done done = {0, 0, 0, 0};
     const uint8_t *bytes = ecat_bytes(outputs, &len);
     if (!m || !m->at) return 0;
-    ecat_c_outputs(ecat_lent(m), bytes, len, &done, m);
-    return done.count;
+    return ecat_c_outputs(ecat_lent(m), bytes, len, m).count;
 }
 
 /* Returns the length in bytes of the image of all inputs, or 0 without a handle. Writes the image into `inputs` if `room` is not
    less than this length. */
 ECAT_CALL size_t ecat_inputs(const struct ecat *m, uint8_t *inputs, size_t room) {
-    struct ecat_done done = {0, 0, 0, 0};
     uint8_t *bytes = ecat_room(inputs, &room);
     struct ecat same = {ECAT_NONE};
     if (!m || !m->at) return 0;
-    ecat_c_inputs(*m, bytes, room, &done, &same);
-    return done.count;
+    return ecat_c_inputs(*m, bytes, room, &same).count;
 }
 
 /* Returns the number of the variable with this name, or -1 if there is none. The name ends with a zero byte. */
 ECAT_CALL long ecat_variable(const struct ecat *m, const char *name) {
-    struct ecat_done done = {0, 0, 0, 0};
     size_t len = 0;
     struct ecat same = {ECAT_NONE};
     if (!m || !m->at || !name) return -1;
     while (name[len]) len++;
-    ecat_c_variable(*m, ecat_bytes(name, &len), len, &done, &same);
+    struct ecat_done done = ecat_c_variable(*m, ecat_bytes(name, &len), len, &same);
     return done.is_done ? ECAT_AS(long, done.count) : -1;
 }
 
 /* Returns how many variables the table has, or 0 without a handle. They are numbered from 0, in the order of the table. */
 ECAT_CALL size_t ecat_variables(const struct ecat *m) {
-    struct ecat_done done = {0, 0, 0, 0};
     struct ecat same = {ECAT_NONE};
     if (!m || !m->at) return 0;
-    ecat_c_variables(*m, &done, &same);
-    return done.count;
+    return ecat_c_variables(*m, &same).count;
 }
 
 /* in C++ the call below hides the constructor of the struct with its name, which nobody calls */
@@ -416,15 +390,12 @@ ECAT_CALL size_t ecat_variables(const struct ecat *m) {
 /* Describes the variable with this number in `info`, unless that is null. Returns false and changes nothing if there is no such
    variable. */
 ECAT_CALL bool ecat_variable_info(const struct ecat *m, size_t variable, struct ecat_variable_info *info) {
-    struct ecat_placed place = {0, 0, 0, 0, 0};
-    struct ecat_done named = {0, 0, 0, 0};
     struct ecat same = {ECAT_NONE};
     uint8_t name[33] = {0};
     if (!m || !m->at) return false;
-    ecat_c_place(*m, variable, &place, &same);
+    struct ecat_placed place = ecat_c_place(*m, variable, &same);
     if (!place.is_there || !info) return place.is_there;
-    ecat_c_name(*m, variable, name, sizeof name, &named, &same);
-    ecat_named(info->name, sizeof info->name, name, named.count);
+    ecat_named(info->name, sizeof info->name, name, ecat_c_name(*m, variable, name, sizeof name, &same).count);
     info->bits = place.bits;
     info->is_output = place.is_output;
     info->is_signed = place.is_signed;
@@ -456,30 +427,25 @@ ECAT_CALL void ecat_segment_drop(struct ecat_segment *s) {
 
 /* Passes a frame of `len` bytes through all slaves, in place. Returns false and changes nothing if the bytes are no frame. */
 ECAT_CALL bool ecat_segment_pass(struct ecat_segment *s, uint8_t *frame, size_t len) {
-    bool done = false;
     uint8_t *bytes = ecat_room(frame, &len);
     if (!s || !s->at) return false;
-    ecat_c_segment_pass(ecat_segment_lent(s), bytes, len, &done, s);
-    return done;
+    return ecat_c_segment_pass(ecat_segment_lent(s), bytes, len, s);
 }
 
-/* The calls below are for one slave, counted from 0. Each returns false and changes nothing if there is no such slave. */
+/* The calls below are for one slave, counted from 0. Each returns false, or 0, and changes nothing if there is no such slave. */
 
 /* Makes a firmware step of the slave: AL request, SII read, one mailbox message. */
 ECAT_CALL bool ecat_segment_serve(struct ecat_segment *s, size_t slave) {
-    bool done = false;
     if (!s || !s->at) return false;
-    ecat_c_segment_serve(ecat_segment_lent(s), slave, &done, s);
-    return done;
+    return ecat_c_segment_serve(ecat_segment_lent(s), slave, s);
 }
 
 /* The slave's application reads the byte `place` of its outputs. Read from byte 0 on: byte 0 opens a view, and the last byte
    closes it. Returns false and changes nothing if the application may not read the byte. */
 ECAT_CALL bool ecat_segment_get(struct ecat_segment *s, size_t slave, size_t place, uint8_t *byte) {
-    bool done = false;
     uint8_t read = 0;
     if (!s || !s->at) return false;
-    ecat_c_segment_get(ecat_segment_lent(s), slave, place, &read, &done, s);
+    bool done = ecat_c_segment_get(ecat_segment_lent(s), slave, place, &read, s);
     if (done && byte) *byte = read;
     return done;
 }
@@ -487,27 +453,37 @@ ECAT_CALL bool ecat_segment_get(struct ecat_segment *s, size_t slave, size_t pla
 /* The slave's application writes the byte `place` of its inputs. Write from byte 0 on: byte 0 opens a draft, and the last byte
    publishes it. Returns false and changes nothing if the application may not write the byte. */
 ECAT_CALL bool ecat_segment_put(struct ecat_segment *s, size_t slave, size_t place, uint8_t byte) {
-    bool done = false;
     if (!s || !s->at) return false;
-    ecat_c_segment_put(ecat_segment_lent(s), slave, place, byte, &done, s);
-    return done;
+    return ecat_c_segment_put(ecat_segment_lent(s), slave, place, byte, s);
+}
+
+/* Returns the length in bytes of the outputs that the slave's application may read now. Reads all of them into `outputs`, as
+   `ecat_segment_get` would from byte 0 on, if `room` is not less than this length. */
+ECAT_CALL size_t ecat_segment_outputs(struct ecat_segment *s, size_t slave, uint8_t *outputs, size_t room) {
+    uint8_t *bytes = ecat_room(outputs, &room);
+    if (!s || !s->at) return 0;
+    return ecat_c_segment_outputs(ecat_segment_lent(s), slave, bytes, room, s).count;
+}
+
+/* Returns the length in bytes of the inputs that the slave's application may write now. Writes as many of the bytes of `inputs`, as
+   `ecat_segment_put` would from byte 0 on, if `len` is not less than this length. */
+ECAT_CALL size_t ecat_segment_inputs(struct ecat_segment *s, size_t slave, const uint8_t *inputs, size_t len) {
+    const uint8_t *bytes = ecat_bytes(inputs, &len);
+    if (!s || !s->at) return 0;
+    return ecat_c_segment_inputs(ecat_segment_lent(s), slave, bytes, len, s).count;
 }
 
 /* The slave's application has a fault: the slave goes from OP to SAFEOP, and sets the error flag of its AL status. Returns false
    and changes nothing if the slave isn't in OP. */
 ECAT_CALL bool ecat_segment_fault(struct ecat_segment *s, size_t slave) {
-    bool done = false;
     if (!s || !s->at) return false;
-    ecat_c_segment_fault(ecat_segment_lent(s), slave, &done, s);
-    return done;
+    return ecat_c_segment_fault(ecat_segment_lent(s), slave, s);
 }
 
 /* Switches the slave off and on. */
 ECAT_CALL bool ecat_segment_reset(struct ecat_segment *s, size_t slave) {
-    bool done = false;
     if (!s || !s->at) return false;
-    ecat_c_segment_reset(ecat_segment_lent(s), slave, &done, s);
-    return done;
+    return ecat_c_segment_reset(ecat_segment_lent(s), slave, s);
 }
 
 #ifdef __cplusplus

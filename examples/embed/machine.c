@@ -60,6 +60,7 @@ static void mistakes(size_t len) {
     must(ecat_slaves(&m) == 0 && ecat_variables(&m) == 0 && !ecat_variable_info(&m, 0, &info) && ecat_get_signed(&m, 0) == 0, "and has nothing");
     must(ecat_counters(&m, 0, &al, NULL) == 0, "and counts nothing");
     must(!ecat_segment_serve(&s, 0) && !ecat_segment_pass(&s, frame, 4), "nor a slave");
+    must(ecat_segment_outputs(&s, 0, room, sizeof room) == 0 && ecat_segment_inputs(&s, 0, room, 0) == 0, "nor its process data");
     must(!strcmp(ecat_version(), ECAT_VERSION), "there is a version");
     ecat_drop(&m);
     ecat_drop(NULL);
@@ -94,6 +95,7 @@ static void mistakes(size_t len) {
     ecat_segment_drop(&s);
     must(ecat_segment_open(&s, table, len, false, NULL) == 0, "a segment is opened");
     must(!ecat_segment_serve(&s, SLAVES) && !ecat_segment_get(&s, 0, 0, room) && !ecat_segment_put(&s, 0, 0, 1), "slaves in INIT deny");
+    must(ecat_segment_outputs(&s, 0, room, sizeof room) == 0 && ecat_segment_inputs(&s, 0, room, sizeof room) == 0, "and have no process data");
     must(!ecat_segment_fault(&s, 0) && !ecat_segment_pass(&s, room, 1) && ecat_segment_reset(&s, 0), "and have no fault");
     ecat_segment_drop(&s);
     ecat_segment_drop(&s);
@@ -158,31 +160,38 @@ static void facts(const struct ecat *m) {
     must(!ecat_variable_info(m, 5, &info) && ecat_variable_info(m, 4, NULL), "no other is");
 }
 
+/* Tries what a slave's application reads and writes: whole, it is what it is byte by byte. */
+static void process_data(struct ecat_segment *slaves) {
+    uint8_t bytes[64], byte;
+    size_t count = ecat_segment_outputs(slaves, 0, bytes, sizeof bytes), size = ecat_segment_inputs(slaves, 0, NULL, 0);
+    must(count > 0 && ecat_segment_outputs(slaves, 0, NULL, 0) == count && size > 0 && size <= sizeof bytes, "a slave has outputs and inputs");
+    for (size_t k = 0; k < count; k++) must(ecat_segment_get(slaves, 0, k, &byte) && byte == bytes[k], "each byte is read");
+    for (size_t k = 0; k < size; k++) must(ecat_segment_put(slaves, 0, k, bytes[k]), "each byte is written");
+    must(!ecat_segment_get(slaves, 0, count, &byte) && !ecat_segment_put(slaves, 0, size, 0), "and no other");
+    must(ecat_segment_inputs(slaves, 0, bytes, size - 1) == size && ecat_segment_inputs(slaves, 0, bytes, size) == size, "so are all");
+    must(ecat_segment_outputs(slaves, SLAVES, bytes, sizeof bytes) == 0 && ecat_segment_inputs(slaves, SLAVES, bytes, sizeof bytes) == 0, "no such slave");
+}
+
 /* The calls that change nothing hand back the pointer that they were given. */
 static void same_pointer(const struct ecat *m) {
-    struct ecat_done done = {0, 0, 0, 0};
     struct ecat same[16] = {{0}};
-    struct ecat_counted counters;
-    struct ecat_placed place;
-    struct ecat_status told;
     uint64_t values[4];
-    bool is_again;
-    ecat_c_phase(*m, &done, &same[0]);
-    ecat_c_part(*m, 0, frame, sizeof frame, &done, &same[1]);
-    ecat_c_unit(*m, 0, &done, &same[2]);
-    ecat_c_get(*m, 0, &done, &same[3]);
-    ecat_c_inputs(*m, frame, sizeof frame, &done, &same[4]);
-    ecat_c_variable(*m, (const uint8_t *)"lamp", 4, &done, &same[5]);
-    ecat_c_waits(*m, &is_again, &same[6]);
-    ecat_c_failure(*m, values, 4, &done, &same[7]);
-    ecat_c_failure_name(*m, frame, sizeof frame, &done, &same[8]);
-    ecat_c_explain(*m, frame, sizeof frame, &done, &same[9]);
-    ecat_c_state(*m, 0, &told, &same[10]);
-    ecat_c_slaves(*m, &done, &same[11]);
-    ecat_c_counters(*m, 0, &counters, &same[12]);
-    ecat_c_get_signed(*m, 0, &done, &same[13]);
-    ecat_c_place(*m, 0, &place, &same[14]);
-    ecat_c_name(*m, 0, frame, sizeof frame, &done, &same[15]);
+    ecat_c_phase(*m, &same[0]);
+    ecat_c_part(*m, 0, frame, sizeof frame, &same[1]);
+    ecat_c_unit(*m, 0, &same[2]);
+    ecat_c_get(*m, 0, &same[3]);
+    ecat_c_inputs(*m, frame, sizeof frame, &same[4]);
+    ecat_c_variable(*m, (const uint8_t *)"lamp", 4, &same[5]);
+    ecat_c_waits(*m, &same[6]);
+    ecat_c_failure(*m, values, 4, &same[7]);
+    ecat_c_failure_name(*m, frame, sizeof frame, &same[8]);
+    ecat_c_explain(*m, frame, sizeof frame, &same[9]);
+    ecat_c_state(*m, 0, &same[10]);
+    ecat_c_slaves(*m, &same[11]);
+    ecat_c_counters(*m, 0, &same[12]);
+    ecat_c_get_signed(*m, 0, &same[13]);
+    ecat_c_place(*m, 0, &same[14]);
+    ecat_c_name(*m, 0, frame, sizeof frame, &same[15]);
     for (int k = 0; k < 16; k++) must(same[k].at == m->at, "a handle that doesn't change is handed back as it was");
 }
 
@@ -201,6 +210,7 @@ int main(int argc, char **argv) {
     bring_up(&m, &slaves);
     same_pointer(&m);
     facts(&m);
+    process_data(&slaves);
     long wanted = ecat_variable(&m, "force_wanted"), valves = ecat_variable(&m, "valves"), switches = ecat_variable(&m, "switches");
     must(wanted >= 0 && valves >= 0 && switches >= 0, "the variables are there");
     for (int k = 1; k <= cycles; k++) {

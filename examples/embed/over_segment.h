@@ -6,6 +6,10 @@
 #include <string.h>
 
 #define SLAVES 64
+/* a slave has so many bytes of outputs, or of inputs, at most */
+#ifndef BYTES
+#define BYTES 2730
+#endif
 
 static char table[1 << 20];
 static uint8_t frame[ECAT_FRAME];
@@ -21,10 +25,9 @@ static void must(int holds, const char *what) {
 /* Makes a firmware step of each slave, whose application then copies its outputs to its inputs. */
 static void serve(struct ecat_segment *slaves) {
     for (size_t slave = 0; ecat_segment_serve(slaves, slave); slave++) {
-        uint8_t outputs[2048];
-        size_t count = 0;
-        while (count < sizeof outputs && ecat_segment_get(slaves, slave, count, &outputs[count])) count++;
-        for (size_t k = 0; ecat_segment_put(slaves, slave, k, k < count ? outputs[k] : 0); k++) {}
+        uint8_t bytes[BYTES] = {0};
+        ecat_segment_outputs(slaves, slave, bytes, sizeof bytes);
+        ecat_segment_inputs(slaves, slave, bytes, sizeof bytes);
     }
 }
 

@@ -19,7 +19,7 @@ import pathlib
 import time
 from typing import Any, Callable, Deque, Dict, List, NamedTuple, Optional, Protocol, Sequence, Tuple, Union
 
-ABI, FRAME = 1, 1472
+ABI, FRAME = 2, 1472
 # the most bytes of the words for a failure, and the seconds between two polls of a start-up
 WORDS, REST = 512, 0.001
 
@@ -97,6 +97,7 @@ _CALLS: Dict[str, Tuple[Any, List[Any]]] = {
     "segment_open": (_U8, [_H, _BYTES, _SIZE, _BOOL, _AT]), "segment_drop": (None, [_H]), "segment_pass": (_BOOL, [_H, _AT, _SIZE]),
     "segment_serve": (_BOOL, [_H, _SIZE]), "segment_get": (_BOOL, [_H, _SIZE, _SIZE, _AT]),
     "segment_put": (_BOOL, [_H, _SIZE, _SIZE, _U8]), "segment_fault": (_BOOL, [_H, _SIZE]), "segment_reset": (_BOOL, [_H, _SIZE]),
+    "segment_outputs": (_SIZE, [_H, _SIZE, _AT, _SIZE]), "segment_inputs": (_SIZE, [_H, _SIZE, _BYTES, _SIZE]),
 }
 
 
@@ -112,6 +113,12 @@ def _load() -> Any:
 
 _lib = _load()
 VERSION: str = _lib.ecat_version().decode()
+
+
+def _written(call: Any, *given: object) -> bytes:
+    """What a call writes into a room that is long enough."""
+    room = ctypes.create_string_buffer(call(*given, None, 0))
+    return ctypes.string_at(room, call(*given, room, len(room)))
 
 
 class _Owner:
@@ -228,8 +235,7 @@ class Master(_Owner):
         return _lib.ecat_outputs(self._handle, image, len(image))
 
     def inputs(self) -> bytes:
-        image = ctypes.create_string_buffer(_lib.ecat_inputs(self._handle, None, 0))
-        return image.raw[:_lib.ecat_inputs(self._handle, image, len(image))]
+        return _written(_lib.ecat_inputs, self._handle)
 
     def bring_up(self, wire: Wire) -> None:
         """Sends each frame of the start-up, and receives until its answer came; rests before a poll that asks again. Raises Failed if an
@@ -288,6 +294,12 @@ class Segment(_Owner):
     def put(self, slave: int, place: int, byte: int) -> bool:
         return _lib.ecat_segment_put(self._handle, slave, place, byte)
 
+    def outputs(self, slave: int) -> bytes:
+        return _written(_lib.ecat_segment_outputs, self._handle, slave)
+
+    def set_inputs(self, slave: int, inputs: bytes) -> int:
+        return _lib.ecat_segment_inputs(self._handle, slave, inputs, len(inputs))
+
     def fault(self, slave: int) -> bool:
         return _lib.ecat_segment_fault(self._handle, slave)
 
@@ -298,12 +310,8 @@ class Segment(_Owner):
         """A firmware step of each slave, and one of its application."""
         slave = 0
         while self.serve(slave):
-            outputs = bytearray()
-            while (byte := self.get(slave, len(outputs))) is not None:
-                outputs.append(byte)
-            inputs, place = self.application(slave, bytes(outputs)), 0
-            while self.put(slave, place, inputs[place] if place < len(inputs) else 0):
-                place += 1
+            inputs = self.application(slave, self.outputs(slave))
+            self.set_inputs(slave, inputs.ljust(self.set_inputs(slave, b""), b"\0"))
             slave += 1
 
     def send(self, frame: bytes) -> None:

@@ -44,6 +44,11 @@ def main():
         must(names[1] == ("valves", 2, True, False, 1) and names[4] == ("force", 16, False, False, 8) and len(names) == 5, "the variables are those of the table")
         m["force_wanted"] = 65535
         must(m.signed("force_wanted") == 65535, "no variable has a sign")
+        m.set_outputs(bytes([6, 0, 0]))
+        m.cycle(slaves)
+        must(slaves.outputs(PANEL) == bytes([6]) and slaves.outputs(2) == b"" and slaves.get(PANEL, 0) == 6, "the panel's outputs are read whole, and by bytes")
+        must(slaves.set_inputs(PANEL, b"") == 1 and slaves.set_inputs(PANEL, bytes([5, 9])) == 1 and slaves.set_inputs(2, b"5") == 0, "its inputs are written whole")
+        must(m.cycle(slaves).taken and m["switches"] == 5 and m.inputs() == bytes([5, 0, 0]), "and taken")
         slaves.fault(PRESS)
         state = m.read_state(slaves, PRESS)
         must(state.word == 0x14 and state.code != 0 and m.state(PANEL) == ecat.State(8, 0), "the press is in SAFEOP, with an error")

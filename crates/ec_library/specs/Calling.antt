@@ -1,5 +1,5 @@
 -- What a call does to the value behind its handle, and what it returns.
-use Rattle.std.specs.Prelude.{◌≡◌, ◌≢◌, ◌≤◌, ◌<◌, ◌↔◌, ℕ, Bool, true, false, List, length, take, set, slice_get, nat_lt, is_some, option_and_then, option_map, unwrap_or, Option, None, Some, Result, Ok, Err, IsTrue, IsUtf8}
+use Rattle.std.specs.Prelude.{◌≡◌, ◌≢◌, ◌≤◌, ◌<◌, ◌↔◌, ℕ, Bool, true, false, List, length, take, set, slice_get, nat_le, nat_lt, is_some, option_and_then, option_map, unwrap_or, Option, None, Some, Result, Ok, Err, IsTrue, IsUtf8}
 use Rattle.std.specs.List.{list_all}
 use Rattle.ec_cycle.specs.Closing.{ReportState}
 use Rattle.ec_cycle.specs.Master.{Begun, IsClosed, OpenCycle, begin_refusal, frame_of, holds_value, missing_of, value_at, variable_set}
@@ -7,7 +7,7 @@ use Rattle.ec_cycle.specs.Refusals.{refusal_number}
 use Rattle.ec_cycle.specs.declared.error.CycleError.{CycleError}
 use Rattle.ec_ring.specs.Rings.{HasPassedRing, IsNoFrame}
 use Rattle.ec_slave.specs.Interface.{Got, Op}
-use Rattle.ec_slave.specs.Application.{input_put, output_got, output_taken}
+use Rattle.ec_slave.specs.Application.{get_size, input_put, inputs_put, output_got, output_taken, outputs_shown, outputs_taken, put_size}
 use Rattle.ec_slave.specs.Faulting.{faulted}
 use Rattle.ec_slave.specs.State.{SlaveState}
 use Rattle.ec_start.specs.Errors.{error_number}
@@ -21,7 +21,9 @@ use Rattle.ec_asking.specs.declared.question.Question.TheVariants.{Status}
 use Rattle.ec_session.specs.Sessions.{IsGiven, IsNextFrame, resumed, unit_taken, variable_named}
 use Rattle.ec_library.specs.Polls.{AsksAgain}
 use Rattle.ec_library.specs.Statuses.{TakesStatus, next_count, status_asked}
+use Rattle.ec_library.specs.declared.done.Closed.{Closed}
 use Rattle.ec_library.specs.declared.done.Done.{Done}
+use Rattle.ec_library.specs.declared.done.VariableValue.{VariableValue}
 use Rattle.ec_library.specs.declared.held.HeldMaster.{HeldMaster}
 use Rattle.ec_library.specs.declared.polling.Polling.{Polling}
 use Rattle.ec_library.specs.declared.statuses.Statuses.{Statuses}
@@ -37,10 +39,10 @@ pub record Leads {S : Type 0} (old new : Option S) (step : S → S → Type 0) :
 -- ---- results
 
 abbrev pub refused : ℕ → Done
-refused number = record { number = number; is_done = false; count = 0; value = 0 }
+refused number = record { number = number; is_done = false; count = 0 }
 
 abbrev pub counted : Bool → ℕ → Done
-counted is_done count = record { number = 0; is_done = is_done; count = count; value = 0 }
+counted is_done count = record { number = 0; is_done = is_done; count = count }
 
 -- bytes are written into a room if they fit; the count is how many they are
 pub record AreCopied (bytes room : List ℕ) (done : Done) (shown : List ℕ) : Type 0 where
@@ -109,12 +111,15 @@ pub record CopiesPart (old : HeldMaster) (part : ℕ) (room : List ℕ) (done : 
   pub none : (is_some old.session.master.cycle ≡ true → part < length old.session.master.plan.parts → ⊥) → (done ≡ counted false 0) × (shown ≡ room)
   pub same : new ≡ old
 
-abbrev pub report_result : ReportState → Done
-report_result r = record { number = 0; is_done = list_all (λ (t : Bool). t) r.taken; count = r.missing; value = r.al_word }
+abbrev pub report_result : ReportState → Closed
+report_result r = record { number = 0; is_taken = list_all (λ (t : Bool). t) r.taken; al = r.al_word; missing = r.missing }
 
-pub record Closes (old : HeldMaster) (done : Done) (new : HeldMaster) : Type 0 where
-  pub closed : is_some old.session.master.cycle ≡ true → (r : ReportState) × (new.session.report ≡ Some r) × IsClosed old.session.master new.session.master r × (done ≡ report_result r)
-  pub not_open : old.session.master.cycle ≡ None → (done ≡ refused 35) × (new ≡ old)
+abbrev pub not_closed : ℕ → Closed
+not_closed number = record { number = number; is_taken = false; al = 0; missing = 0 }
+
+pub record Closes (old : HeldMaster) (report : Closed) (new : HeldMaster) : Type 0 where
+  pub closed : is_some old.session.master.cycle ≡ true → (r : ReportState) × (new.session.report ≡ Some r) × IsClosed old.session.master new.session.master r × (report ≡ report_result r)
+  pub not_open : old.session.master.cycle ≡ None → (report ≡ not_closed 35) × (new ≡ old)
   pub rest : new ≡ record old { session = record old.session { master = new.session.master; report = new.session.report } }
 
 abbrev pub unit_result : Option Bool → Done
@@ -131,10 +136,11 @@ pub record Sets (old : HeldMaster) (variable value : ℕ) (done : Done) (new : H
   pub is : done.is_done ≡ true → new ≡ record old { session = record old.session { master = variable_set old.session.master variable value } }
   pub kept : done.is_done ≡ false → new ≡ old
 
-pub record Gets (old : HeldMaster) (variable : ℕ) (done : Done) (new : HeldMaster) : Type 0 where
+pub record Gets (old : HeldMaster) (variable : ℕ) (read : VariableValue) (new : HeldMaster) : Type 0 where
   pub same : new ≡ old
-  pub there : variable < length old.session.master.plan.variables → done.value ≡ value_at old.session.master (slice_get old.session.master.plan.variables variable)
-  pub none : length old.session.master.plan.variables ≤ variable → done ≡ counted false 0
+  pub there : variable < length old.session.master.plan.variables
+      → read ≡ record { is_there = true; value = value_at old.session.master (slice_get old.session.master.plan.variables variable) }
+  pub none : length old.session.master.plan.variables ≤ variable → read ≡ record { is_there = false; value = 0 }
 
 pub record SetsOutputs (old : HeldMaster) (outputs : List ℕ) (done : Done) (new : HeldMaster) : Type 0 where
   pub size : done.count ≡ length old.session.master.outputs
@@ -184,6 +190,36 @@ pub record Reads (old : List SlaveState) (index byte room : ℕ) (done : Bool) (
 pub record Writes (old : List SlaveState) (index byte value : ℕ) (done : Bool) (new : List SlaveState) : Type 0 where
   pub is_done : done ≡ is_some (option_and_then (λ (s : SlaveState). input_put s byte value) (slice_get old index))
   pub slaves : AtSlave old index (λ (s : SlaveState). unwrap_or (input_put s byte value) s) new
+
+-- the outputs that a slave's application may read now, as they were published last; no bytes if each is denied
+abbrev pub outputs_whole : SlaveState → List ℕ
+outputs_whole s = take (get_size s) (outputs_shown s)
+
+-- the slave whose application has read them, byte after byte, if it has
+abbrev pub outputs_behind : Bool → SlaveState → SlaveState
+outputs_behind true s = outputs_taken s (get_size s)
+outputs_behind false s = s
+
+-- the application of the slave at a place reads its outputs whole, if they fit into the room
+pub record ReadsOutputs (old : List SlaveState) (index : ℕ) (room : List ℕ) (done : Done) (shown : List ℕ) (new : List SlaveState) : Type 0 where
+  pub there : (s : SlaveState) → slice_get old index ≡ Some s → AreCopied (outputs_whole s) room done shown
+  pub none : slice_get old index ≡ None → (done ≡ counted false 0) × (shown ≡ room)
+  pub slaves : AtSlave old index (outputs_behind done.is_done) new
+
+-- how many bytes of inputs a slave's application may write now; done if so many are given
+abbrev pub inputs_result : (given : ℕ) → Option SlaveState → Done
+inputs_result given None = counted false 0
+inputs_result given (Some s) = counted (nat_le (put_size s) given) (put_size s)
+
+-- the slave whose application has written so many of these inputs, byte after byte, if it has
+abbrev pub inputs_behind : Bool → List ℕ → SlaveState → SlaveState
+inputs_behind true inputs s = inputs_put s (take (put_size s) inputs) (put_size s)
+inputs_behind false inputs s = s
+
+-- the application of the slave at a place writes its inputs whole, if so many are given
+pub record WritesInputs (old : List SlaveState) (index : ℕ) (inputs : List ℕ) (done : Done) (new : List SlaveState) : Type 0 where
+  pub told : done ≡ inputs_result (length inputs) (slice_get old index)
+  pub slaves : AtSlave old index (inputs_behind done.is_done inputs) new
 
 -- the application of the slave at a place has a fault; done if the slave is in OP
 pub record HasFault (old : List SlaveState) (index : ℕ) (done : Bool) (new : List SlaveState) : Type 0 where

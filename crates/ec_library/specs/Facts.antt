@@ -12,6 +12,7 @@ use Rattle.ec_table.specs.Contents.{Contents}
 use Rattle.ec_table.specs.declared.rows.VariableRow.{VariableRow}
 use Rattle.ec_library.specs.Calling.{counted}
 use Rattle.ec_library.specs.declared.done.Done.{Done}
+use Rattle.ec_library.specs.declared.done.VariableValue.{VariableValue}
 use Rattle.ec_library.specs.declared.facts.PartCounters.{PartCounters}
 use Rattle.ec_library.specs.declared.facts.Placed.{Placed}
 use Rattle.ec_library.specs.declared.held.HeldMaster.{HeldMaster}
@@ -28,7 +29,7 @@ failure_name (Some error) = error_name error
 
 abbrev pub failure_result : Option StartError → Done
 failure_result None = counted false 0
-failure_result (Some error) = record { number = error_number error; is_done = true; count = length (error_values error); value = 0 }
+failure_result (Some error) = record { number = error_number error; is_done = true; count = length (error_values error) }
 
 -- the failure, and as many of its values as there is room for
 pub record ReturnsFailure (failure : Option StartError) (room : List ℕ) (done : Done) (shown : List ℕ) : Type 0 where
@@ -73,9 +74,9 @@ abbrev pub signed_at : HeldMaster → Option Variable → ℕ
 signed_at h None = 0
 signed_at h (Some v) = signed (is_signed v) v.bits (value_at h.session.master (Some v))
 
-pub record GetsSigned (h : HeldMaster) (variable : ℕ) (done : Done) : Type 0 where
-  pub there : done.is_done ≡ is_some (slice_get h.session.master.plan.variables variable)
-  pub value : done.value ≡ signed_at h (slice_get h.session.master.plan.variables variable)
+pub record GetsSigned (h : HeldMaster) (variable : ℕ) (read : VariableValue) : Type 0 where
+  pub there : read.is_there ≡ is_some (slice_get h.session.master.plan.variables variable)
+  pub value : read.value ≡ signed_at h (slice_get h.session.master.plan.variables variable)
 
 -- ---- the last report
 

@@ -1,9 +1,9 @@
 //! The calls of a master: each makes the call of a session, and returns what C sees of it.
 ghost use Rattle.std.specs.Prelude.{◌≡◌, true, length};
 ghost use Rattle.ec_cycle.specs.Closing.{ReportState};
-ghost use Rattle.ec_library.specs.Calling.{AsksNext, AsksState, Begins, Closes, Finds, Gets, GivesUp, Sets, SetsOutputs, CopiesInputs, CopiesPart, Takes, ReturnsPhase, ReturnsUnit, counted, report_result};
+ghost use Rattle.ec_library.specs.Calling.{AsksNext, AsksState, Begins, Closes, Finds, Gets, GivesUp, Sets, SetsOutputs, CopiesInputs, CopiesPart, Takes, ReturnsPhase, ReturnsUnit, counted, not_closed, report_result};
 
-use crate::done::{Done, copy_into, counted, refused};
+use crate::done::{Closed, Done, VariableValue, copy_into, counted, refused};
 use crate::held::HeldMaster;
 use ec_cycle::Report;
 use ec_frame::field::MAX_FRAME_LEN;
@@ -95,12 +95,12 @@ pub fn copy_part(held: &HeldMaster, part: usize, room: &mut [u8]) -> Done
 }
 
 /// Closes the cycle, and returns its report.
-pub fn close(held: &mut HeldMaster) -> Done
+pub fn close(held: &mut HeldMaster) -> Closed
     ensures { Closes held.old result held.new }
 {
     match held.session.close() {
         Ok(()) => last_result(&held.session),
-        Err(error) => refused(error.number()),
+        Err(error) => not_closed(error.number()),
     }
 }
 
@@ -121,18 +121,19 @@ pub fn set(held: &mut HeldMaster, variable: usize, value: u64) -> Done
     counted(held.session.set(variable, value), 0)
 }
 
-/// The value of a variable; not done if there is no such variable.
-pub fn get(held: &HeldMaster, variable: usize) -> Done
+/// The value of a variable, if there is one.
+pub fn get(held: &HeldMaster, variable: usize) -> VariableValue
     ensures { Gets held.now variable result held.now }
 {
     match held.session.get(variable) {
-        Some(value) => Done {
-            number: 0,
-            is_done: true,
-            count: 0,
+        Some(value) => VariableValue {
+            is_there: true,
             value,
         },
-        None => counted(false, 0),
+        None => VariableValue {
+            is_there: false,
+            value: 0,
+        },
     }
 }
 
@@ -165,23 +166,35 @@ pub fn find(held: &HeldMaster, name: &[u8]) -> Done
 }
 
 /// The last report, if there is one.
-fn last_result(session: &Session) -> Done
+fn last_result(session: &Session) -> Closed
     ensures { (r : ReportState) → session.now.report ≡ Some r → result ≡ report_result r }
 {
     match session.report() {
         Some(report) => result_of_report(report),
-        None => counted(false, 0),
+        None => not_closed(0),
     }
 }
 
-/// A report: done if all sync units were taken; the count is the missing parts, and the value the AL word.
-fn result_of_report(report: &Report) -> Done
+/// A report, as C sees it.
+fn result_of_report(report: &Report) -> Closed
     ensures { result ≡ report_result report.now }
 {
-    Done {
+    Closed {
         number: 0,
-        is_done: report.is_taken(),
-        count: report.missing(),
-        value: u64::from(report.al_word()),
+        is_taken: report.is_taken(),
+        al: report.al_word(),
+        missing: report.missing(),
+    }
+}
+
+/// No cycle was closed; the number says why.
+fn not_closed(number: u8) -> Closed
+    ensures { result ≡ not_closed number }
+{
+    Closed {
+        number,
+        is_taken: false,
+        al: 0,
+        missing: 0,
     }
 }

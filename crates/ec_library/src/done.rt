@@ -3,13 +3,31 @@ ghost use Rattle.std.specs.Prelude.{◌≡◌};
 ghost use Rattle.ec_library.specs.Calling.{AreCopied, counted, refused};
 
 /// The result of a call. `number` is that of a refusal, or 0; `is_done` says that the call did what it is for. `count` is in
-/// bytes or parts, or the number of a variable. `value` is that of a variable, or the AL word of a report.
+/// bytes or parts, or the number of a variable.
 #[repr(C)]
 #[derive(Clone, Copy, Drop)]
 pub struct Done {
     pub number: u8,
     pub is_done: bool,
     pub count: usize,
+}
+
+/// What a closed cycle's report says: whether all sync units were taken, the AL word, and how many parts are missing. `number` is that
+/// of the refusal if no cycle was open, and else 0.
+#[repr(C)]
+#[derive(Clone, Copy, Drop)]
+pub struct Closed {
+    pub number: u8,
+    pub is_taken: bool,
+    pub al: u16,
+    pub missing: usize,
+}
+
+/// The value of a variable, if it is there, and else 0.
+#[repr(C)]
+#[derive(Clone, Copy, Drop)]
+pub struct VariableValue {
+    pub is_there: bool,
     pub value: u64,
 }
 
@@ -21,7 +39,6 @@ pub fn refused(number: u8) -> Done
         number,
         is_done: false,
         count: 0,
-        value: 0,
     }
 }
 
@@ -33,7 +50,6 @@ pub fn counted(is_done: bool, count: usize) -> Done
         number: 0,
         is_done,
         count,
-        value: 0,
     }
 }
 

@@ -5,7 +5,7 @@ ghost use Rattle.ec_library.specs.Calling.{AreCopied};
 ghost use Rattle.ec_library.specs.Facts.{Explains, GetsSigned, ReturnsFailure, counters_in, counters_of, counters_result, extended, failure_name, is_signed, name_at, place_result, signed};
 ghost use Rattle.ec_library.specs.Holding.{failure_of};
 
-use crate::done::{Done, copy_into, counted};
+use crate::done::{Done, VariableValue, copy_into, counted};
 use crate::held::HeldMaster;
 use arrayvec::ArrayString;
 use ec_cycle::Report;
@@ -102,15 +102,13 @@ pub fn copy_name(held: &HeldMaster, variable: usize, room: &mut [u8]) -> Done
 }
 
 /// The value of a variable with its sign, in two's complement of 64 bits; 0 if there is no such variable.
-pub fn get_signed(held: &HeldMaster, variable: usize) -> Done
+pub fn get_signed(held: &HeldMaster, variable: usize) -> VariableValue
     ensures { GetsSigned held.now variable result }
 {
     let value = held.session.get(variable).unwrap_or(0);
     let place = place(held, variable);
-    Done {
-        number: 0,
-        is_done: place.is_there,
-        count: 0,
+    VariableValue {
+        is_there: place.is_there,
         value: signed(place, value),
     }
 }
@@ -136,7 +134,6 @@ fn failure_result(error: StartError, room: &mut [u64]) -> Done
         number: error.number(),
         is_done: true,
         count: values.len(),
-        value: 0,
     }
 }
 

@@ -8,7 +8,7 @@
 ghost use Rattle.std.specs.Prelude.{◌≡◌, true, is_some, length, slice_get};
 ghost use Rattle.ec_slave.specs.Serving.{served};
 ghost use Rattle.ec_slave.specs.State.{power_on};
-ghost use Rattle.ec_library.specs.Calling.{AreCopied, AsksNext, AsksState, Begins, Closes, Does, Finds, Gets, GivesUp, HasFault, Leads, Passes, Reads, Sets, SetsOutputs, CopiesInputs, CopiesPart, Takes, ReturnsPhase, ReturnsUnit, Writes, counted};
+ghost use Rattle.ec_library.specs.Calling.{AreCopied, AsksNext, AsksState, Begins, Closes, Does, Finds, Gets, GivesUp, HasFault, Leads, Passes, Reads, ReadsOutputs, Sets, SetsOutputs, CopiesInputs, CopiesPart, Takes, ReturnsPhase, ReturnsUnit, Writes, WritesInputs, counted};
 ghost use Rattle.ec_library.specs.Facts.{Explains, GetsSigned, ReturnsFailure, counters_of, counters_result, failure_name, name_at, place_result};
 ghost use Rattle.ec_library.specs.Holding.{failure_of};
 ghost use Rattle.ec_library.specs.Opening.{HasMaster, HasSlaves};
@@ -26,7 +26,7 @@ mod polling;
 mod segments;
 mod statuses;
 
-use crate::done::Done;
+use crate::done::{Closed, Done, VariableValue};
 use crate::facts::{PartCounters, Placed};
 use crate::handle::{
     MasterHandle, RawBox, SegmentHandle, conceal_master, conceal_segment, reveal_master,
@@ -65,57 +65,53 @@ pub extern "C" fn ecat_c_drop(alloc: Global, master: MasterHandle)
     let _held = reveal_master(master).into_box(alloc);
 }
 
-/// Writes the next frame of the start-up; `done.count` is its length in bytes, 0 if there is none.
+/// Writes the next frame of the start-up. The count is its length in bytes, 0 if there is none.
 #[tactic(auto, using(crate::proofs::Leading::leads))]
 #[unsafe(no_mangle)]
 pub extern "C" fn ecat_c_next(
     alloc: Global,
     master: MasterHandle,
     frame: &mut [u8],
-    done: &mut Done,
     out: &mut MasterHandle,
-)
+) -> Done
     requires { is_some master.held ≡ true }
-    ensures { Leads master.held out.new.held (λ m n. AsksNext m frame.old done.new frame.new n) }
+    ensures { Leads master.held out.new.held (λ m n. AsksNext m frame.old result frame.new n) }
 {
     let mut held = reveal_master(master).into_box(alloc);
-    *done = calls::next(&mut held, frame);
+    let done = calls::next(&mut held, frame);
     *out = conceal_master(RawBox::of(held));
+    done
 }
 
-/// Takes a payload that came; done if it was kept. `done.count` is how many parts of the open cycle are missing then.
+/// Takes a payload that came; done if it was kept. The count is how many parts of the open cycle are missing then.
 #[tactic(auto, using(crate::proofs::Leading::leads))]
 #[unsafe(no_mangle)]
 pub extern "C" fn ecat_c_take(
     alloc: Global,
     master: MasterHandle,
     payload: &[u8],
-    done: &mut Done,
     out: &mut MasterHandle,
-)
+) -> Done
     requires { is_some master.held ≡ true }
-    ensures { Leads master.held out.new.held (λ m n. Takes m payload.now done.new n) }
+    ensures { Leads master.held out.new.held (λ m n. Takes m payload.now result n) }
 {
     let mut held = reveal_master(master).into_box(alloc);
-    *done = calls::take(&mut held, payload);
+    let done = calls::take(&mut held, payload);
     *out = conceal_master(RawBox::of(held));
+    done
 }
 
 /// Whether the start-up has ended Ready, or the number of its failure.
 #[tactic(auto, using(crate::proofs::Leading::leads))]
 #[unsafe(no_mangle)]
-pub extern "C" fn ecat_c_phase(
-    alloc: Global,
-    master: MasterHandle,
-    done: &mut Done,
-    out: &mut MasterHandle,
-)
+pub extern "C" fn ecat_c_phase(alloc: Global, master: MasterHandle, out: &mut MasterHandle) -> Done
     requires { is_some master.held ≡ true }
-    ensures { Leads master.held out.new.held (λ m n. ReturnsPhase m done.new n) }
+    ensures { Leads master.held out.new.held (λ m n. ReturnsPhase m result n) }
 {
     let held = reveal_master(master).into_box(alloc);
-    *done = calls::phase(&held);
+    let done = calls::phase(&held);
     *out = conceal_master(RawBox::of(held));
+    done
 }
 
 /// Ends a start-up that runs, as lost.
@@ -133,75 +129,71 @@ pub extern "C" fn ecat_c_give_up(alloc: Global, master: MasterHandle, out: &mut 
 /// Whether the last frame of the start-up asks again what the one before it asked.
 #[tactic(auto, using(crate::proofs::Leading::leads))]
 #[unsafe(no_mangle)]
-pub extern "C" fn ecat_c_waits(
-    alloc: Global,
-    master: MasterHandle,
-    done: &mut bool,
-    out: &mut MasterHandle,
-)
+pub extern "C" fn ecat_c_waits(alloc: Global, master: MasterHandle, out: &mut MasterHandle) -> bool
     requires { is_some master.held ≡ true }
-    ensures { Leads master.held out.new.held (λ m n. (n ≡ m) × (done.new ≡ m.polling.is_again)) }
+    ensures { Leads master.held out.new.held (λ m n. (n ≡ m) × (result ≡ m.polling.is_again)) }
 {
     let held = reveal_master(master).into_box(alloc);
-    *done = held.polling.is_again;
+    let done = held.polling.is_again;
     *out = conceal_master(RawBox::of(held));
+    done
 }
 
-/// The number of the last start-up's failure, or not done. `done.count` is how many values it has, and these are written into `values`.
+/// The number of the last start-up's failure, or not done. The count is how many values it has, and these are written into `values`.
 #[tactic(auto, using(crate::proofs::Leading::leads))]
 #[unsafe(no_mangle)]
 pub extern "C" fn ecat_c_failure(
     alloc: Global,
     master: MasterHandle,
     values: &mut [u64],
-    done: &mut Done,
     out: &mut MasterHandle,
-)
+) -> Done
     requires { is_some master.held ≡ true }
-    ensures { Leads master.held out.new.held (λ m n. (n ≡ m) × ReturnsFailure (failure_of m) values.old done.new values.new) }
+    ensures { Leads master.held out.new.held (λ m n. (n ≡ m) × ReturnsFailure (failure_of m) values.old result values.new) }
 {
     let held = reveal_master(master).into_box(alloc);
-    *done = facts::failure(&held, values);
+    let done = facts::failure(&held, values);
     *out = conceal_master(RawBox::of(held));
+    done
 }
 
-/// Writes the name of that failure, if it fits. `done.count` is its length in bytes, 0 if there is no failure.
+/// Writes the name of that failure, if it fits. The count is its length in bytes, 0 if there is no failure.
 #[tactic(auto, using(crate::proofs::Leading::leads))]
 #[unsafe(no_mangle)]
 pub extern "C" fn ecat_c_failure_name(
     alloc: Global,
     master: MasterHandle,
     name: &mut [u8],
-    done: &mut Done,
     out: &mut MasterHandle,
-)
+) -> Done
     requires { is_some master.held ≡ true }
-    ensures { Leads master.held out.new.held (λ m n. (n ≡ m) × AreCopied (failure_name (failure_of m)) name.old done.new name.new) }
+    ensures { Leads master.held out.new.held (λ m n. (n ≡ m) × AreCopied (failure_name (failure_of m)) name.old result name.new) }
 {
     let held = reveal_master(master).into_box(alloc);
-    *done = facts::copy_failure_name(&held, name);
+    let done = facts::copy_failure_name(&held, name);
     *out = conceal_master(RawBox::of(held));
+    done
 }
 
-/// Writes in words what the last start-up failed by, if they fit. `done.count` is their length in bytes, 0 if it didn't fail.
+/// Writes in words what the last start-up failed by, if they fit. The count is their length in bytes, 0 if it didn't fail.
 #[tactic(auto, using(crate::proofs::Leading::leads))]
 #[unsafe(no_mangle)]
 pub extern "C" fn ecat_c_explain(
     alloc: Global,
     master: MasterHandle,
     words: &mut [u8],
-    done: &mut Done,
     out: &mut MasterHandle,
-)
+) -> Done
     requires { is_some master.held ≡ true }
-    ensures { Leads master.held out.new.held (λ m n. (n ≡ m) × Explains (failure_of m) words.old done.new words.new) }
+    ensures { Leads master.held out.new.held (λ m n. (n ≡ m) × Explains (failure_of m) words.old result words.new) }
 {
     let held = reveal_master(master).into_box(alloc);
-    *done = facts::explain(&held, words);
+    let done = facts::explain(&held, words);
     *out = conceal_master(RawBox::of(held));
+    done
 }
 
-/// Writes the frame that asks for the AL state of a slave. `done.count` is its length in bytes, 0 if there is none.
+/// Writes the frame that asks for the AL state of a slave. The count is its length in bytes, 0 if there is none.
 #[tactic(auto, using(crate::proofs::Leading::leads))]
 #[unsafe(no_mangle)]
 pub extern "C" fn ecat_c_state_next(
@@ -209,15 +201,15 @@ pub extern "C" fn ecat_c_state_next(
     master: MasterHandle,
     slave: usize,
     frame: &mut [u8],
-    done: &mut Done,
     out: &mut MasterHandle,
-)
+) -> Done
     requires { is_some master.held ≡ true }
-    ensures { Leads master.held out.new.held (λ m n. AsksState m slave frame.old done.new frame.new n) }
+    ensures { Leads master.held out.new.held (λ m n. AsksState m slave frame.old result frame.new n) }
 {
     let mut held = reveal_master(master).into_box(alloc);
-    *done = calls::next_state(&mut held, slave, frame);
+    let done = calls::next_state(&mut held, slave, frame);
     *out = conceal_master(RawBox::of(held));
+    done
 }
 
 /// What the last answer said of the AL state of a slave.
@@ -227,52 +219,44 @@ pub extern "C" fn ecat_c_state(
     alloc: Global,
     master: MasterHandle,
     slave: usize,
-    told: &mut Told,
     out: &mut MasterHandle,
-)
+) -> Told
     requires { is_some master.held ≡ true }
-    ensures { Leads master.held out.new.held (λ m n. (n ≡ m) × (told.new ≡ state_result (told_of m.statuses slave))) }
+    ensures { Leads master.held out.new.held (λ m n. (n ≡ m) × (result ≡ state_result (told_of m.statuses slave))) }
 {
     let held = reveal_master(master).into_box(alloc);
-    *told = held.statuses.told(slave);
+    let told = held.statuses.told(slave);
     *out = conceal_master(RawBox::of(held));
+    told
 }
 
-/// The number of slaves, in `done.count`.
+/// The number of slaves, as the count.
 #[tactic(auto, using(crate::proofs::Leading::leads))]
 #[unsafe(no_mangle)]
-pub extern "C" fn ecat_c_slaves(
-    alloc: Global,
-    master: MasterHandle,
-    done: &mut Done,
-    out: &mut MasterHandle,
-)
+pub extern "C" fn ecat_c_slaves(alloc: Global, master: MasterHandle, out: &mut MasterHandle) -> Done
     requires { is_some master.held ≡ true }
-    ensures { Leads master.held out.new.held (λ m n. (n ≡ m) × (done.new ≡ counted true (length m.session.master.plan.slaves))) }
+    ensures { Leads master.held out.new.held (λ m n. (n ≡ m) × (result ≡ counted true (length m.session.master.plan.slaves))) }
 {
     let held = reveal_master(master).into_box(alloc);
-    *done = calls::slaves(&held);
+    let done = calls::slaves(&held);
     *out = conceal_master(RawBox::of(held));
+    done
 }
 
-/// Begins a cycle. `done.count` is its number of parts.
+/// Begins a cycle. The count is its number of parts.
 #[tactic(auto, using(crate::proofs::Leading::leads))]
 #[unsafe(no_mangle)]
-pub extern "C" fn ecat_c_begin(
-    alloc: Global,
-    master: MasterHandle,
-    done: &mut Done,
-    out: &mut MasterHandle,
-)
+pub extern "C" fn ecat_c_begin(alloc: Global, master: MasterHandle, out: &mut MasterHandle) -> Done
     requires { is_some master.held ≡ true }
-    ensures { Leads master.held out.new.held (λ m n. Begins m done.new n) }
+    ensures { Leads master.held out.new.held (λ m n. Begins m result n) }
 {
     let mut held = reveal_master(master).into_box(alloc);
-    *done = calls::begin(&mut held);
+    let done = calls::begin(&mut held);
     *out = conceal_master(RawBox::of(held));
+    done
 }
 
-/// Writes the frame of a part of the open cycle, if it fits. `done.count` is its length in bytes.
+/// Writes the frame of a part of the open cycle, if it fits. The count is its length in bytes.
 #[tactic(auto, using(crate::proofs::Leading::leads))]
 #[unsafe(no_mangle)]
 pub extern "C" fn ecat_c_part(
@@ -280,50 +264,50 @@ pub extern "C" fn ecat_c_part(
     master: MasterHandle,
     part: usize,
     frame: &mut [u8],
-    done: &mut Done,
     out: &mut MasterHandle,
-)
+) -> Done
     requires { is_some master.held ≡ true }
-    ensures { Leads master.held out.new.held (λ m n. CopiesPart m part frame.old done.new frame.new n) }
+    ensures { Leads master.held out.new.held (λ m n. CopiesPart m part frame.old result frame.new n) }
 {
     let held = reveal_master(master).into_box(alloc);
-    *done = calls::copy_part(&held, part, frame);
+    let done = calls::copy_part(&held, part, frame);
     *out = conceal_master(RawBox::of(held));
+    done
 }
 
-/// Closes the cycle. `done` is its report: whether all units were taken, the missing parts, and the AL word.
+/// Closes the cycle, and returns its report: whether all units were taken, the missing parts, and the AL word.
 #[tactic(auto, using(crate::proofs::Leading::leads))]
 #[unsafe(no_mangle)]
 pub extern "C" fn ecat_c_close(
     alloc: Global,
     master: MasterHandle,
-    done: &mut Done,
     out: &mut MasterHandle,
-)
+) -> Closed
     requires { is_some master.held ≡ true }
-    ensures { Leads master.held out.new.held (λ m n. Closes m done.new n) }
+    ensures { Leads master.held out.new.held (λ m n. Closes m result n) }
 {
     let mut held = reveal_master(master).into_box(alloc);
-    *done = calls::close(&mut held);
+    let done = calls::close(&mut held);
     *out = conceal_master(RawBox::of(held));
+    done
 }
 
-/// Whether a sync unit was taken in the last report; `done.count` is 1 if the report has the unit.
+/// Whether a sync unit was taken in the last report. The count is 1 if the report has the unit.
 #[tactic(auto, using(crate::proofs::Leading::leads))]
 #[unsafe(no_mangle)]
 pub extern "C" fn ecat_c_unit(
     alloc: Global,
     master: MasterHandle,
     unit: u8,
-    done: &mut Done,
     out: &mut MasterHandle,
-)
+) -> Done
     requires { is_some master.held ≡ true }
-    ensures { Leads master.held out.new.held (λ m n. ReturnsUnit m unit done.new n) }
+    ensures { Leads master.held out.new.held (λ m n. ReturnsUnit m unit result n) }
 {
     let held = reveal_master(master).into_box(alloc);
-    *done = calls::unit_result_of(&held, unit);
+    let done = calls::unit_result_of(&held, unit);
     *out = conceal_master(RawBox::of(held));
+    done
 }
 
 /// The working counters of a part in the last report.
@@ -333,15 +317,15 @@ pub extern "C" fn ecat_c_counters(
     alloc: Global,
     master: MasterHandle,
     part: usize,
-    counters: &mut PartCounters,
     out: &mut MasterHandle,
-)
+) -> PartCounters
     requires { is_some master.held ≡ true }
-    ensures { Leads master.held out.new.held (λ m n. (n ≡ m) × (counters.new ≡ counters_result (counters_of m part))) }
+    ensures { Leads master.held out.new.held (λ m n. (n ≡ m) × (result ≡ counters_result (counters_of m part))) }
 {
     let held = reveal_master(master).into_box(alloc);
-    *counters = facts::counters(&held, part);
+    let counters = facts::counters(&held, part);
     *out = conceal_master(RawBox::of(held));
+    counters
 }
 
 /// Sets a variable of the outputs, if there is one that holds the value.
@@ -352,122 +336,122 @@ pub extern "C" fn ecat_c_set(
     master: MasterHandle,
     variable: usize,
     value: u64,
-    done: &mut Done,
     out: &mut MasterHandle,
-)
+) -> Done
     requires { is_some master.held ≡ true }
-    ensures { Leads master.held out.new.held (λ m n. Sets m variable value done.new n) }
+    ensures { Leads master.held out.new.held (λ m n. Sets m variable value result n) }
 {
     let mut held = reveal_master(master).into_box(alloc);
-    *done = calls::set(&mut held, variable, value);
+    let done = calls::set(&mut held, variable, value);
     *out = conceal_master(RawBox::of(held));
+    done
 }
 
-/// The value of a variable, in `done.value`; not done if there is no such variable.
+/// The value of a variable, if there is one.
 #[tactic(auto, using(crate::proofs::Leading::leads))]
 #[unsafe(no_mangle)]
 pub extern "C" fn ecat_c_get(
     alloc: Global,
     master: MasterHandle,
     variable: usize,
-    done: &mut Done,
     out: &mut MasterHandle,
-)
+) -> VariableValue
     requires { is_some master.held ≡ true }
-    ensures { Leads master.held out.new.held (λ m n. Gets m variable done.new n) }
+    ensures { Leads master.held out.new.held (λ m n. Gets m variable result n) }
 {
     let held = reveal_master(master).into_box(alloc);
-    *done = calls::get(&held, variable);
+    let done = calls::get(&held, variable);
     *out = conceal_master(RawBox::of(held));
+    done
 }
 
-/// Sets the image of all outputs if the lengths agree. `done.count` is the image's number of bytes.
+/// Sets the image of all outputs if the lengths agree. The count is the image's number of bytes.
 #[tactic(auto, using(crate::proofs::Leading::leads))]
 #[unsafe(no_mangle)]
 pub extern "C" fn ecat_c_outputs(
     alloc: Global,
     master: MasterHandle,
     outputs: &[u8],
-    done: &mut Done,
     out: &mut MasterHandle,
-)
+) -> Done
     requires { is_some master.held ≡ true }
-    ensures { Leads master.held out.new.held (λ m n. SetsOutputs m outputs.now done.new n) }
+    ensures { Leads master.held out.new.held (λ m n. SetsOutputs m outputs.now result n) }
 {
     let mut held = reveal_master(master).into_box(alloc);
-    *done = calls::set_outputs(&mut held, outputs);
+    let done = calls::set_outputs(&mut held, outputs);
     *out = conceal_master(RawBox::of(held));
+    done
 }
 
-/// Writes the image of all inputs, if it fits. `done.count` is its number of bytes.
+/// Writes the image of all inputs, if it fits. The count is its number of bytes.
 #[tactic(auto, using(crate::proofs::Leading::leads))]
 #[unsafe(no_mangle)]
 pub extern "C" fn ecat_c_inputs(
     alloc: Global,
     master: MasterHandle,
     inputs: &mut [u8],
-    done: &mut Done,
     out: &mut MasterHandle,
-)
+) -> Done
     requires { is_some master.held ≡ true }
-    ensures { Leads master.held out.new.held (λ m n. CopiesInputs m inputs.old done.new inputs.new n) }
+    ensures { Leads master.held out.new.held (λ m n. CopiesInputs m inputs.old result inputs.new n) }
 {
     let held = reveal_master(master).into_box(alloc);
-    *done = calls::copy_inputs(&held, inputs);
+    let done = calls::copy_inputs(&held, inputs);
     *out = conceal_master(RawBox::of(held));
+    done
 }
 
-/// The number of the variable with a name, in `done.count`; not done if there is none.
+/// The number of the variable with a name, as the count; not done if there is none.
 #[tactic(auto, using(crate::proofs::Leading::leads))]
 #[unsafe(no_mangle)]
 pub extern "C" fn ecat_c_variable(
     alloc: Global,
     master: MasterHandle,
     name: &[u8],
-    done: &mut Done,
     out: &mut MasterHandle,
-)
+) -> Done
     requires { is_some master.held ≡ true }
-    ensures { Leads master.held out.new.held (λ m n. Finds m name.now done.new n) }
+    ensures { Leads master.held out.new.held (λ m n. Finds m name.now result n) }
 {
     let held = reveal_master(master).into_box(alloc);
-    *done = calls::find(&held, name);
+    let done = calls::find(&held, name);
     *out = conceal_master(RawBox::of(held));
+    done
 }
 
-/// The value of a variable with its sign, in `done.value`.
+/// The value of a variable with its sign, if there is one.
 #[tactic(auto, using(crate::proofs::Leading::leads))]
 #[unsafe(no_mangle)]
 pub extern "C" fn ecat_c_get_signed(
     alloc: Global,
     master: MasterHandle,
     variable: usize,
-    done: &mut Done,
     out: &mut MasterHandle,
-)
+) -> VariableValue
     requires { is_some master.held ≡ true }
-    ensures { Leads master.held out.new.held (λ m n. (n ≡ m) × GetsSigned m variable done.new) }
+    ensures { Leads master.held out.new.held (λ m n. (n ≡ m) × GetsSigned m variable result) }
 {
     let held = reveal_master(master).into_box(alloc);
-    *done = facts::get_signed(&held, variable);
+    let done = facts::get_signed(&held, variable);
     *out = conceal_master(RawBox::of(held));
+    done
 }
 
-/// The number of variables, in `done.count`.
+/// The number of variables, as the count.
 #[tactic(auto, using(crate::proofs::Leading::leads))]
 #[unsafe(no_mangle)]
 pub extern "C" fn ecat_c_variables(
     alloc: Global,
     master: MasterHandle,
-    done: &mut Done,
     out: &mut MasterHandle,
-)
+) -> Done
     requires { is_some master.held ≡ true }
-    ensures { Leads master.held out.new.held (λ m n. (n ≡ m) × (done.new ≡ counted true (length m.session.master.plan.variables))) }
+    ensures { Leads master.held out.new.held (λ m n. (n ≡ m) × (result ≡ counted true (length m.session.master.plan.variables))) }
 {
     let held = reveal_master(master).into_box(alloc);
-    *done = calls::variables(&held);
+    let done = calls::variables(&held);
     *out = conceal_master(RawBox::of(held));
+    done
 }
 
 /// Where a variable is, if there is one.
@@ -477,18 +461,18 @@ pub extern "C" fn ecat_c_place(
     alloc: Global,
     master: MasterHandle,
     variable: usize,
-    place: &mut Placed,
     out: &mut MasterHandle,
-)
+) -> Placed
     requires { is_some master.held ≡ true }
-    ensures { Leads master.held out.new.held (λ m n. (n ≡ m) × (place.new ≡ place_result (slice_get m.session.master.plan.variables variable))) }
+    ensures { Leads master.held out.new.held (λ m n. (n ≡ m) × (result ≡ place_result (slice_get m.session.master.plan.variables variable))) }
 {
     let held = reveal_master(master).into_box(alloc);
-    *place = facts::place(&held, variable);
+    let place = facts::place(&held, variable);
     *out = conceal_master(RawBox::of(held));
+    place
 }
 
-/// Writes the name of a variable, if it fits. `done.count` is its length in bytes, 0 if there is no such variable.
+/// Writes the name of a variable, if it fits. The count is its length in bytes, 0 if there is no such variable.
 #[tactic(auto, using(crate::proofs::Leading::leads))]
 #[unsafe(no_mangle)]
 pub extern "C" fn ecat_c_name(
@@ -496,15 +480,15 @@ pub extern "C" fn ecat_c_name(
     master: MasterHandle,
     variable: usize,
     name: &mut [u8],
-    done: &mut Done,
     out: &mut MasterHandle,
-)
+) -> Done
     requires { is_some master.held ≡ true }
-    ensures { Leads master.held out.new.held (λ m n. (n ≡ m) × AreCopied (name_at m.session.table variable) name.old done.new name.new) }
+    ensures { Leads master.held out.new.held (λ m n. (n ≡ m) × AreCopied (name_at m.session.table variable) name.old result name.new) }
 {
     let held = reveal_master(master).into_box(alloc);
-    *done = facts::copy_name(&held, variable, name);
+    let done = facts::copy_name(&held, variable, name);
     *out = conceal_master(RawBox::of(held));
+    done
 }
 
 /// Opens the slaves of the table that bytes state, just switched on, as full slaves if `full`. Refuses as `ecat_c_open` does.
@@ -544,15 +528,15 @@ pub extern "C" fn ecat_c_segment_pass(
     alloc: Global,
     segment: SegmentHandle,
     frame: &mut [u8],
-    done: &mut bool,
     out: &mut SegmentHandle,
-)
+) -> bool
     requires { is_some segment.slaves ≡ true }
-    ensures { Leads segment.slaves out.new.slaves (λ old new. Passes old frame.old done.new frame.new new) }
+    ensures { Leads segment.slaves out.new.slaves (λ old new. Passes old frame.old result frame.new new) }
 {
     let mut slaves = reveal_segment(segment).into_box(alloc);
-    *done = segments::pass(&mut slaves, frame);
+    let done = segments::pass(&mut slaves, frame);
     *out = conceal_segment(RawBox::of(slaves));
+    done
 }
 
 /// Makes a firmware step of a slave, if it is there.
@@ -562,15 +546,15 @@ pub extern "C" fn ecat_c_segment_serve(
     alloc: Global,
     segment: SegmentHandle,
     slave: usize,
-    done: &mut bool,
     out: &mut SegmentHandle,
-)
+) -> bool
     requires { is_some segment.slaves ≡ true }
-    ensures { Leads segment.slaves out.new.slaves (λ old new. Does old slave served done.new new) }
+    ensures { Leads segment.slaves out.new.slaves (λ old new. Does old slave served result new) }
 {
     let mut slaves = reveal_segment(segment).into_box(alloc);
-    *done = segments::serve(&mut slaves, slave);
+    let done = segments::serve(&mut slaves, slave);
     *out = conceal_segment(RawBox::of(slaves));
+    done
 }
 
 /// The application of a slave reads a byte of its outputs, if it is there and may.
@@ -582,15 +566,15 @@ pub extern "C" fn ecat_c_segment_get(
     slave: usize,
     offset: usize,
     byte: &mut u8,
-    done: &mut bool,
     out: &mut SegmentHandle,
-)
+) -> bool
     requires { is_some segment.slaves ≡ true }
-    ensures { Leads segment.slaves out.new.slaves (λ old new. Reads old slave offset byte.old done.new byte.new new) }
+    ensures { Leads segment.slaves out.new.slaves (λ old new. Reads old slave offset byte.old result byte.new new) }
 {
     let mut slaves = reveal_segment(segment).into_box(alloc);
-    *done = segments::get(&mut slaves, slave, offset, byte);
+    let done = segments::get(&mut slaves, slave, offset, byte);
     *out = conceal_segment(RawBox::of(slaves));
+    done
 }
 
 /// The application of a slave writes a byte of its inputs, if it is there and may.
@@ -602,15 +586,54 @@ pub extern "C" fn ecat_c_segment_put(
     slave: usize,
     offset: usize,
     byte: u8,
-    done: &mut bool,
     out: &mut SegmentHandle,
-)
+) -> bool
     requires { is_some segment.slaves ≡ true }
-    ensures { Leads segment.slaves out.new.slaves (λ old new. Writes old slave offset byte done.new new) }
+    ensures { Leads segment.slaves out.new.slaves (λ old new. Writes old slave offset byte result new) }
 {
     let mut slaves = reveal_segment(segment).into_box(alloc);
-    *done = segments::put(&mut slaves, slave, offset, byte);
+    let done = segments::put(&mut slaves, slave, offset, byte);
     *out = conceal_segment(RawBox::of(slaves));
+    done
+}
+
+/// The application of a slave reads its outputs whole, if they fit. The count is how many bytes it may read, 0 if the slave isn't there.
+#[tactic(auto, using(crate::proofs::Leading::leads))]
+#[unsafe(no_mangle)]
+pub extern "C" fn ecat_c_segment_outputs(
+    alloc: Global,
+    segment: SegmentHandle,
+    slave: usize,
+    outputs: &mut [u8],
+    out: &mut SegmentHandle,
+) -> Done
+    requires { is_some segment.slaves ≡ true }
+    ensures { Leads segment.slaves out.new.slaves (λ old new. ReadsOutputs old slave outputs.old result outputs.new new) }
+{
+    let mut slaves = reveal_segment(segment).into_box(alloc);
+    let done = segments::read_outputs(&mut slaves, slave, outputs);
+    *out = conceal_segment(RawBox::of(slaves));
+    done
+}
+
+/// The application of a slave writes its inputs whole, if there are enough. The count is how many bytes it may write, 0 if the slave
+/// isn't there.
+#[tactic(auto, using(crate::proofs::Leading::leads))]
+#[unsafe(no_mangle)]
+pub extern "C" fn ecat_c_segment_inputs(
+    alloc: Global,
+    segment: SegmentHandle,
+    slave: usize,
+    inputs: &[u8],
+    out: &mut SegmentHandle,
+) -> Done
+    requires { is_some segment.slaves ≡ true }
+    ensures { Leads segment.slaves out.new.slaves (λ old new. WritesInputs old slave inputs.now result new) }
+{
+    let mut slaves = reveal_segment(segment).into_box(alloc);
+    let done = segments::write_inputs(&mut slaves, slave, inputs);
+    *out = conceal_segment(RawBox::of(slaves));
+    done
 }
 
 /// The application of a slave has a fault, if the slave is there and in OP.
@@ -620,15 +643,15 @@ pub extern "C" fn ecat_c_segment_fault(
     alloc: Global,
     segment: SegmentHandle,
     slave: usize,
-    done: &mut bool,
     out: &mut SegmentHandle,
-)
+) -> bool
     requires { is_some segment.slaves ≡ true }
-    ensures { Leads segment.slaves out.new.slaves (λ old new. HasFault old slave done.new new) }
+    ensures { Leads segment.slaves out.new.slaves (λ old new. HasFault old slave result new) }
 {
     let mut slaves = reveal_segment(segment).into_box(alloc);
-    *done = segments::fault(&mut slaves, slave);
+    let done = segments::fault(&mut slaves, slave);
     *out = conceal_segment(RawBox::of(slaves));
+    done
 }
 
 /// Switches a slave off and on, if it is there.
@@ -638,13 +661,13 @@ pub extern "C" fn ecat_c_segment_reset(
     alloc: Global,
     segment: SegmentHandle,
     slave: usize,
-    done: &mut bool,
     out: &mut SegmentHandle,
-)
+) -> bool
     requires { is_some segment.slaves ≡ true }
-    ensures { Leads segment.slaves out.new.slaves (λ old new. Does old slave (λ s. power_on s.kind s.identity) done.new new) }
+    ensures { Leads segment.slaves out.new.slaves (λ old new. Does old slave (λ s. power_on s.kind s.identity) result new) }
 {
     let mut slaves = reveal_segment(segment).into_box(alloc);
-    *done = segments::reset(&mut slaves, slave);
+    let done = segments::reset(&mut slaves, slave);
     *out = conceal_segment(RawBox::of(slaves));
+    done
 }

@@ -62,7 +62,10 @@ impl Statuses {
         count
     }
 
-    /// Takes a payload that came in. Returns whether it answers the last question, and keeps what it says then.
+    /// Takes a payload that came in. Returns whether it answers the last question, and keeps what it says then. Few payloads do, so
+    /// that the others don't wait for it.
+    #[cold]
+    #[inline(never)]
     pub fn take(&mut self, payload: &[u8]) -> bool
         ensures { TakesStatus self.old payload.now result self.new }
     {
