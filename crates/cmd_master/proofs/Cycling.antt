@@ -1,5 +1,5 @@
 -- Behind lines of a new master, a cycle can be run exactly if the last start-up ended Ready and a number is left.
-use Rattle.std.proofs.Common.{◌≡◌, ◌∙◌, ℕ, List, [], ◌∷◌, Bool, true, false, Option, Some, None, Result, Ok, Err, refl, sym, ap, subst, if◌then◌else◌}
+use Rattle.std.proofs.Common.{◌≡◌, ◌∙◌, ℕ, zero, suc, List, [], ◌∷◌, Bool, true, false, Option, Some, None, Result, Ok, Err, refl, sym, ap, subst, if◌then◌else◌}
 use Rattle.std.specs.Prelude.{◌&&◌, is_none, is_some, nat_lt, slice_get}
 use Rattle.ec_table.specs.Contents.{Contents}
 use Rattle.ec_start.specs.Running.{StartState, begun}
@@ -16,15 +16,18 @@ use Rattle.ec_session.specs.Asking.{EndsAsked, GoesOn, cleared, stopped, with_as
 use Rattle.ec_session.specs.Wired.{LosesAndCycles, run_refusal, start_again, with_run, with_start}
 use Rattle.ec_session.proofs.Asked.{clearing_keeps_the_rest, reads_keep_the_rest, status_reads_keep_the_rest}
 use Rattle.ec_session.proofs.Wiring.{lossy_runs_keep_the_rest}
+use Rattle.ec_script.specs.declared.expectation.Expectation.{Expectation}
 use Rattle.ec_script.specs.declared.expectation.Expectation.TheVariants as expects
-use Rattle.ec_script.specs.declared.line.Line.{Line}
+use Rattle.ec_script.specs.declared.line.Task.{Task}
+use Rattle.ec_script.specs.declared.line.Task.TheVariants as task
 use Rattle.ec_script.specs.declared.line.LineAction.{LineAction}
 use Rattle.ec_script.specs.declared.line.LineAction.TheVariants as act
 use Rattle.ec_script.specs.declared.output.LineOutput.{LineOutput}
 use Rattle.ec_script.specs.declared.output.LineOutput.TheVariants as output
-use Rattle.ec_console.specs.Saying.{Says}
+use Rattle.ec_script.specs.Outputs.{is_done, is_unmet}
+use Rattle.ec_console.specs.Saying.{Says, SaysTask}
 use Rattle.cmd_master.specs.State.{MasteredState}
-use Rattle.cmd_master.specs.Doing.{Does, Either, ReadsOne, RunsCycle, Sets, StopsMachine, Tells}
+use Rattle.cmd_master.specs.Doing.{CyclesOn, Does, Either, Looks, ReadsOne, RunsCycle, Sets, StopsMachine, Tells, Waits}
 use Rattle.cmd_master.specs.Saying.{SaysLine}
 use Rattle.cmd_master.specs.Laws.{CyclesCanRun}
 use Rattle.cmd_master.specs.Mastering.{begun_over}
@@ -116,6 +119,27 @@ holds_stop s t said false h held = holds_told s t output.No said h held
 holds_one : (slave : ℕ) (state : State) (code : Option ℕ) (s t : MasteredState) (said : LineOutput) → ReadsOne slave state code s t said → Holds s.session → Holds t.session
 holds_one slave state code s t said h held = holds_counted s.session t.session (status_reads_keep_the_rest slave s.session t.session s.wire t.wire h.told h.reads) held
 
+holds_looked : (e : Expectation) (s t : MasteredState) (said : LineOutput) → Looks e s t said → Holds s.session → Holds t.session
+holds_looked (expects.State slave state code) s t said h held = holds_one slave state code s t said h held
+holds_looked (expects.Is v x) s t said h held = subst (λ (m : MasteredState). Holds m.session) (sym h.same) held
+holds_looked (expects.Holds v x) s t said h held = subst (λ (m : MasteredState). Holds m.session) (sym h.same) held
+holds_looked (expects.Never v) s t said h held = subst (λ (m : MasteredState). Holds m.session) (sym h.same) held
+holds_looked (expects.Units taken) s t said h held = subst (λ (m : MasteredState). Holds m.session) (sym h.same) held
+holds_looked (expects.Unit u taken) s t said h held = subst (λ (m : MasteredState). Holds m.session) (sym h.same) held
+holds_looked expects.Ready s t said h held = subst (λ (m : MasteredState). Holds m.session) (sym h.same) held
+holds_looked (expects.Failed number) s t said h held = subst (λ (m : MasteredState). Holds m.session) (sym h.same) held
+
+holds_on : (P : Type 0) (what said : LineOutput) (mid t : MasteredState) (b : Bool) → Holds mid.session → Either b P (Tells mid t what said) → (P → Holds mid.session → Holds t.session) → Holds t.session
+holds_on P what said mid t true held h f = f h held
+holds_on P what said mid t false held h f = holds_told mid t what said h held
+
+holds_waited : (n : ℕ) (e : Expectation) (s t : MasteredState) (said : LineOutput) → Waits n e s t said → Holds s.session → Holds t.session
+unfolding Waits
+holds_waited zero e s t said h held = holds_looked e s t said h held
+holds_waited (suc n) e s t said h held =
+    holds_on (CyclesOn (Waits n e) h.mid t said) h.told said h.mid t (is_unmet h.told) (holds_looked e s h.mid h.told h.looks held) h.goes_on
+    (λ x seen. holds_on (Waits n e x.mid t said) output.Unmet said x.mid t (is_done x.ran) (holds_cycled h.mid x.mid x.ran (is_none (run_refusal h.mid.session)) x.cycle seen) x.goes_on (holds_waited n e x.mid t said))
+
 holds_done : (action : LineAction) (s t : MasteredState) (said : LineOutput) → Does action s t said → Holds s.session → Holds t.session
 holds_done (act.Set v x) s t said h held = holds_set v x s t said (holds_value x (slice_get s.session.master.plan.variables v)) h held
 holds_done act.Ready s t said h held = subst Holds (sym h.starts.is) (holds_started (cleared s.session) h.starts.start (holds_cleared s.session held))
@@ -123,14 +147,9 @@ holds_done act.Stop s t said h held = holds_stop s t said (is_none (run_refusal 
 holds_done act.States s t said h held = holds_counted s.session t.session (reads_keep_the_rest s.session t.session s.wire t.wire t.states h.result h.reads) held
 holds_done act.Cycle s t said h held = holds_cycled s t said (is_none (run_refusal s.session)) h held
 holds_done (act.Never v) s t said h held = holds_told s t output.No said h held
-holds_done (act.Expect (expects.State slave state code)) s t said h held = holds_one slave state code s t said h held
-holds_done (act.Expect (expects.Is v x)) s t said h held = subst (λ (m : MasteredState). Holds m.session) (sym h.same) held
-holds_done (act.Expect (expects.Holds v x)) s t said h held = subst (λ (m : MasteredState). Holds m.session) (sym h.same) held
-holds_done (act.Expect (expects.Never v)) s t said h held = subst (λ (m : MasteredState). Holds m.session) (sym h.same) held
-holds_done (act.Expect (expects.Units taken)) s t said h held = subst (λ (m : MasteredState). Holds m.session) (sym h.same) held
-holds_done (act.Expect (expects.Unit u taken)) s t said h held = subst (λ (m : MasteredState). Holds m.session) (sym h.same) held
-holds_done (act.Expect expects.Ready) s t said h held = subst (λ (m : MasteredState). Holds m.session) (sym h.same) held
-holds_done (act.Expect (expects.Failed number)) s t said h held = subst (λ (m : MasteredState). Holds m.session) (sym h.same) held
+holds_done (act.Expect e) s t said h held = holds_looked e s t said h held
+holds_done (act.Within n e) s t said h held = holds_waited n e s t said h held
+holds_done (act.ShowVariable v) s t said h held = subst (λ (m : MasteredState). Holds m.session) (sym h.same) held
 holds_done act.Show s t said h held = holds_told s t output.Values said h held
 holds_done act.Report s t said h held = subst (λ (m : MasteredState). Holds m.session) (sym h.same) held
 holds_done act.Start s t said h held = holds_told s t output.No said h held
@@ -149,9 +168,13 @@ holds_done (act.Fail k) s t said h held = holds_told s t output.No said h held
 holds_done (act.Reset k) s t said h held = holds_told s t output.No said h held
 holds_done (act.Input v x) s t said h held = holds_told s t output.No said h held
 
-holds_said : (s : MasteredState) (lines : List Line) (t : MasteredState) (printed : List ℕ) (unmet : ℕ) → Says SaysLine s lines t printed unmet → Holds s.session → Holds t.session
+holds_task : (s : MasteredState) (x : Task) (t : MasteredState) (text : List ℕ) (unmet : ℕ) → SaysTask SaysLine s x t text unmet → Holds s.session → Holds t.session
+holds_task s (task.Step step) t text unmet h held = holds_done step.action s t h.said h.does held
+holds_task s (task.Echo said) t text unmet h held = subst (λ (m : MasteredState). Holds m.session) (sym h.0) held
+
+holds_said : (s : MasteredState) (lines : List Task) (t : MasteredState) (printed : List ℕ) (unmet : ℕ) → Says SaysLine s lines t printed unmet → Holds s.session → Holds t.session
 holds_said s [] t printed unmet h held = subst (λ (m : MasteredState). Holds m.session) (sym h.0) held
-holds_said s (line ∷ lines) t printed unmet (mid, text, more, first, rest, one, says, is, count) held = holds_said mid lines t more rest says (holds_done line.action s mid one.said one.does held)
+holds_said s (line ∷ lines) t printed unmet (mid, text, more, first, rest, one, says, is, count) held = holds_said mid lines t more rest says (holds_task s line mid text first one held)
 
 -- ---- what that decides
 
@@ -164,6 +187,6 @@ free true false o left none can = let bad : false ≡ true = can refl in cc
 free false ready o left none can = refl
 
 pub cycles_can_run : CyclesCanRun
-cycles_can_run reasons t w lines s printed unmet says =
-    let held = holds_said (begun_over reasons t w) lines s printed unmet says (holds_new t) in
+cycles_can_run manner t w lines s printed unmet says =
+    let held = holds_said (begun_over manner t w) lines s printed unmet says (holds_new t) in
     free (is_up s.session.startup.phase) s.session.master.is_ready s.session.master.cycle (nat_lt s.session.master.next cycle_limit) held.none_open held.up

@@ -1,6 +1,6 @@
 -- What an action does to a master over a wire, and its output (this project's profile). `ec_session` defines a start-up and a cycle over
 -- a wire, and `ec_cycle` how a variable is set.
-use Rattle.std.specs.Prelude.{ℕ, ◌≡◌, ◌%◌, ◌==◌, ◌&&◌, length, slice_get, Bool, true, false, is_none, Option, Some, None, Result, Ok, Err}
+use Rattle.std.specs.Prelude.{ℕ, zero, suc, ◌≡◌, ◌%◌, ◌==◌, ◌&&◌, length, slice_get, Bool, true, false, is_none, Option, Some, None, Result, Ok, Err}
 use Rattle.ec_al.specs.declared.state.State.{State}
 use Rattle.ec_al.specs.States.{state_number}
 use Rattle.ec_start.specs.Running.{outcome_of}
@@ -13,13 +13,15 @@ use Rattle.ec_asking.specs.declared.answer.AlStatus.{AlStatus}
 use Rattle.ec_session.specs.Asking.{ReadsStates, ReadsStatus, Stops, cleared}
 use Rattle.ec_session.specs.Sessions.{SessionState}
 use Rattle.ec_session.specs.Wired.{LosesAndCycles, Starts, run_refusal, with_number_used}
+use Rattle.ec_script.specs.declared.expectation.Expectation.{Expectation}
 use Rattle.ec_script.specs.declared.expectation.Expectation.TheVariants as expects
 use Rattle.ec_script.specs.declared.line.LineAction.{LineAction}
-use Rattle.ec_script.specs.declared.line.LineAction.TheVariants.{Set, Never, Expect, Ready, Cycle, Show, Report, States, Stop}
+use Rattle.ec_script.specs.declared.line.LineAction.TheVariants.{Set, Never, Expect, Ready, Cycle, Within, Show, ShowVariable, Report, States, Stop}
 use Rattle.ec_script.specs.declared.output.LineOutput.{LineOutput}
 use Rattle.ec_script.specs.declared.output.LineOutput.TheVariants as output
 use Rattle.ec_script.specs.Expecting.{is_met}
-use Rattle.ec_script.specs.Outputs.{output_if}
+use Rattle.ec_script.specs.Outputs.{is_done, is_unmet, output_if}
+use Rattle.ec_text.specs.InputText.{value_of_variable}
 use Rattle.ec_script.specs.Views.{ViewState}
 use Rattle.cmd_master.specs.State.{MasteredState}
 
@@ -34,7 +36,7 @@ pub record Tells (s t : MasteredState) (what said : LineOutput) : Type 0 where
 
 -- the session and the wire may change, and nothing else
 abbrev pub KeepsRest : MasteredState → MasteredState → Type 0
-KeepsRest s t = (t.reasons ≡ s.reasons) × (t.states ≡ s.states)
+KeepsRest s t = (t.manner ≡ s.manner) × (t.states ≡ s.states)
 
 -- all outputs become 0, and a start-up is run over the wire
 pub record StartsUp (s t : MasteredState) (said : LineOutput) : Type 0 where
@@ -79,7 +81,7 @@ pub record ReadsAll (s t : MasteredState) (said : LineOutput) : Type 0 where
   pub result : Result Unit SocketFault
   pub count : length t.states ≡ length s.states
   pub reads : ReadsStates s.session s.wire t.states t.session t.wire result
-  pub reasons : t.reasons ≡ s.reasons
+  pub manner : t.manner ≡ s.manner
   pub is : said ≡ output_of_read result
 
 abbrev pub has_code : Option ℕ → ℕ → Bool
@@ -112,16 +114,45 @@ abbrev pub last_report : Option ReportState → LineOutput
 last_report None = output.No
 last_report (Some report) = output.Report
 
+-- What is expected is looked at: an AL state is read, and all else is there.
+abbrev pub Looks : Expectation → MasteredState → MasteredState → LineOutput → Type 0
+Looks (expects.State slave state code) s t said = ReadsOne slave state code s t said
+Looks e s t said = Tells s t (output_if (is_met e (view_of s.session))) said
+
+-- a cycle, if one can be run
+abbrev pub RunsIf : MasteredState → MasteredState → LineOutput → Type 0
+RunsIf s t said = Either (is_none (run_refusal s.session)) (RunsCycle s t said) (Tells s t output.No said)
+
+-- a cycle, and what follows it; one that isn't done ends the line, whose expectation isn't met then
+pub record CyclesOn (rest : MasteredState → MasteredState → LineOutput → Type 0) (s t : MasteredState) (said : LineOutput) : Type 0 where
+  pub mid : MasteredState
+  pub ran : LineOutput
+  pub cycle : RunsIf s mid ran
+  pub goes_on : Either (is_done ran) (rest mid t said) (Tells mid t output.Unmet said)
+
+-- what is expected is looked at, and what follows if it isn't so
+pub record LooksFirst (e : Expectation) (rest : MasteredState → MasteredState → LineOutput → Type 0) (s t : MasteredState) (said : LineOutput) : Type 0 where
+  pub mid : MasteredState
+  pub told : LineOutput
+  pub looks : Looks e s mid told
+  pub goes_on : Either (is_unmet told) (rest mid t said) (Tells mid t told said)
+
+-- at most this many cycles; what is expected is looked at before the first and behind each
+unfoldable pub Waits : ℕ → Expectation → MasteredState → MasteredState → LineOutput → Type 0
+Waits zero e s t said = Looks e s t said
+Waits (suc n) e s t said = LooksFirst e (CyclesOn (Waits n e)) s t said
+
 -- What an action does, and its output. An action that can't be done has the output `No` and changes nothing.
 abbrev pub Does : LineAction → MasteredState → MasteredState → LineOutput → Type 0
 Does (Set v x) s t said = Either (holds_value x (slice_get s.session.master.plan.variables v)) (Sets v x s t said) (Tells s t output.No said)
 Does (Never v) s t said = Tells s t output.No said
-Does (Expect (expects.State slave state code)) s t said = ReadsOne slave state code s t said
-Does (Expect e) s t said = Tells s t (output_if (is_met e (view_of s.session))) said
+Does (Expect e) s t said = Looks e s t said
+Does (Within n e) s t said = Waits n e s t said
 Does Ready s t said = StartsUp s t said
-Does Cycle s t said = Either (is_none (run_refusal s.session)) (RunsCycle s t said) (Tells s t output.No said)
+Does Cycle s t said = RunsIf s t said
 Does States s t said = ReadsAll s t said
 Does Stop s t said = Either (is_none (run_refusal s.session)) (StopsMachine s t said) (Tells s t output.No said)
 Does Show s t said = Tells s t output.Values said
+Does (ShowVariable v) s t said = Tells s t (output.Value v (value_of_variable s.session.master v)) said
 Does Report s t said = Tells s t (last_report s.session.report) said
 Does _ s t said = Tells s t output.No said

@@ -5,15 +5,15 @@ use Rattle.ec_cycle.specs.Master.{cycle_limit}
 use Rattle.ec_wire.specs.Wires.{WireState}
 use Rattle.ec_session.specs.Sessions.{SessionState, is_up}
 use Rattle.ec_session.specs.Wired.{run_refusal}
-use Rattle.ec_script.specs.declared.line.Line.{Line}
-use Rattle.ec_console.specs.declared.wanted.Reasons.{Reasons}
-use Rattle.ec_console.specs.declared.wanted.Reasons.TheVariants.{Omitted}
+use Rattle.ec_script.specs.declared.line.Step.{Step}
+use Rattle.ec_script.specs.declared.line.Task.{Task}
+use Rattle.ec_console.specs.declared.wanted.Manner.{Manner}
 use Rattle.ec_console.specs.Coming.{ComingOnlyAdds}
-use Rattle.ec_console.specs.Reasons.{OnlyAdds}
+use Rattle.ec_console.specs.Reasons.{OnlyAdds, unexplained}
 use Rattle.ec_console.specs.Saying.{Says}
 use Rattle.cmd_master.specs.State.{MasteredState}
 use Rattle.cmd_master.specs.Saying.{SaysLine}
-use Rattle.cmd_master.specs.Mastering.{begun_over, reasons_in}
+use Rattle.cmd_master.specs.Mastering.{begun_over, manner_in}
 
 -- ---- cycles
 
@@ -23,20 +23,20 @@ can_cycle s = is_up s.startup.phase && nat_lt s.master.next cycle_limit
 
 -- Behind lines of a new master, a cycle is run exactly if this holds.
 abbrev pub CyclesCanRun : Type 0
-CyclesCanRun = (reasons : Reasons) (t : Contents) (w : WireState) (lines : List Line) (s : MasteredState) (printed : List ℕ) (unmet : ℕ) → Says SaysLine (begun_over reasons t w) lines s printed unmet
+CyclesCanRun = (manner : Manner) (t : Contents) (w : WireState) (tasks : List Task) (s : MasteredState) (printed : List ℕ) (unmet : ℕ) → Says SaysLine (begun_over manner t w) tasks s printed unmet
     → is_none (run_refusal s.session) ≡ can_cycle s.session
 
 -- ---- reasons
 
 -- a master that prints no reasons
 abbrev pub untold : MasteredState → MasteredState
-untold s = record s { reasons = Omitted }
+untold s = record s { manner = unexplained s.manner }
 
 -- what a line does to it
-abbrev pub SaysUntold : MasteredState → Line → MasteredState → List ℕ → ℕ → Type 0
+abbrev pub SaysUntold : MasteredState → Step → MasteredState → List ℕ → ℕ → Type 0
 SaysUntold s line t printed unmet = SaysLine (untold s) line (untold t) printed unmet
 
 -- With reasons, lines leave the session and its wire as without them, and are unmet as often. They print the same but for the reasons. So
 -- do lines that come, bad ones among them.
 abbrev pub ReasonsOnlyAdd : Type 0
-ReasonsOnlyAdd = OnlyAdds SaysLine SaysUntold × ComingOnlyAdds SaysLine SaysUntold reasons_in
+ReasonsOnlyAdd = OnlyAdds SaysLine SaysUntold × ComingOnlyAdds SaysLine SaysUntold manner_in

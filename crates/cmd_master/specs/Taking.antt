@@ -7,7 +7,7 @@ use Rattle.ec_table.specs.declared.rows.VariableRow.{VariableRow}
 use Rattle.ec_script.specs.declared.expectation.Expectation.{Expectation}
 use Rattle.ec_script.specs.declared.expectation.Expectation.TheVariants as expects
 use Rattle.ec_script.specs.declared.line.LineAction.{LineAction}
-use Rattle.ec_script.specs.declared.line.LineAction.TheVariants.{Set, Never, Expect, Ready, Cycle, Show, Report, States, Stop}
+use Rattle.ec_script.specs.declared.line.LineAction.TheVariants.{Set, Never, Expect, Ready, Cycle, Within, Show, ShowVariable, Report, States, Stop}
 
 -- a variable of the inputs
 abbrev pub is_toward_master : Direction → Bool
@@ -34,9 +34,11 @@ abbrev pub takes_action : Contents → LineAction → Bool
 takes_action t (Set v x) = true
 takes_action t (Never v) = true
 takes_action t (Expect e) = is_observable t.variables e
+takes_action t (Within n e) = is_observable t.variables e
 takes_action t Ready = true
 takes_action t Cycle = true
 takes_action t Show = true
+takes_action t (ShowVariable v) = true
 takes_action t Report = true
 takes_action t States = true
 takes_action t Stop = true

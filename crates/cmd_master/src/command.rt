@@ -9,7 +9,7 @@ ghost use Rattle.cmd_master.specs.State.{MasteredState};
 
 use crate::mastered::Mastered;
 use ec_card::{CardWire, Sender};
-use ec_console::{Capture, InputStream, OutputStream, Reasons, Refusal, Target, end_of, run_input};
+use ec_console::{Capture, InputStream, Manner, OutputStream, Refusal, Target, end_of, run_input};
 use ec_link::Machine;
 use ec_wire::{CapturedWire, Patience, Side, SocketFault, Trouble, UdpWire, Wire};
 use std::alloc::Global;
@@ -18,7 +18,7 @@ use std::io::{Read, Write};
 use std::net::{Net, SocketAddrV4};
 use std::time::Clock;
 
-/// Where a master's frames go, how long it waits for an answer, in milliseconds, and whether it prints reasons.
+/// Where a master's frames go, how long it waits for an answer, in milliseconds, and how it takes lines.
 #[derive(Clone, Copy, Drop)]
 pub struct MasterOptions<'a> {
     /// The IPv4 address and the UDP port of a segment, such as `127.0.0.1:34980`.
@@ -26,7 +26,7 @@ pub struct MasterOptions<'a> {
     /// The descriptor of a card's raw socket; it replaces the address.
     pub descriptor: Option<u16>,
     pub patience: u16,
-    pub reasons: Reasons,
+    pub manner: Manner,
 }
 
 /// Runs the lines of an input with a new master of a machine over a socket or a card. The text of a line is printed before the next
@@ -45,19 +45,19 @@ pub fn run_connected<H: AllocGlobal + Net + Files + Clock, R: Read + Drop, O: Wr
     input: &mut InputStream<R>,
     output: &mut OutputStream<O>,
 ) -> Result<(), Refusal>
-    ensures runs { RunsMachine options.entry.reasons machine (given_by R.remaining input.old input.new) output.old output.new result }
+    ensures runs { RunsMachine options.entry.manner machine (given_by R.remaining input.old input.new) output.old output.new result }
     ensures still_open { is_some capture.new ≡ is_some capture.old }
 {
     match options.descriptor {
         None => {
             let wire = connect(rt, options)?;
-            let mastered = Mastered::new(rt.alloc(), rt, machine, wire, options.reasons)?;
+            let mastered = Mastered::new(rt.alloc(), rt, machine, wire, options.manner)?;
             run_tapped(rt, mastered, capture, input, output)
         }
         Some(descriptor) => {
             let patience = Patience::of_millis(options.patience);
             let wire = CardWire::of_descriptor(i32::from(descriptor), Sender::Master, patience)?;
-            let mastered = Mastered::new(rt.alloc(), rt, machine, wire, options.reasons)?;
+            let mastered = Mastered::new(rt.alloc(), rt, machine, wire, options.manner)?;
             run_tapped(rt, mastered, capture, input, output)
         }
     }
@@ -97,15 +97,17 @@ fn run_tapped<H: AllocGlobal + Files + Clock, W: Wire + Drop, R: Read + Drop, O:
             let Mastered {
                 session,
                 wire,
-                reasons,
+                manner,
                 states,
+                told,
                 clock,
             } = mastered;
             let mut tapped = Mastered {
                 session,
                 wire: CapturedWire::new(wire, recording, Side::Master, rt),
-                reasons,
+                manner,
                 states,
+                told,
                 clock,
             };
             let ended = run_all(rt.alloc(), &mut tapped, input, output);
@@ -123,7 +125,7 @@ fn run_all<T: Target, R: Read + Drop, O: Write + Drop>(
     input: &mut InputStream<R>,
     output: &mut OutputStream<O>,
 ) -> Result<(), Refusal>
-    ensures { RunsTarget T.says T.reasons (reading_at T.takes (T.table target.old)) target.old target.new
+    ensures { RunsTarget T.says T.manner (reading_at T.takes (T.table target.old)) target.old target.new
         (given_by R.remaining input.old input.new) output.old output.new result }
 {
     let unmet = run_input(alloc, target, input, output)?;

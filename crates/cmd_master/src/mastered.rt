@@ -1,7 +1,8 @@
 //! A master over a wire, which lines move: the actions that it takes, what they do to it, and what they print.
 ghost use Rattle.std.specs.Prelude.{◌≡◌, IfOk, None, replicate, slice_get, string_bytes};
 ghost use Rattle.ec_script.specs.declared.expectation.Expectation.TheVariants.{State as InState};
-ghost use Rattle.ec_script.specs.declared.line.LineAction.TheVariants.{Cycle, Expect, Ready, Set, States, Stop};
+ghost use Rattle.ec_script.specs.declared.line.LineAction.TheVariants.{Cycle, Expect, Ready, Set, States, Stop, Within};
+ghost use Rattle.ec_text.specs.InputText.{value_of_variable};
 ghost use Rattle.ec_script.specs.Expecting.{is_met};
 ghost use Rattle.ec_script.specs.Outputs.{output_if};
 ghost use Rattle.cmd_master.specs.Doing.{Does, is_in_state, last_report, output_of_read, output_of_run, output_of_stop, view_of};
@@ -12,28 +13,31 @@ ghost use Rattle.cmd_master.specs.Taking.{is_input, is_observable};
 
 use crate::why::Why;
 use ec_al::State;
-use ec_console::{Reasons, Said, Target};
+use ec_console::{Manner, Said, Target};
 use ec_diagnostic::reason_line;
 use ec_link::Machine;
 use ec_script::{
-    Expectation, Line, LineAction, LineOutput, MasterView, is_failed, is_met, output_text,
+    Expectation, LineAction, LineOutput, MasterView, Step, is_failed, is_met, output_text,
 };
 use ec_session::{AlStatus, Session};
 use ec_table::{Direction, Table};
+use ec_text::value_of;
 use ec_wire::{RunError, SocketFault, Trouble, Wire};
 use std::alloc::{AllocError, Global};
 use std::marker::Model;
 use std::time::Clock;
 
-/// A master over a wire, which lines move. It owns its session and its wire, and a clock measures how long it waits and rests. With
-/// reasons, it also says why a line is bad, can't be done or has failed.
+/// A master over a wire, which lines move. It owns its session and its wire, and a clock measures how long it waits and rests. `manner`
+/// says how it takes lines.
 #[derive(Drop)]
 pub struct Mastered<'c, W: Wire + Drop, C: Clock> {
     pub(crate) session: Session,
     pub(crate) wire: W,
-    pub(crate) reasons: Reasons,
+    pub(crate) manner: Manner,
     // what the slaves said of their AL states when they were read last
     pub(crate) states: Vec<Option<AlStatus>>,
+    // what the slave said whose AL state was expected last; words alone have it
+    pub(crate) told: Option<AlStatus>,
     pub(crate) clock: &'c C,
 }
 
@@ -42,7 +46,7 @@ impl<'c, W: Wire + Drop, C: Clock> Model for Mastered<'c, W, C> {
 
     ghost Value = { MasteredState };
 
-    ghost view = { λ m. record { session = m.session; wire = W.state m.wire; reasons = m.reasons; states = m.states.items } };
+    ghost view = { λ m. record { session = m.session; wire = W.state m.wire; manner = m.manner; states = m.states.items } };
 }
 
 impl<'c, W: Wire + Drop, C: Clock> Mastered<'c, W, C> {
@@ -56,16 +60,17 @@ impl<'c, W: Wire + Drop, C: Clock> Mastered<'c, W, C> {
         clock: &'c C,
         machine: Machine,
         wire: W,
-        reasons: Reasons,
+        manner: Manner,
     ) -> Result<Mastered<'c, W, C>, AllocError>
-        ensures { IfOk result (λ m. m ≡ begun_over reasons machine (W.state wire)) }
+        ensures { IfOk result (λ m. m ≡ begun_over manner machine (W.state wire)) }
     {
         let states = nothing_read(alloc, machine.table().slaves().len())?;
         Ok(Mastered {
             session: Session::new(alloc, machine)?,
             wire,
-            reasons,
+            manner,
             states,
+            told: None,
             clock,
         })
     }
@@ -82,7 +87,9 @@ impl<'c, W: Wire + Drop, C: Clock> Mastered<'c, W, C> {
             LineAction::States => self.read_states(),
             LineAction::Stop => self.stop(),
             LineAction::Expect(expected) => self.expect(expected),
+            LineAction::Within(times, expected) => self.wait_until(times, expected),
             LineAction::Show => LineOutput::Values,
+            LineAction::ShowVariable(variable) => self.show_variable(variable),
             LineAction::Report => self.last_report(),
             LineAction::Never(_)
             | LineAction::Start
@@ -141,7 +148,8 @@ impl<'c, W: Wire + Drop, C: Clock> Mastered<'c, W, C> {
         ensures { Does (Expect (InState slave state code)) self.old self.new result }
     {
         let told = self.session.read_status(&mut self.wire, self.clock, slave);
-        output_if(is_in_state(state, code, told))
+        self.told = said_of(told);
+        LineOutput::of_expectation(is_in_state(state, code, told))
     }
 
     /// Sets an output variable to a value. `No`, and nothing changes, if it is no output or can't hold the value.
@@ -152,6 +160,30 @@ impl<'c, W: Wire + Drop, C: Clock> Mastered<'c, W, C> {
             return LineOutput::No;
         }
         LineOutput::Nothing
+    }
+
+    /// Runs cycles until an expectation holds, at most so many. It is looked at before the first and behind each. A cycle that isn't done is
+    /// the last. `Unmet` if the expectation doesn't hold then.
+    fn wait_until(&mut self, times: u32, expected: Expectation) -> LineOutput
+        ensures { Does (Within times expected) self.old self.new result }
+    {
+        for _ in 0..times {
+            let seen = self.expect(expected);
+            if !seen.is_unmet() {
+                return seen;
+            }
+            if !self.run_cycle().is_done() {
+                return LineOutput::Unmet;
+            }
+        }
+        self.expect(expected)
+    }
+
+    /// The output of `show` with a name: a variable and its value in the process image.
+    fn show_variable(&self, variable: usize) -> LineOutput
+        ensures { result ≡ LineOutput.Value variable (value_of_variable self.now.session.master variable) }
+    {
+        LineOutput::Value(variable, value_of(self.session.master(), variable))
     }
 
     /// `Nothing` if what is expected holds, else `Unmet`. If it is an AL state of a slave, that is read.
@@ -168,7 +200,7 @@ impl<'c, W: Wire + Drop, C: Clock> Mastered<'c, W, C> {
     fn expect_here(&self, expected: Expectation) -> LineOutput
         ensures { result ≡ output_if (is_met expected (view_of self.now.session)) }
     {
-        output_if(is_met(&view_of(&self.session), expected))
+        LineOutput::of_expectation(is_met(&view_of(&self.session), expected))
     }
 
     /// The output of `report`: the last report, or `No` before the first one.
@@ -183,7 +215,7 @@ impl<'c, W: Wire + Drop, C: Clock> Mastered<'c, W, C> {
 }
 
 impl<W: Wire + Drop, C: Clock> Target for Mastered<'_, W, C> {
-    ghost use Rattle.cmd_master.specs.Mastering.{reasons_in};
+    ghost use Rattle.cmd_master.specs.Mastering.{manner_in};
     ghost use Rattle.cmd_master.specs.Saying.{SaysLine};
     ghost use Rattle.cmd_master.specs.Taking.{takes_action};
 
@@ -191,7 +223,7 @@ impl<W: Wire + Drop, C: Clock> Target for Mastered<'_, W, C> {
 
     ghost takes = { takes_action };
 
-    ghost reasons = { reasons_in };
+    ghost manner = { manner_in };
 
     ghost says = { SaysLine };
 
@@ -201,12 +233,15 @@ impl<W: Wire + Drop, C: Clock> Target for Mastered<'_, W, C> {
 
     fn takes(&self, action: LineAction) -> bool {
         match action {
-            LineAction::Expect(expected) => is_observable(self.session.table(), expected),
+            LineAction::Expect(expected) | LineAction::Within(_, expected) => {
+                is_observable(self.session.table(), expected)
+            }
             LineAction::Set(_, _)
             | LineAction::Never(_)
             | LineAction::Ready
             | LineAction::Cycle
             | LineAction::Show
+            | LineAction::ShowVariable(_)
             | LineAction::Report
             | LineAction::States
             | LineAction::Stop => true,
@@ -228,22 +263,24 @@ impl<W: Wire + Drop, C: Clock> Target for Mastered<'_, W, C> {
         }
     }
 
-    fn reasons(&self) -> Reasons {
-        self.reasons
+    fn manner(&self) -> Manner {
+        self.manner
     }
 
-    fn obey(&mut self, alloc: Global, line: &Line) -> Result<Said, AllocError> {
-        let output = self.act(line.action);
+    fn obey(&mut self, alloc: Global, step: &Step) -> Result<Said, AllocError> {
+        let output = self.act(step.action);
+        let answer = output.answer(step.expects_no);
         let why = Why {
             session: &self.session,
-            action: line.action,
-            output,
+            step: *step,
+            output: answer,
             trouble: trouble_of(&self.wire),
+            told: self.told,
         };
-        let text = said_text(alloc, &why, &self.states, self.reasons, line.number)?;
+        let text = said_text(alloc, &why, &self.states, self.manner, step.number)?;
         Ok(Said {
             text,
-            is_unmet: output.is_unmet(),
+            is_unmet: answer.is_counted(self.manner.strict, self.session.outcome()),
         })
     }
 }
@@ -288,14 +325,11 @@ fn output_of_read(read: Result<(), SocketFault>) -> LineOutput
     }
 }
 
-/// The output of an expectation, by whether it holds.
-fn output_if(holds: bool) -> LineOutput
-    ensures { result ≡ output_if holds }
-{
-    if holds {
-        LineOutput::Nothing
-    } else {
-        LineOutput::Unmet
+/// What a slave said of its AL state, if it answered.
+fn said_of(told: Result<Option<AlStatus>, SocketFault>) -> Option<AlStatus> {
+    match told {
+        Ok(told) => told,
+        Err(_) => None,
     }
 }
 
@@ -350,12 +384,12 @@ fn said_text(
     alloc: Global,
     why: &Why<'_>,
     states: &[Option<AlStatus>],
-    reasons: Reasons,
+    manner: Manner,
     number: usize,
 ) -> Result<String, AllocError>
-    ensures { IfOk result (λ text. IsLineText reasons why.now.session.now states.now number why.now.output (string_bytes text)) }
+    ensures { IfOk result (λ text. IsLineText manner why.now.session.now states.now number why.now.output (string_bytes text)) }
 {
-    if is_reasoned(reasons, why.session, why.output) {
+    if is_reasoned(manner, why.session, why.output) {
         reasoned_text(alloc, why, states, number)
     } else {
         plain_text(alloc, why.session, states, number, why.output)
@@ -399,7 +433,7 @@ fn nothing_read(alloc: Global, slaves: usize) -> Result<Vec<Option<AlStatus>>, A
 }
 
 /// What lines see of a session.
-fn view_of(session: &Session) -> MasterView<'_, 'static>
+pub(crate) fn view_of(session: &Session) -> MasterView<'_, 'static>
     ensures { result ≡ view_of session.now }
 {
     MasterView {
@@ -411,12 +445,12 @@ fn view_of(session: &Session) -> MasterView<'_, 'static>
 }
 
 /// Whether a reason stands behind an output.
-fn is_reasoned(reasons: Reasons, session: &Session, output: LineOutput) -> bool
-    ensures { result ≡ is_reasoned reasons session.now output }
+fn is_reasoned(manner: Manner, session: &Session, output: LineOutput) -> bool
+    ensures { result ≡ is_reasoned manner session.now output }
 {
-    match (reasons, output) {
-        (Reasons::Added, LineOutput::No | LineOutput::Fault) => true,
-        (Reasons::Added, LineOutput::Ended) => is_failed(None, session.outcome()),
+    match output {
+        LineOutput::No | LineOutput::Unmet | LineOutput::Fault => manner.explained,
+        LineOutput::Ended => manner.explained && is_failed(None, session.outcome()),
         _ => false,
     }
 }

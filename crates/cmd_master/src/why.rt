@@ -1,22 +1,26 @@
 //! Why a line can't be done or has failed: in words, with names of the table.
-use ec_console::{Misfit, Refusal};
+use crate::mastered::view_of;
+use ec_console::{Misfit, Missed, Refusal};
 use ec_diagnostic::Printable;
 use ec_explain_start::StartFault;
-use ec_script::{LineAction, LineOutput};
-use ec_session::Session;
+use ec_script::{Expectation, LineAction, LineOutput, Step};
+use ec_session::{AlStatus, Session};
 use ec_start::StartError;
 use ec_table::Direction;
+use ec_text::value_of;
 use ec_wire::Trouble;
 use std::fmt;
 
-/// What came of an action of a line: the session that it left, its output, and why the last call of the wire that was a fault was one;
-/// `None` if none was. If the action can't be done or has failed, this prints why, else nothing.
+/// What came of a step of a line: the session that it left, its output, why the last call of the wire that was a fault was one, `None` if
+/// none was, and what the slave said whose AL state was expected last. If the step can't be done, has failed or isn't met, this prints why,
+/// else nothing.
 #[derive(Clone, Copy)]
 pub(crate) struct Why<'s> {
     pub session: &'s Session,
-    pub action: LineAction,
+    pub step: Step,
     pub output: LineOutput,
     pub trouble: Option<Trouble>,
+    pub told: Option<AlStatus>,
 }
 
 impl Why<'_> {
@@ -53,7 +57,7 @@ impl Why<'_> {
 
     /// Writes why an action can't be done.
     fn write_undone<W: fmt::Write>(&self, f: &mut fmt::Formatter<W>) -> fmt::Result {
-        match self.action {
+        match self.step.action {
             LineAction::Cycle | LineAction::Stop => self.write_no_cycle(f),
             LineAction::Set(variable, _) | LineAction::Never(variable) => {
                 self.write_unset(f, variable)
@@ -61,6 +65,47 @@ impl Why<'_> {
             LineAction::Report => f.write_str("no cycle has ended with a report yet"),
             _ => Ok(()),
         }
+    }
+
+    /// Writes why what the step expects isn't so.
+    fn write_unmet<W: fmt::Write>(&self, f: &mut fmt::Formatter<W>) -> fmt::Result {
+        match self.step.action {
+            _ if self.step.expects_no => f.write_str("the line was done, expected `no`"),
+            LineAction::Expect(expected) => self.write_missed(f, expected),
+            LineAction::Within(_, expected) => {
+                self.write_missed(f, expected)?;
+                match self.session.outcome() {
+                    Some(Ok(())) => Ok(()),
+                    _ => {
+                        f.write_str("; no cycle is run: ")?;
+                        self.write_no_cycle(f)
+                    }
+                }
+            }
+            _ => Ok(()),
+        }
+    }
+
+    /// Writes what was and what was expected.
+    fn write_missed<W: fmt::Write>(
+        &self,
+        f: &mut fmt::Formatter<W>,
+        expected: Expectation,
+    ) -> fmt::Result {
+        let view = view_of(self.session);
+        let value = match expected {
+            Expectation::Is(variable, _)
+            | Expectation::Holds(variable, _)
+            | Expectation::Never(variable) => Some(value_of(self.session.master(), variable)),
+            _ => None,
+        };
+        f.write(Missed {
+            table: self.session.table(),
+            view: &view,
+            expected,
+            value,
+            status: self.told,
+        })
     }
 
     /// Writes what the last start-up failed by, and nothing if it hasn't failed. If it was lost, that may be by a fault of the wire.
@@ -89,6 +134,7 @@ impl fmt::Display for Why<'_> {
     fn fmt<W: fmt::Write>(&self, f: &mut fmt::Formatter<W>) -> fmt::Result {
         match self.output {
             LineOutput::No => self.write_undone(f),
+            LineOutput::Unmet => self.write_unmet(f),
             LineOutput::Ended => self.write_failed(f),
             LineOutput::Fault => self.write_fault(f),
             _ => Ok(()),

@@ -8,7 +8,7 @@ use Rattle.ec_wire.specs.Wires.{WireState, silent}
 use Rattle.ec_wire.specs.Segments.{HasServed, WasCutOff}
 use Rattle.ec_console.specs.declared.refusal.Refusal.{Refusal}
 use Rattle.ec_console.specs.declared.refusal.Refusal.TheVariants.{Memory, Output, Socket}
-use Rattle.ec_console.specs.declared.wanted.Reasons.{Reasons}
+use Rattle.ec_console.specs.declared.wanted.Manner.{Manner}
 use Rattle.ec_console.specs.Given.{Given}
 use Rattle.ec_console.specs.Printing.{IsCutOff, IsPrinted, OutputState}
 use Rattle.ec_console.specs.Refusals.{IsSocket}
@@ -86,7 +86,7 @@ abbrev pub LivesOpened : (frames : Option ℕ) → (first : LiveState) → Given
 LivesOpened frames first input old new ended = (left : Option (List ℕ)) × LivesOn frames (begun first (silent 0) input.bytes old) left new ended
 
 -- the slaves of a machine, just switched on, live on a port, or on the card of a descriptor
-abbrev pub LivesMachine : (descriptor : Option ℕ) → (octets : List ℕ) → (port : ℕ) → (frames : Option ℕ) → Reasons → Contents → Given → (old new quiet stderr : OutputState) → Result Unit Refusal → Type 0
-LivesMachine descriptor octets port frames reasons t input old new quiet stderr ended =
-    ((first : LiveState) × IsNewLive t reasons first × ((TellsOpened descriptor octets port quiet stderr × LivesOpened frames first input old new ended) ⊎ IsUnopened old new quiet stderr ended))
+abbrev pub LivesMachine : (descriptor : Option ℕ) → (octets : List ℕ) → (port : ℕ) → (frames : Option ℕ) → Manner → Contents → Given → (old new quiet stderr : OutputState) → Result Unit Refusal → Type 0
+LivesMachine descriptor octets port frames manner t input old new quiet stderr ended =
+    ((first : LiveState) × IsNewLive t manner first × ((TellsOpened descriptor octets port quiet stderr × LivesOpened frames first input old new ended) ⊎ IsUnopened old new quiet stderr ended))
     ⊎ IsUnmade old new quiet stderr ended

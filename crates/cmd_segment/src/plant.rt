@@ -12,7 +12,7 @@ ghost use Rattle.cmd_segment.specs.Serving.{LivesMachine};
 use crate::endpoint::Endpoint;
 use crate::opened::SegmentWire;
 use crate::watch::Watch;
-use ec_console::{Capture, Console, InputStream, OutputStream, Reasons, Refusal};
+use ec_console::{Capture, Console, InputStream, Manner, OutputStream, Refusal};
 use ec_link::Machine;
 use ec_live::{Live, Station, Watching, print_live, print_unserved};
 use ec_wire::{CapturedWire, Patience, Side, Wire};
@@ -25,7 +25,7 @@ use std::time::{Clock, Duration};
 const PATIENCE: u16 = 1;
 
 /// Serves payloads as [`run_segment`](crate::run_segment) does, with slaves that have no application, while it does the lines of an input
-/// as they come. The text of a line is printed before the next thing is done, and with `reasons` also why it is bad or can't be done. The
+/// as they come. The text of a line is printed before the next thing is done, and, as `manner` says, also why it is bad or can't be done. The
 /// end of the input changes nothing.
 ///
 /// # Errors
@@ -40,17 +40,17 @@ pub fn run_plant<
     rt: &H,
     machine: &Machine,
     endpoint: Endpoint,
-    reasons: Reasons,
+    manner: Manner,
     capture: &mut Capture<H::File>,
     console: &mut Console<R, W, F>,
 ) -> Result<(), Refusal>
-    ensures lives { LivesMachine endpoint.descriptor (ipv4_octets endpoint.address) endpoint.port endpoint.frames reasons machine.now
+    ensures lives { LivesMachine endpoint.descriptor (ipv4_octets endpoint.address) endpoint.port endpoint.frames manner machine.now
         (given_by R.remaining console.old.input console.new.input) console.old.output console.new.output
         console.old.faults console.new.faults result }
     ensures still_open { is_some capture.new ≡ is_some capture.old }
     ensures explanation { console.new.explanation ≡ console.old.explanation }
 {
-    let mut live = Live::new(rt.alloc(), machine, reasons)?;
+    let mut live = Live::new(rt.alloc(), machine, manner)?;
     let patience = Patience::of_millis(PATIENCE);
     let wire = SegmentWire::open(rt, endpoint, patience, &mut console.faults)?;
     live_opened(rt, &mut live, wire, endpoint, capture, console)

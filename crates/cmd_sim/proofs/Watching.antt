@@ -5,7 +5,7 @@ use Rattle.ec_capture.specs.Captures.{Captured}
 use Rattle.ec_capture.specs.Recordings.{Notes, Recording}
 use Rattle.ec_capture.proofs.Noting.{notes_nothing, notes_then}
 use Rattle.ec_world.specs.declared.event.Event.{Event}
-use Rattle.ec_world.specs.declared.event.Event.TheVariants.{StartNext, Set, Begin, Pass, Lose, Return, Close, Serve, AppPut, AppGet, Fault, Reset}
+use Rattle.ec_world.specs.declared.event.Event.TheVariants.{StartNext, Set, Begin, Pass, Lose, Return, Close, Serve, AppPut, AppGet, Fault, Reset, Stop}
 use Rattle.std.specs.Prelude.{nat_lt}
 use Rattle.ec_world.specs.declared.progress.Progress.{Progress}
 use Rattle.ec_world.specs.Watching.{sent_of}
@@ -26,6 +26,7 @@ leaves_can w (AppPut s i x) h = cc
 leaves_can w (AppGet s i) h = cc
 leaves_can w (Fault s) h = cc
 leaves_can w (Reset s) h = cc
+leaves_can w Stop h = cc
 
 -- where none leaves by an event that can be made, nothing is seen before
 pub nothing_before : (time : ℕ) (w : WorldState) (e : Event) → leaves w e ≡ false → can_happen w e ≡ true → captured_before time w e ≡ []
@@ -41,6 +42,7 @@ nothing_before time w (AppPut s i x) h can = refl
 nothing_before time w (AppGet s i) h can = refl
 nothing_before time w (Fault s) h can = refl
 nothing_before time w (Reset s) h can = refl
+nothing_before time w Stop h can = refl
 
 -- ---- a frame in a slot
 
@@ -119,6 +121,7 @@ cannot_leave w (AppPut s i x) h = refl
 cannot_leave w (AppGet s i) h = refl
 cannot_leave w (Fault s) h = refl
 cannot_leave w (Reset s) h = refl
+cannot_leave w Stop h = refl
 
 -- an event that was made, and its number
 pub saw_made : (a : Watched) (old : WorldState) (e : Event) (new : WorldState) (number : ℕ) (s t : Recording) → number ≡ next_event a.events → IsStep old e new true

@@ -4,7 +4,7 @@ use Rattle.std.specs.Prelude.{ℕ, zero, suc, ◌+◌, ◌-◌, ◌^◌, ◌≡�
 use Rattle.ec_capture.specs.Captures.{Captured}
 use Rattle.ec_capture.specs.Recordings.{Notes, Recording}
 use Rattle.ec_world.specs.declared.event.Event.{Event}
-use Rattle.ec_world.specs.declared.event.Event.TheVariants.{StartNext, Set, Begin, Pass, Lose, Return, Close, Serve, AppPut, AppGet, Fault, Reset}
+use Rattle.ec_world.specs.declared.event.Event.TheVariants.{StartNext, Set, Begin, Pass, Lose, Return, Close, Serve, AppPut, AppGet, Fault, Reset, Stop}
 use Rattle.ec_world.specs.Watching.{sent_of}
 use Rattle.ec_world.specs.World.{Flight, IsStep, WorldState, can_happen, flight_at}
 
@@ -58,6 +58,7 @@ captured_before time w (AppPut s i x) = []
 captured_before time w (AppGet s i) = []
 captured_before time w (Fault s) = []
 captured_before time w (Reset s) = []
+captured_before time w Stop = []
 
 -- what is captured of frames that an event has sent, or of the frame behind the slave that it has passed by it
 abbrev pub captured_after : ℕ → Event → WorldState → List Captured
@@ -73,6 +74,7 @@ captured_after time (AppPut s i x) w = []
 captured_after time (AppGet s i) w = []
 captured_after time (Fault s) w = []
 captured_after time (Reset s) w = []
+captured_after time Stop w = []
 
 -- what is captured of an event that was made
 abbrev pub captured_of : ℕ → WorldState → Event → WorldState → List Captured
@@ -114,3 +116,4 @@ leaves w (AppPut s i x) = false
 leaves w (AppGet s i) = false
 leaves w (Fault s) = false
 leaves w (Reset s) = false
+leaves w Stop = false

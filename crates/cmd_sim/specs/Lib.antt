@@ -5,5 +5,3 @@ pub mod CapturedEvents
 pub mod Capturing
 -- Laws: what the definitions say together.
 pub mod Laws
--- Private: these serve private code and its proofs alone.
-pub mod Stages

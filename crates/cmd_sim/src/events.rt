@@ -46,6 +46,7 @@ impl Scene<'_, '_> {
             Event::AppPut(slave, place, _) => self.write_no_byte(f, slave, place, Direction::In),
             Event::AppGet(slave, place) => self.write_no_byte(f, slave, place, Direction::Out),
             Event::Fault(slave) => self.write_no_fault(f, slave),
+            Event::Stop => self.write_no_stop(f),
         }
     }
 
@@ -111,6 +112,18 @@ impl Scene<'_, '_> {
             "a frame is on its way: the start-up sends one at a time"
         } else {
             "the answer to the frame that was sent last is awaited: `close` gives the start-up up"
+        };
+        f.write_str(words)
+    }
+
+    /// Writes why the master doesn't give up.
+    fn write_no_stop<W: fmt::Write>(&self, f: &mut fmt::Formatter<W>) -> fmt::Result {
+        let words = if !self.world.is_ready() {
+            "the start-up isn't ready: there is nothing to give up"
+        } else if has_cycle(self.world) {
+            "a cycle is open: `close` ends it"
+        } else {
+            "a frame is on its way: `lose K` takes it away"
         };
         f.write_str(words)
     }
@@ -186,7 +199,7 @@ impl Scene<'_, '_> {
         name: Printable<'_>,
     ) -> fmt::Result {
         let way_out = if self.world.is_ready() {
-            "and no start-up follows one that is ready"
+            "with which `ready` begins after `stop`"
         } else {
             "with which a start-up begins"
         };

@@ -1,4 +1,4 @@
-//! Why a line ended at an event that can't be made, as a printed line.
+//! Why a step ended at an event that can't be made, or isn't met, as a printed line.
 ghost use Rattle.std.specs.Prelude.{◌≡◌, IfOk, is_some, string_bytes};
 ghost use Rattle.ec_diagnostic.specs.Reason.{IsReason};
 ghost use Rattle.ec_world.specs.Watching.{sent_of};
@@ -7,7 +7,7 @@ use crate::scene::{Firmware, Scene};
 use ec_console::{Misfit, greatest};
 use ec_diagnostic::reason_line;
 use ec_link::{Link, Variable};
-use ec_script::LineAction;
+use ec_script::{LineAction, LineOutput, Step};
 use ec_simulation::event_of;
 use ec_table::Direction;
 use ec_world::{Event, World};
@@ -21,9 +21,9 @@ pub fn has_cycle(world: &World<'_>) -> bool
     world.sent(0).is_some()
 }
 
-/// Why a line ended at an event that can't be made, as a line with two blanks before it. The world of `scene` is the one that the line
-/// left, and the event changed nothing of it. `had_cycle` is what [`has_cycle`] returned before the line. If the line didn't end so, the
-/// words mean nothing.
+/// Why a step ended at an event that can't be made, or isn't met, as a line with two blanks before it. The world of `scene` is the one that
+/// the step left, and the event changed nothing of it. `had_cycle` is what [`has_cycle`] returned before the step. If the step ended
+/// otherwise, the words mean nothing.
 ///
 /// # Errors
 ///
@@ -31,33 +31,72 @@ pub fn has_cycle(world: &World<'_>) -> bool
 pub fn reason_text(
     alloc: Global,
     scene: Scene<'_, '_>,
-    action: LineAction,
+    step: &Step,
+    answer: LineOutput,
     had_cycle: bool,
 ) -> Result<String, AllocError>
     ensures { IfOk result (λ text. IsReason (string_bytes text)) }
 {
     let why = Why {
         scene,
-        action,
+        step: *step,
+        answer,
         had_cycle,
     };
     let words = format!(in alloc; "{why}")?;
     reason_line(alloc, words.as_str())
 }
 
-/// Why a line ended at an event that can't be made, in the world that it left. It is printed in words, or as nothing if there is
-/// nothing to say.
+/// Why a step ended at an event that can't be made, or isn't met, in the world that it left. It is printed in words, or as nothing if there
+/// is nothing to say.
 #[derive(Clone, Copy)]
 struct Why<'w, 'p> {
     scene: Scene<'w, 'p>,
-    action: LineAction,
+    step: Step,
+    answer: LineOutput,
     had_cycle: bool,
 }
 
 impl fmt::Display for Why<'_, '_> {
     fn fmt<W: fmt::Write>(&self, f: &mut fmt::Formatter<W>) -> fmt::Result {
+        match self.answer {
+            LineOutput::Unmet => self.write_unmet(f),
+            _ => self.write_undone(f),
+        }
+    }
+}
+
+impl Why<'_, '_> {
+    /// Writes why what the step expects isn't so.
+    fn write_unmet<W: fmt::Write>(&self, f: &mut fmt::Formatter<W>) -> fmt::Result {
         let scene = self.scene;
-        match self.action {
+        match self.step.action {
+            _ if self.step.expects_no => f.write_str("the line was done, expected `no`"),
+            LineAction::Expect(expected) => scene.write_missed(f, expected),
+            LineAction::Within(_, expected) => {
+                scene.write_missed(f, expected)?;
+                if scene.world.is_ready() && !has_cycle(scene.world) {
+                    return Ok(());
+                }
+                f.write_str("; no further cycle is run: ")?;
+                self.write_no_cycle(f)
+            }
+            _ => Ok(()),
+        }
+    }
+
+    /// Writes why a whole cycle isn't run.
+    fn write_no_cycle<W: fmt::Write>(&self, f: &mut fmt::Formatter<W>) -> fmt::Result {
+        if self.had_cycle || !has_cycle(self.scene.world) {
+            return self.scene.write_event(f, Event::Begin);
+        }
+        self.scene.write_held(f)
+    }
+
+    /// Writes why the step can't be done.
+    fn write_undone<W: fmt::Write>(&self, f: &mut fmt::Formatter<W>) -> fmt::Result {
+        let scene = self.scene;
+        match self.step.action {
             LineAction::Input(variable, value) => match still_slave(scene.world, variable, value) {
                 Some(slave) => scene.write_event(f, Event::AppPut(slave, 0, 0)),
                 None => scene.write_unset(f, variable, Direction::In),
@@ -68,11 +107,7 @@ impl fmt::Display for Why<'_, '_> {
             }),
             LineAction::Output(variable) => scene.write_unshown(f, variable),
             LineAction::Ready => scene.write_event(f, Event::StartNext),
-            // a whole cycle wasn't begun, or a frame of it is held up
-            LineAction::Cycle if self.had_cycle || !has_cycle(scene.world) => {
-                scene.write_event(f, Event::Begin)
-            }
-            LineAction::Cycle => scene.write_held(f),
+            LineAction::Cycle => self.write_no_cycle(f),
             action => match event_of(action) {
                 Some(event) => scene.write_event(f, event),
                 None => Ok(()),

@@ -1,12 +1,18 @@
 //! Words for people about a world: its slaves, variables and slots by name, and those that don't exist.
-use ec_console::Misfit;
+use ec_asking::AlStatus;
+use ec_console::{Misfit, Missed};
 use ec_diagnostic::Printable;
+use ec_script::Expectation;
+use ec_simulation::{value_seen, view_of};
 use ec_table::{Direction, Table};
 use ec_world::World;
 use std::fmt;
 
 /// The register of the AL status (ETG.1000.4), whose low four bits are the state.
 const AL_STATUS: u16 = 0x0130;
+
+/// The register of the AL status code (ETG.1000.4).
+const AL_STATUS_CODE: u16 = 0x0134;
 
 /// The byte of sync manager 2 (outputs) that the slave's side sets (ETG.1000.4). Its bit 0 deactivates the manager.
 const OUTPUTS_LOCK: u16 = 0x0817;
@@ -139,6 +145,47 @@ impl Scene<'_, '_> {
                 write!(f, "`{name}` goes to slaves: `set {name} VALUE` sets it")
             }
             _ => f.write(Misfit { table, variable }),
+        }
+    }
+}
+
+impl Scene<'_, '_> {
+    /// Writes what was and what was expected.
+    pub fn write_missed<W: fmt::Write>(
+        &self,
+        f: &mut fmt::Formatter<W>,
+        expected: Expectation,
+    ) -> fmt::Result {
+        let view = view_of(self.world);
+        let value = match expected {
+            Expectation::Is(variable, _)
+            | Expectation::Holds(variable, _)
+            | Expectation::Never(variable) => value_seen(self.world, variable),
+            _ => None,
+        };
+        let status = match expected {
+            Expectation::State(slave, _, _) => Some(self.status_of(slave)),
+            _ => None,
+        };
+        f.write(Missed {
+            table: self.table,
+            view: &view,
+            expected,
+            value,
+            status,
+        })
+    }
+
+    /// The AL status of a slave and its code, as its registers have them.
+    fn status_of(&self, slave: usize) -> AlStatus {
+        let word = |address| {
+            let low = register(self.world, slave, address);
+            let high = register(self.world, slave, address + 1);
+            u16::from_le_bytes([low, high])
+        };
+        AlStatus {
+            word: word(AL_STATUS),
+            code: word(AL_STATUS_CODE),
         }
     }
 }

@@ -14,16 +14,16 @@ ghost use Rattle.cmd_sim.specs.Simulating.{RunsLines, RunsLive, SaysLine, line_r
 use crate::simulation::Simulation;
 use crate::watch::Watch;
 use ec_console::{
-    Capture, InputStream, OutputStream, Reasons, Refusal, end_of, run_input, run_lines,
+    Capture, InputStream, Manner, OutputStream, Refusal, end_of, run_input, run_lines,
 };
 use ec_link::Machine;
-use ec_script::Line;
+use ec_script::Script;
 use ec_world::{Unwatched, Watcher, World};
 use std::alloc::Global;
 use std::io::{Read, Write};
 
 /// Runs the lines of a script over a new segment of a machine, each as many times as it says. Its slaves begin at power-on, with the
-/// identities of the table. The text of a line is printed before the next line runs, and with `reasons` also why it says `no`. The
+/// identities of the table. The text of a line is printed before the next line runs, and with reasons also why it says `no`. The
 /// frames go into an open capture, if there is one.
 ///
 /// # Errors
@@ -33,22 +33,22 @@ use std::io::{Read, Write};
 pub fn run_script<F: Write + Drop, W: Write + Drop>(
     alloc: Global,
     machine: &Machine,
-    reasons: Reasons,
-    lines: &[Line],
+    manner: Manner,
+    lines: &Script,
     capture: &mut Capture<F>,
     output: &mut OutputStream<W>,
 ) -> Result<(), Refusal>
-    ensures runs { RunsLines reasons machine.now lines.now output.old output.new result }
+    ensures runs { RunsLines manner machine.now lines.now output.old output.new result }
     ensures still_open { is_some capture.new ≡ is_some capture.old }
 {
     let world = World::of_machine(alloc, machine)?;
-    let simulation = Simulation::new(world, machine, reasons, Unwatched);
+    let simulation = Simulation::new(world, machine, manner, Unwatched);
     let unmet = print_captured(alloc, simulation, lines, capture, output)?;
     end_of(unmet)
 }
 
 /// Runs the lines that an input gives over a new segment of a machine, each as it comes. The text of a line is printed before the next
-/// one is read. A line that can't be read prints `bad` and its number, and does nothing. With `reasons`, why a line is bad or says `no`
+/// one is read. A line that can't be read prints `bad` and its number, and does nothing. With reasons, why a line is bad or says `no`
 /// stands behind its text. The slaves begin at power-on, with the identities of the table. The frames go into an open capture, if there is one.
 ///
 /// # Errors
@@ -58,16 +58,16 @@ pub fn run_script<F: Write + Drop, W: Write + Drop>(
 pub fn run_live<F: Write + Drop, R: Read + Drop, W: Write + Drop>(
     alloc: Global,
     machine: &Machine,
-    reasons: Reasons,
+    manner: Manner,
     capture: &mut Capture<F>,
     input: &mut InputStream<R>,
     output: &mut OutputStream<W>,
 ) -> Result<(), Refusal>
-    ensures runs { RunsLive reasons machine.now (given_by R.remaining input.old input.new) output.old output.new result }
+    ensures runs { RunsLive manner machine.now (given_by R.remaining input.old input.new) output.old output.new result }
     ensures still_open { is_some capture.new ≡ is_some capture.old }
 {
     let world = World::of_machine(alloc, machine)?;
-    let simulation = Simulation::new(world, machine, reasons, Unwatched);
+    let simulation = Simulation::new(world, machine, manner, Unwatched);
     let unmet = print_coming(alloc, simulation, capture, input, output)?;
     end_of(unmet)
 }
@@ -83,13 +83,13 @@ pub fn run_live<F: Write + Drop, R: Read + Drop, W: Write + Drop>(
 pub fn print_noted<F: Write + Drop, W: Write + Drop>(
     alloc: Global,
     simulation: &mut Simulation<'_, Watch<F>>,
-    lines: &[Line],
+    lines: &Script,
     output: &mut OutputStream<W>,
 ) -> Result<u64, Refusal>
     ensures all { IfOk result (λ count. (unmet : ℕ) × (count ≡ counted unmet)
-        × PrintsAll (SaysLine simulation.old.reasons simulation.old.table) simulation.old.world (repeated lines.now)
+        × PrintsAll (SaysLine simulation.old.manner simulation.old.table) simulation.old.world (repeated lines.now)
         simulation.new.world unmet output.old output.new) }
-    ensures part { OnErr result (PrintsPart (SaysLine simulation.old.reasons simulation.old.table) simulation.old.world
+    ensures part { OnErr result (PrintsPart (SaysLine simulation.old.manner simulation.old.table) simulation.old.world
         (repeated lines.now) simulation.new.world output.old output.new) }
     ensures late { IfErr result (IsLate false output.new) }
     ensures noted { NotesRun simulation.old.watcher simulation.old.world simulation.new.world simulation.new.watcher }
@@ -101,13 +101,13 @@ pub fn print_noted<F: Write + Drop, W: Write + Drop>(
 fn print_lines<S: Watcher + Drop, W: Write + Drop>(
     alloc: Global,
     simulation: &mut Simulation<'_, S>,
-    lines: &[Line],
+    lines: &Script,
     output: &mut OutputStream<W>,
 ) -> Result<u64, Refusal>
     ensures all { IfOk result (λ count. (unmet : ℕ) × (count ≡ counted unmet)
-        × PrintsAll (SaysLine simulation.old.reasons simulation.old.table) simulation.old.world (repeated lines.now)
+        × PrintsAll (SaysLine simulation.old.manner simulation.old.table) simulation.old.world (repeated lines.now)
         simulation.new.world unmet output.old output.new) }
-    ensures part { OnErr result (PrintsPart (SaysLine simulation.old.reasons simulation.old.table) simulation.old.world
+    ensures part { OnErr result (PrintsPart (SaysLine simulation.old.manner simulation.old.table) simulation.old.world
         (repeated lines.now) simulation.new.world output.old output.new) }
     ensures late { IfErr result (IsLate false output.new) }
     ensures observed { Observes S.observed simulation.old.watcher simulation.old.world simulation.new.world simulation.new.watcher }
@@ -123,9 +123,9 @@ fn print_input<S: Watcher + Drop, R: Read + Drop, W: Write + Drop>(
     output: &mut OutputStream<W>,
 ) -> Result<u64, Refusal>
     ensures all { IfOk result (λ count. (unmet : ℕ) × (count ≡ counted unmet)
-        × ComesOut (SaysLine simulation.old.reasons simulation.old.table) (λ w. simulation.old.reasons)
+        × ComesOut (SaysLine simulation.old.manner simulation.old.table) (λ w. simulation.old.manner)
         (line_read simulation.old.table) simulation.old.world (bytes_left R.remaining input.old) simulation.new.world unmet output.old output.new) }
-    ensures part { OnErr result (ComesPart (SaysLine simulation.old.reasons simulation.old.table) (λ w. simulation.old.reasons)
+    ensures part { OnErr result (ComesPart (SaysLine simulation.old.manner simulation.old.table) (λ w. simulation.old.manner)
         (line_read simulation.old.table) simulation.old.world (bytes_left R.remaining input.old) simulation.new.world output.old output.new) }
     ensures late { IfErr result (IsLate input.new.is_refused output.new) }
 {
@@ -136,14 +136,14 @@ fn print_input<S: Watcher + Drop, R: Read + Drop, W: Write + Drop>(
 fn print_captured<F: Write + Drop, W: Write + Drop>(
     alloc: Global,
     simulation: Simulation<'_, Unwatched>,
-    lines: &[Line],
+    lines: &Script,
     capture: &mut Capture<F>,
     output: &mut OutputStream<W>,
 ) -> Result<u64, Refusal>
     ensures all { IfOk result (λ count. (unmet : ℕ) × (count ≡ counted unmet) × (last : WorldState)
-        × PrintsAll (SaysLine simulation.entry.reasons simulation.entry.table) simulation.entry.world (repeated lines.now) last unmet
+        × PrintsAll (SaysLine simulation.entry.manner simulation.entry.table) simulation.entry.world (repeated lines.now) last unmet
         output.old output.new) }
-    ensures part { OnErr result ((last : WorldState) × PrintsPart (SaysLine simulation.entry.reasons simulation.entry.table)
+    ensures part { OnErr result ((last : WorldState) × PrintsPart (SaysLine simulation.entry.manner simulation.entry.table)
         simulation.entry.world (repeated lines.now) last output.old output.new) }
     ensures late { IfErr result (IsLate false output.new) }
     ensures still_open { is_some capture.new ≡ is_some capture.old }
@@ -171,10 +171,10 @@ fn print_coming<F: Write + Drop, R: Read + Drop, W: Write + Drop>(
     output: &mut OutputStream<W>,
 ) -> Result<u64, Refusal>
     ensures all { IfOk result (λ count. (unmet : ℕ) × (count ≡ counted unmet) × (last : WorldState)
-        × ComesOut (SaysLine simulation.entry.reasons simulation.entry.table) (λ w. simulation.entry.reasons)
+        × ComesOut (SaysLine simulation.entry.manner simulation.entry.table) (λ w. simulation.entry.manner)
         (line_read simulation.entry.table) simulation.entry.world (bytes_left R.remaining input.old) last unmet output.old output.new) }
-    ensures part { OnErr result ((last : WorldState) × ComesPart (SaysLine simulation.entry.reasons simulation.entry.table)
-        (λ w. simulation.entry.reasons) (line_read simulation.entry.table) simulation.entry.world (bytes_left R.remaining input.old) last output.old output.new) }
+    ensures part { OnErr result ((last : WorldState) × ComesPart (SaysLine simulation.entry.manner simulation.entry.table)
+        (λ w. simulation.entry.manner) (line_read simulation.entry.table) simulation.entry.world (bytes_left R.remaining input.old) last output.old output.new) }
     ensures late { IfErr result (IsLate input.new.is_refused output.new) }
     ensures still_open { is_some capture.new ≡ is_some capture.old }
 {

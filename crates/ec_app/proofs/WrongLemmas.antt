@@ -5,8 +5,8 @@ use Rattle.std.specs.Net.Addr.{ipv4_octets}
 use Rattle.std.specs.Net.Grammar.{IsIpv4Text, Parses}
 use Rattle.std.specs.declared.net.ipv4_addr.Ipv4Addr.{Ipv4Addr}
 use Rattle.ec_console.specs.declared.form.SlaveForm.{SlaveForm}
-use Rattle.ec_console.specs.declared.wanted.Reasons.{Reasons}
-use Rattle.ec_console.specs.Reasons.{reasons_of}
+use Rattle.ec_console.specs.declared.wanted.Manner.{Manner}
+use Rattle.ec_console.specs.Reasons.{manner_of}
 use Rattle.ec_console.specs.Stating.{slave_form}
 use Rattle.cmd_segment.specs.declared.endpoint.Endpoint.{Endpoint}
 use Rattle.ec_app.specs.declared.work.Work.TheVariants as work
@@ -49,12 +49,12 @@ is_bound {E} text (Err e) given a parsed is local = inr ((λ (b, spelled). parse
 
 -- ---- its work
 
-pub live_work : (live full explained : Bool) (e : Endpoint) (form : SlaveForm) (reasons : Reasons) → live ≡ true → form ≡ slave_form full → reasons ≡ reasons_of explained
-    → work.Plant form e reasons ≡ work_if live (slave_form full) e (reasons_of explained)
-live_work live full explained e form reasons is shown why =
-    ap (λ (f : SlaveForm). work.Plant f e reasons) shown
-    ∙ (ap (λ (r : Reasons). work.Plant (slave_form full) e r) why ∙ ap (λ (l : Bool). work_if l (slave_form full) e (reasons_of explained)) (sym is))
+pub live_work : (live full explained strict : Bool) (e : Endpoint) (form : SlaveForm) (manner : Manner) → live ≡ true → form ≡ slave_form full → manner ≡ manner_of explained strict
+    → work.Plant form e manner ≡ work_if live (slave_form full) e (manner_of explained strict)
+live_work live full explained strict e form manner is shown why =
+    ap (λ (f : SlaveForm). work.Plant f e manner) shown
+    ∙ (ap (λ (r : Manner). work.Plant (slave_form full) e r) why ∙ ap (λ (l : Bool). work_if l (slave_form full) e (manner_of explained strict)) (sym is))
 
-pub still_work : (live full explained : Bool) (e : Endpoint) (form : SlaveForm) → live ≡ false → form ≡ slave_form full → work.Segment form e ≡ work_if live (slave_form full) e (reasons_of explained)
-still_work live full explained e form is shown =
-    ap (λ (f : SlaveForm). work.Segment f e) shown ∙ ap (λ (l : Bool). work_if l (slave_form full) e (reasons_of explained)) (sym is)
+pub still_work : (live full explained strict : Bool) (e : Endpoint) (form : SlaveForm) → live ≡ false → form ≡ slave_form full → work.Segment form e ≡ work_if live (slave_form full) e (manner_of explained strict)
+still_work live full explained strict e form is shown =
+    ap (λ (f : SlaveForm). work.Segment f e) shown ∙ ap (λ (l : Bool). work_if l (slave_form full) e (manner_of explained strict)) (sym is)

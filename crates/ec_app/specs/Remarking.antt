@@ -5,8 +5,8 @@ use Rattle.ec_annotate.specs.declared.names.Names.{Names}
 use Rattle.ec_annotate.specs.declared.names.Names.TheVariants.{Added, Omitted}
 use Rattle.ec_annotate.specs.Annotating.{Annotates}
 use Rattle.ec_console.specs.declared.refusal.Refusal.{Refusal}
-use Rattle.ec_console.specs.declared.refusal.Refusal.TheVariants.{Memory, BadHex, Input, Output}
-use Rattle.ec_console.specs.Given.{Given, GivesText, IsInputRefusal, IsTableRefusal}
+use Rattle.ec_console.specs.declared.refusal.Refusal.TheVariants.{BadHex, Output}
+use Rattle.ec_console.specs.Given.{Given, GivesText, IsInputRefusal, IsTableRefusal, IsUnread}
 use Rattle.ec_console.specs.Printing.{IsCutOff, IsPrinted, OutputState}
 use Rattle.ec_app.specs.Translating.{RunsDecode}
 
@@ -29,14 +29,6 @@ RunsRemarked given old new (Err refusal) = IsInputRefusal given refusal × (new 
 abbrev pub OrRefused : (Refusal → Type 0) → (given : Given) → (old new : OutputState) → Result Unit Refusal → Type 0
 OrRefused Refuses given old new ended =
     RunsRemarked given old new ended ⊎ ((refusal : Refusal) × (ended ≡ Err refusal) × Refuses refusal × (new ≡ old))
-
--- by the link table that a text states
-abbrev pub RunsByText : List ℕ → (given : Given) → (old new : OutputState) → Result Unit Refusal → Type 0
-RunsByText text = OrRefused (IsTableRefusal text)
-
--- the refusals of a file that can't be read as text
-abbrev pub IsUnread : Refusal → Type 0
-IsUnread refusal = (refusal ≡ Input) ⊎ (refusal ≡ Memory)
 
 -- the refusals of a table's file: it can't be read, or its table is refused
 abbrev pub IsFileRefusal : Refusal → Type 0

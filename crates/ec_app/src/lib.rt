@@ -3,6 +3,7 @@
 #![tactic(auto)]
 
 mod pass;
+mod places;
 mod plan;
 mod program;
 mod remarked;
@@ -22,10 +23,11 @@ pub use cmd_segment::{Endpoint, print_served_segment, run_segment};
 pub use cmd_sim::{run_live, run_script};
 pub use ec_bringup::{bring_up, identities_of};
 pub use ec_console::{
-    Console, Explanation, InputStream, OutputStream, Refusal, SlaveForm, print_text, read_text,
+    Console, Explanation, InputStream, Origin, OutputStream, Refusal, SlaveForm, Terminals,
+    print_text, read_text,
 };
-pub use ec_script::{Line, LineAction, ScriptError, read_script};
-pub use ec_simulation::run_line;
+pub use ec_script::{Line, LineAction, Script, ScriptError, ScriptLines, Step, Task, read_script};
+pub use ec_simulation::run_step;
 pub use ec_text::{Refused, header_text, plan_text};
 pub use ec_wire::{
     App, MemoryWire, UdpWire, Wire, bring_up_resting, bring_up_wire, run_cycle, run_lossy_cycle,

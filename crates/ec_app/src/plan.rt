@@ -6,8 +6,8 @@ ghost use Rattle.ec_app.specs.Planning.{IsPlanAnswer, IsTextOfPlan, RunsPlan, fo
 ghost use Rattle.ec_console.specs.Given.{IsTableRefusal, given_by};
 
 use ec_console::{
-    Explanation, InputStream, OutputStream, Refusal, SlaveForm, Source, print_text, read_machine,
-    read_text,
+    Explanation, FileNames, InputStream, OutputStream, Refusal, SlaveForm, Source, TextRead,
+    print_text, read_machine, read_text,
 };
 use ec_link::Machine;
 use ec_plan_table::explain_text;
@@ -63,7 +63,7 @@ pub fn show_plan(alloc: Global, form: PlanForm, prefix: &str, text: &str) -> Res
 }
 
 /// Prints what [`show_plan`] returns for the whole text of the input, and explains its refusal in
-/// `behind`, if that is wanted.
+/// `behind`, if that is wanted. If the input is a file, its name is given.
 ///
 /// # Errors
 ///
@@ -73,6 +73,7 @@ pub fn print_plan<R: Read + Drop, W: Write + Drop>(
     alloc: Global,
     form: PlanForm,
     prefix: &str,
+    file: Option<&str>,
     input: &mut InputStream<R>,
     output: &mut OutputStream<W>,
     behind: &mut Explanation,
@@ -85,7 +86,12 @@ pub fn print_plan<R: Read + Drop, W: Write + Drop>(
     match show_plan(alloc, form, prefix, text.as_str()) {
         Ok(answer) => print_text(answer.as_bytes(), output),
         Err(refusal) => {
-            behind.explain(alloc, Source::Table, text.as_str(), &Err(refusal));
+            let read = TextRead {
+                source: Source::Table,
+                text: text.as_str(),
+                names: FileNames::of(file),
+            };
+            behind.explain(alloc, read, &Err(refusal));
             Err(refusal)
         }
     }

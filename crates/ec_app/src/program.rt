@@ -3,9 +3,10 @@ ghost use Rattle.std.specs.Prelude.{◌≡◌, ◌∷◌, [], Contains, IfOk};
 ghost use Rattle.std.specs.Vec.Iter.{into_iter_items};
 ghost use Rattle.ec_app.specs.Running.{EndsGiven, EprintsUnread};
 ghost use Rattle.ec_console.specs.Given.{given_by};
+ghost use Rattle.ec_console.specs.Stating.{left_in};
 
 use crate::run::run_console;
-use ec_console::{Console, OutputStream, Refusal};
+use ec_console::{Console, Origin, OutputStream, Refusal};
 use ec_wire::Echo;
 use std::alloc::{AllocError, Global};
 use std::env::Args;
@@ -26,8 +27,8 @@ pub fn run_program<
     R: Read + Drop,
     W: Write + Drop,
     F: Write + Drop,
->(rt: &H, given: io::Result<Args>, console: &mut Console<R, W, F>) -> u8
-    ensures ends { EndsGiven given (given_by R.remaining console.old.input console.new.input) console.old.input console.new.input
+>(rt: &H, given: io::Result<Args>, console: &mut Console<Origin<R, H::File>, W, F>) -> u8
+    ensures ends { EndsGiven given console.old.terminals (given_by (left_in R.remaining) console.old.input console.new.input) console.old.input console.new.input
         (record { old = console.old.output; new = console.new.output })
         (record { old = console.old.faults; new = console.new.faults }) result }
     ensures status { Contains (0 ∷ 2 ∷ 3 ∷ 4 ∷ 5 ∷ []) result }

@@ -2,22 +2,25 @@
 ghost use Rattle.std.specs.Prelude.{IfErr, option_map};
 ghost use Rattle.std.specs.Option.{ForSome};
 ghost use Rattle.ec_link.specs.Usable.{IsUsable};
-ghost use Rattle.ec_app.specs.Remarking.{IsUnread, RunsByFile, RunsByText, RunsDecodeWith, RunsRemarked, RunsWith};
+ghost use Rattle.ec_app.specs.Remarking.{IsFileRefusal, RunsDecodeWith, RunsRemarked, RunsWith};
+ghost use Rattle.ec_console.specs.Explaining.{IsLeft};
 ghost use Rattle.ec_console.specs.Given.{given_by};
 
 use crate::translate::print_decode;
 use ec_annotate::{Links, Names, annotate_text};
 use ec_console::{
-    InputStream, OutputStream, Refusal, SlaveForm, print_text, read_machine, read_text,
+    Explanation, FileNames, InputStream, OutputStream, Refusal, SlaveForm, Source, TextRead,
+    print_text, read_file, read_machine, read_text,
 };
 use ec_link::Machine;
 use std::alloc::Global;
-use std::fs::{File, Files};
+use std::fs::Files;
 use std::io::{Read, Write};
 
 /// Prints what `print_decode` prints, with indented lines of remarks for people between. The remarks use the
 /// standard's names if `names` says so. If the file of a link table is named, they also have the variables that
-/// process data carry, and the predicted working counter. The file is read before the input.
+/// process data carry, and the predicted working counter. The file is read before the input, and `behind` explains a refusal of it, if
+/// that is wanted.
 ///
 /// # Errors
 ///
@@ -29,12 +32,17 @@ pub fn print_remarked<H: AllocGlobal + Files, R: Read + Drop, W: Write + Drop>(
     names: Names,
     input: &mut InputStream<R>,
     output: &mut OutputStream<W>,
+    behind: &mut Explanation,
 ) -> Result<(), Refusal>
-    ensures { RunsWith (option_map (λ x. x.now) table.entry) (given_by R.remaining input.old input.new) output.old
+    ensures runs { RunsWith (option_map (λ x. x.now) table.entry) (given_by R.remaining input.old input.new) output.old
         output.new result }
+    ensures explains { IsLeft behind.old behind.new }
 {
     match table {
-        Some(path) => print_by_file(rt, path, names, input, output),
+        Some(path) => {
+            let machine = read_linked(rt, path, behind)?;
+            print_linked(rt.alloc(), names, &machine, input, output)
+        }
         None => print_text_remarked(rt.alloc(), names, None, input, output),
     }
 }
@@ -51,53 +59,40 @@ pub fn print_payloads<H: AllocGlobal + Files, R: Read + Drop, W: Write + Drop>(
     names: Names,
     input: &mut InputStream<R>,
     output: &mut OutputStream<W>,
+    behind: &mut Explanation,
 ) -> Result<(), Refusal>
-    ensures { RunsDecodeWith (option_map (λ x. x.now) table.entry) names (given_by R.remaining input.old input.new)
+    ensures runs { RunsDecodeWith (option_map (λ x. x.now) table.entry) names (given_by R.remaining input.old input.new)
         output.old output.new result }
+    ensures explains { IsLeft behind.old behind.new }
 {
     match (table, names) {
         (None, Names::Omitted) => print_decode(rt.alloc(), input, output),
-        _ => print_remarked(rt, table, names, input, output),
+        _ => print_remarked(rt, table, names, input, output, behind),
     }
 }
 
-/// Prints the input's payloads with remarks by the link table in a file.
-fn print_by_file<H: AllocGlobal + Files, R: Read + Drop, W: Write + Drop>(
+/// The machine of the link table in a file.
+fn read_linked<H: AllocGlobal + Files>(
     rt: &H,
     path: &str,
-    names: Names,
-    input: &mut InputStream<R>,
-    output: &mut OutputStream<W>,
-) -> Result<(), Refusal>
-    ensures { RunsByFile (given_by R.remaining input.old input.new) output.old output.new result }
+    behind: &mut Explanation,
+) -> Result<Machine, Refusal>
+    ensures refused { IfErr result IsFileRefusal }
+    ensures explains { IsLeft behind.old behind.new }
 {
-    let text = read_file(rt, path)?;
-    print_by_text(rt.alloc(), names, text.as_str(), input, output)
-}
-
-/// The text in a file. `Refusal::Input` if the file can't be opened, can't be read, or isn't text of at most 2^20 bytes.
-fn read_file<H: AllocGlobal + Files>(rt: &H, path: &str) -> Result<String, Refusal>
-    ensures { IfErr result IsUnread }
-{
-    let Ok(file) = File::open(rt, path) else {
-        return Err(Refusal::Input);
-    };
-    read_text(rt.alloc(), &mut InputStream::new(file))
-}
-
-/// Prints the input's payloads with remarks by the link table that a text states.
-fn print_by_text<R: Read + Drop, W: Write + Drop>(
-    alloc: Global,
-    names: Names,
-    text: &str,
-    input: &mut InputStream<R>,
-    output: &mut OutputStream<W>,
-) -> Result<(), Refusal>
-    ensures { RunsByText text.now (given_by R.remaining input.old input.new) output.old
-        output.new result }
-{
-    let machine = read_machine(alloc, SlaveForm::Plain, text)?;
-    print_linked(alloc, names, &machine, input, output)
+    let text = read_file(rt, path, behind)?;
+    match read_machine(rt.alloc(), SlaveForm::Plain, text.as_str()) {
+        Ok(machine) => Ok(machine),
+        Err(refusal) => {
+            let read = TextRead {
+                source: Source::Table,
+                text: text.as_str(),
+                names: FileNames::of(Some(path)),
+            };
+            behind.explain(rt.alloc(), read, &Err(refusal));
+            Err(refusal)
+        }
+    }
 }
 
 /// Prints the input's payloads with remarks by a machine's table and plan.

@@ -2,16 +2,17 @@
 ghost use Rattle.std.specs.Prelude.{◌≡◌, is_some, option_map};
 ghost use Rattle.ec_console.specs.Explaining.{IsLeft};
 ghost use Rattle.ec_console.specs.Given.{given_by};
-ghost use Rattle.ec_console.specs.Stating.{RunsStated};
+ghost use Rattle.ec_console.specs.Stating.{RunsBehind, RunsSource, RunsStated};
 ghost use Rattle.ec_app.specs.Running.{IsSilent, LeavesApp, RunsWork, does_of, form_of, source_of};
 
+use crate::places::Place;
 use cmd_loop::run_loopback;
 use cmd_master::{MasterOptions, run_connected};
 use cmd_segment::{Endpoint, run_plant, run_segment};
 use cmd_sim::{run_live, run_script};
 use ec_console::{
-    Capture, Console, Interfaces, Reasons, Refusal, SlaveForm, Source, Stated, close_capture,
-    open_capture, read_source, read_stated,
+    Capture, Console, Interfaces, Manner, Refusal, SlaveForm, Source, Stated, TextRead,
+    close_capture, lines_before, open_capture, read_behind, read_source, read_stated,
 };
 use ec_wire::{App, Loopback};
 use std::fs::Files;
@@ -23,15 +24,15 @@ use std::time::Clock;
 #[derive(Clone, Copy, Drop)]
 pub enum Work<'a> {
     /// The lines of its script are run.
-    Script(Reasons),
+    Script(Manner),
     /// The lines that the input gives are run as they come.
-    Live(Reasons),
+    Live(Manner),
     /// So many cycles are run over sockets of this process.
     Cycles(u16),
     /// Its slaves are served, in a form.
     Segment(SlaveForm, Endpoint),
     /// Its slaves are served, in a form, and the lines that the input gives move them.
-    Plant(SlaveForm, Endpoint, Reasons),
+    Plant(SlaveForm, Endpoint, Manner),
     /// The lines that the input gives move its master.
     Master(MasterOptions<'a>),
 }
@@ -69,15 +70,49 @@ impl Work<'_> {
     }
 }
 
-/// Does some work with the machine that the input states. The frames go into a capture, if a file is named. A refusal is explained, if
-/// that is wanted.
+/// The inputs of some work: the text of its table, if that was read before, and where that and its lines are.
+#[derive(Clone, Copy, Drop)]
+pub(crate) struct WorkInputs<'a> {
+    pub(crate) table: Option<&'a str>,
+    pub(crate) place: Place<'a>,
+}
+
+/// Does some work with the machine that the input states, or that a table states which was read before. The frames go into a capture, if
+/// a file is named. A refusal is explained, if that is wanted.
 ///
 /// # Errors
 ///
 /// The refusal of the input or of what it states. `Refusal::Output` or `Memory` if the file couldn't be opened. The errors of the work.
 /// `Refusal::Output` if that was through and the capture isn't whole.
-#[tactic(auto, using(crate::proofs::RunLemmas::left_alone))]
 pub(crate) fn run_work<
+    H: AllocGlobal + Net + Files + Clock,
+    R: Read + Drop,
+    W: Write + Drop,
+    F: Write + Drop,
+>(
+    rt: &H,
+    work: Work<'_>,
+    file: Option<&str>,
+    inputs: WorkInputs<'_>,
+    console: &mut Console<R, W, F>,
+    app: &mut dyn App,
+) -> Result<(), Refusal>
+    ensures runs { RunsWork (option_map (λ x. x.now) inputs.entry.table) (source_of work.entry) (form_of work.entry) (does_of work.entry)
+        (option_map (λ x. x.now) file.entry) (given_by R.remaining console.old.input console.new.input)
+        (record { old = console.old.output; new = console.new.output })
+        (record { old = console.old.faults; new = console.new.faults }) result }
+    ensures alone { LeavesApp work.entry app.old app.new }
+    ensures explains { IsLeft console.old.explanation console.new.explanation }
+{
+    match inputs.table {
+        None => run_whole(rt, work, file, console, app),
+        Some(table) => run_behind(rt, work, file, (table, inputs.place), console, app),
+    }
+}
+
+/// Does some work with the machine that the input states.
+#[tactic(auto, using(crate::proofs::RunLemmas::left_alone))]
+fn run_whole<
     H: AllocGlobal + Net + Files + Clock,
     R: Read + Drop,
     W: Write + Drop,
@@ -89,18 +124,59 @@ pub(crate) fn run_work<
     console: &mut Console<R, W, F>,
     app: &mut dyn App,
 ) -> Result<(), Refusal>
-    ensures runs { RunsWork (source_of work.entry) (form_of work.entry) (does_of work.entry) (option_map (λ x. x.now) file.entry)
-        (given_by R.remaining console.old.input console.new.input)
-        (record { old = console.old.output; new = console.new.output })
-        (record { old = console.old.faults; new = console.new.faults }) result }
+    ensures runs { RunsSource (source_of work.entry) (form_of work.entry) (option_map (λ x. x.now) file.entry)
+        (does_of work.entry (record { old = console.old.output; new = console.new.output })
+        (record { old = console.old.faults; new = console.new.faults }))
+        (IsSilent (record { old = console.old.output; new = console.new.output })
+        (record { old = console.old.faults; new = console.new.faults }))
+        (given_by R.remaining console.old.input console.new.input) result }
     ensures alone { LeavesApp work.entry app.old app.new }
     ensures explains { IsLeft console.old.explanation console.new.explanation }
 {
     let text = read_source(rt.alloc(), work.source(), &mut console.input)?;
     let ended = run_text(rt, work, file, text.as_str(), console, app);
-    console
-        .explanation
-        .explain(rt.alloc(), work.source(), text.as_str(), &ended);
+    let read = TextRead {
+        source: work.source(),
+        text: text.as_str(),
+        names: Place::Standard.names(None),
+    };
+    console.explanation.explain(rt.alloc(), read, &ended);
+    ended
+}
+
+/// Does some work with the machine that a table states which was read before.
+#[tactic(auto, using(crate::proofs::RunLemmas::left_alone))]
+fn run_behind<
+    H: AllocGlobal + Net + Files + Clock,
+    R: Read + Drop,
+    W: Write + Drop,
+    F: Write + Drop,
+>(
+    rt: &H,
+    work: Work<'_>,
+    file: Option<&str>,
+    given: (&str, Place<'_>),
+    console: &mut Console<R, W, F>,
+    app: &mut dyn App,
+) -> Result<(), Refusal>
+    ensures runs { RunsBehind given.entry.0.now (source_of work.entry) (form_of work.entry) (option_map (λ x. x.now) file.entry)
+        (does_of work.entry (record { old = console.old.output; new = console.new.output })
+        (record { old = console.old.faults; new = console.new.faults }))
+        (IsSilent (record { old = console.old.output; new = console.new.output })
+        (record { old = console.old.faults; new = console.new.faults }))
+        (given_by R.remaining console.old.input console.new.input) result }
+    ensures alone { LeavesApp work.entry app.old app.new }
+    ensures explains { IsLeft console.old.explanation console.new.explanation }
+{
+    let (table, place) = given;
+    let text = read_behind(rt.alloc(), work.source(), table, &mut console.input)?;
+    let ended = run_text(rt, work, file, text.as_str(), console, app);
+    let read = TextRead {
+        source: work.source(),
+        text: text.as_str(),
+        names: place.names(Some(lines_before(table))),
+    };
+    console.explanation.explain(rt.alloc(), read, &ended);
     ended
 }
 
@@ -146,21 +222,21 @@ fn run_on<H: AllocGlobal + Net + Files + Clock, R: Read + Drop, W: Write + Drop,
 {
     let Stated { machine, lines } = stated;
     match work {
-        Work::Script(reasons) => {
+        Work::Script(manner) => {
             run_script(
                 rt.alloc(),
                 &machine,
-                reasons,
-                lines.as_slice(),
+                manner,
+                &lines,
                 capture,
                 &mut console.output,
             )
         }
-        Work::Live(reasons) => {
+        Work::Live(manner) => {
             run_live(
                 rt.alloc(),
                 &machine,
-                reasons,
+                manner,
                 capture,
                 &mut console.input,
                 &mut console.output,
@@ -188,8 +264,8 @@ fn run_on<H: AllocGlobal + Net + Files + Clock, R: Read + Drop, W: Write + Drop,
                 app,
             )
         }
-        Work::Plant(_, endpoint, reasons) => {
-            run_plant(rt, &machine, endpoint, reasons, capture, console)
+        Work::Plant(_, endpoint, manner) => {
+            run_plant(rt, &machine, endpoint, manner, capture, console)
         }
         Work::Master(options) => {
             run_connected(

@@ -17,8 +17,8 @@ absent_row name = record { id = name; values = codes "false" ∷ []; count = Non
 
 -- what it finds for the arguments, those that are given first
 abbrev pub plan_rows : Bool → List Row
-plan_rows true = given_row (codes "explain") ∷ absent_row (codes "header") ∷ []
-plan_rows false = absent_row (codes "header") ∷ absent_row (codes "explain") ∷ []
+plan_rows true = given_row (codes "explain") ∷ absent_row (codes "header") ∷ absent_row (codes "terse") ∷ []
+plan_rows false = absent_row (codes "header") ∷ absent_row (codes "explain") ∷ absent_row (codes "terse") ∷ []
 
 pub plan-met : (name : Text) → subcommand_of ecat (name ∷ codes "plan" ∷ []) ≡ Some (codes "plan", plan_rows false)
 unfolding clap_on_literals

@@ -20,9 +20,11 @@ use Rattle.clap.specs.declared.parser.matches.Found.{Found}
 use Rattle.clap.proofs.WalkLemmas.{first_value-rows, one_text-rows}
 use Rattle.ec_args.specs.declared.request.Notice.{Notice}
 use Rattle.ec_args.specs.declared.request.Notice.TheVariants.{Memory, Help, Usage}
+use Rattle.ec_args.specs.declared.request.Arguments.{Arguments}
+use Rattle.ec_args.specs.declared.request.Inputs.{Inputs}
 use Rattle.ec_args.specs.declared.request.Request.{Request}
 use Rattle.ec_args.specs.CommandLine.{ecat}
-use Rattle.ec_args.specs.Requests.{Asks, ArePassArguments, ArePlanArguments, Command, Finds, FindsAny, FindsFlag, FindsNumber, FindsText, IsFault, IsNotice, MeetsAs, MeetsCommand, SegmentArguments, PassIsRead, PlanIsRead, PassOf, PlanOf, DecodeOf, EncodeOf, SimOf, LoopOf, SegmentOf, MasterOf, command_of, is_answer, word_of}
+use Rattle.ec_args.specs.Requests.{Asks, AsksAll, ArePassArguments, ArePlanArguments, Command, Finds, FindsAny, FindsFlag, FindsInputs, FindsNumber, FindsText, IsFault, IsNotice, MeetsAs, MeetsCommand, SegmentArguments, PassIsRead, PlanIsRead, PassOf, PlanOf, DecodeOf, EncodeOf, SimOf, LoopOf, SegmentOf, MasterOf, command_of, first_of_inputs, is_answer, named, second_of_inputs, word_of}
 use Rattle.ec_args.specs.Stages.{IsAskedAs, IsNeverAsked}
 use Rattle.ec_args.proofs.PlanArguments.{explain-met, explain-no_fault, plan-met, plan-no_fault, plan_rows}
 use Rattle.ec_args.proofs.PassArguments.{ecat-is_simple, ecat-simple, frame_row, no-fault, number_argument, slaves_row, subcommand-pass, value_argument}
@@ -77,50 +79,50 @@ is_pass (PassOf n f) called = (n, f, refl)
 is_pass (PlanOf h p e) called = absurd (other_word (codes "plan") (codes "pass") refl called)
 is_pass (DecodeOf t e) called = absurd (other_word (codes "decode") (codes "pass") refl called)
 is_pass EncodeOf called = absurd (other_word (codes "encode") (codes "pass") refl called)
-is_pass (SimOf l c e) called = absurd (other_word (codes "sim") (codes "pass") refl called)
+is_pass (SimOf l c e s) called = absurd (other_word (codes "sim") (codes "pass") refl called)
 is_pass (LoopOf n c e) called = absurd (other_word (codes "loop") (codes "pass") refl called)
 is_pass (SegmentOf a c e) called = absurd (other_word (codes "segment") (codes "pass") refl called)
-is_pass (MasterOf t d p c e) called = absurd (other_word (codes "master") (codes "pass") refl called)
+is_pass (MasterOf t d p c e s) called = absurd (other_word (codes "master") (codes "pass") refl called)
 
 pub is_plan : (command : Command) → word_of command ≡ codes "plan" → (h : Bool) × (p : Option Text) × (e : Bool) × (command ≡ PlanOf h p e)
 is_plan (PassOf n f) called = absurd (other_word (codes "pass") (codes "plan") refl called)
 is_plan (PlanOf h p e) called = (h, p, e, refl)
 is_plan (DecodeOf t e) called = absurd (other_word (codes "decode") (codes "plan") refl called)
 is_plan EncodeOf called = absurd (other_word (codes "encode") (codes "plan") refl called)
-is_plan (SimOf l c e) called = absurd (other_word (codes "sim") (codes "plan") refl called)
+is_plan (SimOf l c e s) called = absurd (other_word (codes "sim") (codes "plan") refl called)
 is_plan (LoopOf n c e) called = absurd (other_word (codes "loop") (codes "plan") refl called)
 is_plan (SegmentOf a c e) called = absurd (other_word (codes "segment") (codes "plan") refl called)
-is_plan (MasterOf t d p c e) called = absurd (other_word (codes "master") (codes "plan") refl called)
+is_plan (MasterOf t d p c e s) called = absurd (other_word (codes "master") (codes "plan") refl called)
 
 pub is_loop : (command : Command) → word_of command ≡ codes "loop" → (n : ℕ) × (c : Option Text) × (e : Bool) × (command ≡ LoopOf n c e)
 is_loop (PassOf n f) called = absurd (other_word (codes "pass") (codes "loop") refl called)
 is_loop (PlanOf h p e) called = absurd (other_word (codes "plan") (codes "loop") refl called)
 is_loop (DecodeOf t e) called = absurd (other_word (codes "decode") (codes "loop") refl called)
 is_loop EncodeOf called = absurd (other_word (codes "encode") (codes "loop") refl called)
-is_loop (SimOf l c e) called = absurd (other_word (codes "sim") (codes "loop") refl called)
+is_loop (SimOf l c e s) called = absurd (other_word (codes "sim") (codes "loop") refl called)
 is_loop (LoopOf n c e) called = (n, c, e, refl)
 is_loop (SegmentOf a c e) called = absurd (other_word (codes "segment") (codes "loop") refl called)
-is_loop (MasterOf t d p c e) called = absurd (other_word (codes "master") (codes "loop") refl called)
+is_loop (MasterOf t d p c e s) called = absurd (other_word (codes "master") (codes "loop") refl called)
 
 pub is_segment : (command : Command) → word_of command ≡ codes "segment" → (a : SegmentArguments) × (c : Option Text) × (e : Bool) × (command ≡ SegmentOf a c e)
 is_segment (PassOf n f) called = absurd (other_word (codes "pass") (codes "segment") refl called)
 is_segment (PlanOf h p e) called = absurd (other_word (codes "plan") (codes "segment") refl called)
 is_segment (DecodeOf t e) called = absurd (other_word (codes "decode") (codes "segment") refl called)
 is_segment EncodeOf called = absurd (other_word (codes "encode") (codes "segment") refl called)
-is_segment (SimOf l c e) called = absurd (other_word (codes "sim") (codes "segment") refl called)
+is_segment (SimOf l c e s) called = absurd (other_word (codes "sim") (codes "segment") refl called)
 is_segment (LoopOf n c e) called = absurd (other_word (codes "loop") (codes "segment") refl called)
 is_segment (SegmentOf a c e) called = (a, c, e, refl)
-is_segment (MasterOf t d p c e) called = absurd (other_word (codes "master") (codes "segment") refl called)
+is_segment (MasterOf t d p c e s) called = absurd (other_word (codes "master") (codes "segment") refl called)
 
-pub is_master : (command : Command) → word_of command ≡ codes "master" → (t : Text) × (d : Option ℕ) × (p : ℕ) × (c : Option Text) × (e : Bool) × (command ≡ MasterOf t d p c e)
+pub is_master : (command : Command) → word_of command ≡ codes "master" → (t : Text) × (d : Option ℕ) × (p : ℕ) × (c : Option Text) × (e : Bool) × (s : Bool) × (command ≡ MasterOf t d p c e s)
 is_master (PassOf n f) called = absurd (other_word (codes "pass") (codes "master") refl called)
 is_master (PlanOf h p e) called = absurd (other_word (codes "plan") (codes "master") refl called)
 is_master (DecodeOf t e) called = absurd (other_word (codes "decode") (codes "master") refl called)
 is_master EncodeOf called = absurd (other_word (codes "encode") (codes "master") refl called)
-is_master (SimOf l c e) called = absurd (other_word (codes "sim") (codes "master") refl called)
+is_master (SimOf l c e s) called = absurd (other_word (codes "sim") (codes "master") refl called)
 is_master (LoopOf n c e) called = absurd (other_word (codes "loop") (codes "master") refl called)
 is_master (SegmentOf a c e) called = absurd (other_word (codes "segment") (codes "master") refl called)
-is_master (MasterOf t d p c e) called = (t, d, p, c, e, refl)
+is_master (MasterOf t d p c e s) called = (t, d, p, c, e, s, refl)
 
 -- what is found for the arguments of a command of this name is what `clap` met
 pub asked_one : (name word : Text) (rows : List Row) (request : Request) → name ≡ word → IsAskedAs word rows request → Asks (Some (name, rows)) request
@@ -149,10 +151,10 @@ no_such_word name rows pass plan decode encode sim loop segment master (PassOf n
 no_such_word name rows pass plan decode encode sim loop segment master (PlanOf h p e, met) = plan (ap name_in met.named)
 no_such_word name rows pass plan decode encode sim loop segment master (DecodeOf t e, met) = decode (ap name_in met.named)
 no_such_word name rows pass plan decode encode sim loop segment master (EncodeOf, met) = encode (ap name_in met.named)
-no_such_word name rows pass plan decode encode sim loop segment master (SimOf l c e, met) = sim (ap name_in met.named)
+no_such_word name rows pass plan decode encode sim loop segment master (SimOf l c e s, met) = sim (ap name_in met.named)
 no_such_word name rows pass plan decode encode sim loop segment master (LoopOf n c e, met) = loop (ap name_in met.named)
 no_such_word name rows pass plan decode encode sim loop segment master (SegmentOf a c e, met) = segment (ap name_in met.named)
-no_such_word name rows pass plan decode encode sim loop segment master (MasterOf t d p c e, met) = master (ap name_in met.named)
+no_such_word name rows pass plan decode encode sim loop segment master (MasterOf t d p c e s, met) = master (ap name_in met.named)
 
 -- a number that `get_one` read, one that it may leave out, a text that `get_str` read, and a flag
 pub finds_number : (found : Found) (id : Text) (bits : ℕ) (r : Option ℕ) (n : ℕ) → (one_text found id ≡ None → r ≡ None)
@@ -187,6 +189,14 @@ pub finds_flag : (found : Found) (id : Text) (flag : Bool) → (one_text found i
 finds_flag found id flag given absent =
     let same = one_text-rows found id in
     record { given = λ is. given (same ∙ is); absent = λ is. absent (same ∙ is) }
+
+-- the files of its inputs
+pub finds_inputs : (found : Found) (inputs : Inputs) (first second : Option Text) → first ≡ first_value found (codes "input") → second ≡ first_value found (codes "lines")
+    → first_of_inputs inputs ≡ named first → second_of_inputs inputs ≡ named second → FindsInputs (rows_of found) inputs
+finds_inputs found inputs first second one two is_one is_two = record {
+  for_first = is_one ∙ ap named (one ∙ first_value-rows found (codes "input"));
+  for_second = is_two ∙ ap named (two ∙ first_value-rows found (codes "lines"));
+}
 
 -- without one of its numbers, or its text, a command isn't asked for
 pub no_slaves : (found : Found) (r : Option ℕ) → ((t : List ℕ) → one_text found (codes "slaves") ≡ Some t → ReadsOne (NumberGives 8) t r) → r ≡ None
@@ -231,13 +241,13 @@ no_idle found r value is command called h =
 pub no_to : (found : Found) → first_value found (codes "to") ≡ None → IsNeverAsked (codes "master") (rows_of found)
 no_to found none command called h =
     let it = is_master command called in
-    no_text found (codes "to") it.0 none (subst (Finds (rows_of found)) it.5 h).for_to
+    no_text found (codes "to") it.0 none (subst (Finds (rows_of found)) it.6 h).for_to
 
 pub no_patience : (found : Found) (r : Option ℕ) → ((t : List ℕ) → one_text found (codes "patience") ≡ Some t → ReadsOne (NumberGives 16) t r) → r ≡ None
     → IsNeverAsked (codes "master") (rows_of found)
 no_patience found r value is command called h =
     let it = is_master command called in
-    finds_no_number found (codes "patience") 16 r it.2 value is (subst (Finds (rows_of found)) it.5 h).for_patience
+    finds_no_number found (codes "patience") 16 r it.2 value is (subst (Finds (rows_of found)) it.6 h).for_patience
 
 -- what `clap` makes of the arguments of `pass`
 pub no_fault-pass : (args : List Text) (slaves : ℕ) (frame : Text) → ArePassArguments args slaves frame → fault_of ecat args ≡ []
@@ -296,11 +306,11 @@ refused_fault line args error is kinds =
     elim known [ inl memory ↦ inl memory | inr among ↦ inr (inl among) ]
 
 -- what it met is asked for
-pub found_asks : (line : App) (args : List Text) (m : ArgMatches) (request : Request) → line ≡ ecat → HasMatchesOf line args m
-    → Asks (subcommand_rows_of m) request → Asks (subcommand_of ecat args) request
-found_asks line args m request is matches asks =
+pub found_asks : (line : App) (args : List Text) (m : ArgMatches) (arguments : Arguments) → line ≡ ecat → HasMatchesOf line args m
+    → AsksAll (subcommand_rows_of m) arguments → AsksAll (subcommand_of ecat args) arguments
+found_asks line args m arguments is matches asks =
     let same : subcommand_rows_of m ≡ subcommand_of ecat args = (subst (λ (l : App). HasMatchesOf l args m) is matches ecat-is_simple).1 in
-    subst (λ (met : Option (Text × List Row)). Asks met request) same asks
+    subst (λ (met : Option (Text × List Row)). AsksAll met arguments) same asks
 
 -- and so is what it returns where it met no command
 pub missing_fault : (line : App) (args : List Text) (m : ArgMatches) (kind : ErrorKind) → line ≡ ecat → HasMatchesOf line args m
@@ -321,7 +331,7 @@ memory_notice kind (Help text) is told = let bad : false ≡ true = sym (ap is_a
 memory_notice kind (Usage text) is told = absurd (told.says.1 is)
 
 pub pass_is_read : PassIsRead
-pass_is_read args slaves frame (Ok request) w (none, asks) = only-pass args slaves frame w (command_of request) asks
+pass_is_read args slaves frame (Ok arguments) w (none, all) = only-pass args slaves frame w (command_of arguments.request) all.asks
 pass_is_read args slaves frame (Err notice) w (kind, fault, told) =
     memory_notice kind notice (no_other_fault args kind (no_fault-pass args slaves frame w) (PassOf slaves frame, meets-pass args slaves frame w) fault) told
 
@@ -384,6 +394,6 @@ only-plan args explained w command met =
     it.3 ∙ same_plan explained it.0 it.2 it.1 (subst (Finds (plan_rows explained)) it.3 found)
 
 pub plan_is_read : PlanIsRead
-plan_is_read args explained (Ok request) w (none, asks) = only-plan args explained w (command_of request) asks
+plan_is_read args explained (Ok arguments) w (none, all) = only-plan args explained w (command_of arguments.request) all.asks
 plan_is_read args explained (Err notice) w (kind, fault, told) =
     memory_notice kind notice (no_other_fault args kind (no_fault-plan args explained w) (PlanOf false None explained, meets-plan args explained w) fault) told

@@ -43,6 +43,10 @@ frame_rule = record (new_rule (codes "frame")) { required = true; action = Some 
 abbrev pub explain_rule : Rule
 explain_rule = flag_rule (codes "explain")
 
+-- whether a line that can't be done counts as unmet
+abbrev pub strict_rule : Rule
+strict_rule = flag_rule (codes "strict")
+
 -- whether a C header is printed instead of a plan
 abbrev pub header_rule : Rule
 header_rule = flag_rule (codes "header")
@@ -62,6 +66,24 @@ capture_rule = text_rule (codes "capture")
 -- the file of a link table
 abbrev pub table_rule : Rule
 table_rule = text_rule (codes "table")
+
+-- the file of an input, and of the lines behind a table; each may be left out
+abbrev pub file_rule : Text → Rule
+file_rule name = record (new_rule name) { action = Some Set; value_names = 1 }
+
+abbrev pub input_rule : Rule
+input_rule = file_rule (codes "input")
+
+abbrev pub lines_rule : Rule
+lines_rule = file_rule (codes "lines")
+
+-- whether no refusal is explained
+abbrev pub terse_rule : Rule
+terse_rule = flag_rule (codes "terse")
+
+-- a command that reads an input
+abbrev pub with_input : App → App
+with_input app = with_rule (with_rule app input_rule) terse_rule
 
 -- how many cycles are run
 abbrev pub cycles_rule : Rule
@@ -105,27 +127,27 @@ abbrev pub pass_shape : Shape
 pass_shape = (with_rule (with_rule (new_app (codes "pass")) slaves_rule) frame_rule).top
 
 abbrev pub plan_shape : Shape
-plan_shape = (with_rule (with_rule (with_rule (new_app (codes "plan")) header_rule) prefix_rule) explain_rule).top
+plan_shape = (with_input (with_rule (with_rule (with_rule (new_app (codes "plan")) header_rule) prefix_rule) explain_rule)).top
 
 abbrev pub decode_shape : Shape
-decode_shape = (with_rule (with_rule (new_app (codes "decode")) table_rule) explain_rule).top
+decode_shape = (with_input (with_rule (with_rule (new_app (codes "decode")) table_rule) explain_rule)).top
 
 abbrev pub encode_shape : Shape
-encode_shape = (new_app (codes "encode")).top
+encode_shape = (with_input (new_app (codes "encode"))).top
 
 -- how a script runs
 abbrev pub running : App
 running = with_rule (with_rule (new_app (codes "sim")) live_rule) capture_rule
 
 abbrev pub sim_shape : Shape
-sim_shape = (with_rule running explain_rule).top
+sim_shape = (with_rule (with_input (with_rule (with_rule running strict_rule) explain_rule)) lines_rule).top
 
 -- how many cycles run, and the capture of them
 abbrev pub turning : App
 turning = with_rule (with_rule (new_app (codes "loop")) cycles_rule) capture_rule
 
 abbrev pub loop_shape : Shape
-loop_shape = (with_rule turning explain_rule).top
+loop_shape = (with_input (with_rule turning explain_rule)).top
 
 -- which payloads a segment is to answer, on what, and as which slaves
 abbrev pub listening : App
@@ -138,7 +160,7 @@ abbrev pub waiting : App
 waiting = with_rule (with_rule showing idle_rule) capture_rule
 
 abbrev pub segment_shape : Shape
-segment_shape = (with_rule waiting explain_rule).top
+segment_shape = (with_input (with_rule (with_rule waiting strict_rule) explain_rule)).top
 
 -- which segment a master speaks with, how long it waits for answers, and its capture
 abbrev pub reaching : App
@@ -148,7 +170,7 @@ abbrev pub asking : App
 asking = with_rule (with_rule reaching patience_rule) capture_rule
 
 abbrev pub master_shape : Shape
-master_shape = (with_rule asking explain_rule).top
+master_shape = (with_rule (with_input (with_rule (with_rule asking strict_rule) explain_rule)) lines_rule).top
 
 -- `ecat` and its commands, one of which must be given; it also has a version. First those that simulate nothing but a pass,
 abbrev pub planning : App

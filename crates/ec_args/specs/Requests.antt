@@ -1,8 +1,9 @@
 -- What the arguments of `ecat` ask for (this project's profile).
-use Rattle.std.specs.Prelude.{◌≡◌, ◌≢◌, ◌⊎◌, ℕ, ◌<◌, ◌≤◌, ◌^◌, Bool, true, false, List, [], ◌∷◌, slice_index, Option, None, Some, option_map, Result, Ok, Err, MatchResult, alloc_error, codes, decimal}
+use Rattle.std.specs.Prelude.{◌≡◌, ◌≢◌, ◌⊎◌, ℕ, ◌<◌, ◌≤◌, ◌^◌, Bool, true, false, if◌then◌else◌, List, [], ◌∷◌, slice_index, Option, None, Some, option_map, Result, Ok, Err, MatchResult, alloc_error, codes, decimal}
 use Rattle.std.specs.declared.alloc.AllocError.{AllocError}
 use Rattle.std.specs.declared.alloc.Global.{Global}
 use Rattle.std.specs.declared.string.String.{String}
+use Rattle.std.specs.Str.{bytes_eq}
 use Rattle.std.specs.Str.Parse.{IsNumeral, digits_value, without_leading_plus}
 use Rattle.clap.specs.Walk.{Row, Text, first_of, one_of}
 use Rattle.clap.specs.Simple.{subcommand_of}
@@ -13,6 +14,8 @@ use Rattle.clap.specs.declared.error.kind.ErrorKind.TheVariants.{DisplayHelp, Di
 use Rattle.ec_args.specs.CommandLine.{ecat}
 use Rattle.ec_args.specs.declared.request.Notice.{Notice}
 use Rattle.ec_args.specs.declared.request.Notice.TheVariants.{Memory, Help, Usage}
+use Rattle.ec_args.specs.declared.request.Arguments.{Arguments}
+use Rattle.ec_args.specs.declared.request.Inputs.{Inputs}
 use Rattle.ec_args.specs.declared.request.Request.{Request}
 use Rattle.ec_args.specs.declared.request.SegmentOptions.{SegmentOptions}
 use Rattle.ec_args.specs.declared.request.Request.TheVariants.{Pass, Plan, Decode, Encode, Sim, Loop, Segment, Master}
@@ -31,6 +34,8 @@ pub record SegmentArguments : Type 0 where
   pub idle : ℕ
   -- whether lines move its slaves as they come
   pub live : Bool
+  -- and whether each line that can't be done is counted as unmet
+  pub strict : Bool
 
 -- a command, and its arguments
 pub data Command : Type 0 where
@@ -43,16 +48,16 @@ pub data Command : Type 0 where
   DecodeOf : Option Text → Bool → Command
   -- `ecat encode`
   EncodeOf : Command
-  -- `ecat sim`: whether lines are run as they come, the file of a capture if one is named, and whether a refusal is explained.
-  -- The commands below have these two at their end, too.
-  SimOf : Bool → Option Text → Bool → Command
+  -- `ecat sim`: whether lines are run as they come, the file of a capture if one is named, whether a refusal is explained, and
+  -- whether each line that can't be done is counted as unmet. The commands below have the capture and the explanation, too.
+  SimOf : Bool → Option Text → Bool → Bool → Command
   -- `ecat loop`: the number of cycles
   LoopOf : ℕ → Option Text → Bool → Command
   -- `ecat segment`
   SegmentOf : SegmentArguments → Option Text → Bool → Command
   -- `ecat master`: the text of a segment's address and port, and the descriptor that replaces it if one is given. Then how many
-  -- milliseconds it waits for an answer
-  MasterOf : Text → Option ℕ → ℕ → Option Text → Bool → Command
+  -- milliseconds it waits for an answer, and at the end what `ecat sim` has there
+  MasterOf : Text → Option ℕ → ℕ → Option Text → Bool → Bool → Command
 
 -- the word that asks for a command
 abbrev pub word_of : Command → Text
@@ -60,10 +65,10 @@ word_of (PassOf slaves frame) = codes "pass"
 word_of (PlanOf header prefix explained) = codes "plan"
 word_of (DecodeOf table explained) = codes "decode"
 word_of EncodeOf = codes "encode"
-word_of (SimOf live capture explained) = codes "sim"
+word_of (SimOf live capture explained strict) = codes "sim"
 word_of (LoopOf cycles capture explained) = codes "loop"
 word_of (SegmentOf arguments capture explained) = codes "segment"
-word_of (MasterOf to descriptor patience capture explained) = codes "master"
+word_of (MasterOf to descriptor patience capture explained strict) = codes "master"
 
 -- whether it is to explain a refusal
 abbrev pub is_explained : Command → Bool
@@ -71,10 +76,10 @@ is_explained (PassOf slaves text) = false
 is_explained (PlanOf header prefix explained) = explained
 is_explained (DecodeOf table explained) = false
 is_explained EncodeOf = false
-is_explained (SimOf live capture explained) = explained
+is_explained (SimOf live capture explained strict) = explained
 is_explained (LoopOf cycles capture explained) = explained
 is_explained (SegmentOf arguments capture explained) = explained
-is_explained (MasterOf to descriptor patience capture explained) = explained
+is_explained (MasterOf to descriptor patience capture explained strict) = explained
 
 -- ---- what `clap` finds for its arguments
 
@@ -113,10 +118,11 @@ pub record FindsDecode (rows : List Row) (table : Option Text) (explained : Bool
   pub for_table : FindsText rows (codes "table") table
   pub for_explain : FindsFlag rows (codes "explain") explained
 
-pub record FindsSim (rows : List Row) (live : Bool) (capture : Option Text) (explained : Bool) : Type 0 where
+pub record FindsSim (rows : List Row) (live : Bool) (capture : Option Text) (explained strict : Bool) : Type 0 where
   pub for_live : FindsFlag rows (codes "live") live
   pub for_capture : FindsText rows (codes "capture") capture
   pub for_explain : FindsFlag rows (codes "explain") explained
+  pub for_strict : FindsFlag rows (codes "strict") strict
 
 pub record FindsLoop (rows : List Row) (cycles : ℕ) (capture : Option Text) (explained : Bool) : Type 0 where
   pub for_cycles : FindsNumber rows (codes "cycles") cycles (2 ^ 16)
@@ -131,15 +137,17 @@ pub record FindsSegment (rows : List Row) (arguments : SegmentArguments) (captur
   pub for_full : FindsFlag rows (codes "full") arguments.full
   pub for_idle : FindsNumber rows (codes "idle") arguments.idle (2 ^ 32)
   pub for_live : FindsFlag rows (codes "live") arguments.live
+  pub for_strict : FindsFlag rows (codes "strict") arguments.strict
   pub for_capture : FindsText rows (codes "capture") capture
   pub for_explain : FindsFlag rows (codes "explain") explained
 
-pub record FindsMaster (rows : List Row) (to : Text) (descriptor : Option ℕ) (patience : ℕ) (capture : Option Text) (explained : Bool) : Type 0 where
+pub record FindsMaster (rows : List Row) (to : Text) (descriptor : Option ℕ) (patience : ℕ) (capture : Option Text) (explained strict : Bool) : Type 0 where
   pub for_to : FindsText rows (codes "to") (Some to)
   pub for_descriptor : FindsAny rows (codes "descriptor") descriptor (2 ^ 16)
   pub for_patience : FindsNumber rows (codes "patience") patience (2 ^ 16)
   pub for_capture : FindsText rows (codes "capture") capture
   pub for_explain : FindsFlag rows (codes "explain") explained
+  pub for_strict : FindsFlag rows (codes "strict") strict
 
 -- for the arguments of a command
 abbrev pub Finds : List Row → Command → Type 0
@@ -147,10 +155,10 @@ Finds rows (PassOf slaves frame) = FindsPass rows slaves frame
 Finds rows (PlanOf header prefix explained) = FindsPlan rows header prefix explained
 Finds rows (DecodeOf table explained) = FindsDecode rows table explained
 Finds rows EncodeOf = Unit {0}
-Finds rows (SimOf live capture explained) = FindsSim rows live capture explained
+Finds rows (SimOf live capture explained strict) = FindsSim rows live capture explained strict
 Finds rows (LoopOf cycles capture explained) = FindsLoop rows cycles capture explained
 Finds rows (SegmentOf arguments capture explained) = FindsSegment rows arguments capture explained
-Finds rows (MasterOf to descriptor patience capture explained) = FindsMaster rows to descriptor patience capture explained
+Finds rows (MasterOf to descriptor patience capture explained strict) = FindsMaster rows to descriptor patience capture explained strict
 
 -- `clap` met this command, and found its arguments
 pub record MeetsAs (met : Option (Text × List Row)) (command : Command) : Type 0 where
@@ -172,6 +180,7 @@ arguments_of options = record {
   full = options.full;
   idle = options.idle;
   live = options.live;
+  strict = options.strict;
 }
 
 -- the command that is asked for
@@ -180,14 +189,41 @@ command_of (Pass slaves frame) = PassOf slaves frame.now
 command_of (Plan header prefix explained) = PlanOf header (option_map (λ x. x.now) prefix) explained
 command_of (Decode table explained) = DecodeOf (option_map (λ file. file.now) table) explained
 command_of Encode = EncodeOf
-command_of (Sim live capture explained) = SimOf live (option_map (λ file. file.now) capture) explained
+command_of (Sim live capture explained strict) = SimOf live (option_map (λ file. file.now) capture) explained strict
 command_of (Loop cycles capture explained) = LoopOf cycles (option_map (λ file. file.now) capture) explained
 command_of (Segment options capture explained) = SegmentOf (arguments_of options) (option_map (λ file. file.now) capture) explained
-command_of (Master to descriptor patience capture explained) =
-    MasterOf to.now descriptor patience (option_map (λ file. file.now) capture) explained
+command_of (Master to descriptor patience capture explained strict) =
+    MasterOf to.now descriptor patience (option_map (λ file. file.now) capture) explained strict
 
 abbrev pub Asks : Option (Text × List Row) → Request → Type 0
 Asks met request = MeetsAs met (command_of request)
+
+-- the name of a file; `-` is none, but standard input
+abbrev pub named : Option Text → Option Text
+named None = None
+named (Some name) = if bytes_eq name (codes "-") then None else Some name
+
+-- the files that a command reads
+abbrev pub first_of_inputs : Inputs → Option Text
+first_of_inputs inputs = option_map (λ file. file.now) inputs.first
+
+abbrev pub second_of_inputs : Inputs → Option Text
+second_of_inputs inputs = option_map (λ file. file.now) inputs.second
+
+pub record FindsInputs (rows : List Row) (inputs : Inputs) : Type 0 where
+  pub for_first : first_of_inputs inputs ≡ named (first_of (codes "input") rows)
+  pub for_second : second_of_inputs inputs ≡ named (first_of (codes "lines") rows)
+
+-- what `clap` found for the command that it met
+abbrev pub rows_met : Option (Text × List Row) → List Row
+rows_met None = []
+rows_met (Some met) = met.1
+
+-- all that the arguments say: the command, the files that it reads, and whether no refusal is explained
+pub record AsksAll (met : Option (Text × List Row)) (arguments : Arguments) : Type 0 where
+  pub asks : Asks met arguments.request
+  pub inputs : FindsInputs (rows_met met) arguments.inputs
+  pub terse : FindsFlag (rows_met met) (codes "terse") arguments.terse
 
 -- the kinds of `clap`'s errors that are answers: help and the version
 abbrev pub is_answer : ErrorKind → Bool
@@ -213,8 +249,8 @@ pub record IsNotice (kind : ErrorKind) (notice : Notice) : Type 0 where
 
 -- what is read of the arguments: if they have no fault, the command that `clap` finds; else the notice of the error
 -- that they meet
-abbrev pub Reads : List Text → Result Request Notice → Type 0
-Reads args (Ok request) = (fault_of ecat args ≡ []) × Asks (subcommand_of ecat args) request
+abbrev pub Reads : List Text → Result Arguments Notice → Type 0
+Reads args (Ok arguments) = (fault_of ecat args ≡ []) × AsksAll (subcommand_of ecat args) arguments
 Reads args (Err notice) = (kind : ErrorKind) × IsFault args kind × IsNotice kind notice
 
 -- ---- some spellings, spelled out
@@ -228,9 +264,9 @@ pub record ArePassArguments (args : List Text) (slaves : ℕ) (frame : Text) : T
 
 -- they are read as that pass, unless memory ran out
 abbrev pub PassIsRead : Type 0
-PassIsRead = (args : List Text) (slaves : ℕ) (frame : Text) (read : Result Request Notice)
+PassIsRead = (args : List Text) (slaves : ℕ) (frame : Text) (read : Result Arguments Notice)
     → ArePassArguments args slaves frame → Reads args read
-    → MatchResult read (λ request. command_of request ≡ PassOf slaves frame) (λ notice. notice ≡ Memory)
+    → MatchResult read (λ arguments. command_of arguments.request ≡ PassOf slaves frame) (λ notice. notice ≡ Memory)
 
 -- the arguments `NAME plan`, or `NAME plan --explain`
 abbrev pub explain_arguments : Bool → List Text
@@ -242,6 +278,6 @@ pub record ArePlanArguments (args : List Text) (explained : Bool) : Type 0 where
   pub spelled : args ≡ name ∷ codes "plan" ∷ explain_arguments explained
 
 abbrev pub PlanIsRead : Type 0
-PlanIsRead = (args : List Text) (explained : Bool) (read : Result Request Notice)
+PlanIsRead = (args : List Text) (explained : Bool) (read : Result Arguments Notice)
     → ArePlanArguments args explained → Reads args read
-    → MatchResult read (λ request. command_of request ≡ PlanOf false None explained) (λ notice. notice ≡ Memory)
+    → MatchResult read (λ arguments. command_of arguments.request ≡ PlanOf false None explained) (λ notice. notice ≡ Memory)

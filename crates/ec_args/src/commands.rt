@@ -6,7 +6,7 @@ ghost use Rattle.clap.specs.Simple.{App, app_of, new_app, new_rule, on_top, with
 ghost use Rattle.clap.specs.Walk.{Rule};
 ghost use Rattle.clap.specs.declared.builder.action.ArgAction.TheVariants.{Set};
 ghost use Rattle.ec_args.specs.CommandLine.{decode_shape, ecat, encode_shape, loop_shape, master_shape, pass_shape, plan_shape, segment_shape, sim_shape};
-ghost use Rattle.ec_args.specs.CommandLine.{capture_rule, descriptor_rule, explain_rule, flag_rule, needed, number_rule, or_else, text_rule};
+ghost use Rattle.ec_args.specs.CommandLine.{capture_rule, descriptor_rule, explain_rule, flag_rule, lines_rule, needed, number_rule, or_else, strict_rule, text_rule, with_input};
 ghost use Rattle.ec_args.specs.Stages.{IsArgument, IsMadeAs, alone};
 
 use crate::helps::{
@@ -59,77 +59,85 @@ fn pass_command<'a>(alloc: Global) -> Made<'a>
     with_argument(command, required(text(alloc, "frame", "HEX", help)))
 }
 
-/// `ecat plan [--header] [--prefix PREFIX] [--explain]`.
+/// `ecat plan [--header] [--prefix PREFIX] [--explain] [--terse] [TABLE]`.
 fn plan_command<'a>(alloc: Global) -> Made<'a>
     ensures { IsMadeAs result (alone plan_shape) }
 {
-    let usage = "ecat plan [--header] [--prefix <PREFIX>] [--explain] < TABLE";
-    let about = "Reads a link table from standard input and prints its plan";
+    let usage = "ecat plan [--header] [--prefix <PREFIX>] [--explain] [--terse] [TABLE]";
+    let about = "Reads a link table and prints its plan";
     let command = used_as(alloc, "plan", usage, about, PLAN_EXAMPLE, PLAN_LINES);
     let help = "Print the variables as a C header instead of the plan";
     let command = with_argument(command, flag(alloc, "header", help));
     let help = "What the names of the header begin with, in place of ECAT_";
     let command = with_argument(command, option(alloc, "prefix", "PREFIX", help));
     let help = "Print the plan as tables of bits, for people, and explain a refusal";
-    with_argument(command, flag(alloc, "explain", help))
+    let command = with_argument(command, flag(alloc, "explain", help));
+    with_input(alloc, command, "TABLE")
 }
 
-/// `ecat decode [--table FILE] [--explain]`.
+/// `ecat decode [--table FILE] [--explain] [--terse] [FILE]`.
 fn decode_command<'a>(alloc: Global) -> Made<'a>
     ensures { IsMadeAs result (alone decode_shape) }
 {
-    let usage = "ecat decode [--table <FILE>] [--explain] < PAYLOADS";
-    let about = "Reads payloads in hex from standard input, one a line, and prints them as text";
+    let usage = "ecat decode [--table <FILE>] [--explain] [--terse] [FILE]";
+    let about = "Reads payloads in hex, one a line, and prints them as text";
     let command = used_as(alloc, "decode", usage, about, DECODE_EXAMPLE, DECODE_LINES);
     let help = "Name the variables of this link table that a frame carries";
     let command = with_argument(command, option(alloc, "table", "FILE", help));
     let help = "Explain each datagram by the names of the standard";
-    with_argument(command, flag(alloc, "explain", help))
+    let command = with_argument(command, flag(alloc, "explain", help));
+    with_input(alloc, command, "FILE")
 }
 
-/// `ecat encode`.
+/// `ecat encode [--terse] [FILE]`.
 fn encode_command<'a>(alloc: Global) -> Made<'a>
     ensures { IsMadeAs result (alone encode_shape) }
 {
-    let usage = "ecat encode < TEXT";
+    let usage = "ecat encode [--terse] [FILE]";
     let about = "Reads frames as `ecat decode` prints them and prints each in hex";
-    used_as(alloc, "encode", usage, about, ENCODE_EXAMPLE, ENCODE_LINES)
+    let command = used_as(alloc, "encode", usage, about, ENCODE_EXAMPLE, ENCODE_LINES);
+    with_input(alloc, command, "FILE")
 }
 
-/// `ecat sim [--live] [--capture FILE] [--explain]`.
+/// `ecat sim [--live] [--capture FILE] [--strict] [--explain] [--terse] [TABLE [SCRIPT]]`.
 fn sim_command<'a>(alloc: Global) -> Made<'a>
     ensures { IsMadeAs result (alone sim_shape) }
 {
-    let usage = "ecat sim [--live] [--capture <FILE>] [--explain] < TABLE_AND_SCRIPT";
+    let usage =
+        "ecat sim [--live] [--capture <FILE>] [--strict] [--explain] [--terse] [TABLE [SCRIPT]]";
     let about = "Runs a script against the simulated slaves of a link table";
     let command = used_as(alloc, "sim", usage, about, SIM_EXAMPLE, SIM_LINES);
     let help = "Run each line as it comes, and write out what it prints before the next one";
     let command = with_argument(command, flag(alloc, "live", help));
     let command = with_argument(command, capture_argument(alloc));
-    with_argument(command, explain_argument(alloc))
+    let command = with_argument(command, strict_argument(alloc));
+    let command = with_argument(command, explain_argument(alloc));
+    let command = with_input(alloc, command, "TABLE");
+    with_argument(command, lines_argument(alloc, "SCRIPT"))
 }
 
-/// `ecat loop --cycles N [--capture FILE] [--explain]`.
+/// `ecat loop --cycles N [--capture FILE] [--explain] [--terse] [TABLE]`.
 fn loop_command<'a>(alloc: Global) -> Made<'a>
     ensures { IsMadeAs result (alone loop_shape) }
 {
-    let usage = "ecat loop --cycles <N> [--capture <FILE>] [--explain] < TABLE";
+    let usage = "ecat loop --cycles <N> [--capture <FILE>] [--explain] [--terse] [TABLE]";
     let about = "Runs master and slaves of a link table against each other over two sockets";
     let command = used_as(alloc, "loop", usage, about, LOOP_EXAMPLE, LOOP_LINES);
     let help = "How many cycles are run, 0 to 1000";
     let cycles = required(number(alloc, "cycles", "N", 0, 1000, help));
     let command = with_argument(command, cycles);
     let command = with_argument(command, capture_argument(alloc));
-    with_argument(command, explain_argument(alloc))
+    let command = with_argument(command, explain_argument(alloc));
+    with_input(alloc, command, "TABLE")
 }
 
 /// `ecat segment [--frames N] [--bind ADDRESS] [--port P | --descriptor N] [--full] [--live] [--idle SECONDS] [--capture FILE]
-/// [--explain]`.
+/// [--strict] [--explain] [--terse] [TABLE]`.
 fn segment_command<'a>(alloc: Global) -> Made<'a>
     ensures { IsMadeAs result (alone segment_shape) }
 {
     let usage =
-        "ecat segment [--frames <N>] [--bind <ADDRESS>] [--port <P> | --descriptor <N>] [--full] [--live] [--idle <SECONDS>] [--capture <FILE>] [--explain] < TABLE";
+        "ecat segment [--frames <N>] [--bind <ADDRESS>] [--port <P> | --descriptor <N>] [--full] [--live] [--idle <SECONDS>] [--capture <FILE>] [--strict] [--explain] [--terse] [TABLE]";
     let about = "Answers frames as the slaves of a link table, on a UDP port or a network card";
     let command = used_as(
         alloc,
@@ -156,15 +164,18 @@ fn segment_command<'a>(alloc: Global) -> Made<'a>
     let idle = by_default(number(alloc, "idle", "SECONDS", 0, 86400, help), "60");
     let command = with_argument(command, idle);
     let command = with_argument(command, capture_argument(alloc));
-    with_argument(command, explain_argument(alloc))
+    let command = with_argument(command, strict_argument(alloc));
+    let command = with_argument(command, explain_argument(alloc));
+    with_input(alloc, command, "TABLE")
 }
 
-/// `ecat master [--to ADDRESS:PORT | --descriptor N] [--patience MS] [--capture FILE] [--explain]`.
+/// `ecat master [--to ADDRESS:PORT | --descriptor N] [--patience MS] [--capture FILE] [--strict] [--explain] [--terse]
+/// [TABLE [LINES]]`.
 fn master_command<'a>(alloc: Global) -> Made<'a>
     ensures { IsMadeAs result (alone master_shape) }
 {
     let usage =
-        "ecat master [--to <ADDRESS:PORT> | --descriptor <N>] [--patience <MS>] [--capture <FILE>] [--explain] < TABLE_AND_LINES";
+        "ecat master [--to <ADDRESS:PORT> | --descriptor <N>] [--patience <MS>] [--capture <FILE>] [--strict] [--explain] [--terse] [TABLE [LINES]]";
     let about = "Runs lines as the master of a link table, over UDP or a network card";
     let command = used_as(alloc, "master", usage, about, MASTER_EXAMPLE, MASTER_LINES);
     let help = "The IPv4 address and the UDP port of the segment";
@@ -175,7 +186,10 @@ fn master_command<'a>(alloc: Global) -> Made<'a>
     let patience = by_default(number(alloc, "patience", "MS", 1, 60000, help), "500");
     let command = with_argument(command, patience);
     let command = with_argument(command, capture_argument(alloc));
-    with_argument(command, explain_argument(alloc))
+    let command = with_argument(command, strict_argument(alloc));
+    let command = with_argument(command, explain_argument(alloc));
+    let command = with_input(alloc, command, "TABLE");
+    with_argument(command, lines_argument(alloc, "LINES"))
 }
 
 /// A command without arguments: its name, its usage, what it does, and the texts below its short and its long help.
@@ -218,6 +232,32 @@ fn with_argument<'a>(command: Made<'a>, argument: Arg<'a>) -> Made<'a>
     ensures { (app : App) (rule : Rule) → IsArgument argument.entry rule → IsMadeAs command.entry app → IsMadeAs result (with_rule app rule) }
 {
     command?.arg(argument)
+}
+
+/// The command with the file of an input, and with `--terse`.
+fn with_input<'a>(alloc: Global, command: Made<'a>, value: &'a str) -> Made<'a>
+    ensures { (app : App) → IsMadeAs command.entry app → IsMadeAs result (with_input app) }
+{
+    let help = "The file that is read; without it, or with `-`, standard input";
+    let command = with_argument(command, text(alloc, "input", value, help));
+    let help = "Explain no refusal; else one is explained if standard error is a terminal";
+    with_argument(command, flag(alloc, "terse", help))
+}
+
+/// `SCRIPT` or `LINES`, the file of the lines behind a table.
+fn lines_argument<'a>(alloc: Global, value: &'a str) -> Arg<'a>
+    ensures { IsArgument result lines_rule }
+{
+    let help = "The file of the lines; without it, or with `-`, standard input";
+    text(alloc, "lines", value, help)
+}
+
+/// `--strict` of the commands that run lines.
+fn strict_argument<'a>(alloc: Global) -> Arg<'a>
+    ensures { IsArgument result strict_rule }
+{
+    let help = "Count each line that prints `no`, `bad`, `failed` or `fault` as unmet: status 5";
+    flag(alloc, "strict", help)
 }
 
 /// `--explain` of the commands that print neither a plan nor payloads.

@@ -46,7 +46,7 @@ Exit status:
 /// The text below the arguments of `ecat plan` in its short help.
 pub(crate) const PLAN_EXAMPLE: &str = "\
 Example: a wiring list of a table, and where the table is wrong
-  ecat plan --explain < examples/small_machine.toml
+  ecat plan --explain examples/small_machine.toml
 
 `ecat plan --help` says what the lines mean, and what is refused.";
 
@@ -128,7 +128,7 @@ Example: a broadcast read of the AL status, in the standard's names
 
 /// The text below them in its long help.
 pub(crate) const DECODE_LINES: &str = "\
-PAYLOADS are payloads of UDP datagrams to port 34980 (0x88A4) in hex, one a line. Empty lines are
+FILE has payloads of UDP datagrams to port 34980 (0x88A4) in hex, one a line. Empty lines are
 skipped. An Ethernet frame of type 0x88A4 has the same bytes behind its header.
 
 Lines for each payload, in this order:
@@ -158,12 +158,12 @@ Exit status:
   3  refused, and standard error says `ecat: NUMBER NAME VALUES`:
      40 BadHex      a line isn't pairs of hex digits: leave out blanks and 0x; the lines before
                     it are printed
-     11 to 25, 44   the table in FILE is refused; `ecat plan --help` says what to do
+     11 to 25, 44   the table of `--table` is refused; `ecat plan --help` says what to do
       1 Memory      memory ran out, and the input may be good or bad: free some and try again
   4  input or output is at fault, in the same form:
      41 Output      a text couldn't be written, or only a part of it: see where standard output
                     goes
-     42 Input       standard input, or FILE, couldn't be read, isn't UTF-8, or has over 1048576
+     42 Input       standard input, or a file, couldn't be read, isn't UTF-8, or has over 1048576
                     bytes: see where it comes from";
 
 /// The text below the arguments of `ecat encode` in its short help.
@@ -175,7 +175,7 @@ Example: what `ecat decode` prints, as hex again
 
 /// The text below them in its long help.
 pub(crate) const ENCODE_LINES: &str = "\
-TEXT is what `ecat decode` prints of frames; `ecat decode --help` describes the lines. Empty lines
+FILE has what `ecat decode` prints of frames; `ecat decode --help` describes the lines. Empty lines
 and indented ones are skipped. Each frame is printed as one line of hex digits.
 
 Exit status:
@@ -200,7 +200,8 @@ Example: a table, and a script that begins with a line `%%`
 
 /// The text below them in its long help.
 pub(crate) const SIM_LINES: &str = "\
-TABLE_AND_SCRIPT is a link table, a line `%%`, and a script with one event a line. Numbers are
+TABLE is a link table, and SCRIPT a script with one event a line. Standard input has both, with a
+line `%%` between, unless a file is named; then it has no table and no line `%%`. Numbers are
 decimal, words have one blank between them, empty lines are skipped, and `#` begins a comment.
 VALUE is decimal, `0x` and hex digits, or `-` and decimal. A negative VALUE is its two's complement
 in the variable's bits. A value that these bits can't hold can't be set. S is a slave's number from
@@ -208,7 +209,7 @@ in the variable's bits. A value that these bits can't hold can't be set. S is a 
 
 Lines of a script:
   start           sends the next frame of the start-up
-  set NAME VALUE  sets an output variable
+  set NAME VALUE  sets an output variable; NAME VALUE may stand several times: all or none are set
   begin           begins a cycle: sends the frame of each part
   pass K          the frame in slot K passes its next slave
   lose K          the frame in slot K is lost
@@ -221,14 +222,20 @@ Lines of a script:
   reset S         slave S is switched off and on
   in NAME VALUE   sets an input variable as the plant does. Each slave with bits of it writes all
                   its input bytes, the other bits as it published them last
-  out NAME        prints an output variable as the slaves publish it
+  out NAME        prints an output variable as the slaves publish it, or several
   ready           runs the start-up to its end
+  stop            ends a ready start-up, if no cycle is open and no frame is on its way. Then
+                  `ready` starts up again, also slaves that were reset
   cycle           runs a cycle: begin, each frame past all slaves and back, close
   show            prints the input variables
+  show NAME       prints this variable of the image, or several
+  echo TEXT       prints TEXT
   states          prints the slaves' AL states, as a master reads them
   repeat N LINE   runs LINE N times, 1 to 1000000; LINE isn't a `repeat`
+  repeat N {      runs the lines up to its `}`, a line of its own, N times. They may be indented;
+                  blocks may stand in blocks, up to 8 deep
 
-Lines that change nothing, and print something only if what they expect doesn't hold:
+Lines that print something only if what they expect doesn't hold:
   expect NAME VALUE           an input variable of the image is VALUE; for an output variable, the
                               slaves publish VALUE in its linked bits
   expect NAME == VALUE        its value is VALUE; also with !=, <, <=, >, >=. A value has no sign,
@@ -242,6 +249,9 @@ Lines that change nothing, and print something only if what they expect doesn't 
                               four hex digits, which may be left out
   expect ready, expect failed
                               how the start-up ended; a number may stand behind `failed`
+  expect no LINE              LINE, which is run, prints `no`; what it prints isn't printed
+  within N expect ..          so it is now or behind one of N cycles, 1 to 1000000; none is run once
+                              it is so
 
 Bytes count from 0 in the slave's own data, as `ecat plan --explain` shows. `put` begins with byte
 0, which opens a draft of zeros. The last byte publishes all of it at once; until then the slave
@@ -267,17 +277,19 @@ What a line prints, before the next one runs:
                                     frame is missing
                     al WORD         the OR of the slaves' AL status words in hex
   byte BYTE       what `get` read, in hex
-  NAME VALUE      each input variable, after `show`; the output variable, after `out`
+  NAME VALUE      each variable, after `show` and `out`
   state S NAME STATE CODE
                   each slave, after `states`: INIT, PREOP, SAFEOP or OP, with `+ERROR` behind
                   after an error, or `-` without a station address; and the AL status code in hex
-  unmet LINE      what this line expects doesn't hold; the script goes on
+  unmet LINE      what this line expects doesn't hold; the script goes on. With `--explain` the
+                  line behind it says what was and what was expected
 Other lines print nothing. A repeated line prints each time.
 
 With `--live` each line is run as it comes. What it prints is written out before the next one is
 read. So another program can be the plant, or the control program, through a pipe. A line without a
 valid form then prints `bad LINE` instead of 39, and changes nothing. With `--explain` the line
-behind it says why.
+behind it says why. A block is run once its `}` has come, without bad lines. It has at most 1000
+lines; a further one is bad, but for `}`. So is a block that is open at the end of the input.
 
 Exit status:
   0  the script was run to its end, even if lines printed `no` or `failed`
@@ -286,7 +298,8 @@ Exit status:
      11 to 25, 44        the table is refused; `ecat plan --help` says what to do. It is 11 too
                          if the line `%%` is missing or isn't just that: then the script is read
                          as a part of the table
-     39 BadScript LINE   a line is none of these: correct it; LINE counts from 1 behind `%%`
+     39 BadScript LINE   a line is none of these, or its block has no end: correct it; LINE counts
+                         from 1 behind `%%`
       1 Memory           memory ran out, and the input may be good or bad: free some and try again
   4  input or output is at fault, in the same form:
      41 Output           what a line prints, or the capture, couldn't be written: see where
@@ -299,7 +312,7 @@ Exit status:
 /// The text below the arguments of `ecat loop` in its short help.
 pub(crate) const LOOP_EXAMPLE: &str = "\
 Example: ten cycles
-  ecat loop --cycles 10 < examples/three_slaves.toml
+  ecat loop --cycles 10 examples/three_slaves.toml
 
 `ecat loop --help` says what is printed, and what is refused.";
 
@@ -358,7 +371,7 @@ Refusals with status 4:
 /// The text below the arguments of `ecat segment` in its short help.
 pub(crate) const SEGMENT_EXAMPLE: &str = "\
 Example: slaves for `ecat master`, or for another master
-  ecat segment < examples/three_slaves.toml
+  ecat segment examples/three_slaves.toml
 
 `ecat segment --help` lists the lines of `--live`, and says what is printed and refused.";
 
@@ -375,14 +388,14 @@ after N payloads, if `--frames N` says so, and if no payload came for SECONDS.
 With `--full`, slaves are as usual masters expect them. They also have SII categories, DL status,
 and CoE objects 0x1000 to 0x100A and 0x1C00.
 
-With `--live`, TABLE is a link table up to a line `%%`, and behind it lines that are run one by one
-as they come, between two frames. So another program can be the plant, through a pipe. The slaves
-have no applications then. The end of the input changes nothing. Words, numbers, S, NAME, VALUE,
-BYTE and comments are those of `ecat sim --help`.
+With `--live`, standard input has lines that are run one by one as they come, between two frames.
+They follow a line `%%`, unless the table is a file. So another program can be the plant, through a
+pipe. The slaves have no applications then. The end of the input changes nothing. Words, numbers, S,
+NAME, VALUE, BYTE and comments are those of `ecat sim --help`.
 
 Lines of `--live`:
   in NAME VALUE   sets an input variable as the plant does
-  out NAME        prints an output variable as the slaves publish it
+  out NAME        prints an output variable as the slaves publish it, or several
   put S I BYTE    slave S writes byte I of its inputs
   get S I         it reads byte I of its outputs
   fault S         the application of slave S has a fault
@@ -390,17 +403,22 @@ Lines of `--live`:
   lose N          the next N frames are lost: no slave sees them, and none is answered
   lose N part P   the next N cyclic frames of part P are lost
   served          prints how many frames were answered so far, and how many other payloads came
+  echo TEXT       prints TEXT
   repeat N LINE   runs LINE N times, 1 to 1000000; LINE isn't a `repeat`
+  repeat N {      runs the lines up to its `}`, a line of its own, N times, once that has come. They
+                  may be indented; blocks may stand in blocks, up to 8 deep. A block has at most
+                  1000 lines, and runs without those that are bad
   expect NAME VALUE
                   the slaves publish VALUE in the linked bits of this output variable
   expect state S STATE CODE
                   slave S is in INIT, PREOP, SAFEOP or OP, with this AL status code in four hex
                   digits, which may be left out
+  expect no LINE  LINE, which is run, prints `no`
 
 What a line prints, before the next one runs:
   no LINE         the line of this number can't be done. With `--explain` the next line says why
-  bad LINE        it has none of these forms, and did nothing. With `--explain` the next line says
-                  why
+  bad LINE        it has none of these forms, and did nothing; or it begins a block that has no `}`
+                  at the end of the input. With `--explain` the next line says why
   byte BYTE       what `get` read, in hex
   NAME VALUE      the output variable, after `out`
   served N refused M
@@ -428,16 +446,17 @@ Exit status:
 /// The text below the arguments of `ecat master` in its short help.
 pub(crate) const MASTER_EXAMPLE: &str = "\
 Example: a start-up and a cycle against `ecat segment`
-  (cat examples/three_slaves.toml; echo %%; echo ready; echo cycle) | ecat master
+  (echo ready; echo cycle) | ecat master examples/three_slaves.toml
 
 `ecat master --help` lists the lines, what they print, and what is refused.";
 
 /// The text below them in its long help.
 pub(crate) const MASTER_LINES: &str = "\
-TABLE_AND_LINES is a link table up to a line `%%`, and behind it lines that are run one by one as
-they come. What a line prints is written out before the next one is read, so a control program can
-drive the master through a pipe. The run ends with the input. Words, numbers, NAME, VALUE and
-comments are those of `ecat sim --help`, and empty lines are skipped.
+TABLE is a link table, and LINES are run one by one as they come. Standard input has both, with a
+line `%%` between, unless a file is named; then it has no table and no line `%%`. What a line prints
+is written out before the next one is read, so a control program can drive the master through a
+pipe. The run ends with the input. Words, numbers, NAME, VALUE and comments are those of
+`ecat sim --help`, and empty lines are skipped.
 
 Frames go to ADDRESS:PORT, and nothing comes in from elsewhere. With `--descriptor` they are
 Ethernet frames of type 0x88A4 on the raw socket of a network card, which is already open;
@@ -446,9 +465,12 @@ Ethernet frames of type 0x88A4 on the raw socket of a network card, which is alr
 Lines:
   ready           sets all outputs to 0, and runs a start-up over the wire to its end. Between two
                   polls of a wait it rests: 1000 take about 9 seconds
-  set NAME VALUE  sets an output variable; the next cycle sends it
+  set NAME VALUE  sets an output variable; the next cycle sends it. NAME VALUE may stand several
+                  times: all or none are set
   cycle           runs a cycle over the wire. It closes when all answers are there, or MS are over
   show            prints the input variables
+  show NAME       prints this variable of the image, or several
+  echo TEXT       prints TEXT
   report          prints the last report again
   states          reads the slaves' AL states, and changes nothing
   stop            sets all outputs to 0, runs a cycle, and asks all slaves for INIT. Then only
@@ -464,7 +486,13 @@ Lines:
   expect state S STATE
                   slave S says that it is in INIT, PREOP, SAFEOP or OP; an AL status code of four
                   hex digits may stand behind it
+  expect no LINE  LINE, which is run, prints `no`; what it prints isn't printed
+  within N expect ..
+                  so it is now or behind one of N cycles, 1 to 1000000
   repeat N LINE   runs LINE N times, 1 to 1000000; LINE isn't a `repeat`
+  repeat N {      runs the lines up to its `}`, a line of its own, N times, once that has come. They
+                  may be indented; blocks may stand in blocks, up to 8 deep. A block has at most
+                  1000 lines, and runs without those that are bad
 
 What a line prints; lines count from 1 behind `%%`:
   ready           the start-up has ended well
@@ -476,7 +504,7 @@ What a line prints; lines count from 1 behind `%%`:
   state S NAME STATE CODE
                   each slave, after `states`: INIT, PREOP, BOOT, SAFEOP or OP, with `+ERROR` behind
                   after an error, or `-` if it doesn't answer; and the AL status code in hex
-  NAME VALUE      each input variable, after `show`
+  NAME VALUE      each variable, after `show`
   unmet LINE      what this line expects doesn't hold
   no LINE         what this line says can't be done, and nothing was done. With `--explain` the line
                   behind it says why. It stands for:
@@ -485,8 +513,8 @@ What a line prints; lines count from 1 behind `%%`:
                     `set` of an input variable, or of a value that the variable can't hold
                     `report` before the first one
   bad LINE        the line is none of these, and nothing was done. `expect` of an output variable is
-                  bad too: no frame carries what slaves show of it. With `--explain` the line behind
-                  it says why
+                  bad too: no frame carries what slaves show of it. So is the first line of a block
+                  without a `}`, at the end of the input. With `--explain` the next line says why
 Other lines print nothing. A repeated line prints each time.
 
 Exit status:

@@ -7,4 +7,4 @@ mod laws;
 mod request;
 
 pub use crate::laws::{pass_is_read_as_pass, plan_is_read_as_plan};
-pub use crate::request::{Notice, Request, SegmentOptions, read_args};
+pub use crate::request::{Arguments, Inputs, Notice, Request, SegmentOptions, read_args};

@@ -1,12 +1,12 @@
 //! What the arguments of a command line ask for.
-ghost use Rattle.std.specs.Prelude.{◌≡◌, ◌⊎◌, [], Some, codes, map, IfOk, IfErr, IfSome, IfNone, OnOk};
+ghost use Rattle.std.specs.Prelude.{◌≡◌, ◌⊎◌, [], Some, codes, map, option_map, IfOk, IfErr, IfSome, IfNone, OnOk};
 ghost use Rattle.clap.specs.Faults.{fault_of};
 ghost use Rattle.clap.specs.Matches.{found_of};
 ghost use Rattle.clap.specs.Simple.{subcommand_of, subcommand_rows_of};
 ghost use Rattle.clap.specs.Values.{kind_of};
 ghost use Rattle.clap.specs.Walk.{rows_of};
 ghost use Rattle.ec_args.specs.CommandLine.{ecat};
-ghost use Rattle.ec_args.specs.Requests.{Asks, IsFault, IsNotice, IsNoticeFor, MeetsCommand, Reads, command_of, is_explained};
+ghost use Rattle.ec_args.specs.Requests.{Asks, AsksAll, FindsInputs, IsFault, IsNotice, IsNoticeFor, MeetsCommand, Reads, command_of, is_explained, named};
 ghost use Rattle.ec_args.specs.Stages.{IsAskedAs, IsNeverAsked};
 
 use crate::commands::command;
@@ -14,6 +14,26 @@ use clap::error::ErrorKind;
 use clap::{ArgMatches, Command, Error};
 use std::alloc::{AllocError, Global};
 use std::convert::AsStr;
+
+/// All that the arguments of a command line say.
+#[derive(Clone, Copy, Debug, PartialEq, Eq, Drop)]
+pub struct Arguments<'a> {
+    /// The command.
+    pub request: Request<'a>,
+    /// Its inputs.
+    pub inputs: Inputs<'a>,
+    /// Whether no refusal is explained.
+    pub terse: bool,
+}
+
+/// The inputs of a command: the names of files. Without a name, an input is standard input.
+#[derive(Clone, Copy, Debug, PartialEq, Eq, Drop)]
+pub struct Inputs<'a> {
+    /// The file of its only input, or of its link table if it runs lines too.
+    pub first: Option<&'a str>,
+    /// The file of the lines that it runs.
+    pub second: Option<&'a str>,
+}
 
 /// What the arguments of a command line ask for.
 #[derive(Clone, Copy, Debug, PartialEq, Eq, Drop)]
@@ -55,6 +75,8 @@ pub enum Request<'a> {
         capture: Option<&'a str>,
         /// Whether a refusal is explained, and why a line can't be done.
         explained: bool,
+        /// Whether each line that can't be done, is bad or fails counts as unmet.
+        strict: bool,
     },
     /// Run this many cycles of the link table on the input over sockets of this process.
     Loop {
@@ -89,6 +111,8 @@ pub enum Request<'a> {
         capture: Option<&'a str>,
         /// Whether a refusal is explained, and why a line can't be done or a start-up failed.
         explained: bool,
+        /// Whether each line that can't be done, is bad or fails counts as unmet.
+        strict: bool,
     },
 }
 
@@ -109,6 +133,8 @@ pub struct SegmentOptions<'a> {
     pub idle: u32,
     /// Whether lines behind the link table move the slaves as they come.
     pub live: bool,
+    /// Whether each line that can't be done or is bad counts as unmet.
+    pub strict: bool,
 }
 
 impl Request<'_> {
@@ -141,7 +167,7 @@ pub enum Notice {
 /// What the arguments ask for; the first of them is the program's name. If `clap`'s specification finds
 /// no fault in them, it is what that specification finds; else the notice says what to print for the
 /// user.
-pub fn read_args<'a, S: AsStr>(alloc: Global, args: &'a [S]) -> Result<Request<'a>, Notice>
+pub fn read_args<'a, S: AsStr>(alloc: Global, args: &'a [S]) -> Result<Arguments<'a>, Notice>
     ensures { Reads (map S.text args.entry.now) result }
 {
     read_request(alloc, args).map_err(|error| notice_of(alloc, &error))
@@ -169,15 +195,15 @@ fn notice_for(kind: ErrorKind, text: Result<String, AllocError>) -> Notice
 }
 
 /// What the arguments ask for, or `clap`'s error.
-fn read_request<'a, S: AsStr>(alloc: Global, args: &'a [S]) -> Result<Request<'a>, Error>
+fn read_request<'a, S: AsStr>(alloc: Global, args: &'a [S]) -> Result<Arguments<'a>, Error>
     ensures faultless { OnOk result (fault_of ecat (map S.text args.entry.now) ≡ []) }
-    ensures found { IfOk result (Asks (subcommand_of ecat (map S.text args.entry.now))) }
+    ensures found { IfOk result (AsksAll (subcommand_of ecat (map S.text args.entry.now))) }
     ensures fault { IfErr result (λ error. IsFault (map S.text args.entry.now) (kind_of error)) }
 {
     let mut command = command(alloc)?;
     let matches = command.try_get_matches_from_mut(args)?;
     match read_matches(&matches) {
-        Some(request) => Ok(request),
+        Some(arguments) => Ok(arguments),
         None => Err(no_command(&mut command)),
     }
 }
@@ -194,12 +220,45 @@ fn no_command(command: &mut Command<'_>) -> Error
 }
 
 /// What the command that `clap` met asks for; `None` if it met none with all that it needs.
-fn read_matches<'a>(matches: &ArgMatches<'a>) -> Option<Request<'a>>
-    ensures some { IfSome result (Asks (subcommand_rows_of matches.now)) }
+fn read_matches<'a>(matches: &ArgMatches<'a>) -> Option<Arguments<'a>>
+    ensures some { IfSome result (AsksAll (subcommand_rows_of matches.now)) }
     ensures none { IfNone result (MeetsCommand (subcommand_rows_of matches.now) → ⊥) }
 {
     let (name, given) = matches.subcommand()?;
-    read_command(name, given)
+    read_arguments(name, given)
+}
+
+/// All that the arguments of the command `name` say; `None` if it is unknown or one that it needs is missing.
+fn read_arguments<'a>(name: &str, given: &ArgMatches<'a>) -> Option<Arguments<'a>>
+    ensures some { IfSome result (AsksAll (Some (name.now, rows_of (found_of given.now)))) }
+    ensures none { IfNone result (MeetsCommand (Some (name.now, rows_of (found_of given.now))) → ⊥) }
+{
+    match read_command(name, given) {
+        Some(request) => Some(Arguments {
+            request,
+            inputs: read_inputs(given),
+            terse: given.get_flag("terse"),
+        }),
+        None => None,
+    }
+}
+
+/// The inputs of a command.
+fn read_inputs<'a>(given: &ArgMatches<'a>) -> Inputs<'a>
+    ensures { FindsInputs (rows_of (found_of given.now)) result }
+{
+    Inputs {
+        first: named(given.get_str("input")),
+        second: named(given.get_str("lines")),
+    }
+}
+
+/// The name of a file; `None` if there is none, or if it is `-`.
+fn named(file: Option<&str>) -> Option<&str>
+    ensures { option_map (λ x. x.now) result ≡ named (option_map (λ x. x.now) file.entry) }
+{
+    let name = file?;
+    if name == "-" { None } else { Some(name) }
 }
 
 /// What the arguments of the command `name` ask for; `None` if it is unknown or one that it needs is missing.
@@ -232,6 +291,7 @@ fn read_master<'a>(given: &ArgMatches<'a>) -> Option<Request<'a>>
         patience: given.get_one::<u16>("patience")?,
         capture: given.get_str("capture"),
         explained: given.get_flag("explain"),
+        strict: given.get_flag("strict"),
     })
 }
 
@@ -248,6 +308,7 @@ fn read_segment<'a>(given: &ArgMatches<'a>) -> Option<Request<'a>>
         full: given.get_flag("full"),
         idle: given.get_one::<u32>("idle")?,
         live: given.get_flag("live"),
+        strict: given.get_flag("strict"),
     };
     Some(Request::Segment {
         options,
@@ -276,6 +337,7 @@ fn read_sim<'a>(given: &ArgMatches<'a>) -> Request<'a>
         live: given.get_flag("live"),
         capture: given.get_str("capture"),
         explained: given.get_flag("explain"),
+        strict: given.get_flag("strict"),
     }
 }
 

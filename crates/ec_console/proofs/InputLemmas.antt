@@ -11,7 +11,7 @@ use Rattle.ec_lines.specs.Inputs.{is_refusal}
 use Rattle.ec_console.specs.declared.refusal.Refusal.{Refusal}
 use Rattle.ec_console.specs.declared.refusal.Refusal.TheVariants as refusal
 use Rattle.ec_console.specs.declared.refusal.Refusal.TheVariants.{Memory, Input}
-use Rattle.ec_console.specs.Given.{Given, GivesText, IsInputRefusal, IsNoInput, IsReadRefusal}
+use Rattle.ec_console.specs.Given.{Given, GivesText, IsInputRefusal, IsNoInput, IsReadRefusal, IsUnread}
 
 take_short : (n : ℕ) (xs : List ℕ) → length (take n xs) < n → take n xs ≡ xs
 take_short zero xs lt = absurd (omega (arith, lt))
@@ -59,6 +59,21 @@ pub text_refused : (r : Result (String Global) Refusal) (given : Given) (bytes :
     → IfErr r (λ e. (e ≡ Input) × IsNoInput bytes) → IfErr r (IsInputRefusal given)
 text_refused (Ok t) given bytes h none = tt
 text_refused (Err e) given bytes h none = input_refused given bytes e h none.0 none.1
+
+-- a refusal of an input, whatever is known of that
+pub refused_unread : (given : Given) (refusal : Refusal) → IsInputRefusal given refusal → IsUnread refusal
+refused_unread given Memory fault = inr refl
+refused_unread given Input fault = inl refl
+refused_unread given (refusal.Frame e) fault = absurd fault
+refused_unread given (refusal.Table e) fault = absurd fault
+refused_unread given (refusal.Link e) fault = absurd fault
+refused_unread given (refusal.Start e) fault = absurd fault
+refused_unread given (refusal.Run e) fault = absurd fault
+refused_unread given (refusal.Socket trouble) fault = absurd fault
+refused_unread given (refusal.Script e) fault = absurd fault
+refused_unread given refusal.BadHex fault = absurd fault
+refused_unread given refusal.Output fault = absurd fault
+refused_unread given (refusal.Unmet n) fault = absurd fault
 
 -- a read that is refused refuses the input
 pub read_refused : (given : Given) (refusal : Refusal) → IsReadRefusal given.is_refused refusal → IsInputRefusal given refusal

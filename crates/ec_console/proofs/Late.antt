@@ -5,7 +5,7 @@ use Rattle.ec_lines.specs.declared.error.LinesError.TheVariants as lines
 use Rattle.ec_lines.specs.Taking.{IsReadFault}
 use Rattle.ec_console.specs.declared.refusal.Refusal.{Refusal}
 use Rattle.ec_console.specs.declared.refusal.Refusal.TheVariants as refusal
-use Rattle.ec_console.specs.Given.{IsReadRefusal, lines_refusal}
+use Rattle.ec_console.specs.Given.{lines_refusal}
 use Rattle.ec_console.specs.Printing.{IsCutOff, IsPartPrinted, OutputState}
 use Rattle.ec_console.specs.Saying.{IsLate}
 
@@ -29,25 +29,11 @@ line_late is_unread output refusal.BadHex late = absurd late
 line_late is_unread output (refusal.Unmet n) late = absurd late
 
 -- a line that isn't taken
-pub unread : (is_unread : Bool) (error : LinesError) → IsReadFault is_unread error → IsReadRefusal is_unread (lines_refusal error)
-unread is_unread lines.Memory fault = tt
-unread is_unread lines.Unread fault = fault
-unread is_unread lines.TooLong fault = absurd fault
-unread is_unread lines.NoText fault = absurd fault
-
-pub untaken_late : (is_unread : Bool) (output : OutputState) (x : Refusal) → IsReadRefusal is_unread x → IsLate is_unread output x
-untaken_late is_unread output refusal.Memory late = tt
-untaken_late is_unread output refusal.Input late = late
-untaken_late is_unread output refusal.Output late = absurd late
-untaken_late is_unread output (refusal.Frame e) late = absurd late
-untaken_late is_unread output (refusal.Table e) late = absurd late
-untaken_late is_unread output (refusal.Link e) late = absurd late
-untaken_late is_unread output (refusal.Start e) late = absurd late
-untaken_late is_unread output (refusal.Run e) late = absurd late
-untaken_late is_unread output (refusal.Socket trouble) late = absurd late
-untaken_late is_unread output (refusal.Script e) late = absurd late
-untaken_late is_unread output refusal.BadHex late = absurd late
-untaken_late is_unread output (refusal.Unmet n) late = absurd late
+pub unread_late : (is_unread : Bool) (output : OutputState) (error : LinesError) → IsReadFault is_unread error → IsLate is_unread output (lines_refusal error)
+unread_late is_unread output lines.Memory fault = tt
+unread_late is_unread output lines.Unread fault = fault
+unread_late is_unread output lines.TooLong fault = absurd fault
+unread_late is_unread output lines.NoText fault = absurd fault
 
 -- a text that can't be printed
 pub write_late : (r : Result Unit Refusal) (old new : OutputState) (text : List ℕ) → OnErr r (IsCutOff old new text) → IfErr r (λ x. x ≡ refusal.Output) → IfErr r (IsLate false new)

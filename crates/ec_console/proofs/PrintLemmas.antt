@@ -102,6 +102,10 @@ printed_more old mid new a b first then = record {
 pub whole_part : (old new : OutputState) (text : List ℕ) → Appends old.holds new.holds text → IsPartPrinted old new text
 whole_part old new text whole = (length text, subst (Appends old.holds new.holds) (sym (take-all text)) whole)
 
+-- and nothing is one
+pub part_none : (output : OutputState) (text : List ℕ) → IsPartPrinted output output text
+part_none output text = (0, appends_nothing output.holds)
+
 -- and what is behind a text that is printed is behind it in both
 part_behind : (text more : List ℕ) (n : ℕ) → text ++ take n more ≡ take (length text + n) (text ++ more)
 part_behind [] more n = ap (λ k. take k more) (sym (zero-add n))

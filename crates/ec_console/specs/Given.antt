@@ -31,6 +31,10 @@ IsReadRefusal is_refused Memory = Unit {0}
 IsReadRefusal is_refused Input = is_refused ≡ true
 IsReadRefusal is_refused _ = ⊥
 
+-- the refusals of a file, of which nothing is known
+abbrev pub IsUnread : Refusal → Type 0
+IsUnread refusal = (refusal ≡ Input) ⊎ (refusal ≡ Memory)
+
 -- bytes that are no input: more than 2^20, or no text in UTF-8
 abbrev pub IsNoInput : List ℕ → Type 0
 IsNoInput bytes = (2 ^ 20 < length bytes) ⊎ (IsUtf8 bytes → ⊥)

@@ -1,5 +1,5 @@
 -- Commands that run a machine: the text that states it, and the refusals before it runs (this project's profile).
-use Rattle.std.specs.Prelude.{◌≡◌, ◌⊎◌, ℕ, Bool, true, false, List, [], IfSome, Option, Result, Ok, Err}
+use Rattle.std.specs.Prelude.{◌≡◌, ◌⊎◌, ℕ, Bool, true, false, List, [], ◌∷◌, ◌++◌, IfSome, Option, None, Result, Ok, Err}
 use Rattle.ec_lines.specs.declared.error.LinesError.{LinesError}
 use Rattle.ec_lines.specs.Taking.{RefusesText, TakesText}
 use Rattle.ec_table.specs.Contents.{Contents, advertised_full}
@@ -11,10 +11,12 @@ use Rattle.ec_console.specs.declared.form.SlaveForm.{SlaveForm}
 use Rattle.ec_console.specs.declared.form.SlaveForm.TheVariants.{Full, Plain}
 use Rattle.ec_console.specs.declared.refusal.Refusal.{Refusal}
 use Rattle.ec_console.specs.declared.refusal.Refusal.TheVariants.{Script}
+use Rattle.ec_console.specs.declared.files.Origin.{Origin}
+use Rattle.ec_console.specs.declared.files.Origin.TheVariants as origin
 use Rattle.ec_console.specs.declared.stated.Source.{Source}
 use Rattle.ec_console.specs.declared.stated.Source.TheVariants as takes
 use Rattle.ec_console.specs.Capturing.{EndsWith}
-use Rattle.ec_console.specs.Given.{Given, IsInputRefusal, IsTableRefusal, lines_refusal}
+use Rattle.ec_console.specs.Given.{Given, IsInputRefusal, IsTableRefusal, IsUnread, lines_refusal}
 
 -- ---- the text
 
@@ -23,6 +25,21 @@ abbrev pub TakesSource : Source → (given : Option (List ℕ)) → (text : List
 TakesSource takes.Table given text rest = IfSome given (λ bytes. text ≡ bytes)
 TakesSource takes.Script given text rest = IfSome given (λ bytes. text ≡ bytes)
 TakesSource takes.Lines given text rest = TakesText given rest text
+
+-- what the stream of an input has left, if it was given; of a file, nothing is known
+abbrev pub left_in : {R O : Type 0} → (R → Option (List ℕ)) → Origin R O → Option (List ℕ)
+left_in remaining (origin.Given stream) = remaining stream
+left_in remaining (origin.Opened file) = None
+
+-- what stands between a table and its script in one text
+abbrev pub divider : List ℕ
+divider = 10 ∷ 37 ∷ 37 ∷ 10 ∷ []
+
+-- As `TakesSource`, for a table that was read before, so that the input has no table and no line `%%`.
+abbrev pub TakesBehind : Source → (table : List ℕ) → (given : Option (List ℕ)) → (text : List ℕ) → (rest : Option (List ℕ)) → Type 0
+TakesBehind takes.Table table given text rest = (text ≡ table) × (rest ≡ given)
+TakesBehind takes.Script table given text rest = (script : List ℕ) × IfSome given (λ bytes. script ≡ bytes) × (text ≡ table ++ (divider ++ script))
+TakesBehind takes.Lines table given text rest = (text ≡ table) × (rest ≡ given)
 
 -- refusals of the input: of all of it, or of the text up to a line `%%`
 abbrev pub RefusesSource : Source → Given → Refusal → Type 0
@@ -83,3 +100,10 @@ RunsSource source form file Does Nothing given ended =
     ((text : List ℕ) × (rest : Option (List ℕ)) × TakesSource source given.bytes text rest
     × RunsStated source form file (Does (record given { bytes = rest })) Nothing text ended)
     ⊎ IsNeverRun (RefusesSource source given) Nothing ended
+
+-- as `RunsSource`, for a table that was read before
+abbrev pub RunsBehind : (table : List ℕ) → Source → SlaveForm → (file : Option (List ℕ)) → (Does : Given → Contents → List Line → Result Unit Refusal → Type 0) → (Nothing : Type 0) → Given → Result Unit Refusal → Type 0
+RunsBehind table source form file Does Nothing given ended =
+    ((text : List ℕ) × (rest : Option (List ℕ)) × TakesBehind source table given.bytes text rest
+    × RunsStated source form file (Does (record given { bytes = rest })) Nothing text ended)
+    ⊎ IsNeverRun IsUnread Nothing ended

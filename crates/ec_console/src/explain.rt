@@ -4,11 +4,24 @@ ghost use Rattle.ec_console.specs.Explaining.{IsLeft};
 
 use crate::remarks::remarks_text;
 use crate::{Refusal, Source};
+use ec_diagnostic::FileNames;
 use ec_script::split_script;
 use ec_table::{Fault, TableError};
 use ec_wire::Trouble;
 use std::alloc::{AllocError, Global};
+use std::io;
 use std::marker::Model;
+
+/// A text that a command read.
+#[derive(Clone, Copy, Drop)]
+pub struct TextRead<'t> {
+    /// What the command read it as.
+    pub source: Source,
+    /// The text.
+    pub text: &'t str,
+    /// The files that it was read from.
+    pub names: FileNames<'t>,
+}
 
 /// The text behind the line of a refusal, if it is wanted.
 #[derive(Drop)]
@@ -44,32 +57,34 @@ impl Explanation {
         self.text.as_bytes()
     }
 
-    /// Explains the refusal of a command that read a text of this source, if that is wanted and there is memory for it.
-    pub fn explain(
-        &mut self,
-        alloc: Global,
-        source: Source,
-        text: &str,
-        ended: &Result<(), Refusal>,
-    )
+    /// Explains the refusal of a command that read a text, if that is wanted and there is memory for it.
+    pub fn explain(&mut self, alloc: Global, read: TextRead<'_>, ended: &Result<(), Refusal>)
         ensures { IsLeft self.old self.new }
     {
         if self.is_wanted {
-            self.keep(text_on(alloc, source, text, ended));
+            self.keep(text_on(alloc, read, ended));
         }
     }
 
-    /// Explains a fault of the input, the output or a socket, if that is wanted and nothing is explained yet.
-    pub fn explain_stream(&mut self, alloc: Global, ended: &Result<(), Refusal>)
+    /// Explains why a file couldn't be opened, if that is wanted.
+    pub fn explain_unopened(&mut self, alloc: Global, file: &str, error: &io::Error)
+        ensures { IsLeft self.old self.new }
+    {
+        if self.is_wanted {
+            self.keep(format!(in alloc; "{file}: {error}\n{FILE_ADVICE}"));
+        }
+    }
+
+    /// Explains a fault of the input, the output or a socket, if that is wanted and nothing is explained yet. If the input is a file,
+    /// its name is given.
+    pub fn explain_stream(&mut self, alloc: Global, file: Option<&str>, ended: &Result<(), Refusal>)
         ensures { IsLeft self.old self.new }
     {
         if !self.is_wanted || !self.text.is_empty() {
             return;
         }
-        if let Err(Refusal::Socket(trouble)) = ended {
-            self.keep(socket_text(alloc, *trouble));
-        } else if let Some(text) = stream_text(ended) {
-            self.keep(String::from_str(alloc, text));
+        if let Some(made) = fault_text(alloc, file, ended) {
+            self.keep(made);
         }
     }
 
@@ -80,6 +95,27 @@ impl Explanation {
         }
     }
 }
+
+/// What a fault of the input, the output or a socket means, and what to do. `None` for other refusals.
+fn fault_text(
+    alloc: Global,
+    file: Option<&str>,
+    ended: &Result<(), Refusal>,
+) -> Option<Result<String, AllocError>> {
+    match (ended, file) {
+        (Err(Refusal::Socket(trouble)), _) => Some(socket_text(alloc, *trouble)),
+        (Err(Refusal::Input), Some(file)) => {
+            Some(format!(in alloc;
+                "{file}: it couldn't be read, isn't text in UTF-8, or is longer than 1048576 bytes\n{FILE_ADVICE}"
+            ))
+        }
+        _ => Some(String::from_str(alloc, stream_text(ended)?)),
+    }
+}
+
+/// What to do about a file that can't be read.
+const FILE_ADVICE: &str =
+    "To do: correct the file's name, see who may read it, and save it as UTF-8.\n";
 
 /// What a fault of a socket means, by what the system said, and what to do.
 fn socket_text(alloc: Global, trouble: Trouble) -> Result<String, AllocError> {
@@ -128,32 +164,38 @@ fn stream_text(ended: &Result<(), Refusal>) -> Option<&'static str> {
 /// The explanation of how a command ended, on the text that it read; empty if it wasn't refused.
 fn text_on(
     alloc: Global,
-    source: Source,
-    text: &str,
+    read: TextRead<'_>,
     ended: &Result<(), Refusal>,
 ) -> Result<String, AllocError> {
-    match (source, ended) {
+    match (read.source, ended) {
         (_, Ok(())) => Ok(String::new(alloc)),
-        (Source::Table | Source::Lines, Err(refusal)) => remarks_text(alloc, text, 0, refusal),
-        (Source::Script, Err(refusal)) => script_text(alloc, text, refusal),
+        (Source::Table | Source::Lines, Err(refusal)) => {
+            remarks_text(alloc, read.text, 0, read.names, refusal)
+        }
+        (Source::Script, Err(refusal)) => script_text(alloc, read.text, read.names, refusal),
     }
 }
 
 /// The explanation of a refusal of a link table and a script.
-fn script_text(alloc: Global, text: &str, refusal: &Refusal) -> Result<String, AllocError> {
+fn script_text(
+    alloc: Global,
+    text: &str,
+    names: FileNames<'_>,
+    refusal: &Refusal,
+) -> Result<String, AllocError> {
     let (table, script) = split_script(text);
     match refusal {
         Refusal::Script(_) => {
             let from = text.len().saturating_sub(script.len());
-            remarks_text(alloc, text, from, refusal)
+            remarks_text(alloc, text, from, names, refusal)
         }
         Refusal::Table(TableError::Refused(Fault::Toml)) if table.len() == text.len() => {
-            let mut told = remarks_text(alloc, table, 0, refusal)?;
+            let mut told = remarks_text(alloc, table, 0, names, refusal)?;
             told.push_str(
                 "There is no line `%%`, so all lines were read as lines of the table.\n",
             )?;
             Ok(told)
         }
-        _ => remarks_text(alloc, table, 0, refusal),
+        _ => remarks_text(alloc, table, 0, names, refusal),
     }
 }

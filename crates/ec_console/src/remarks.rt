@@ -4,7 +4,7 @@ ghost use Rattle.ec_diagnostic.specs.Remarks.{StandsIn};
 ghost use Rattle.ec_diagnostic.specs.Texts.{IsUnmarked};
 
 use crate::Refusal;
-use ec_diagnostic::{Diagnosis, Remarks, without_mark};
+use ec_diagnostic::{Diagnosis, FileNames, Remarks, without_mark};
 use ec_explain_plan::explain_link_fault;
 use ec_explain_script::{explain_bad_line, explain_unmet};
 use ec_explain_start::{explain_cycle_error, explain_start_error, explain_wire_fault};
@@ -43,15 +43,17 @@ pub fn remarks_on<'a>(
     diagnosis.into_remarks(rest)
 }
 
-/// The remarks on a text and its refusal, as one text, which is printed behind the refusal's line. `AllocError` if there is no memory.
+/// The remarks on a text and its refusal, as one text, which is printed behind the refusal's line. They name the files that the text was
+/// read from. `AllocError` if there is no memory.
 pub fn remarks_text(
     alloc: Global,
     text: &str,
     script: usize,
+    names: FileNames<'_>,
     refusal: &Refusal,
 ) -> Result<String, AllocError> {
     let remarks = remarks_on(alloc, text, script, refusal)?;
-    remarks.to_text(alloc)
+    remarks.to_text(alloc, names)
 }
 
 /// Adds the remarks on a refusal, in a text whose script begins at byte `script`.

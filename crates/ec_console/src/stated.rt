@@ -11,8 +11,7 @@ use crate::machine::read_machine;
 use crate::{Refusal, SlaveForm};
 use ec_lines::{InputStream, take_text};
 use ec_link::Machine;
-use ec_listed::Listed;
-use ec_script::{Line, read_script, split_script};
+use ec_script::{Script, read_script, split_script};
 use std::alloc::Global;
 use std::io::Read;
 
@@ -31,7 +30,7 @@ pub enum Source {
 #[derive(Drop)]
 pub struct Stated {
     pub machine: Machine,
-    pub lines: Listed<Line>,
+    pub lines: Script,
 }
 
 /// The text that a command reads of its input.
@@ -93,7 +92,7 @@ fn read_alone(alloc: Global, form: SlaveForm, text: &str) -> Result<Stated, Refu
     ensures refused { IfErr result (IsTableRefusal text.now) }
 {
     let machine = read_machine(alloc, form, text)?;
-    let lines = Listed::new(alloc);
+    let lines = Script::new(alloc);
     Ok(Stated { machine, lines })
 }
 

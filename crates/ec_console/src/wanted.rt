@@ -1,25 +1,21 @@
-//! Whether reasons are wanted.
+//! How lines are taken.
 ghost use Rattle.std.specs.Prelude.{◌≡◌};
-ghost use Rattle.ec_console.specs.Reasons.{reasons_of};
+ghost use Rattle.ec_console.specs.Reasons.{manner_of};
 
-/// Whether a line that says why follows each line that is bad or can't be done.
-#[derive(Clone, Copy, Drop)]
-pub enum Reasons {
-    /// It does.
-    Added,
-    /// It doesn't.
-    Omitted,
+/// How lines are taken, and what is printed of them.
+#[derive(Clone, Copy, Debug, PartialEq, Eq, Drop)]
+pub struct Manner {
+    /// Whether a line that says why follows each line that is bad, can't be done or isn't met.
+    pub explained: bool,
+    /// Whether each line that is bad, can't be done or has failed counts as unmet.
+    pub strict: bool,
 }
 
-impl Reasons {
-    /// `Added` if an explanation is wanted, else `Omitted`.
-    pub fn of(explained: bool) -> Reasons
-        ensures { result ≡ reasons_of explained }
+impl Manner {
+    /// The manner of a command, by whether an explanation is wanted, and whether its lines are taken strictly.
+    pub fn of(explained: bool, strict: bool) -> Manner
+        ensures { result ≡ manner_of explained strict }
     {
-        if explained {
-            Reasons::Added
-        } else {
-            Reasons::Omitted
-        }
+        Manner { explained, strict }
     }
 }

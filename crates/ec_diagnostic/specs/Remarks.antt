@@ -26,6 +26,7 @@ abbrev pub SaysMore : Said → Said → Option Spot → String Global → Type 0
 SaysMore old new spot words =
     (new.text ≡ old.text) × ((width : ℕ) × (new.remarks ≡ old.remarks ++ (record { spot = spot; width = width; words = words } ∷ [])))
 
--- the line that says where it stands
-abbrev pub heading : Spot → List ℕ → List ℕ
-heading spot words = codes "line " ++ (decimal spot.line ++ (codes ", column " ++ (decimal spot.column ++ (codes ": " ++ (words ++ 10 ∷ [])))))
+-- the line that says where it stands, in a file or in a text without a name
+abbrev pub heading : (file : Option (List ℕ)) → Spot → List ℕ → List ℕ
+heading None spot words = codes "line " ++ (decimal spot.line ++ (codes ", column " ++ (decimal spot.column ++ (codes ": " ++ (words ++ 10 ∷ [])))))
+heading (Some name) spot words = name ++ (codes ":" ++ (decimal spot.line ++ (codes ":" ++ (decimal spot.column ++ (codes ": " ++ (words ++ 10 ∷ []))))))

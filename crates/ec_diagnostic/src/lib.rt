@@ -5,6 +5,7 @@
 #![tactic(auto)]
 
 mod diagnosis;
+mod file_names;
 mod outline;
 mod reason;
 mod remark;
@@ -14,6 +15,7 @@ mod token;
 mod words;
 
 pub use crate::diagnosis::{Diagnosis, MarkedPart};
+pub use crate::file_names::FileNames;
 pub use crate::outline::{Found, Outline, PathStep};
 pub use crate::reason::reason_line;
 pub use crate::remark::{Remark, Remarks};

@@ -1,8 +1,9 @@
 //! Remarks on a text, and how they are printed.
-ghost use Rattle.std.specs.Prelude.{◌≡◌, ◌++◌, [], All, None, OnErr, OnOk, Some, string_bytes};
+ghost use Rattle.std.specs.Prelude.{◌≡◌, ◌++◌, [], All, None, OnErr, OnOk, Some, option_map, string_bytes};
 ghost use Rattle.ec_diagnostic.specs.Remarks.{SaysMore, StandsIn, heading};
 ghost use Rattle.ec_diagnostic.specs.Spots.{spot_at};
 
+use crate::file_names::FileNames;
 use crate::spot::{Span, Spot, spot_of};
 use crate::text::printed;
 use std::alloc::{AllocError, Global};
@@ -89,14 +90,14 @@ impl<'a> Remarks<'a> {
         self.list.as_slice()
     }
 
-    /// The text of the remarks. One with a place has a line with that place and its words. Below stand the
-    /// line of the text, and a mark. One without a place has a line with its words. The lines of the text
-    /// have no control character but tabs. `AllocError` if memory ran out.
-    pub fn to_text(&self, alloc: Global) -> Result<String, AllocError> {
+    /// The text of the remarks. One with a place has a line with that place, in the file that has it if that has a
+    /// name, and its words. Below stand the line of the text, and a mark. One without a place has a line with its
+    /// words. The lines of the text have no control character but tabs. `AllocError` if memory ran out.
+    pub fn to_text(&self, alloc: Global, names: FileNames<'_>) -> Result<String, AllocError> {
         let mut told = String::new(alloc);
         for remark in self.list() {
             match remark.spot {
-                Some(spot) => write_marked(&mut told, self.text, spot, remark)?,
+                Some(spot) => write_marked(&mut told, self.text, names, spot, remark)?,
                 None => writeln!(told, "{}", remark.words.as_str())?,
             }
         }
@@ -116,12 +117,14 @@ fn width_of(text: &str, span: Span) -> usize {
 fn write_marked(
     told: &mut String,
     text: &str,
+    names: FileNames<'_>,
     spot: Spot,
     remark: &Remark,
 ) -> Result<(), AllocError> {
-    write_heading(told, spot, remark.words.as_str())?;
+    let (file, place) = names.place_of(spot);
+    write_heading(told, file, place, remark.words.as_str())?;
     let line = line_of(text, spot.line);
-    let number = spot.line;
+    let number = place.line;
     write!(told, "{number:>6} | ")?;
     let skipped = skipped_before(spot.column);
     write_shown(told, line, skipped)?;
@@ -131,11 +134,20 @@ fn write_marked(
 }
 
 /// Adds the line that says where a remark stands.
-fn write_heading(told: &mut String, spot: Spot, words: &str) -> Result<(), AllocError>
-    ensures { OnOk result (string_bytes told.new ≡ string_bytes told.old ++ heading spot words.now) }
+fn write_heading(
+    told: &mut String,
+    file: Option<&str>,
+    spot: Spot,
+    words: &str,
+) -> Result<(), AllocError>
+    ensures { OnOk result (string_bytes told.new
+        ≡ string_bytes told.old ++ heading (option_map (λ x. x.now) file.entry) spot words.now) }
 {
     let (line, column) = (spot.line, spot.column);
-    writeln!(told, "line {line}, column {column}: {words}")
+    match file {
+        Some(name) => writeln!(told, "{name}:{line}:{column}: {words}"),
+        None => writeln!(told, "line {line}, column {column}: {words}"),
+    }
 }
 
 /// A line of a text, counted from 1, without its end.

@@ -127,7 +127,7 @@ impl<'t> EntryNames<'t> {
 
 impl fmt::Display for EntryName {
     fn fmt<W: fmt::Write>(&self, f: &mut fmt::Formatter<W>) -> fmt::Result {
-        write!(f, "0x{:04X}:{}", self.0, self.1)
+        write!(f, "0x{:04X}:0x{:02X}", self.0, self.1)
     }
 }
 

@@ -1,7 +1,10 @@
 //! The form that a line begins as.
 use crate::word::Line;
 use ec_diagnostic::{Diagnosis, Nearest};
-use ec_script::{FORMS, Form, REPEAT, WordKind, bounds_of};
+use ec_script::{ECHO, FORMS, Form, REPEAT, WITHIN, WordKind, bounds_of};
+
+/// How lines are written that aren't single actions, but begin with a word of their own.
+static OTHERS: [&str; 3] = [REPEAT, WITHIN, ECHO];
 
 /// The forms that lines may have.
 #[derive(Clone, Copy, PartialEq, Eq)]
@@ -33,10 +36,7 @@ pub fn form_of(forms: Forms, line: Line<'_>, is_variable: bool) -> Option<&'stat
 
 /// Whether a script of simulated slaves has lines of this form.
 fn is_scripted(form: Form) -> bool {
-    !matches!(
-        form,
-        Form::Report | Form::Stop | Form::LosePart | Form::Served
-    )
+    !matches!(form, Form::Report | Form::LosePart | Form::Served)
 }
 
 /// Whether a line begins as a form does: all words of the form that stand for themselves are in their places, and a range is a word
@@ -71,10 +71,14 @@ pub fn verb_near(diagnosis: &mut Diagnosis<'_>, forms: Forms, word: &str) -> Opt
             near = diagnosis.nearer(near, word, place, first_word(text));
         }
     }
-    near = diagnosis.nearer(near, word, FORMS.len(), first_word(REPEAT));
-    match FORMS.get(near.place?) {
+    for (place, text) in OTHERS.iter().enumerate() {
+        let behind = FORMS.len().saturating_add(place);
+        near = diagnosis.nearer(near, word, behind, first_word(text));
+    }
+    let place = near.place?;
+    match FORMS.get(place) {
         Some((_, text)) => Some(first_word(text)),
-        None => Some(first_word(REPEAT)),
+        None => Some(first_word(OTHERS.get(place.saturating_sub(FORMS.len()))?)),
     }
 }
 

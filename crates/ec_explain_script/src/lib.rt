@@ -2,9 +2,11 @@
 //! also why the program doesn't take it.
 #![tactic(auto)]
 
+mod block;
 mod form;
 mod misfit;
 mod script;
 mod word;
 
+pub use crate::block::NO_END;
 pub use crate::script::{bad_words, explain_bad_line, explain_unmet};

@@ -1,10 +1,12 @@
 //! Which line of a script stands for nothing: refusal 39; and that what lines expect doesn't hold: 45.
+use crate::block::{depth_behind, explain_brace, room_words};
 use crate::form::{Forms, form_of, verb_near};
 use crate::misfit::{SEE_HELP, explain_misfit};
 use crate::word::{Line, Word};
 use ec_diagnostic::{Diagnosis, Meant, Printable, Span};
 use ec_script::{
-    Expectation, LineAction, REPEAT, Reading, WordKind, read_line, uncommented, variable_named,
+    Draft, EXPECT_NO, Expectation, LineAction, REPEAT, Reading, Task, WITHIN, WordKind, read_line,
+    uncommented, variable_named,
 };
 use ec_table::{Direction, Table, VariableRow, read_table};
 use std::alloc::{AllocError, Global};
@@ -30,23 +32,54 @@ impl<'t> Known<'t> {
 /// it is at fault, and how it is written.
 pub fn explain_bad_line(diagnosis: &mut Diagnosis<'_>, text: &str, from: usize, line: usize) {
     match line_start(text.as_bytes(), from, line) {
-        Some(start) => explain_in_text(diagnosis, table_before(text, from), line_at(text, start)),
+        Some(start) => {
+            let depth = depth_behind(text.get(from..start).unwrap_or(""));
+            let line = line_at(text, start).in_blocks(depth);
+            if !explain_brace(diagnosis, line, depth) {
+                explain_in_text(diagnosis, table_before(text, from), line);
+            }
+        }
         None => diagnosis.note(format_args!("line {line} of the script isn't found in the text")),
     }
 }
 
-/// Why a line that comes to a program of a table is bad, in one sentence. It stands for nothing, or for what the program doesn't do.
+/// Why a line that comes to a program of a table behind a draft is bad, in one sentence. It stands for nothing, or for what the program
+/// doesn't do; or it is a brace out of place, or a line too many of a block.
 ///
 /// # Errors
 ///
 /// `AllocError` if memory ran out.
-pub fn bad_words(alloc: Global, table: &Table, text: &str) -> Result<String, AllocError> {
-    if let Reading::Line(line) = read_line(alloc, table, 1, text)? {
-        return untaken_words(alloc, table, line.action);
+pub fn bad_words(
+    alloc: Global,
+    table: &Table,
+    draft: &Draft,
+    text: &str,
+) -> Result<String, AllocError> {
+    let text = draft.unindented(text);
+    let (reading, line) = (read_line(alloc, table, 1, text)?, line_at(text, 0));
+    let is_read = matches!(&reading, Reading::Line(_));
+    if let Some(words) = room_words(draft, line, is_read) {
+        return String::from_str(alloc, words);
     }
+    match reading {
+        Reading::Line(read) => untaken_words(alloc, table, read.tasks.as_slice()),
+        _ => wrong_words(alloc, table, draft, text, line),
+    }
+}
+
+/// What is wrong with a line that comes and stands for nothing, in one sentence.
+fn wrong_words(
+    alloc: Global,
+    table: &Table,
+    draft: &Draft,
+    text: &str,
+    line: Line<'_>,
+) -> Result<String, AllocError> {
     let mut diagnosis = Diagnosis::new(alloc, text)?;
-    let (table, forms) = (Some(table), Forms::All);
-    explain_line(&mut diagnosis, Known { table, forms }, line_at(text, 0));
+    if !explain_brace(&mut diagnosis, line, draft.depth()) {
+        let (table, forms) = (Some(table), Forms::All);
+        explain_line(&mut diagnosis, Known { table, forms }, line);
+    }
     let remarks = diagnosis.into_remarks(text)?;
     match remarks.list().first() {
         Some(remark) => String::from_str(alloc, remark.words.as_str()),
@@ -54,9 +87,9 @@ pub fn bad_words(alloc: Global, table: &Table, text: &str) -> Result<String, All
     }
 }
 
-/// Why a program doesn't take an action, in one sentence.
-fn untaken_words(alloc: Global, table: &Table, action: LineAction) -> Result<String, AllocError> {
-    let Some(row) = expected_row(table, action) else {
+/// Why a program doesn't take all of some tasks, in one sentence.
+fn untaken_words(alloc: Global, table: &Table, tasks: &[Task]) -> Result<String, AllocError> {
+    let Some(row) = expected_row(table, tasks) else {
         return String::from_str(
             alloc,
             "lines of this form aren't taken here; `--help` lists those that are",
@@ -70,10 +103,14 @@ fn untaken_words(alloc: Global, table: &Table, action: LineAction) -> Result<Str
     format!(in alloc; "`{name}` is an {direction} variable, whose value isn't seen here")
 }
 
-/// The variable of which an action expects something.
-fn expected_row(table: &Table, action: LineAction) -> Option<&VariableRow> {
-    let LineAction::Expect(expected) = action else {
+/// The variable of which a task expects something.
+fn expected_row<'t>(table: &'t Table, tasks: &[Task]) -> Option<&'t VariableRow> {
+    let Task::Step(step) = tasks.first()? else {
         return None;
+    };
+    let expected = match step.action {
+        LineAction::Expect(expected) | LineAction::Within(_, expected) => expected,
+        _ => return None,
     };
     match expected {
         Expectation::Is(place, _) | Expectation::Holds(place, _) | Expectation::Never(place) =>
@@ -106,8 +143,78 @@ fn explain_line(diagnosis: &mut Diagnosis<'_>, known: Known<'_>, line: Line<'_>)
     match line.gap() {
         Some(gap) => explain_gap(diagnosis, gap),
         None if line.has(0, "repeat") => explain_repeat(diagnosis, known, line),
-        None => explain_words(diagnosis, known, line),
+        None => explain_once(diagnosis, known, line),
     }
+}
+
+/// Adds remarks on what is wrong with a line that isn't repeated.
+fn explain_once(diagnosis: &mut Diagnosis<'_>, known: Known<'_>, line: Line<'_>) {
+    if !(line.has(0, "expect") && line.has(1, "no")) {
+        return explain_actions(diagnosis, known, line);
+    }
+    match line.word(2) {
+        Some(next) => explain_actions(diagnosis, known, line.from(next)),
+        None => explain_form(diagnosis, line, EXPECT_NO),
+    }
+}
+
+/// Adds remarks on what is wrong with a line of one action or several.
+fn explain_actions(diagnosis: &mut Diagnosis<'_>, known: Known<'_>, line: Line<'_>) {
+    let (name, setting) = ([WordKind::Variable], [WordKind::Variable, WordKind::Value]);
+    if line.has(0, "within") {
+        explain_within(diagnosis, known, line)
+    } else if line.has(0, "set") && line.word(3).is_some() {
+        explain_several(
+            diagnosis,
+            known,
+            line,
+            &setting,
+            "set NAME VALUE NAME VALUE ..",
+        )
+    } else if line.has(0, "show") && line.word(2).is_some() {
+        explain_several(diagnosis, known, line, &name, "show NAME ..")
+    } else if line.has(0, "out") && line.word(2).is_some() {
+        explain_several(diagnosis, known, line, &name, "out NAME ..")
+    } else {
+        explain_words(diagnosis, known, line)
+    }
+}
+
+/// Adds remarks on what is wrong with a line that waits for something.
+fn explain_within(diagnosis: &mut Diagnosis<'_>, known: Known<'_>, line: Line<'_>) {
+    let (Some(times), Some(next)) = (line.word(1), line.word(2)) else {
+        return explain_form(diagnosis, line, WITHIN);
+    };
+    if explain_misfit(diagnosis, None, WordKind::Times, times) {
+        return;
+    }
+    if next.text == "expect" && !line.has(3, "no") {
+        explain_words(diagnosis, known, line.from(next))
+    } else {
+        explain_form(diagnosis, line, WITHIN)
+    }
+}
+
+/// Adds remarks on the first word of a line of several actions that isn't what it has to be. The words behind the verb have these kinds,
+/// over and over; `form` is how such a line is written.
+fn explain_several(
+    diagnosis: &mut Diagnosis<'_>,
+    known: Known<'_>,
+    line: Line<'_>,
+    kinds: &[WordKind],
+    form: &str,
+) {
+    for (place, _) in line.text.split(' ').enumerate() {
+        if let Some(before) = place.checked_sub(1)
+            && let Some(turn) = before.checked_rem(kinds.len())
+            && let Some(kind) = kinds.get(turn)
+            && let Some(word) = line.word(place)
+            && explain_misfit(diagnosis, known.table, *kind, word)
+        {
+            return;
+        }
+    }
+    explain_form(diagnosis, line, form);
 }
 
 /// Adds remarks on a word that is missing.
@@ -131,7 +238,7 @@ fn explain_repeat(diagnosis: &mut Diagnosis<'_>, known: Known<'_>, line: Line<'_
     if next.text == "repeat" {
         explain_repeat_again(diagnosis, next)
     } else {
-        explain_words(diagnosis, known, line.from(next))
+        explain_once(diagnosis, known, line.from(next))
     }
 }
 

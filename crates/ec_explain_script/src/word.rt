@@ -28,6 +28,19 @@ impl<'t> Line<'t> {
         span_of(self.start, self.text)
     }
 
+    /// The line as it stands with so many blocks around it: in a block, without the blanks before it.
+    pub fn in_blocks(self, depth: usize) -> Line<'t> {
+        if depth == 0 {
+            return self;
+        }
+        let text = self.text.trim_start_matches(' ');
+        let blanks = self.text.len().saturating_sub(text.len());
+        Line {
+            start: self.start.saturating_add(blanks),
+            text,
+        }
+    }
+
     /// The word at a place, counted from 0.
     pub fn word(self, place: usize) -> Option<Word<'t>> {
         let mut start = self.start;

@@ -137,7 +137,7 @@ impl fmt::Display for StartFault<'_> {
                 let at = SlaveAt::new(table, slave);
                 write!(
                     f,
-                    "{at} has 0x{seen:X} in its object 0x{index:04X}:{subindex}"
+                    "{at} has 0x{seen:X} in its object 0x{index:04X}:0x{subindex:02X}"
                 )
             }
         }

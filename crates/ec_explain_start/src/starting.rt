@@ -111,7 +111,7 @@ impl fmt::Display for Mapped<'_> {
                 let (index, sub, bits) = (entry.index, entry.subindex, entry.bits);
                 write!(
                     f,
-                    "0x{index:04X}{sub:02X}{bits:02X}, the entry [0x{index:04X}, {sub}, {bits}],"
+                    "0x{index:04X}{sub:02X}{bits:02X}, the entry [0x{index:04X}, 0x{sub:02X}, {bits}],"
                 )
             }
             None => f.write_str("nothing"),
@@ -152,7 +152,7 @@ fn explain_mapping(
     }
     let (object, sub, bits) = (seen / 65536, seen / 256 % 256, seen % 256);
     diagnosis.advise(format_args!(
-        "correct the PDO of the type: what the device has is the entry [0x{object:04X}, {sub}, {bits}]"
+        "correct the PDO of the type: what the device has is the entry [0x{object:04X}, 0x{sub:02X}, {bits}]"
     ));
 }
 

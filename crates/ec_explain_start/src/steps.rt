@@ -66,31 +66,34 @@ impl fmt::Display for Request {
             Transfer::Upload(_) if subindex == 0 => {
                 write!(
                     f,
-                    "the upload of 0x{index:04X}:0, how many entries the PDO has"
+                    "the upload of 0x{index:04X}:0x00, how many entries the PDO has"
                 )
             }
             Transfer::Upload(_) => {
                 write!(
                     f,
-                    "the upload of 0x{index:04X}:{subindex}, an entry of the PDO"
+                    "the upload of 0x{index:04X}:0x{subindex:02X}, an entry of the PDO"
                 )
             }
             Transfer::Download(value) if subindex > 0 => {
                 let pdo = value.number;
                 write!(
                     f,
-                    "the download of PDO 0x{pdo:04X} into 0x{index:04X}:{subindex}"
+                    "the download of PDO 0x{pdo:04X} into 0x{index:04X}:0x{subindex:02X}"
                 )
             }
             Transfer::Download(value) if value.number == 0 => {
                 write!(
                     f,
-                    "the download of 0 into 0x{index:04X}:0, before the PDOs are assigned"
+                    "the download of 0 into 0x{index:04X}:0x00, before the PDOs are assigned"
                 )
             }
             Transfer::Download(value) => {
                 let count = Counted(value.number as usize, "PDO");
-                write!(f, "the download of the count into 0x{index:04X}:0, {count}")
+                write!(
+                    f,
+                    "the download of the count into 0x{index:04X}:0x00, {count}"
+                )
             }
         }
     }

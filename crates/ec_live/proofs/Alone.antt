@@ -1,6 +1,5 @@
 -- A run without lines.
-use Rattle.std.proofs.Common.{◌≡◌, ◌∙◌, inl, inr, ℕ, List, [], ◌∷◌, ◌++◌, map, Bool, true, false, Option, refl, sym, ap, subst}
-use Rattle.ec_frame.specs.Frame.{IsFrame, Payload as Frame}
+use Rattle.std.proofs.Common.{◌≡◌, ◌∙◌, inl, inr, ℕ, List, [], ◌∷◌, ◌++◌, map, Bool, true, false, refl, sym, ap, subst}
 use Rattle.ec_slave.specs.State.{SlaveState}
 use Rattle.ec_wire.specs.Wires.{Carries}
 use Rattle.ec_live.specs.Cyclic.{cyclic_part}

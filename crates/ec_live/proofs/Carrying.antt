@@ -1,7 +1,7 @@
 -- Payloads that a wire carries, in steps.
 use Rattle.std.proofs.Common.{◌≡◌, ◌∙◌, ◌||◌, ◌==◌, inr, ℕ, List, [], ◌∷◌, ◌++◌, nat_lt, Option, Result, Ok, Err, OnOk, OnErr, refl, sym, ap, subst, append-nil, append_assoc, add-zero, arith}
 use Rattle.std.proofs.lemmas.List.{length-append}
-use Rattle.ec_wire.specs.Wires.{Carries, Trace, Nothing, Number, Payloads, WireState, grown, is_fault, max_failed}
+use Rattle.ec_wire.specs.Wires.{Carries, Trace, Nothing, Number, Payloads, WireState, grown, max_failed}
 use Rattle.ec_live.specs.Meeting.{Meets}
 use Rattle.ec_live.specs.Stages.{AnswersOne, KeepsAnswer, MeetsFault, MeetsPayload, MeetsSome, MissesAnswer, one_less_frame}
 use Rattle.ec_live.specs.State.{LiveState}

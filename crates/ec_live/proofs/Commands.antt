@@ -1,5 +1,5 @@
 -- The commands of a frame's datagrams, one after another.
-use Rattle.std.proofs.Common.{◌≡◌, ◌∙◌, ℕ, ◌+◌, ◌<◌, ◌≤◌, ◌==◌, ◌&&◌, List, [], ◌∷◌, length, drop, get_or, slice_range, Bool, true, false, Option, Some, None, is_some, not, refl, sym, ap, subst, arith}
+use Rattle.std.proofs.Common.{◌≡◌, ◌∙◌, ℕ, ◌+◌, ◌<◌, ◌≤◌, ◌==◌, ◌&&◌, List, [], ◌∷◌, length, drop, get_or, slice_range, Bool, true, false, Option, Some, None, is_some, not, refl, sym, ap}
 use Rattle.std.proofs.lemmas.List.{at_drop_more, drop_all}
 use Rattle.ec_frame.specs.declared.command.Command.{Command}
 use Rattle.ec_frame.specs.declared.cursor.Datagrams.{Datagrams}
@@ -9,7 +9,6 @@ use Rattle.ec_frame.specs.Commands.{number_of}
 use Rattle.ec_frame.specs.Cursor.{IsAhead, StepsTo}
 use Rattle.ec_frame.specs.Datagram.{Datagram, IsDatagram, is_followed, spelling}
 use Rattle.ec_frame.specs.Fields.{header_of}
-use Rattle.ec_frame.specs.Frame.{IsFrame, Payload}
 use Rattle.ec_live.specs.Cyclic.{are_commands}
 use Rattle.ec_live.specs.Stages.{HasOver}
 

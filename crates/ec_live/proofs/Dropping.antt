@@ -1,8 +1,8 @@
 -- When no frame is dropped.
-use Rattle.std.proofs.Common.{◌≡◌, ◌∙◌, ℕ, zero, suc, ◌<◌, ◌≤◌, ◌-◌, ◌==◌, ◌&&◌, ◌||◌, List, [], ◌∷◌, length, get_or, set, not, nat_lt, Bool, true, false, Option, Some, None, refl, sym, ap, subst, arith}
+use Rattle.std.proofs.Common.{◌≡◌, ℕ, zero, suc, ◌<◌, ◌≤◌, ◌==◌, ◌&&◌, List, [], ◌∷◌, get_or, not, Bool, true, false, Option, Some, None, refl, arith}
 use Rattle.std.specs.List.{list_all}
 use Rattle.std.proofs.lemmas.Bool.Decides.{nat_tests}
-use Rattle.ec_live.specs.Drops.{DropState, counted_down, is_dropped, left_of, one_less}
+use Rattle.ec_live.specs.Drops.{DropState, is_dropped, left_of}
 
 zero_if : (n : ℕ) → (n == 0) ≡ true → n ≡ 0
 zero_if n is = grind (arith, nat_tests)
@@ -12,9 +12,6 @@ is_zero n h = grind (arith, nat_tests)
 
 no_zero : (n : ℕ) → 0 < n → (n == 0) ≡ false
 no_zero n h = grind (arith, nat_tests)
-
-zero_of : (n : ℕ) → nat_lt 0 n ≡ false → n ≡ 0
-zero_of n h = grind (arith, nat_tests)
 
 pub some_pending : (any : ℕ) (all : Bool) → 0 < any → true ≡ not ((any == 0) && all)
 some_pending any all h = let is : (any == 0) ≡ false = no_zero any h in rw is refl
@@ -54,25 +51,3 @@ nothing_dropped d part h = by (d.any == 0) refl h
         let part_none : left_of d.parts part ≡ 0 = left_none d.parts part (true_of (list_all (λ n. n == 0) d.parts) g) in
         rw (none, part_none) refl
     by false is g = let bad : true ≡ false = g in cc
-
--- ---- a frame that isn't dropped changes nothing
-
-or_none : (a b : Bool) → (a || b) ≡ false → (a ≡ false) × (b ≡ false)
-or_none true b h = cc
-or_none false b h = (refl, h)
-
-set_same : (xs : List ℕ) (k : ℕ) → get_or xs k 0 ≡ 0 → set xs k (get_or xs k 0 - 1) ≡ xs
-set_same [] k h = refl
-set_same (x ∷ xs) zero h = let z : x ≡ 0 = h in let less : x - 1 ≡ x = omega arith in ap (λ (y : ℕ). y ∷ xs) less
-set_same (x ∷ xs) (suc k) h = ap (λ (ys : List ℕ). x ∷ ys) (set_same xs k h)
-
-less_none : (parts : List ℕ) (part : Option ℕ) → left_of parts part ≡ 0 → one_less parts part ≡ parts
-less_none parts None h = refl
-less_none parts (Some k) h = set_same parts k h
-
-pub undropped : (d : DropState) (part : Option ℕ) → is_dropped d part ≡ false → counted_down d part ≡ d
-undropped d part h =
-    let none = or_none (nat_lt 0 d.any) (nat_lt 0 (left_of d.parts part)) h in
-    let any : d.any - 1 ≡ d.any = let z : d.any ≡ 0 = zero_of d.any none.0 in omega arith in
-    let parts : one_less d.parts part ≡ d.parts = less_none d.parts part (zero_of (left_of d.parts part) none.1) in
-    ap (λ (n : ℕ). record { any = n; parts = one_less d.parts part }) any ∙ ap (λ (ns : List ℕ). record { any = d.any; parts = ns }) parts

@@ -1,23 +1,23 @@
 -- A run of a live segment, step after step.
-use Rattle.std.proofs.Common.{◌≡◌, ◌≢◌, ◌∙◌, ◌⊎◌, inl, inr, ℕ, zero, suc, ◌+◌, ◌-◌, ◌^◌, ◌<◌, ◌==◌, List, [], ◌∷◌, ◌++◌, length, min, take, Bool, true, false, Option, Some, None, Result, Ok, Err, IfErr, OnOk, refl, sym, ap, subst, add-zero, arith}
+use Rattle.std.proofs.Common.{◌≡◌, ◌≢◌, ◌∙◌, inl, inr, ℕ, zero, suc, ◌+◌, ◌-◌, ◌^◌, ◌<◌, ◌==◌, List, [], ◌∷◌, ◌++◌, length, min, take, Bool, true, false, Option, Some, None, Result, Ok, Err, IfErr, OnOk, refl, sym, ap, subst, add-zero, arith}
 use Rattle.std.specs.Result.{IsErrAnd}
 use Rattle.std.proofs.KnownBytes.{Consumes-nil, Consumes-trans}
 use Rattle.std.proofs.lemmas.Bool.Decides.{nat_tests}
 use Rattle.std.proofs.lemmas.List.Elements.{All-nil}
 use Rattle.ec_lines.specs.Taking.{GoesOn, IsSoFar, IsTaken, TakesLine, TakesPart, max_kept}
 use Rattle.ec_lines.specs.declared.lines.NextLine.{NextLine}
-use Rattle.ec_lines.specs.declared.lines.NextLine.TheVariants as taken
 use Rattle.ec_wire.specs.Wires.{Carries, WireState, is_fault}
 use Rattle.ec_wire.specs.declared.trouble.Trouble.{Trouble}
 use Rattle.ec_wire.specs.declared.trouble.Trouble.TheVariants.{Silence}
 use Rattle.ec_console.specs.declared.refusal.Refusal.{Refusal}
 use Rattle.ec_console.specs.declared.refusal.Refusal.TheVariants as refusal
-use Rattle.ec_console.specs.Coming.{DoesTaken, StopsIn}
+use Rattle.ec_script.specs.Drafts.{DraftState, empty_draft}
+use Rattle.ec_console.specs.Coming.{DoesTaken, StopsIn, come}
 use Rattle.ec_console.specs.Printing.{IsCutOff, IsPrinted, OutputState}
 use Rattle.ec_console.specs.Saying.{IsLate}
 use Rattle.ec_console.specs.Unmet.{counted, ended_by}
 use Rattle.ec_live.specs.Doing.{SaysLive, served_line}
-use Rattle.ec_live.specs.Living.{AreAll, Came, EndsTurns, HasRun, IsCut, Line, LivesOn, MeetsOne, ObeysOne, Payload, RunState, Runs, RunsOut, Step, StopsInLine, begun, line_read, payloads_of}
+use Rattle.ec_live.specs.Living.{ObeysOne, AreAll, Came, EndsTurns, IsCut, Line, LivesOn, MeetsOne, Payload, RunState, Runs, RunsOut, Step, StopsInLine, begun, line_read, payloads_of}
 use Rattle.ec_live.specs.Stages.{Closes, FitsLines, FramesLeft, HasCome, IsAt, LinesState, MeetsFault, MeetsSome, ObeysCut, ObeysSome, TurnsEnd, one_less_frame}
 use Rattle.ec_live.specs.Meeting.{Meets}
 use Rattle.ec_live.specs.State.{LiveState}
@@ -46,9 +46,10 @@ sum_counted a b c d h g = omega arith
 -- ---- bytes of a line come
 
 -- a run stays where it is, and the lines of which bytes are taken too
-fits_part : (t : RunState) (l m : LinesState) (old new : Option (List ℕ)) → FitsLines t l old → m.count ≡ l.count → m.unmet ≡ l.unmet → TakesPart old new
+fits_part : (t : RunState) (l m : LinesState) (old new : Option (List ℕ)) → FitsLines t l old → m.draft ≡ l.draft → m.count ≡ l.count → m.unmet ≡ l.unmet → TakesPart old new
     → (m.is_open ≡ true → IsSoFar t.left new max_kept m.part) → FitsLines t m new
-fits_part t l m old new h count unmet taken part = record {
+fits_part t l m old new h draft count unmet taken part = record {
+  draft = draft ∙ h.draft;
   number = count ∙ h.number;
   unmet = unmet ∙ h.unmet;
   rest = taken_more t.left old new h.rest taken;
@@ -56,74 +57,90 @@ fits_part t l m old new h count unmet taken part = record {
 }
 
 -- it goes on, or no more come
-goes_on : (s : RunState) (live : LiveState) (output : OutputState) (l m : LinesState) (old new : Option (List ℕ)) → s.live ≡ live → s.output ≡ output → FitsLines s l old → m.count ≡ l.count
+goes_on : (s : RunState) (live : LiveState) (output : OutputState) (l m : LinesState) (old new : Option (List ℕ)) → s.live ≡ live → s.output ≡ output → FitsLines s l old → m.draft ≡ l.draft → m.count ≡ l.count
     → m.unmet ≡ l.unmet → TakesPart old new → (m.is_open ≡ true → IsSoFar s.left new max_kept m.part) → ObeysSome s live m new output
-goes_on s live output l m old new a b h count unmet taken part = inl (sym a, sym b, fits_part s l m old new h count unmet taken part)
+goes_on s live output l m old new a b h draft count unmet taken part = inl (sym a, sym b, fits_part s l m old new h draft count unmet taken part)
 
 -- what the code has of lines
-abbrev pub lines_of : List ℕ → ℕ → ℕ → Bool → LinesState
-lines_of part count unmet is_open = record { part = part; count = count; unmet = unmet; is_open = is_open }
+abbrev pub lines_of : List ℕ → DraftState → ℕ → ℕ → Bool → LinesState
+lines_of part draft count unmet is_open = record { part = part; draft = draft; count = count; unmet = unmet; is_open = is_open }
 
 -- it goes on
-pub part_taken : (s : RunState) (live : LiveState) (output : OutputState) (l : LinesState) (part kept : List ℕ) (count unmet : ℕ) (is_open : Bool) (old new : Option (List ℕ)) (next : Option NextLine)
-    → lines_of part count unmet is_open ≡ l → is_open ≡ true → TakesPart old new → ((start : Option (List ℕ)) → IsSoFar start old max_kept part → GoesOn start new kept next) → next ≡ None
-    → s.live ≡ live → s.output ≡ output → FitsLines s l old → ObeysSome s live (lines_of kept count unmet is_open) new output
-part_taken s live output l part kept count unmet is_open old new next is opened taken goes none a b h =
+pub part_taken : (s : RunState) (live : LiveState) (output : OutputState) (l : LinesState) (part kept : List ℕ) (draft : DraftState) (count unmet : ℕ) (is_open : Bool) (old new : Option (List ℕ)) (next : Option NextLine)
+    → lines_of part draft count unmet is_open ≡ l → is_open ≡ true → TakesPart old new → ((start : Option (List ℕ)) → IsSoFar start old max_kept part → GoesOn start new kept next) → next ≡ None
+    → s.live ≡ live → s.output ≡ output → FitsLines s l old → ObeysSome s live (lines_of kept draft count unmet is_open) new output
+part_taken s live output l part kept draft count unmet is_open old new next is opened taken goes none a b h =
     let fits = subst (λ (x : LinesState). FitsLines s x old) (sym is) h in
-    goes_on s live output (lines_of part count unmet is_open) (lines_of kept count unmet is_open) old new a b fits refl refl taken
+    goes_on s live output (lines_of part draft count unmet is_open) (lines_of kept draft count unmet is_open) old new a b fits refl refl refl taken
     (λ still. subst (GoesOn s.left new kept) none (goes s.left (fits.part opened)))
 
 -- no more come
-pub none_more : (s : RunState) (live : LiveState) (output : OutputState) (l : LinesState) (part kept : List ℕ) (count unmet : ℕ) (is_open : Bool) (old new : Option (List ℕ)) → lines_of part count unmet is_open ≡ l
-    → TakesPart old new → s.live ≡ live → s.output ≡ output → FitsLines s l old → ObeysSome s live (lines_of kept count unmet false) new output
-none_more s live output l part kept count unmet is_open old new is taken a b h =
-    goes_on s live output (lines_of part count unmet is_open) (lines_of kept count unmet false) old new a b (subst (λ (x : LinesState). FitsLines s x old) (sym is) h) refl refl taken
+pub none_more : (s : RunState) (live : LiveState) (output : OutputState) (l : LinesState) (part kept : List ℕ) (draft : DraftState) (count unmet : ℕ) (is_open : Bool) (old new : Option (List ℕ)) → lines_of part draft count unmet is_open ≡ l
+    → TakesPart old new → s.live ≡ live → s.output ≡ output → FitsLines s l old → ObeysSome s live (lines_of kept draft count unmet false) new output
+none_more s live output l part kept draft count unmet is_open old new is taken a b h =
+    goes_on s live output (lines_of part draft count unmet is_open) (lines_of kept draft count unmet false) old new a b (subst (λ (x : LinesState). FitsLines s x old) (sym is) h) refl refl refl taken
     (λ still. let bad : false ≡ true = still in cc)
 
--- a line is whole, and done
+-- a line is whole, or the input has ended, and what is due is done
 pub obeys_line : (s : RunState) (live next : LiveState) (before after : OutputState) (l m : LinesState) (old new : Option (List ℕ)) (line : List ℕ) (more unmet : ℕ) → s.live ≡ live → s.output ≡ before
-    → FitsLines s l old → TakesLine s.left new line → 0 < length line → DoesTaken SaysLive live.reasons (line_read live.table) live m.count line next unmet before after → m.count ≡ l.count + 1
+    → FitsLines s l old → TakesLine s.left new line → DoesTaken SaysLive live.manner (line_read live.table) l.draft live m.count line next unmet before after → m.draft ≡ (come (line_read live.table) l.draft m.count line).0 → m.count ≡ l.count + 1
     → more ≡ counted unmet → m.unmet ≡ min (l.unmet + more) (2 ^ 64 - 1) → m.part ≡ [] → ObeysSome s next m new after
-obeys_line s live next before after l m old new line more unmet a b h taken some does one counts sum none = by line taken some here
+obeys_line s live next before after l m old new line more unmet a b h taken does drafts one counts sum none = inr (line, then, obeys here, refl, refl, fits)
   where
     number : m.count ≡ s.number + 1
     number = one ∙ ap (λ (n : ℕ). n + 1) h.number
 
-    here : DoesTaken SaysLive s.live.reasons (line_read s.live.table) s.live (s.number + 1) line next unmet s.output after
+    here : DoesTaken SaysLive s.live.manner (line_read s.live.table) s.draft s.live (s.number + 1) line next unmet s.output after
     here =
-        subst (λ (o : OutputState). DoesTaken SaysLive s.live.reasons (line_read s.live.table) s.live (s.number + 1) line next unmet o after) (sym b)
-        (subst (λ (n : ℕ). DoesTaken SaysLive s.live.reasons (line_read s.live.table) s.live n line next unmet before after) number
-        (subst (λ (x : LiveState). DoesTaken SaysLive x.reasons (line_read x.table) x m.count line next unmet before after) (sym a) does))
+        subst (λ (o : OutputState). DoesTaken SaysLive s.live.manner (line_read s.live.table) s.draft s.live (s.number + 1) line next unmet o after) (sym b)
+        (subst (λ (d : DraftState). DoesTaken SaysLive s.live.manner (line_read s.live.table) d s.live (s.number + 1) line next unmet before after) h.draft
+        (subst (λ (n : ℕ). DoesTaken SaysLive s.live.manner (line_read s.live.table) l.draft s.live n line next unmet before after) number
+        (subst (λ (x : LiveState). DoesTaken SaysLive x.manner (line_read x.table) l.draft x m.count line next unmet before after) (sym a) does)))
+
+    behind_it : m.draft ≡ (come (line_read s.live.table) s.draft (s.number + 1) line).0
+    behind_it =
+        drafts
+        ∙ (ap (λ (x : LiveState). (come (line_read x.table) l.draft m.count line).0) (sym a)
+        ∙ (ap (λ (n : ℕ). (come (line_read s.live.table) l.draft n line).0) number
+        ∙ ap (λ (d : DraftState). (come (line_read s.live.table) d (s.number + 1) line).0) h.draft))
 
     then : RunState
-    then = record { live = next; wire = s.wire; left = new; number = s.number + 1; unmet = s.unmet + unmet; output = after }
+    then = record {
+      live = next;
+      wire = s.wire;
+      left = new;
+      number = s.number + 1;
+      draft = (come (line_read s.live.table) s.draft (s.number + 1) line).0;
+      unmet = s.unmet + unmet;
+      output = after;
+    }
 
     fits : FitsLines then m new
     fits = record {
+      draft = behind_it;
       number = number;
       unmet = sum ∙ sum_counted s.unmet unmet l.unmet more h.unmet counts;
       rest = none_taken new;
       part = λ is. none_so_far new max_kept m.part none;
     }
 
-    by : (x : List ℕ) → TakesLine s.left new x → 0 < length x → DoesTaken SaysLive s.live.reasons (line_read s.live.table) s.live (s.number + 1) x next unmet s.output after → ObeysSome s next m new after
-    by [] taken some does = absurd (omega arith)
-    by (c ∷ cs) taken some (printed, says, prints) =
-        inr (c ∷ cs, then, record { taken = taken; some = some; printed = printed; unmet = unmet; says = says; prints = prints; is = refl }, refl, refl, fits)
+    obeys : DoesTaken SaysLive s.live.manner (line_read s.live.table) s.draft s.live (s.number + 1) line next unmet s.output after → ObeysOne s line then
+    obeys (printed, says, prints) = record { taken = taken; printed = printed; unmet = unmet; says = says; prints = prints; is = refl }
 
 -- or it is cut short
 pub cuts_line : (s : RunState) (live next : LiveState) (before after : OutputState) (l : LinesState) (old new : Option (List ℕ)) (n : ℕ) (line : List ℕ) (x : Refusal) → s.live ≡ live → s.output ≡ before
-    → FitsLines s l old → TakesLine s.left new line → StopsIn SaysLive live.reasons (line_read live.table) live n line next before after → n ≡ l.count + 1 → IsLate false after x → ObeysCut s next after x
+    → FitsLines s l old → TakesLine s.left new line → StopsIn SaysLive live.manner (line_read live.table) l.draft live n line next before after → n ≡ l.count + 1 → IsLate false after x → ObeysCut s next after x
 cuts_line s live next before after l old new n line x a b h taken stops one late = (then, by x late, refl, refl)
   where
     number : n ≡ s.number + 1
     number = one ∙ ap (λ (k : ℕ). k + 1) h.number
 
-    here : StopsIn SaysLive s.live.reasons (line_read s.live.table) s.live (s.number + 1) line next s.output after
+    here : StopsIn SaysLive s.live.manner (line_read s.live.table) s.draft s.live (s.number + 1) line next s.output after
     here =
-        subst (λ (o : OutputState). StopsIn SaysLive s.live.reasons (line_read s.live.table) s.live (s.number + 1) line next o after) (sym b)
-        (subst (λ (k : ℕ). StopsIn SaysLive s.live.reasons (line_read s.live.table) s.live k line next before after) number
-        (subst (λ (y : LiveState). StopsIn SaysLive y.reasons (line_read y.table) y n line next before after) (sym a) stops))
+        subst (λ (o : OutputState). StopsIn SaysLive s.live.manner (line_read s.live.table) s.draft s.live (s.number + 1) line next o after) (sym b)
+        (subst (λ (d : DraftState). StopsIn SaysLive s.live.manner (line_read s.live.table) d s.live (s.number + 1) line next before after) h.draft
+        (subst (λ (k : ℕ). StopsIn SaysLive s.live.manner (line_read s.live.table) l.draft s.live k line next before after) number
+        (subst (λ (y : LiveState). StopsIn SaysLive y.manner (line_read y.table) l.draft y n line next before after) (sym a) stops)))
 
     then : RunState
     then = record s { live = next; left = new; output = after }
@@ -145,45 +162,40 @@ cuts_line s live next before after l old new n line x a b h taken stops one late
     by refusal.BadHex late = absurd late
     by (refusal.Unmet n) late = absurd late
 
--- what was taken as no end has bytes
-some_taken : (line : List ℕ) (next : NextLine) → IsTaken line next → (next ≡ taken.End → ⊥) → 0 < length line
-some_taken line taken.End is some = absurd (some refl)
-some_taken line (taken.Text text) is some = is.0
-some_taken line taken.NoText is some = is.0
-
 -- a line that is whole, by what the code has
-pub whole_obeyed : (s : RunState) (live next : LiveState) (before after : OutputState) (l : LinesState) (part kept : List ℕ) (count unmet n more sum : ℕ) (is_open : Bool) (old new : Option (List ℕ)) (took : NextLine)
-    → lines_of part count unmet is_open ≡ l → is_open ≡ true → count < 2 ^ 64 - 1 → n ≡ min (count + 1) (2 ^ 64 - 1) → sum ≡ min (unmet + more) (2 ^ 64 - 1)
-    → ((start : Option (List ℕ)) → IsSoFar start old max_kept part → GoesOn start new kept (Some took)) → (took ≡ taken.End → ⊥)
-    → ((u : ℕ) × (more ≡ counted u) × ((line : List ℕ) → IsTaken line took → DoesTaken SaysLive live.reasons (line_read live.table) live n line next u before after))
-    → s.live ≡ live → s.output ≡ before → FitsLines s l old → ObeysSome s next (lines_of kept n sum is_open) new after
-whole_obeyed s live next before after l part kept count unmet n more sum is_open old new took is opened few one sums goes some (u, counts, does) a b h = by (goes s.left (fits.part opened))
+pub whole_obeyed : (s : RunState) (live next : LiveState) (before after : OutputState) (l : LinesState) (part kept : List ℕ) (draft drawn : DraftState) (count unmet n more sum : ℕ) (is_open still : Bool) (old new : Option (List ℕ)) (took : NextLine)
+    → lines_of part draft count unmet is_open ≡ l → is_open ≡ true → count < 2 ^ 64 - 1 → n ≡ min (count + 1) (2 ^ 64 - 1) → sum ≡ min (unmet + more) (2 ^ 64 - 1)
+    → ((start : Option (List ℕ)) → IsSoFar start old max_kept part → GoesOn start new kept (Some took))
+    → ((u : ℕ) × (more ≡ counted u) × ((line : List ℕ) → IsTaken line took → DoesTaken SaysLive live.manner (line_read live.table) draft live n line next u before after))
+    → ((line : List ℕ) → IsTaken line took → drawn ≡ (come (line_read live.table) draft n line).0)
+    → s.live ≡ live → s.output ≡ before → FitsLines s l old → ObeysSome s next (lines_of kept drawn n sum still) new after
+whole_obeyed s live next before after l part kept draft drawn count unmet n more sum is_open still old new took is opened few one sums goes (u, counts, does) drafts a b h = by (goes s.left (fits.part opened))
   where
-    fits : FitsLines s (lines_of part count unmet is_open) old
+    fits : FitsLines s (lines_of part draft count unmet is_open) old
     fits = subst (λ (x : LinesState). FitsLines s x old) (sym is) h
 
     next_one : n ≡ count + 1
     next_one = omega arith
 
-    by : GoesOn s.left new kept (Some took) → ObeysSome s next (lines_of kept n sum is_open) new after
+    by : GoesOn s.left new kept (Some took) → ObeysSome s next (lines_of kept drawn n sum still) new after
     by (line, takes, fit, none) =
-        obeys_line s live next before after (lines_of part count unmet is_open) (lines_of kept n sum is_open) old new line more u a b fits takes (some_taken line took fit some) (does line fit) next_one counts sums none
+        obeys_line s live next before after (lines_of part draft count unmet is_open) (lines_of kept drawn n sum still) old new line more u a b fits takes (does line fit) (drafts line fit) next_one counts sums none
 
-pub whole_cut : (s : RunState) (live next : LiveState) (before after : OutputState) (l : LinesState) (part kept : List ℕ) (count unmet n : ℕ) (is_open : Bool) (old new : Option (List ℕ)) (took : NextLine) (x : Refusal)
-    → lines_of part count unmet is_open ≡ l → is_open ≡ true → count < 2 ^ 64 - 1 → n ≡ min (count + 1) (2 ^ 64 - 1)
+pub whole_cut : (s : RunState) (live next : LiveState) (before after : OutputState) (l : LinesState) (part kept : List ℕ) (draft : DraftState) (count unmet n : ℕ) (is_open : Bool) (old new : Option (List ℕ)) (took : NextLine) (x : Refusal)
+    → lines_of part draft count unmet is_open ≡ l → is_open ≡ true → count < 2 ^ 64 - 1 → n ≡ min (count + 1) (2 ^ 64 - 1)
     → ((start : Option (List ℕ)) → IsSoFar start old max_kept part → GoesOn start new kept (Some took))
-    → ((line : List ℕ) → IsTaken line took → StopsIn SaysLive live.reasons (line_read live.table) live n line next before after) → IsLate false after x
+    → ((line : List ℕ) → IsTaken line took → StopsIn SaysLive live.manner (line_read live.table) draft live n line next before after) → IsLate false after x
     → s.live ≡ live → s.output ≡ before → FitsLines s l old → ObeysCut s next after x
-whole_cut s live next before after l part kept count unmet n is_open old new took x is opened few one goes stops late a b h = by (goes s.left (fits.part opened))
+whole_cut s live next before after l part kept draft count unmet n is_open old new took x is opened few one goes stops late a b h = by (goes s.left (fits.part opened))
   where
-    fits : FitsLines s (lines_of part count unmet is_open) old
+    fits : FitsLines s (lines_of part draft count unmet is_open) old
     fits = subst (λ (y : LinesState). FitsLines s y old) (sym is) h
 
     next_one : n ≡ count + 1
     next_one = omega arith
 
     by : GoesOn s.left new kept (Some took) → ObeysCut s next after x
-    by (line, takes, fit, none) = cuts_line s live next before after (lines_of part count unmet is_open) old new n line x a b fits takes (stops line fit) next_one late
+    by (line, takes, fit, none) = cuts_line s live next before after (lines_of part draft count unmet is_open) old new n line x a b fits takes (stops line fit) next_one late
 
 -- what is said of an end that is an error
 pub no_done : (P : Type 0) (r : Result Unit Refusal) (x : Refusal) → IsErrAnd r (λ e. e ≡ x) → OnOk r P
@@ -282,7 +294,7 @@ frame_comes frames now later s live next w v lines left output h some (inr (payl
     }
 
     fits : FitsLines then lines left
-    fits = record { number = h.at.lines.number; unmet = h.at.lines.unmet; rest = h.at.lines.rest; part = h.at.lines.part }
+    fits = record { draft = h.at.lines.draft; number = h.at.lines.number; unmet = h.at.lines.unmet; rest = h.at.lines.rest; part = h.at.lines.part }
 
 -- bytes of a line come
 pub line_comes : (frames now : Option ℕ) (s : RunState) (live next : LiveState) (w : WireState) (l m : LinesState) (old new : Option (List ℕ)) (before after : OutputState)
@@ -486,12 +498,12 @@ unserved_unprinted r x frames s after passed is prints =
 -- ---- the whole
 
 -- where a run begins
-pub begins : (live : LiveState) (wire : WireState) (left : Option (List ℕ)) (output : OutputState) (l : LinesState) → l ≡ lines_of [] 0 0 true → IsAt (begun live wire left output) live wire l left output
+pub begins : (live : LiveState) (wire : WireState) (left : Option (List ℕ)) (output : OutputState) (l : LinesState) → l ≡ lines_of [] empty_draft 0 0 true → IsAt (begun live wire left output) live wire l left output
 begins live wire left output l is = subst (λ (x : LinesState). IsAt (begun live wire left output) live wire x left output) (sym is) (record {
   live = refl;
   wire = refl;
   output = refl;
-  lines = record { number = refl; unmet = refl; rest = none_taken left; part = λ still. none_so_far left max_kept [] refl };
+  lines = record { draft = refl; number = refl; unmet = refl; rest = none_taken left; part = λ still. none_so_far left max_kept [] refl };
 })
 
 -- ---- texts

@@ -1,20 +1,24 @@
 -- What a line does to a live segment, and what it prints (this project's profile). What it does to slaves is what it does in `ecat sim`.
 use Rattle.std.specs.Prelude.{◌≡◌, ◌++◌, ◌∷◌, [], ℕ, List, length, nat_lt, slice_get, Bool, true, false, Option, Some, None, codes}
 use Rattle.std.specs.Fmt.{decimal}
+use Rattle.ec_start.specs.Running.{outcome_of}
 use Rattle.ec_table.specs.Contents.{Contents}
 use Rattle.ec_table.specs.declared.rows.Direction.{Direction}
 use Rattle.ec_table.specs.declared.rows.Direction.TheVariants.{Out, In}
 use Rattle.ec_table.specs.declared.rows.VariableRow.{VariableRow}
 use Rattle.ec_script.specs.declared.expectation.Expectation.{Expectation}
 use Rattle.ec_script.specs.declared.expectation.Expectation.TheVariants as expects
-use Rattle.ec_script.specs.declared.line.Line.{Line}
+use Rattle.ec_script.specs.declared.line.Step.{Step}
 use Rattle.ec_script.specs.declared.line.LineAction.{LineAction}
 use Rattle.ec_script.specs.declared.line.LineAction.TheVariants.{Expect, Fail, Get, Input, Lose, LosePart, Never, Output, Put, Reset, Served}
-use Rattle.ec_script.specs.declared.output.LineOutput.TheVariants.{No}
+use Rattle.ec_script.specs.declared.output.LineOutput.{LineOutput}
+use Rattle.ec_script.specs.declared.output.LineOutput.TheVariants.{No, Nothing}
+use Rattle.ec_script.specs.Outputs.{answer_of, is_counted}
 use Rattle.ec_script.specs.Texts.{output_text}
 use Rattle.ec_simulation.specs.Statuses.{statuses}
 use Rattle.ec_simulation.specs.Views.{view_of}
 use Rattle.ec_console.specs.Reasons.{ReasonIf}
+use Rattle.ec_console.specs.Unmet.{unmet_of}
 use Rattle.cmd_sim.specs.Simulating.{SaysLine, is_reasoned}
 use Rattle.ec_live.specs.Drops.{dropping, dropping_part}
 use Rattle.ec_live.specs.State.{LiveState}
@@ -58,23 +62,22 @@ takes_action t _ = false
 abbrev pub served_line : ℕ → ℕ → List ℕ
 served_line answered refused = codes "served " ++ (decimal answered ++ (codes " refused " ++ (decimal refused ++ 10 ∷ [])))
 
--- the segment is `u` now, and nothing is printed
-pub record Quietly (u t : LiveState) (printed : List ℕ) (unmet : ℕ) : Type 0 where
+-- The segment is `u` now, and the output is this, with a reason behind its text if reasons are wanted.
+pub record Tells (said : LineOutput) (u : LiveState) (line : Step) (t : LiveState) (printed : List ℕ) (unmet : ℕ) : Type 0 where
   pub is : t ≡ u
-  pub silent : printed ≡ []
-  pub met : unmet ≡ 0
-
--- A line that can't be done prints `no` and its number, and why if reasons are wanted. Nothing changes.
-pub record SaysNo (s : LiveState) (line : Line) (t : LiveState) (printed : List ℕ) (unmet : ℕ) : Type 0 where
-  pub same : t ≡ s
   pub why : List ℕ
-  pub reason : ReasonIf (is_reasoned s.reasons No) why
-  pub text : printed ≡ output_text s.table line.number (view_of s.world) (statuses s.world) No ++ why
-  pub met : unmet ≡ 0
+  pub reason : ReasonIf (is_reasoned u.manner (answer_of line.expects_no said)) why
+  pub text : printed ≡ output_text u.table line.number (view_of u.world) (statuses u.world) (answer_of line.expects_no said) ++ why
+  pub count : unmet ≡ unmet_of (is_counted u.manner.strict (outcome_of u.world.start.phase) (answer_of line.expects_no said))
+
+-- How many frames were answered, and how many other payloads came, is printed; of a line that expects `no`, that it isn't so.
+abbrev pub TellsServed : Bool → LiveState → Step → LiveState → List ℕ → ℕ → Type 0
+TellsServed false s line t printed unmet = (t ≡ s) × (printed ≡ served_line s.answered s.refused) × (unmet ≡ 0)
+TellsServed true s line t printed unmet = Tells Nothing s line t printed unmet
 
 -- a line does to the slaves what it does to those of a simulated segment, and prints the same
-pub record SaysInWorld (s : LiveState) (line : Line) (t : LiveState) (printed : List ℕ) (unmet : ℕ) : Type 0 where
-  pub says : SaysLine s.reasons s.table s.world line t.world printed unmet
+pub record SaysInWorld (s : LiveState) (line : Step) (t : LiveState) (printed : List ℕ) (unmet : ℕ) : Type 0 where
+  pub says : SaysLine s.manner s.table s.world line t.world printed unmet
   pub plan : t.world.plan ≡ s.world.plan
   pub is : t ≡ record s { world = t.world }
 
@@ -83,12 +86,12 @@ Either true x y = x
 Either false x y = y
 
 -- what a line does, by its action
-abbrev pub SaysAction : LineAction → LiveState → Line → LiveState → List ℕ → ℕ → Type 0
-SaysAction (Lose n) s line t printed unmet = Quietly (record s { drops = dropping n s.drops }) t printed unmet
+abbrev pub SaysAction : LineAction → LiveState → Step → LiveState → List ℕ → ℕ → Type 0
+SaysAction (Lose n) s line t printed unmet = Tells Nothing (record s { drops = dropping n s.drops }) line t printed unmet
 SaysAction (LosePart n k) s line t printed unmet =
-    Either (nat_lt k (length s.drops.parts)) (Quietly (record s { drops = dropping_part n k s.drops }) t printed unmet) (SaysNo s line t printed unmet)
-SaysAction Served s line t printed unmet = (t ≡ s) × (printed ≡ served_line s.answered s.refused) × (unmet ≡ 0)
+    Either (nat_lt k (length s.drops.parts)) (Tells Nothing (record s { drops = dropping_part n k s.drops }) line t printed unmet) (Tells No s line t printed unmet)
+SaysAction Served s line t printed unmet = TellsServed line.expects_no s line t printed unmet
 SaysAction action s line t printed unmet = SaysInWorld s line t printed unmet
 
-abbrev pub SaysLive : LiveState → Line → LiveState → List ℕ → ℕ → Type 0
+abbrev pub SaysLive : LiveState → Step → LiveState → List ℕ → ℕ → Type 0
 SaysLive s line t printed unmet = SaysAction line.action s line t printed unmet

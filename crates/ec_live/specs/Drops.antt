@@ -1,5 +1,5 @@
 -- Frames that a live segment drops (this project's profile): how many of the next frames, and of the next cyclic frames of each part.
-use Rattle.std.specs.Prelude.{ℕ, ◌-◌, ◌||◌, List, length, get_or, set, max, nat_lt, replicate, Bool, Option, Some, None}
+use Rattle.std.specs.Prelude.{ℕ, ◌-◌, ◌||◌, List, get_or, set, max, nat_lt, replicate, Bool, Option, Some, None}
 
 pub record DropState : Type 0 where
   pub any : ℕ

@@ -1,12 +1,12 @@
 -- A run of a live segment: frames and lines, in the order in which they come, and what came of each.
-use Rattle.std.specs.Prelude.{◌≡◌, ◌⊎◌, ℕ, ◌+◌, ◌<◌, List, [], ◌∷◌, length, true, Option, Some, None, Result, Ok, Err}
+use Rattle.std.specs.Prelude.{◌≡◌, ◌⊎◌, ℕ, ◌+◌, List, [], ◌∷◌, length, true, Option, Some, None, Result, Ok, Err}
 use Rattle.ec_lines.specs.Taking.{TakesLine, TakesPart}
 use Rattle.ec_wire.specs.Wires.{Carries, WireState, is_fault}
 use Rattle.ec_table.specs.Contents.{Contents}
-use Rattle.ec_script.specs.declared.read.Reading.{Reading}
+use Rattle.ec_script.specs.Drafts.{DraftState, empty_draft}
 use Rattle.ec_console.specs.declared.refusal.Refusal.{Refusal}
 use Rattle.ec_console.specs.declared.refusal.Refusal.TheVariants.{Memory, Output, Socket}
-use Rattle.ec_console.specs.Coming.{SaysReading, StopsIn, reading_at}
+use Rattle.ec_console.specs.Coming.{Reader, SaysDue, StopsIn, come, reading_at}
 use Rattle.ec_console.specs.Printing.{IsCutOff, IsPrinted, OutputState}
 use Rattle.ec_console.specs.Unmet.{EndsUnmet}
 use Rattle.ec_live.specs.Doing.{SaysLive, served_line, takes_action}
@@ -18,7 +18,7 @@ use Rattle.ec_live.specs.State.{LiveState}
 pub data Came : Type 0 where
   -- a payload on the wire
   Payload : List ℕ → Came
-  -- a line of the input, with its end
+  -- a line of the input, with its end; an empty one is the end of the input
   Line : List ℕ → Came
 
 -- the payloads among them
@@ -29,22 +29,23 @@ payloads_of (Line l ∷ cs) = payloads_of cs
 
 -- ---- how far a run is
 
--- the segment and its wire; what the input had left behind the last whole line, the number of that line, and how often what lines expect
--- wasn't so; and the output
+-- the segment and its wire; what the input had left behind the last whole line, the number of that line, the lines of a block that isn't
+-- whole, and how often what lines expect wasn't so; and the output
 pub record RunState : Type 0 where
   pub live : LiveState
   pub wire : WireState
   pub left : Option (List ℕ)
   pub number : ℕ
+  pub draft : DraftState
   pub unmet : ℕ
   pub output : OutputState
 
 -- no line was taken yet
 abbrev pub begun : LiveState → WireState → Option (List ℕ) → OutputState → RunState
-begun live wire left output = record { live = live; wire = wire; left = left; number = 0; unmet = 0; output = output }
+begun live wire left output = record { live = live; wire = wire; left = left; number = 0; draft = empty_draft; unmet = 0; output = output }
 
 -- what line n of an input is to it
-abbrev pub line_read : Contents → ℕ → List ℕ → Reading
+abbrev pub line_read : Contents → Reader
 line_read t = reading_at takes_action t
 
 -- A payload comes, and its answer is sent, if it has one.
@@ -55,15 +56,14 @@ pub record MeetsOne (s : RunState) (payload : List ℕ) (t : RunState) : Type 0 
   pub meets : Meets s.live payload t.live answers
   pub is : t ≡ record s { live = t.live; wire = t.wire }
 
--- A line is taken, and done as often as it says. Its text is printed.
+-- A line is taken, and what is due then is done. Its text is printed.
 pub record ObeysOne (s : RunState) (line : List ℕ) (t : RunState) : Type 0 where
   pub taken : TakesLine s.left t.left line
-  pub some : 0 < length line
   pub printed : List ℕ
   pub unmet : ℕ
-  pub says : SaysReading SaysLive s.live.reasons s.live (s.number + 1) (line_read s.live.table (s.number + 1) line) t.live printed unmet
+  pub says : SaysDue SaysLive s.live.manner s.live (come (line_read s.live.table) s.draft (s.number + 1) line).1 t.live printed unmet
   pub prints : IsPrinted s.output t.output printed
-  pub is : t ≡ record s { live = t.live; left = t.left; number = s.number + 1; unmet = s.unmet + unmet; output = t.output }
+  pub is : t ≡ record s { live = t.live; left = t.left; number = s.number + 1; draft = (come (line_read s.live.table) s.draft (s.number + 1) line).0; unmet = s.unmet + unmet; output = t.output }
 
 abbrev pub Step : RunState → Came → RunState → Type 0
 Step s (Payload payload) t = MeetsOne s payload t
@@ -91,11 +91,11 @@ pub record HearsNone (s t : RunState) : Type 0 where
   pub fault : is_fault s.wire t.wire ≡ true
   pub is : t ≡ record s { wire = t.wire }
 
--- a line is done in part, or not at all
+-- what is due at a line is done in part, or not at all
 pub record StopsInLine (s t : RunState) : Type 0 where
   pub line : List ℕ
   pub taken : TakesLine s.left t.left line
-  pub stops : StopsIn SaysLive s.live.reasons (line_read s.live.table) s.live (s.number + 1) line t.live s.output t.output
+  pub stops : StopsIn SaysLive s.live.manner (line_read s.live.table) s.draft s.live (s.number + 1) line t.live s.output t.output
   pub is : t ≡ record s { live = t.live; left = t.left; output = t.output }
 
 -- by the refusal: of a socket, of memory, or of a write

@@ -1,6 +1,5 @@
 -- What private code returns. You don't need it to read what a live segment does.
-use Rattle.std.specs.Prelude.{◌≡◌, ◌==◌, ◌⊎◌, ℕ, ◌+◌, ◌-◌, List, [], ◌∷◌, ◌++◌, codes, length, Bool, true, false, Option, Some, None, Result, Ok, Err, is_ok}
-use Rattle.std.specs.Fmt.{decimal}
+use Rattle.std.specs.Prelude.{◌≡◌, ◌==◌, ◌⊎◌, ℕ, ◌+◌, ◌-◌, List, [], ◌∷◌, length, Bool, true, false, Option, Some, None, Result, Ok, Err, is_ok}
 use Rattle.ec_lines.specs.Taking.{IsSoFar, TakesPart, max_kept}
 use Rattle.ec_wire.specs.Wires.{Carries, WireState, is_fault}
 use Rattle.ec_wire.specs.declared.trouble.Trouble.TheVariants.{Silence}
@@ -8,6 +7,7 @@ use Rattle.ec_console.specs.declared.refusal.Refusal.{Refusal}
 use Rattle.ec_console.specs.declared.refusal.Refusal.TheVariants.{Socket}
 use Rattle.ec_console.specs.Printing.{OutputState}
 use Rattle.ec_console.specs.Unmet.{counted}
+use Rattle.ec_script.specs.Drafts.{DraftState}
 use Rattle.ec_live.specs.Living.{Came, EndsTurns, IsCut, ObeysOne, RunState, Runs, payloads_of}
 use Rattle.ec_live.specs.Meeting.{Meets}
 use Rattle.ec_live.specs.State.{LiveState}
@@ -17,11 +17,6 @@ use Rattle.ec_frame.specs.Commands.{number_of}
 use Rattle.ec_frame.specs.Cursor.{IsAhead}
 use Rattle.ec_frame.specs.Datagram.{Datagram}
 use Rattle.ec_frame.specs.Frame.{IsFrame, Payload}
-use Rattle.ec_text.specs.PlanText.{newline}
-use Rattle.ec_script.specs.declared.output.LineOutput.TheVariants.{No}
-use Rattle.ec_console.specs.declared.wanted.Reasons.{Reasons}
-use Rattle.ec_console.specs.Reasons.{ReasonIf}
-use Rattle.cmd_sim.specs.Simulating.{is_reasoned}
 use Rattle.ec_live.specs.Cyclic.{cyclic_part}
 use Rattle.ec_live.specs.Drops.{is_dropped}
 
@@ -36,22 +31,20 @@ HasOver payload places command (d ∷ ds) has = (has ≡ (number_of d.command ==
 abbrev pub IsReturned : LiveState → List ℕ → Type 0
 IsReturned s payload = (frame : Payload) → IsFrame payload frame → is_dropped s.drops (cyclic_part s.world.plan.parts frame.datagrams) ≡ false
 
--- the text of line n that can't be done, with a reason if one is wanted
-abbrev pub IsNoText : Reasons → ℕ → List ℕ → Type 0
-IsNoText reasons n text = (why : List ℕ) × ReasonIf (is_reasoned reasons No) why × (text ≡ (codes "no " ++ decimal n ++ newline) ++ why)
-
 -- ---- one thing that comes
 
--- the lines so far: the bytes that are kept of one that isn't whole, how many came, how often what they expect wasn't so, and whether more
--- may come
+-- the lines so far: the bytes that are kept of one that isn't whole, the lines of a block that isn't, how many came, how often what they expect
+-- wasn't so, and whether more may come
 pub record LinesState : Type 0 where
   pub part : List ℕ
+  pub draft : DraftState
   pub count : ℕ
   pub unmet : ℕ
   pub is_open : Bool
 
 -- a run is where these lines are, and what the input has left
 pub record FitsLines (t : RunState) (lines : LinesState) (left : Option (List ℕ)) : Type 0 where
+  pub draft : lines.draft ≡ t.draft
   pub number : lines.count ≡ t.number
   pub unmet : lines.unmet ≡ counted t.unmet
   pub rest : TakesPart t.left left

@@ -4,7 +4,7 @@ use Rattle.std.specs.Prelude.{◌≡◌, ℕ, ◌+◌, ◌-◌, ◌^◌, length,
 use Rattle.ec_table.specs.Contents.{Contents}
 use Rattle.ec_world.specs.World.{WorldState}
 use Rattle.ec_world.specs.Whole.{IsOfMachine}
-use Rattle.ec_console.specs.declared.wanted.Reasons.{Reasons}
+use Rattle.ec_console.specs.declared.wanted.Manner.{Manner}
 use Rattle.ec_live.specs.Drops.{DropState, no_drops}
 
 -- the slaves, in their world; the table whose names lines use; whether reasons are wanted; which frames are dropped; and how many frames
@@ -12,7 +12,7 @@ use Rattle.ec_live.specs.Drops.{DropState, no_drops}
 pub record LiveState : Type 0 where
   pub world : WorldState
   pub table : Contents
-  pub reasons : Reasons
+  pub manner : Manner
   pub drops : DropState
   pub answered : ℕ
   pub refused : ℕ
@@ -22,10 +22,10 @@ abbrev pub one_more : ℕ → ℕ
 one_more n = min (n + 1) (2 ^ 64 - 1)
 
 -- the slaves of a table, just switched on; nothing came, and nothing is dropped
-pub record IsNewLive (t : Contents) (wanted : Reasons) (s : LiveState) : Type 0 where
+pub record IsNewLive (t : Contents) (wanted : Manner) (s : LiveState) : Type 0 where
   pub world : IsOfMachine t s.world
   pub table : s.table ≡ t
-  pub reasons : s.reasons ≡ wanted
+  pub manner : s.manner ≡ wanted
   pub drops : s.drops ≡ no_drops (length s.world.plan.parts)
   pub answered : s.answered ≡ 0
   pub refused : s.refused ≡ 0

@@ -1,6 +1,5 @@
 //! The part whose cyclic frame a frame is.
-ghost use Rattle.std.specs.Prelude.{◌≡◌, ◌==◌, ◌&&◌, ◌∷◌, [], List, length, Option};
-ghost use Rattle.ec_frame.specs.Commands.{number_of};
+ghost use Rattle.std.specs.Prelude.{◌≡◌, ◌==◌, ◌&&◌, List, Option};
 ghost use Rattle.ec_frame.specs.Cursor.{IsAhead};
 ghost use Rattle.ec_frame.specs.Datagram.{Datagram};
 ghost use Rattle.ec_frame.specs.Frame.{Payload, IsFrame};

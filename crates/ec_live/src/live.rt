@@ -1,9 +1,9 @@
 //! A segment that answers frames and obeys lines, as a value.
 ghost use Rattle.std.specs.Prelude.{◌≡◌, ◌∷◌, [], ℕ, List, IfOk, OnErr, false, if◌then◌else◌, slice_get, string_bytes, true};
 ghost use Rattle.ec_console.specs.Unmet.{unmet_of};
-ghost use Rattle.ec_live.specs.Doing.{SaysAction, is_output, is_seen, served_line};
+ghost use Rattle.ec_live.specs.Doing.{SaysAction, Tells, TellsServed, is_output, is_seen, served_line};
 ghost use Rattle.ec_live.specs.Meeting.{DropsIt, Meets};
-ghost use Rattle.ec_live.specs.Stages.{IsReturned, IsNoText};
+ghost use Rattle.ec_live.specs.Stages.{IsReturned};
 ghost use Rattle.ec_live.specs.State.{IsNewLive};
 
 use crate::cyclic::cyclic_part;
@@ -11,11 +11,10 @@ use crate::drops::Drops;
 use crate::why::Why;
 use arrayvec::ArrayString;
 use cmd_sim::Simulation;
-use ec_console::{Reasons, Said, Target};
-use ec_diagnostic::reason_line;
+use ec_console::{Manner, Said, Target};
 use ec_frame::check;
 use ec_link::Machine;
-use ec_script::{Expectation, Line, LineAction};
+use ec_script::{Expectation, LineAction, LineOutput, Step};
 use ec_table::{Direction, Table};
 use ec_text::push_number;
 use ec_world::{Unwatched, World};
@@ -25,8 +24,7 @@ use std::marker::Model;
 /// The most bytes of the line that says what was served.
 const LINE_SIZE: usize = 80;
 
-/// Slaves that frames of a master elsewhere move, and lines as the plant does. Lines also drop frames. With reasons, it says why a line
-/// is bad or can't be done.
+/// Slaves that frames of a master elsewhere move, and lines as the plant does. Lines also drop frames.
 #[derive(Drop)]
 pub struct Live<'m> {
     simulation: Simulation<'m, Unwatched>,
@@ -43,7 +41,7 @@ impl<'m> Model for Live<'m> {
     ghost view = { λ l. record {
       world = l.simulation.world;
       table = l.simulation.table;
-      reasons = l.simulation.reasons;
+      manner = l.simulation.manner;
       drops = l.drops;
       answered = l.answered;
       refused = l.refused;
@@ -56,17 +54,13 @@ impl<'m> Live<'m> {
     /// # Errors
     ///
     /// `AllocError` if there is no memory.
-    pub fn new(
-        alloc: Global,
-        machine: &'m Machine,
-        reasons: Reasons,
-    ) -> Result<Live<'m>, AllocError>
-        ensures { IfOk result (IsNewLive machine.now reasons) }
+    pub fn new(alloc: Global, machine: &'m Machine, manner: Manner) -> Result<Live<'m>, AllocError>
+        ensures { IfOk result (IsNewLive machine.now manner) }
     {
         let world = World::of_machine(alloc, machine)?;
         let drops = Drops::new(alloc, world.plan().parts().len())?;
         Ok(Live {
-            simulation: Simulation::new(world, machine, reasons, Unwatched),
+            simulation: Simulation::new(world, machine, manner, Unwatched),
             drops,
             answered: 0,
             refused: 0,
@@ -113,40 +107,69 @@ impl<'m> Live<'m> {
         self.drops.count(part)
     }
 
-    /// Drops so many of the next cyclic frames of a part, and returns what the line says.
+    /// What a step says by the output of its action.
+    ///
+    /// # Errors
+    ///
+    /// `AllocError` if there is no memory for its text.
+    fn tell(&self, alloc: Global, step: &Step, said: LineOutput) -> Result<Said, AllocError>
+        ensures { IfOk result (λ told. Tells said self.now step.now self.now (string_bytes told.text) (unmet_of told.is_unmet)) }
+    {
+        let answer = said.answer(step.expects_no);
+        let parts = self.simulation.plan().parts().len();
+        let words = format!(in alloc; "{}", Why { step: *step, parts })?;
+        let text = self
+            .simulation
+            .text_with(alloc, step.number, answer, words.as_str())?;
+        let outcome = self.simulation.outcome();
+        let is_unmet = answer.is_counted(self.simulation.manner().strict, outcome);
+        Ok(Said { text, is_unmet })
+    }
+
+    /// How many frames were answered, and how many other payloads came; or, if that isn't expected, that it is so.
+    ///
+    /// # Errors
+    ///
+    /// `AllocError` if there is no memory for its text.
+    fn tell_served(&self, alloc: Global, step: &Step) -> Result<Said, AllocError>
+        ensures { IfOk result (λ told. TellsServed step.now.expects_no self.now step.now self.now (string_bytes told.text) (unmet_of told.is_unmet)) }
+    {
+        if step.expects_no {
+            return self.tell(alloc, step, LineOutput::Nothing);
+        }
+        let text = served_text(self.answered, self.refused);
+        Ok(Said {
+            text: String::from_str(alloc, text.as_str())?,
+            is_unmet: false,
+        })
+    }
+
+    /// Drops so many of the next frames, and returns what the step says.
+    fn drop_next(&mut self, alloc: Global, step: &Step, count: usize) -> Result<Said, AllocError>
+        ensures said { IfOk result (λ said. SaysAction (LineAction.Lose count) self.old step.now self.new (string_bytes said.text) (unmet_of said.is_unmet)) }
+        ensures unsaid { OnErr result ((text : List ℕ) × (unmet : ℕ) × SaysAction (LineAction.Lose count) self.old step.now self.new text unmet) }
+        ensures table { self.new.table ≡ self.old.table }
+    {
+        self.drops.drop_next(count as u64);
+        self.tell(alloc, step, LineOutput::Nothing)
+    }
+
+    /// Drops so many of the next cyclic frames of a part, and returns what the step says.
     fn drop_part(
         &mut self,
         alloc: Global,
-        line: &Line,
+        step: &Step,
         count: usize,
         part: usize,
     ) -> Result<Said, AllocError>
-        ensures said { IfOk result (λ said. SaysAction (LineAction.LosePart count part) self.old line.now self.new (string_bytes said.text) (unmet_of said.is_unmet)) }
-        ensures unsaid { OnErr result ((text : List ℕ) × (unmet : ℕ) × SaysAction (LineAction.LosePart count part) self.old line.now self.new text unmet) }
+        ensures said { IfOk result (λ said. SaysAction (LineAction.LosePart count part) self.old step.now self.new (string_bytes said.text) (unmet_of said.is_unmet)) }
+        ensures unsaid { OnErr result ((text : List ℕ) × (unmet : ℕ) × SaysAction (LineAction.LosePart count part) self.old step.now self.new text unmet) }
         ensures table { self.new.table ≡ self.old.table }
     {
         if self.drops.drop_part(count as u64, part) {
-            return Ok(said(String::new(alloc)));
+            return self.tell(alloc, step, LineOutput::Nothing);
         }
-        let text = self.no_part(alloc, line.number, part)?;
-        Ok(said(text))
-    }
-
-    /// The text of a line that can't be done, since the plan has no such part.
-    fn no_part(&self, alloc: Global, number: usize, part: usize) -> Result<String, AllocError>
-        ensures { IfOk result (λ text. IsNoText self.now.reasons number (string_bytes text)) }
-    {
-        let mut text = format!(in alloc; "no {number}\n")?;
-        match self.simulation.reasons() {
-            Reasons::Omitted => Ok(text),
-            Reasons::Added => {
-                let parts = self.simulation.plan().parts().len();
-                let words = format!(in alloc; "{}", Why { part, parts })?;
-                let reason = reason_line(alloc, words.as_str())?;
-                text.push_str(reason.as_str())?;
-                Ok(text)
-            }
-        }
+        self.tell(alloc, step, LineOutput::No)
     }
 }
 
@@ -157,7 +180,7 @@ impl Target for Live<'_> {
 
     ghost takes = { takes_action };
 
-    ghost reasons = { λ l. l.reasons };
+    ghost manner = { λ l. l.manner };
 
     ghost says = { SaysLive };
 
@@ -187,42 +210,26 @@ impl Target for Live<'_> {
             | LineAction::Serve(_)
             | LineAction::Ready
             | LineAction::Cycle
+            | LineAction::Within(_, _)
             | LineAction::Show
+            | LineAction::ShowVariable(_)
             | LineAction::States
             | LineAction::Stop
             | LineAction::Report => false,
         }
     }
 
-    fn reasons(&self) -> Reasons {
-        self.simulation.reasons()
+    fn manner(&self) -> Manner {
+        self.simulation.manner()
     }
 
-    fn obey(&mut self, alloc: Global, line: &Line) -> Result<Said, AllocError> {
-        match line.action {
-            LineAction::Lose(count) => {
-                self.drops.drop_next(count as u64);
-                Ok(said(String::new(alloc)))
-            }
-            LineAction::LosePart(count, part) => self.drop_part(alloc, line, count, part),
-            LineAction::Served => {
-                let (answered, refused) = self.served();
-                let text = served_text(answered, refused);
-                Ok(said(String::from_str(alloc, text.as_str())?))
-            }
-            _ => self.simulation.obey(alloc, line),
+    fn obey(&mut self, alloc: Global, step: &Step) -> Result<Said, AllocError> {
+        match step.action {
+            LineAction::Lose(count) => self.drop_next(alloc, step, count),
+            LineAction::LosePart(count, part) => self.drop_part(alloc, step, count, part),
+            LineAction::Served => self.tell_served(alloc, step),
+            _ => self.simulation.obey(alloc, step),
         }
-    }
-}
-
-/// What a line says that expects nothing, or whose expectation is met.
-fn said(text: String) -> Said
-    ensures text { result.text ≡ text }
-    ensures met { result.is_unmet ≡ false }
-{
-    Said {
-        text,
-        is_unmet: false,
     }
 }
 

@@ -2,6 +2,7 @@
 ghost use Rattle.std.specs.Prelude.{◌≡◌, ◌<◌, ◌≤◌, ◌+◌, ◌-◌, ◌^◌, ℕ, List, [], IfErr, OnErr, OnOk, Option, true};
 ghost use Rattle.ec_lines.specs.Inputs.{bytes_left};
 ghost use Rattle.ec_lines.specs.Taking.{TakesPart};
+ghost use Rattle.ec_script.specs.Drafts.{empty_draft};
 ghost use Rattle.ec_wire.specs.Wires.{WireState};
 ghost use Rattle.ec_live.specs.Living.{LivesOn, RunState, begun};
 ghost use Rattle.ec_live.specs.Stages.{AnswersOne, Closes, FitsLines, IsAt, KeepsAnswer, MeetsFault, MeetsSome, ObeysCut, ObeysSome, TurnsEnd, one_less_frame};
@@ -13,6 +14,7 @@ use ec_console::{
 };
 use ec_frame::field::MAX_FRAME_LEN;
 use ec_lines::LinesError;
+use ec_script::Draft;
 use ec_wire::{SocketFault, Trouble, Wire, listen_on, send_on};
 use std::alloc::Global;
 use std::io::{Read, Write};
@@ -75,11 +77,12 @@ impl<W: Wire + Drop, K: Watching + Drop> Station<W, K> {
     }
 }
 
-/// The lines of an input so far: the bytes of one that isn't whole yet, how many came before it, how often what they expect wasn't so, and
-/// whether more may come.
+/// The lines of an input so far: the bytes of one that isn't whole yet, the lines of a block that isn't, how many came, how often what they
+/// expect wasn't so, and whether more may come.
 #[derive(Drop)]
 pub struct Lines {
     part: LinePart,
+    draft: Draft,
     count: usize,
     unmet: u64,
     is_open: bool,
@@ -90,16 +93,17 @@ impl Model for Lines {
 
     ghost Value = { LinesState };
 
-    ghost view = { λ l. record { part = l.part; count = l.count; unmet = l.unmet; is_open = l.is_open } };
+    ghost view = { λ l. record { part = l.part; draft = l.draft; count = l.count; unmet = l.unmet; is_open = l.is_open } };
 }
 
 impl Lines {
     /// The lines of an input of which no line was taken.
     fn new(alloc: Global) -> Lines
-        ensures { result ≡ record { part = []; count = 0; unmet = 0; is_open = true } }
+        ensures { result ≡ record { part = []; draft = empty_draft; count = 0; unmet = 0; is_open = true } }
     {
         Lines {
             part: LinePart::new(alloc),
+            draft: Draft::new(alloc),
             count: 0,
             unmet: 0,
             is_open: true,
@@ -118,9 +122,9 @@ impl Lines {
     }
 }
 
-/// Runs a live segment: it answers frames and does lines, in the order in which they come. Behind each line its text is printed. At the end
-/// it prints how many frames it answered, and how many other payloads came. It ends when all payloads came, or when the patience for them
-/// is over. The end of the input, or a refused read of it, ends the lines alone.
+/// Runs a live segment: it answers frames and does lines, in the order in which they come; those of a block once it is whole. Behind each
+/// line its text is printed. At the end it prints how many frames it answered, and how many other payloads came. It ends when all payloads
+/// came, or when the patience for them is over. The end of the input, or a refused read of it, ends the lines alone.
 ///
 /// # Errors
 ///
@@ -230,7 +234,7 @@ fn answer<W: Wire>(live: &mut Live<'_>, wire: &mut W, payload: &mut [u8]) -> Res
     Ok(())
 }
 
-/// Takes bytes of a line, and does the line if it is whole.
+/// Takes bytes of a line, and does what is due if the line is whole, or the input has ended.
 fn obey_part<R: Read + Drop, O: Write + Drop>(
     alloc: Global,
     live: &mut Live<'_>,
@@ -251,18 +255,13 @@ fn obey_part<R: Read + Drop, O: Write + Drop>(
     }
     match take_part(alloc, input, &mut lines.part) {
         Ok(None) => Ok(()),
-        Ok(Some(taken)) => match taken {
-            NextLine::End => {
-                lines.is_open = false;
-                Ok(())
-            }
-            line => {
-                lines.count = lines.count.saturating_add(1);
-                let unmet = obey_taken(alloc, live, lines.count, line, output)?;
-                lines.unmet = lines.unmet.saturating_add(unmet);
-                Ok(())
-            }
-        },
+        Ok(Some(taken)) => {
+            lines.is_open = !matches!(&taken, NextLine::End);
+            lines.count = lines.count.saturating_add(1);
+            let unmet = obey_taken(alloc, live, &mut lines.draft, lines.count, taken, output)?;
+            lines.unmet = lines.unmet.saturating_add(unmet);
+            Ok(())
+        }
         Err(LinesError::Unread) => {
             lines.is_open = false;
             Ok(())

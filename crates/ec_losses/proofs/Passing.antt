@@ -8,7 +8,7 @@ use Rattle.ec_cycle.specs.Master.{IsTaken, MasterState}
 use Rattle.ec_start.specs.declared.phase.Phase.{Phase}
 use Rattle.ec_start.specs.declared.phase.Phase.TheVariants.{Idle, Sent, Ready, Failed}
 use Rattle.ec_world.specs.declared.event.Event.{Event}
-use Rattle.ec_world.specs.declared.event.Event.TheVariants.{StartNext, Set, Begin, Pass, Lose, Return, Close, Serve, AppPut, AppGet, Fault, Reset}
+use Rattle.ec_world.specs.declared.event.Event.TheVariants.{StartNext, Set, Begin, Pass, Lose, Return, Close, Serve, AppPut, AppGet, Fault, Reset, Stop}
 use Rattle.ec_world.specs.World.{ByStart, Flight, Gets, IsStep, Passes, Puts, Returns, StartReturns, WorldState, awaits, flight_at, is_up, phase_awaits, phase_ready, slave_of, with_slave}
 use Rattle.ec_losses.specs.Losses.{Brings, Keeps, brought, bytes_in, is_passage}
 use Rattle.ec_losses.proofs.Alike.{one_outcome}
@@ -70,6 +70,7 @@ one_left w StartNext x up passes s = let f : false ≡ true = passes in cc
 one_left w (Set v y) x up passes s = let f : false ≡ true = passes in cc
 one_left w Begin x up passes s = let f : false ≡ true = passes in cc
 one_left w Close x up passes s = let f : false ≡ true = passes in cc
+one_left w Stop x up passes s = let f : false ≡ true = passes in cc
 
 -- what all of them leave
 pub record AreLeft (w : WorldState) (back : List (List ℕ)) (v : WorldState) : Type 0 where

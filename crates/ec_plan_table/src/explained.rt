@@ -10,7 +10,7 @@ use std::fmt::Write as _;
 const LEGEND: &str = "\
 Each line is a run of bits that go the same way. Bits count from 0, the lowest first.
   assigns   the PDOs that the slave exchanges, in order
-  object    index in hex and subindex in decimal, as in the table; a gap has neither
+  object    index and subindex, both in hex; a gap has neither
   bits      of the object
   byte      byte and bit of the slave's own data, whose bytes `put` and `get` of `ecat sim` count
   logical   byte and bit of the logical addresses, over which the part's datagrams go
@@ -141,7 +141,7 @@ impl<'a> Explained<'a> {
             let variable = self.variable_text(self.image(direction), *run)?;
             writeln!(
                 text,
-                "    {object:<10}  {bits:<6}  {byte:<5}  {logical:<28}  {variable}"
+                "    {object:<11}  {bits:<6}  {byte:<5}  {logical:<28}  {variable}"
             )?;
         }
         Ok(())
@@ -170,7 +170,7 @@ impl<'a> Explained<'a> {
         let (object, bits, byte, logical) = ("object", "bits", "byte", "logical");
         writeln!(
             text,
-            "    {object:<10}  {bits:<6}  {byte:<5}  {logical:<28}  variable"
+            "    {object:<11}  {bits:<6}  {byte:<5}  {logical:<28}  variable"
         )?;
         let mut from: usize = 0;
         for entry in entries {
@@ -333,7 +333,7 @@ fn object_text(alloc: Global, entry: &Entry) -> Result<String, AllocError> {
     if index == 0 {
         format!(in alloc; "gap")
     } else {
-        format!(in alloc; "0x{index:04x}:{subindex}")
+        format!(in alloc; "0x{index:04x}:0x{subindex:02x}")
     }
 }
 

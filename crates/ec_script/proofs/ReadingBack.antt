@@ -1,5 +1,5 @@
 -- What is written for a line is read back.
-use Rattle.std.proofs.Common.{◌≡◌, ◌≢◌, ◌∙◌, ℕ, ◌+◌, ◌-◌, ◌*◌, ◌/◌, ◌%◌, ◌<◌, ◌≤◌, ◌^◌, ◌==◌, ◌&&◌, List, [], ◌∷◌, ◌++◌, length, take, get_or, Bool, true, false, not, nat_lt, nat_le, position, Option, Some, None, is_some, bit_and, All, AllPairs, slice_get, codes, option_and_then, if◌then◌else◌, refl, sym, ap, subst, arith}
+use Rattle.std.proofs.Common.{◌≡◌, ◌≢◌, ◌∙◌, ℕ, ◌+◌, ◌-◌, ◌*◌, ◌/◌, ◌%◌, ◌<◌, ◌≤◌, ◌^◌, ◌==◌, ◌&&◌, ◌||◌, List, [], ◌∷◌, ◌++◌, length, take, get_or, Bool, true, false, not, nat_lt, nat_le, position, Option, Some, None, is_some, bit_and, All, AllPairs, slice_get, codes, option_and_then, option_map, if◌then◌else◌, refl, sym, ap, subst, arith}
 use Rattle.std.specs.Fmt.{decimal}
 use Rattle.std.specs.List.{list_all, position_or_len}
 use Rattle.std.specs.Char.{digit_char, digit_value, is_ascii_digit}
@@ -27,8 +27,9 @@ use Rattle.ec_script.specs.declared.forms.ExpectForm.TheVariants as expected
 use Rattle.ec_script.specs.declared.forms.Form.{Form}
 use Rattle.ec_script.specs.declared.forms.Form.TheVariants as form
 use Rattle.ec_script.specs.declared.line.LineAction.{LineAction}
-use Rattle.ec_script.specs.declared.line.LineAction.TheVariants.{Start, Set, Begin, Pass, Lose, LosePart, Return, Close, Serve, Put, Get, Fail, Reset, Input, Never, Expect, Ready, Cycle, Show, Output, Report, States, Stop, Served}
+use Rattle.ec_script.specs.declared.line.LineAction.TheVariants.{Start, Set, Begin, Pass, Lose, LosePart, Return, Close, Serve, Put, Get, Fail, Reset, Input, Never, Expect, Ready, Cycle, Within, Show, ShowVariable, Output, Report, States, Stop, Served}
 use Rattle.ec_script.specs.declared.line.Line.{Line}
+use Rattle.ec_script.specs.declared.line.Task.TheVariants as task
 use Rattle.ec_script.specs.declared.read.Reading.TheVariants as reading
 use Rattle.ec_script.specs.declared.value_test.Comparison.{Comparison}
 use Rattle.ec_script.specs.declared.value_test.Comparison.TheVariants.{Equal, Unequal, Less, LessEqual, Greater, GreaterEqual}
@@ -39,10 +40,11 @@ use Rattle.ec_script.specs.declared.value.WrittenValue.TheVariants.{Number, Outs
 use Rattle.ec_script.specs.Actions.{action_of_form, action_of_words, expectation_of_form, input_action, set_action, test_expected, value_expected}
 use Rattle.ec_script.specs.Forms.{form_of}
 use Rattle.ec_script.specs.Operands.{assignment_at, bounds_for, held_for, slave_in, state_named, value_for, variable_named}
-use Rattle.ec_script.specs.Scripts.{found_line, line_of_words, line_on, reading_of, reading_without}
+use Rattle.ec_script.specs.Scripts.{done_times, found_line, line_of_words, line_on, reading_of, reading_without, repeated_line}
+use Rattle.ec_script.specs.Tasks.{actions_of, all_or_one, alone, alone_or, denied_words, each_name, each_setting, echoed, is_unsettable, step, steps_if, steps_of, tasks_of, within_if}
 use Rattle.ec_script.specs.Tests.{between_test, compared_test, masked_test}
 use Rattle.ec_script.specs.Words.{Text, bounds_of, byte_of, code_of, hex_of, is_number, is_range, number_of, plain_of, times_of, uncommented, value_of, words_of}
-use Rattle.ec_script.specs.Writing.{IsActionOf, IsCode, IsExpectationOf, IsLineOf, IsNumber, IsOtherWord, IsTestOf, LinesReadBack, below_all, code_word, code_words, joined_words, masked_word, number_words, range_word, row_bits, row_name, sign_word, state_name, taken_word, test_words, words_expecting, words_for}
+use Rattle.ec_script.specs.Writing.{IsActionOf, IsCode, IsExpectationOf, IsNumber, IsOtherWord, IsTestOf, LinesReadBack, below_all, code_word, code_words, joined_words, masked_word, number_words, range_word, row_bits, row_name, sign_word, state_name, taken_word, test_words, words_expecting, words_for, words_for_step}
 use Rattle.ec_script.proofs.Numbers.{by_test, both, digits, is_true}
 use Rattle.ec_script.proofs.Ranges.{is_undotted, no_range, range_is}
 use Rattle.ec_script.proofs.Values.{often}
@@ -386,6 +388,10 @@ output_back : (t : Contents) (v : ℕ) → Row t v → IsBack t (Output v) (code
 unfolding form_of
 output_back t v r = back t form.Output (Output v) (codes "out") _ refl refl refl (one_word (name_of t v) r.plain) refl (ap (option_and_then (λ k. Some (Output k))) r.named)
 
+show_back : (t : Contents) (v : ℕ) → Row t v → IsBack t (ShowVariable v) (codes "show" ∷ name_of t v ∷ [])
+unfolding form_of
+show_back t v r = back t form.ShowVariable (ShowVariable v) (codes "show") _ refl refl refl (one_word (name_of t v) r.plain) refl (ap (option_and_then (λ k. Some (ShowVariable k))) r.named)
+
 -- ---- what is expected
 
 expect_back : (t : Contents) (f : ExpectForm) (e : Expectation) (rest : List Text) → are_words rest ≡ true → form_of (codes "expect" ∷ rest) ≡ Some (form.Expect f)
@@ -395,7 +401,7 @@ expect_back t f e rest plain fits reads =
 
 value_form : (name word : Text) → IsOtherWord name → is_range word ≡ false → form_of (codes "expect" ∷ name ∷ word ∷ []) ≡ Some (form.Expect expected.Value)
 unfolding form_of
-value_form name word free one = rw (differ _ _ free.0, differ _ _ free.1, differ _ _ free.2, one) refl
+value_form name word free one = rw (differ _ _ free.1, differ _ _ free.2, differ _ _ free.3, one) refl
 
 value_of_name : (t : Contents) (v : ℕ) (word : Text) (value : WrittenValue) → Row t v → IsOtherWord (name_of t v) → is_word word ≡ true → is_range word ≡ false
     → value_for t.variables v word ≡ Some value → IsBack t (Expect (value_expected (v, value))) (codes "expect" ∷ name_of t v ∷ word ∷ [])
@@ -496,7 +502,7 @@ masked_back t v mask is n r h g inside =
 
 range_form : (name word : Text) → IsOtherWord name → is_range word ≡ true → form_of (codes "expect" ∷ name ∷ word ∷ []) ≡ Some (form.Expect expected.Range)
 unfolding form_of
-range_form name word free two = rw (differ _ _ free.0, differ _ _ free.1, differ _ _ free.2, two) refl
+range_form name word free two = rw (differ _ _ free.1, differ _ _ free.2, differ _ _ free.3, two) refl
 
 range_plain : (low high : ℕ) → low < 2 ^ 64 → high < 2 ^ 64 → is_word (range_word low high) ≡ true
 range_plain low high h g = all_joined is_plain (decimal low) (46 ∷ 46 ∷ decimal high) (number_word low h) (and _ _ refl (and _ _ refl (number_word high g)))
@@ -537,8 +543,8 @@ range_back t v low high r free h g =
 
 test_back : (t : Contents) (v : ℕ) (test : ValueTest) → Row t v → IsTestOf (name_of t v) (row_bits (slice_get t.variables v)) test
     → IsBack t (Expect (expects.Holds v test)) (codes "expect" ∷ name_of t v ∷ test_words test)
-test_back t v (Compared c n) r h = compared_back t v c n r h
-test_back t v (Masked mask is n) r h = masked_back t v mask is n r h.0 h.1 h.2
+test_back t v (Compared c n) r h = compared_back t v c n r h.1
+test_back t v (Masked mask is n) r h = masked_back t v mask is n r h.1 h.2 h.3
 test_back t v (Between low high) r h = range_back t v low high r h.0 h.1 h.2
 
 -- ---- sync units and start-ups
@@ -655,34 +661,150 @@ expectation_back t (expects.State s state code) sound h = in_state t s state cod
 expectation_back t expects.Ready sound h = ready_back t
 expectation_back t (expects.Failed number) sound h = failed_back t number h
 
--- ---- actions and lines
+-- ---- actions
 
-action_back : (t : Contents) (action : LineAction) → table.IsSound t → IsActionOf t.variables action → IsBack t action (words_for t.variables action)
+-- words that stand for an action alone
+record IsActionBack (t : Contents) (action : LineAction) (words : List Text) : Type 0 where
+  verb : Text
+  rest : List Text
+  are : words ≡ verb ∷ rest
+  some : nat_lt 0 (length verb) ≡ true
+  other : bytes_eq verb (codes "repeat") ≡ false
+  silent : bytes_eq verb (codes "echo") ≡ false
+  wanted : denied_words (verb ∷ rest) ≡ None
+  plain : are_words (verb ∷ rest) ≡ true
+  reads : actions_of t (verb ∷ rest) ≡ Some (action ∷ [])
+
+acts : (t : Contents) (verb : Text) (rest : List Text) (action : LineAction) → nat_lt 0 (length verb) ≡ true → bytes_eq verb (codes "repeat") ≡ false → bytes_eq verb (codes "echo") ≡ false
+    → denied_words (verb ∷ rest) ≡ None → are_words (verb ∷ rest) ≡ true → actions_of t (verb ∷ rest) ≡ Some (action ∷ []) → IsActionBack t action (verb ∷ rest)
+acts t verb rest action some other silent wanted plain reads =
+    record { verb = verb; rest = rest; are = refl; some = some; other = other; silent = silent; wanted = wanted; plain = plain; reads = reads }
+
+words_plain : (t : Contents) (action : LineAction) (words : List Text) → IsBack t action words → are_words words ≡ true
+words_plain t action words b = ap are_words b.are ∙ b.plain
+
+words_read : (t : Contents) (action : LineAction) (words : List Text) → IsBack t action words → action_of_words t words ≡ Some action
+words_read t action words b = ap (action_of_words t) b.are ∙ b.reads
+
+-- a verb that has one form
+one_form : (t : Contents) (verb : Text) (rest : List Text) → bytes_eq verb (codes "set") ≡ false → bytes_eq verb (codes "show") ≡ false → bytes_eq verb (codes "out") ≡ false
+    → bytes_eq verb (codes "within") ≡ false → actions_of t (verb ∷ rest) ≡ alone (action_of_words t (verb ∷ rest))
+one_form t verb [] a b c d = rw d refl
+one_form t verb (word ∷ words) a b c d = rw (a, b, c, d) refl
+
+usual : (t : Contents) (verb : Text) (rest : List Text) (action : LineAction) → IsBack t action (verb ∷ rest) → nat_lt 0 (length verb) ≡ true → bytes_eq verb (codes "repeat") ≡ false
+    → bytes_eq verb (codes "echo") ≡ false → denied_words (verb ∷ rest) ≡ None → bytes_eq verb (codes "set") ≡ false → bytes_eq verb (codes "show") ≡ false
+    → bytes_eq verb (codes "out") ≡ false → bytes_eq verb (codes "within") ≡ false → IsActionBack t action (verb ∷ rest)
+usual t verb rest action back some other silent wanted a b c d =
+    acts t verb rest action some other silent wanted (words_plain t action (verb ∷ rest) back) (one_form t verb rest a b c d ∙ ap alone (words_read t action (verb ∷ rest) back))
+
+alone_either : (a : LineAction) (b : Bool) → alone_or (a ∷ []) (if b then Some a else None) ≡ a ∷ []
+alone_either a true = refl
+alone_either a false = refl
+
+set_acts : (t : Contents) (action : LineAction) (name word : Text) → IsBack t action (codes "set" ∷ name ∷ word ∷ []) → IsActionBack t action (codes "set" ∷ name ∷ word ∷ [])
+unfolding each_setting
+set_acts t action name word b =
+    acts t (codes "set") _ action refl refl refl refl (words_plain t action _ b)
+    (ap (λ o. option_map (all_or_one t.variables) (option_and_then (λ a. option_and_then (λ more. Some (a ∷ more)) (each_setting t [])) o)) (words_read t action _ b)
+    ∙ ap Some (alone_either action (is_unsettable t.variables action)))
+
+named_acts : (t : Contents) (action : LineAction) (verb name : Text) → bytes_eq verb (codes "show") || bytes_eq verb (codes "out") ≡ true → nat_lt 0 (length verb) ≡ true
+    → bytes_eq verb (codes "repeat") ≡ false → bytes_eq verb (codes "echo") ≡ false → bytes_eq verb (codes "set") ≡ false → denied_words (verb ∷ name ∷ []) ≡ None
+    → actions_of t (verb ∷ name ∷ []) ≡ each_name t verb (name ∷ []) → IsBack t action (verb ∷ name ∷ []) → IsActionBack t action (verb ∷ name ∷ [])
+named_acts t action verb name either some other silent unset wanted names b =
+    acts t verb _ action some other silent wanted (words_plain t action _ b)
+    (names ∙ ap (λ o. option_and_then (λ a. option_and_then (λ more. Some (a ∷ more)) (each_name t verb [])) o) (words_read t action _ b))
+
+-- without a name
+show_acts : (t : Contents) → IsBack t Show (codes "show" ∷ []) → IsActionBack t Show (codes "show" ∷ [])
+show_acts t b = acts t (codes "show") [] Show refl refl refl refl (words_plain t Show _ b) (ap alone (words_read t Show _ b))
+
+wanted_expecting : (variables : List VariableRow) (e : Expectation) → IsExpectationOf variables e → denied_words (codes "expect" ∷ words_expecting variables e) ≡ None
+wanted_expecting variables (expects.Is v x) h = rw (differ _ _ h.0.1.0) refl
+wanted_expecting variables (expects.Holds v (Compared c n)) h = rw (differ _ _ h.1.0) refl
+wanted_expecting variables (expects.Holds v (Masked mask is n)) h = rw (differ _ _ h.1.0) refl
+wanted_expecting variables (expects.Holds v (Between low high)) h = rw (differ _ _ h.1.0.0) refl
+wanted_expecting variables (expects.Never v) h = rw (differ _ _ h.1.0) refl
+wanted_expecting variables (expects.Units true) h = refl
+wanted_expecting variables (expects.Units false) h = refl
+wanted_expecting variables (expects.Unit u true) h = refl
+wanted_expecting variables (expects.Unit u false) h = refl
+wanted_expecting variables (expects.State s state code) h = refl
+wanted_expecting variables expects.Ready h = refl
+wanted_expecting variables (expects.Failed number) h = refl
+
+within_acts : (t : Contents) (n : ℕ) (e : Expectation) → 1 ≤ n → n ≤ 1000000 → IsBack t (Expect e) (codes "expect" ∷ words_expecting t.variables e)
+    → IsActionBack t (Within n e) (codes "within" ∷ decimal n ∷ codes "expect" ∷ words_expecting t.variables e)
+within_acts t n e some most b =
+    let words : List Text = codes "expect" ∷ words_expecting t.variables e in
+    let low : n < 2 ^ 64 = omega arith in
+    acts t (codes "within") (decimal n ∷ words) (Within n e) refl refl refl refl (and _ _ refl (and _ _ (number_word n low) (words_plain t (Expect e) words b)))
+    (ap (λ o. alone (option_and_then (λ k. option_and_then (within_if k) (action_of_words t words)) o)) (times_back n some most)
+    ∙ ap (λ o. alone (option_and_then (within_if n) o)) (words_read t (Expect e) words b))
+
+action_back : (t : Contents) (action : LineAction) → table.IsSound t → IsActionOf t.variables action → IsActionBack t action (words_for t.variables action)
 unfolding form_of
-action_back t Start sound h = back t form.Start _ (codes "start") [] refl refl refl refl refl refl
-action_back t (Set v x) sound h = let r = row_at t v sound h.0 in set_back t v (decimal x) (Number x) r (number_word x h.1) (value_for_back t v x r h.1)
-action_back t Begin sound h = back t form.Begin _ (codes "begin") [] refl refl refl refl refl refl
-action_back t (Pass k) sound h = place_back t form.Pass (codes "pass") k (λ k. Pass k) refl refl refl h refl refl
-action_back t (Lose k) sound h = place_back t form.Lose (codes "lose") k (λ k. Lose k) refl refl refl h refl refl
-action_back t (LosePart n k) sound h = lose_part_back t n k h.0 h.1
-action_back t (Output v) sound h = output_back t v (row_at t v sound h)
-action_back t Served sound h = back t form.Served _ (codes "served") [] refl refl refl refl refl refl
-action_back t (Return k) sound h = place_back t form.Return (codes "return") k (λ k. Return k) refl refl refl h refl refl
-action_back t Close sound h = back t form.Close _ (codes "close") [] refl refl refl refl refl refl
-action_back t (Serve s) sound h = by_slave t form.Serve (codes "serve") s (λ s. Serve s) refl refl refl h refl refl
-action_back t (Put s i x) sound h = put_back t s i x h.0 h.1 h.2
-action_back t (Get s i) sound h = get_back t s i h.0 h.1
-action_back t (Fail s) sound h = by_slave t form.Fail (codes "fault") s (λ s. Fail s) refl refl refl h refl refl
-action_back t (Reset s) sound h = by_slave t form.Reset (codes "reset") s (λ s. Reset s) refl refl refl h refl refl
-action_back t (Input v x) sound h = input_back t v x (row_at t v sound h.0) h.1
-action_back t (Never v) sound h = let r = row_at t v sound h in set_back t v below_all Outside r refl (below_for_back t v r)
-action_back t (Expect e) sound h = expectation_back t e sound h
-action_back t Ready sound h = back t form.Ready _ (codes "ready") [] refl refl refl refl refl refl
-action_back t Cycle sound h = back t form.Cycle _ (codes "cycle") [] refl refl refl refl refl refl
-action_back t Show sound h = back t form.Show _ (codes "show") [] refl refl refl refl refl refl
-action_back t Report sound h = back t form.Report _ (codes "report") [] refl refl refl refl refl refl
-action_back t States sound h = back t form.States _ (codes "states") [] refl refl refl refl refl refl
-action_back t Stop sound h = back t form.Stop _ (codes "stop") [] refl refl refl refl refl refl
+action_back t Start sound h = usual t (codes "start") _ _ (back t form.Start _ (codes "start") [] refl refl refl refl refl refl) refl refl refl refl refl refl refl refl
+action_back t (Set v x) sound h = let r = row_at t v sound h.0 in set_acts t _ _ _ (set_back t v (decimal x) (Number x) r (number_word x h.1) (value_for_back t v x r h.1))
+action_back t Begin sound h = usual t (codes "begin") _ _ (back t form.Begin _ (codes "begin") [] refl refl refl refl refl refl) refl refl refl refl refl refl refl refl
+action_back t (Pass k) sound h = usual t (codes "pass") _ _ (place_back t form.Pass (codes "pass") k (λ k. Pass k) refl refl refl h refl refl) refl refl refl refl refl refl refl refl
+action_back t (Lose k) sound h = usual t (codes "lose") _ _ (place_back t form.Lose (codes "lose") k (λ k. Lose k) refl refl refl h refl refl) refl refl refl refl refl refl refl refl
+action_back t (LosePart n k) sound h = usual t (codes "lose") _ _ (lose_part_back t n k h.0 h.1) refl refl refl refl refl refl refl refl
+action_back t (Output v) sound h = named_acts t _ (codes "out") _ refl refl refl refl refl refl refl (output_back t v (row_at t v sound h))
+action_back t Served sound h = usual t (codes "served") _ _ (back t form.Served _ (codes "served") [] refl refl refl refl refl refl) refl refl refl refl refl refl refl refl
+action_back t (Return k) sound h = usual t (codes "return") _ _ (place_back t form.Return (codes "return") k (λ k. Return k) refl refl refl h refl refl) refl refl refl refl refl refl refl refl
+action_back t Close sound h = usual t (codes "close") _ _ (back t form.Close _ (codes "close") [] refl refl refl refl refl refl) refl refl refl refl refl refl refl refl
+action_back t (Serve s) sound h = usual t (codes "serve") _ _ (by_slave t form.Serve (codes "serve") s (λ s. Serve s) refl refl refl h refl refl) refl refl refl refl refl refl refl refl
+action_back t (Put s i x) sound h = usual t (codes "put") _ _ (put_back t s i x h.0 h.1 h.2) refl refl refl refl refl refl refl refl
+action_back t (Get s i) sound h = usual t (codes "get") _ _ (get_back t s i h.0 h.1) refl refl refl refl refl refl refl refl
+action_back t (Fail s) sound h = usual t (codes "fault") _ _ (by_slave t form.Fail (codes "fault") s (λ s. Fail s) refl refl refl h refl refl) refl refl refl refl refl refl refl refl
+action_back t (Reset s) sound h = usual t (codes "reset") _ _ (by_slave t form.Reset (codes "reset") s (λ s. Reset s) refl refl refl h refl refl) refl refl refl refl refl refl refl refl
+action_back t (Input v x) sound h = usual t (codes "in") _ _ (input_back t v x (row_at t v sound h.0) h.1) refl refl refl refl refl refl refl refl
+action_back t (Never v) sound h = let r = row_at t v sound h in set_acts t _ _ _ (set_back t v below_all Outside r refl (below_for_back t v r))
+action_back t (Expect e) sound h = usual t (codes "expect") _ _ (expectation_back t e sound h) refl refl refl (wanted_expecting t.variables e h) refl refl refl refl
+action_back t (Within n e) sound h = within_acts t n e h.0 h.1 (expectation_back t e sound h.2)
+action_back t Ready sound h = usual t (codes "ready") _ _ (back t form.Ready _ (codes "ready") [] refl refl refl refl refl refl) refl refl refl refl refl refl refl refl
+action_back t Cycle sound h = usual t (codes "cycle") _ _ (back t form.Cycle _ (codes "cycle") [] refl refl refl refl refl refl) refl refl refl refl refl refl refl refl
+action_back t Show sound h = show_acts t (back t form.Show _ (codes "show") [] refl refl refl refl refl refl)
+action_back t (ShowVariable v) sound h = named_acts t _ (codes "show") _ refl refl refl refl refl refl refl (show_back t v (row_at t v sound h))
+action_back t Report sound h = usual t (codes "report") _ _ (back t form.Report _ (codes "report") [] refl refl refl refl refl refl) refl refl refl refl refl refl refl refl
+action_back t States sound h = usual t (codes "states") _ _ (back t form.States _ (codes "states") [] refl refl refl refl refl refl) refl refl refl refl refl refl refl refl
+action_back t Stop sound h = usual t (codes "stop") _ _ (back t form.Stop _ (codes "stop") [] refl refl refl refl refl refl) refl refl refl refl refl refl refl refl
+
+-- ---- steps and lines
+
+-- words that stand for a step of line n alone
+record IsStepBack (t : Contents) (n : ℕ) (expects_no : Bool) (action : LineAction) (words : List Text) : Type 0 where
+  verb : Text
+  rest : List Text
+  are : words ≡ verb ∷ rest
+  some : nat_lt 0 (length verb) ≡ true
+  other : bytes_eq verb (codes "repeat") ≡ false
+  plain : are_words (verb ∷ rest) ≡ true
+  reads : tasks_of t n (verb ∷ rest) ≡ Some (step n expects_no action ∷ [])
+
+step_back : (t : Contents) (n : ℕ) (expects_no : Bool) (action : LineAction) → IsActionBack t action (words_for t.variables action)
+    → IsStepBack t n expects_no action (words_for_step t.variables expects_no action)
+step_back t n false action b = record {
+  verb = b.verb;
+  rest = b.rest;
+  are = b.are;
+  some = b.some;
+  other = b.other;
+  plain = b.plain;
+  reads = ap (λ (c : Bool). if c then Some (task.Echo (echoed b.rest) ∷ []) else steps_of t n (b.verb ∷ b.rest) (denied_words (b.verb ∷ b.rest))) b.silent
+      ∙ (ap (steps_of t n (b.verb ∷ b.rest)) b.wanted ∙ ap (steps_if n false) b.reads);
+}
+step_back t n true action b = record {
+  verb = codes "expect";
+  rest = codes "no" ∷ b.verb ∷ b.rest;
+  are = ap (λ (ws : List Text). codes "expect" ∷ codes "no" ∷ ws) b.are;
+  some = refl;
+  other = refl;
+  plain = and _ _ refl (and _ _ refl b.plain);
+  reads = ap (steps_if n true) b.reads;
+}
 
 -- words that stand for a line
 record IsLineBack (t : Contents) (line : Line) (words : List Text) : Type 0 where
@@ -693,34 +815,38 @@ record IsLineBack (t : Contents) (line : Line) (words : List Text) : Type 0 wher
   plain : are_words (verb ∷ rest) ≡ true
   reads : line_of_words t line.number (verb ∷ rest) ≡ Some line
 
-once_back : (t : Contents) (line : Line) → line.times ≡ 1 → IsBack t line.action (words_for t.variables line.action) → IsLineBack t line (words_for t.variables line.action)
-once_back t line once b = record {
+abbrev line_with : ℕ → ℕ → Bool → LineAction → Line
+line_with n times expects_no action = record { number = n; times = times; tasks = step n expects_no action ∷ [] }
+
+once_back : (t : Contents) (n times : ℕ) (expects_no : Bool) (action : LineAction) (words : List Text) → times ≡ 1 → IsStepBack t n expects_no action words
+    → IsLineBack t (line_with n times expects_no action) words
+once_back t n times expects_no action words once b = record {
   verb = b.verb;
   rest = b.rest;
   are = b.are;
   some = b.some;
   plain = b.plain;
-  reads = rw (b.other, b.reads) (ap (λ (n : ℕ). Some (record line { times = n })) (sym once));
+  reads = ap (λ (c : Bool). if c then repeated_line t n b.rest else done_times n 1 (tasks_of t n (b.verb ∷ b.rest))) b.other
+      ∙ (ap (done_times n 1) b.reads ∙ ap (λ (k : ℕ). Some (line_with n k expects_no action)) (sym once));
 }
 
-often_back : (t : Contents) (line : Line) → IsLineOf t.variables line → IsBack t line.action (words_for t.variables line.action)
-    → IsLineBack t line (codes "repeat" ∷ decimal line.times ∷ words_for t.variables line.action)
-often_back t line h b =
-    let times = times_back line.times h.some h.most in
-    let low : line.times < 2 ^ 64 = let m : line.times ≤ 1000000 = h.most in omega arith in
+often_back : (t : Contents) (n times : ℕ) (expects_no : Bool) (action : LineAction) (words : List Text) → 1 ≤ times → times ≤ 1000000 → IsStepBack t n expects_no action words
+    → IsLineBack t (line_with n times expects_no action) (codes "repeat" ∷ decimal times ∷ words)
+often_back t n times expects_no action words some most b =
+    let low : times < 2 ^ 64 = omega arith in
     record {
       verb = codes "repeat";
-      rest = decimal line.times ∷ b.verb ∷ b.rest;
-      are = ap (λ (ws : List Text). codes "repeat" ∷ decimal line.times ∷ ws) b.are;
+      rest = decimal times ∷ b.verb ∷ b.rest;
+      are = ap (λ (ws : List Text). codes "repeat" ∷ decimal times ∷ ws) b.are;
       some = refl;
-      plain = and _ _ refl (and _ _ (number_word line.times low) b.plain);
-      reads = rw (times, b.reads) refl;
+      plain = and _ _ refl (and _ _ (number_word times low) b.plain);
+      reads = ap (option_and_then (λ k. done_times n k (tasks_of t n (b.verb ∷ b.rest)))) (times_back times some most) ∙ ap (done_times n times) b.reads;
     }
 
-line_words : (t : Contents) (line : Line) (once : Bool) → (line.times == 1) ≡ once → IsLineOf t.variables line → IsBack t line.action (words_for t.variables line.action)
-    → IsLineBack t line (if once then words_for t.variables line.action else codes "repeat" ∷ decimal line.times ∷ words_for t.variables line.action)
-line_words t line true is h b = once_back t line (grind (arith, nat_tests)) b
-line_words t line false is h b = often_back t line h b
+line_words : (t : Contents) (n times : ℕ) (expects_no : Bool) (action : LineAction) (words : List Text) (once : Bool) → (times == 1) ≡ once → 1 ≤ times → times ≤ 1000000
+    → IsStepBack t n expects_no action words → IsLineBack t (line_with n times expects_no action) (if once then words else codes "repeat" ∷ decimal times ∷ words)
+line_words t n times expects_no action words true is some most b = once_back t n times expects_no action words (grind (arith, nat_tests)) b
+line_words t n times expects_no action words false is some most b = often_back t n times expects_no action words some most b
 
 nonempty : (word : Text) (words : List Text) → nat_lt 0 (length word) ≡ true → nat_lt 0 (length (joined_words (word ∷ words))) ≡ true
 nonempty [] words h = cc
@@ -740,4 +866,6 @@ text_back t line words b =
     ∙ found t line.number text line (nonempty b.verb b.rest b.some) (ap (line_of_words t line.number) (split_back b.verb b.rest b.plain) ∙ b.reads))
 
 pub lines_read_back : LinesReadBack
-lines_read_back t line sound h = text_back t line _ (line_words t line (line.times == 1) refl h (action_back t line.action sound h.action))
+lines_read_back t n times expects_no action sound h =
+    let words : List Text = words_for_step t.variables expects_no action in
+    text_back t (line_with n times expects_no action) _ (line_words t n times expects_no action words (times == 1) refl h.some h.most (step_back t n expects_no action (action_back t action sound h.written)))

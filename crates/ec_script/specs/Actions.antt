@@ -1,4 +1,4 @@
--- What the words of a line stand for, by their form (this project's profile).
+-- What the words of a single action stand for, by their form (this project's profile).
 use Rattle.std.specs.Prelude.{ℕ, List, Option, Some, None}
 use Rattle.ec_table.specs.Contents.{Contents}
 use Rattle.ec_script.specs.declared.expectation.Expectation.{Expectation}
@@ -8,7 +8,7 @@ use Rattle.ec_script.specs.declared.forms.ExpectForm.TheVariants as expected
 use Rattle.ec_script.specs.declared.forms.Form.{Form}
 use Rattle.ec_script.specs.declared.forms.Form.TheVariants as form
 use Rattle.ec_script.specs.declared.line.LineAction.{LineAction}
-use Rattle.ec_script.specs.declared.line.LineAction.TheVariants.{Start, Set, Begin, Pass, Lose, LosePart, Return, Close, Serve, Put, Get, Fail, Reset, Input, Never, Expect, Ready, Cycle, Show, Output, Report, States, Stop, Served}
+use Rattle.ec_script.specs.declared.line.LineAction.TheVariants.{Start, Set, Begin, Pass, Lose, LosePart, Return, Close, Serve, Put, Get, Fail, Reset, Input, Never, Expect, Ready, Cycle, Show, ShowVariable, Output, Report, States, Stop, Served}
 use Rattle.ec_script.specs.declared.value_test.ValueTest.{ValueTest}
 use Rattle.ec_script.specs.declared.value.WrittenValue.{WrittenValue}
 use Rattle.ec_script.specs.declared.value.WrittenValue.TheVariants.{Number, Outside}
@@ -71,6 +71,7 @@ action_of_form t words form.Input = assignment_at t words 1 2 >>= (λ a. Some (i
 action_of_form t words form.Output = variable_at t words 1 >>= (λ v. Some (Output v))
 action_of_form t words form.Ready = Some Ready
 action_of_form t words form.Cycle = Some Cycle
+action_of_form t words form.ShowVariable = variable_at t words 1 >>= (λ v. Some (ShowVariable v))
 action_of_form t words form.Show = Some Show
 action_of_form t words form.Report = Some Report
 action_of_form t words form.States = Some States

@@ -1,4 +1,4 @@
--- How lines are written (this project's profile), without `repeat`. A word of a form in capitals stands for what it names, and any
+-- How single actions of lines are written (this project's profile). A word of a form in capitals stands for what it names, and any
 -- other for itself.
 use Rattle.std.specs.Prelude.{◌==◌, ◌&&◌, ◌||◌, List, [], ◌∷◌, length, Bool, true, false, if◌then◌else◌, Option, option_map, codes}
 use Rattle.std.specs.Char.{is_ascii_uppercase}
@@ -6,7 +6,7 @@ use Rattle.std.specs.List.{find, list_all, zip}
 use Rattle.std.specs.Str.{bytes_eq}
 use Rattle.ec_script.specs.declared.forms.ExpectForm.TheVariants as expects
 use Rattle.ec_script.specs.declared.forms.Form.{Form}
-use Rattle.ec_script.specs.declared.forms.Form.TheVariants.{Start, Set, Begin, Pass, LosePart, Lose, Return, Close, Serve, Put, Get, Fail, Reset, Input, Output, Ready, Cycle, Show, Report, States, Stop, Served, Expect}
+use Rattle.ec_script.specs.declared.forms.Form.TheVariants.{Start, Set, Begin, Pass, LosePart, Lose, Return, Close, Serve, Put, Get, Fail, Reset, Input, Output, Ready, Cycle, ShowVariable, Show, Report, States, Stop, Served, Expect}
 use Rattle.ec_script.specs.declared.value_test.Comparison.TheVariants.{Equal, Unequal, Less, LessEqual, Greater, GreaterEqual}
 use Rattle.ec_script.specs.Words.{Text, is_range, words_of}
 
@@ -29,6 +29,7 @@ forms =
     ∷ (Output, codes "out NAME")
     ∷ (Ready, codes "ready")
     ∷ (Cycle, codes "cycle")
+    ∷ (ShowVariable, codes "show NAME")
     ∷ (Show, codes "show")
     ∷ (Report, codes "report")
     ∷ (States, codes "states")

@@ -10,7 +10,12 @@ use Rattle.ec_script.specs.declared.value.WrittenValue.TheVariants.{Number, Outs
 abbrev pub Text : Type 0
 Text = List ℕ
 
--- ---- comments
+-- ---- blanks and comments
+
+-- without the blanks at its beginning
+unfoldable pub without_start_blanks : Text → Text
+without_start_blanks [] = []
+without_start_blanks (c ∷ cs) = if c == 32 then without_start_blanks cs else c ∷ cs
 
 -- a byte before what is left of the bytes behind it: a blank with nothing behind it is left out
 abbrev pub before_kept : ℕ → Text → Text

@@ -14,11 +14,11 @@ use Rattle.ec_script.specs.declared.value_test.Comparison.TheVariants.{Equal, Un
 use Rattle.ec_script.specs.declared.value_test.ValueTest.{ValueTest}
 use Rattle.ec_script.specs.declared.value_test.ValueTest.TheVariants.{Compared, Masked, Between}
 use Rattle.ec_script.specs.declared.line.LineAction.{LineAction}
-use Rattle.ec_script.specs.declared.line.LineAction.TheVariants.{Start, Set, Begin, Pass, Lose, LosePart, Return, Close, Serve, Put, Get, Fail, Reset, Input, Never, Expect, Ready, Cycle, Show, Output, Served, Report, States, Stop}
-use Rattle.ec_script.specs.declared.line.Line.{Line}
+use Rattle.ec_script.specs.declared.line.LineAction.TheVariants.{Start, Set, Begin, Pass, Lose, LosePart, Return, Close, Serve, Put, Get, Fail, Reset, Input, Never, Expect, Ready, Cycle, Within, Show, ShowVariable, Output, Served, Report, States, Stop}
 use Rattle.ec_script.specs.declared.read.Reading.TheVariants as reading
 use Rattle.ec_script.specs.Words.{Text}
 use Rattle.ec_script.specs.Scripts.{reading_of}
+use Rattle.ec_script.specs.Tasks.{step}
 
 -- ---- words
 
@@ -105,17 +105,24 @@ words_for variables (Never v) = codes "set" ∷ row_name (slice_get variables v)
 words_for variables (Expect e) = codes "expect" ∷ words_expecting variables e
 words_for variables Ready = codes "ready" ∷ []
 words_for variables Cycle = codes "cycle" ∷ []
+words_for variables (Within n e) = codes "within" ∷ decimal n ∷ codes "expect" ∷ words_expecting variables e
 words_for variables Show = codes "show" ∷ []
+words_for variables (ShowVariable v) = codes "show" ∷ row_name (slice_get variables v) ∷ []
 words_for variables (Output v) = codes "out" ∷ row_name (slice_get variables v) ∷ []
 words_for variables Served = codes "served" ∷ []
 words_for variables Report = codes "report" ∷ []
 words_for variables States = codes "states" ∷ []
 words_for variables Stop = codes "stop" ∷ []
 
--- an action that is done once stands alone
-abbrev pub words_for_line : List VariableRow → Line → List Text
-words_for_line variables line =
-    if line.times == 1 then words_for variables line.action else codes "repeat" ∷ decimal line.times ∷ words_for variables line.action
+-- a step, by whether the line expects `no`
+abbrev pub words_for_step : List VariableRow → Bool → LineAction → List Text
+words_for_step variables false action = words_for variables action
+words_for_step variables true action = codes "expect" ∷ codes "no" ∷ words_for variables action
+
+-- a step that is done once stands alone
+abbrev pub words_for_line : List VariableRow → ℕ → Bool → LineAction → List Text
+words_for_line variables times expects_no action =
+    if times == 1 then words_for_step variables expects_no action else codes "repeat" ∷ decimal times ∷ words_for_step variables expects_no action
 
 -- with a blank between them
 abbrev pub joined_words : List Text → Text
@@ -131,7 +138,7 @@ IsWord64 n = n < 2 ^ 64
 
 -- `expect` has words of its own, behind which no variable's value stands
 abbrev pub IsOtherWord : Text → Type 0
-IsOtherWord name = (name ≢ codes "taken") × (name ≢ codes "untaken") × (name ≢ codes "failed")
+IsOtherWord name = (name ≢ codes "no") × (name ≢ codes "taken") × (name ≢ codes "untaken") × (name ≢ codes "failed")
 
 abbrev pub IsExpectedVariable : List VariableRow → ℕ → Type 0
 IsExpectedVariable variables v = (v < length variables) × IsOtherWord (row_name (slice_get variables v))
@@ -150,8 +157,8 @@ row_bits (Some row) = row.bits
 
 -- numbers that a variable's bits hold, with no bit outside a mask; and by its name, as `expect` has words of its own
 abbrev pub IsTestOf : (name : Text) → (bits : ℕ) → ValueTest → Type 0
-IsTestOf name bits (Compared c n) = n < 2 ^ bits
-IsTestOf name bits (Masked mask is n) = (mask < 2 ^ bits) × (n < 2 ^ bits) × (bit_and n mask ≡ n)
+IsTestOf name bits (Compared c n) = (name ≢ codes "no") × (n < 2 ^ bits)
+IsTestOf name bits (Masked mask is n) = (name ≢ codes "no") × (mask < 2 ^ bits) × (n < 2 ^ bits) × (bit_and n mask ≡ n)
 IsTestOf name bits (Between low high) = IsOtherWord name × (low < 2 ^ bits) × (high < 2 ^ bits)
 
 abbrev pub IsExpectationOf : List VariableRow → Expectation → Type 0
@@ -184,7 +191,9 @@ IsActionOf variables (Never v) = v < length variables
 IsActionOf variables (Expect e) = IsExpectationOf variables e
 IsActionOf variables Ready = Unit {0}
 IsActionOf variables Cycle = Unit {0}
+IsActionOf variables (Within n e) = (1 ≤ n) × (n ≤ 1000000) × IsExpectationOf variables e
 IsActionOf variables Show = Unit {0}
+IsActionOf variables (ShowVariable v) = v < length variables
 IsActionOf variables (Output v) = v < length variables
 IsActionOf variables Served = Unit {0}
 IsActionOf variables Report = Unit {0}
@@ -192,13 +201,13 @@ IsActionOf variables States = Unit {0}
 IsActionOf variables Stop = Unit {0}
 
 -- an action that can be written, once or more often
-pub record IsLineOf (variables : List VariableRow) (line : Line) : Type 0 where
-  pub some : 1 ≤ line.times
-  pub most : line.times ≤ 1000000
-  pub action : IsActionOf variables line.action
+pub record IsLineOf (variables : List VariableRow) (times : ℕ) (action : LineAction) : Type 0 where
+  pub some : 1 ≤ times
+  pub most : times ≤ 1000000
+  pub written : IsActionOf variables action
 
--- The line that is written for an action of a table's script is read as that line.
+-- The line that is written for an action of a table's script, or for that it can't be done, is read as that line.
 abbrev pub LinesReadBack : Type 0
 LinesReadBack =
-    (t : Contents) (line : Line) → table.IsSound t → IsLineOf t.variables line
-    → reading_of t line.number (joined_words (words_for_line t.variables line)) ≡ reading.Line line
+    (t : Contents) (n times : ℕ) (expects_no : Bool) (action : LineAction) → table.IsSound t → IsLineOf t.variables times action
+    → reading_of t n (joined_words (words_for_line t.variables times expects_no action)) ≡ reading.Line (record { number = n; times = times; tasks = step n expects_no action ∷ [] })

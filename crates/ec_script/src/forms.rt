@@ -33,6 +33,7 @@ pub enum Form {
     Output,
     Ready,
     Cycle,
+    ShowVariable,
     Show,
     Report,
     States,
@@ -64,9 +65,9 @@ pub enum ExpectForm {
     Value,
 }
 
-/// How the lines of a script are written, without `repeat`: a word in capitals stands for what it names, and any other for itself.
+/// How single actions of lines are written: a word in capitals stands for what it names, and any other for itself.
 /// Words that fit several forms have the first of them. A form stands before those that are its beginning.
-pub static FORMS: [(Form, &str); 41] = [
+pub static FORMS: [(Form, &str); 42] = [
     (Form::Start, "start"),
     (Form::Set, "set NAME VALUE"),
     (Form::Begin, "begin"),
@@ -84,6 +85,7 @@ pub static FORMS: [(Form, &str); 41] = [
     (Form::Output, "out NAME"),
     (Form::Ready, "ready"),
     (Form::Cycle, "cycle"),
+    (Form::ShowVariable, "show NAME"),
     (Form::Show, "show"),
     (Form::Report, "report"),
     (Form::States, "states"),
@@ -134,10 +136,19 @@ pub static FORMS: [(Form, &str); 41] = [
     (Form::Expect(ExpectForm::Value), "expect NAME VALUE"),
 ];
 
-/// How a line is written that repeats one of these forms.
+/// How a line is written that does another one several times.
 pub const REPEAT: &str = "repeat N LINE";
 
-/// What the words of a line stand for; `None` if for nothing.
+/// How a line is written that expects that another one can't be done.
+pub const EXPECT_NO: &str = "expect no LINE";
+
+/// How a line is written that runs cycles until an expectation holds.
+pub const WITHIN: &str = "within N expect ..";
+
+/// How a line is written that prints a text.
+pub const ECHO: &str = "echo TEXT";
+
+/// What the words of a single action stand for; `None` if for nothing.
 pub fn action_of_words(table: &Table, words: &[&str]) -> Option<LineAction>
     ensures { result ≡ action_of_words table.now (map (λ x. x.now) words.now) }
 {
@@ -208,6 +219,7 @@ fn action_of_form(form: Form, words: Operands<'_>) -> Option<LineAction>
         Form::Output => LineAction::Output(words.variable(1)?),
         Form::Ready => LineAction::Ready,
         Form::Cycle => LineAction::Cycle,
+        Form::ShowVariable => LineAction::ShowVariable(words.variable(1)?),
         Form::Show => LineAction::Show,
         Form::Report => LineAction::Report,
         Form::States => LineAction::States,

@@ -1,8 +1,9 @@
 //! Lines of scripts.
 ghost use Rattle.std.specs.Prelude.{◌≡◌};
-ghost use Rattle.ec_script.specs.Scripts.{is_simulated};
+ghost use Rattle.ec_script.specs.Scripts.{is_simulated, takes_line, takes_task};
 
 use crate::expectation::Expectation;
+use ec_listed::Listed;
 
 /// What a line asks for. Variables and slaves have their places in the table, and frames their slots.
 #[derive(Clone, Copy, Debug, PartialEq, Eq, Drop)]
@@ -39,12 +40,16 @@ pub enum LineAction {
     Never(usize),
     /// An expectation is checked; nothing changes.
     Expect(Expectation),
+    /// Cycles are run until this holds, at most so many.
+    Within(u32, Expectation),
     /// A start-up is run to its end.
     Ready,
     /// A whole cycle is run.
     Cycle,
     /// The input variables are printed.
     Show,
+    /// The variable at this place is printed, as the process image has it.
+    ShowVariable(usize),
     /// The output variable at this place is printed, as slaves publish it.
     Output(usize),
     /// How many payloads a segment answered, and how many others came, is printed.
@@ -53,26 +58,66 @@ pub enum LineAction {
     Report,
     /// The AL states of all slaves are printed.
     States,
-    /// The outputs become 0, a cycle is run, and all slaves are asked for INIT.
+    /// The master stops. Over a wire the outputs become 0, a cycle is run, and all slaves are asked for INIT; in a simulation it
+    /// gives up, and slaves stay as they are.
     Stop,
 }
 
-/// A line of a script that isn't empty.
+/// One action of a line.
 #[derive(Clone, Copy, Debug, PartialEq, Eq, Drop)]
+pub struct Step {
+    /// The number of the line, counted from 1; empty lines count too.
+    pub number: usize,
+    pub action: LineAction,
+    /// Whether the line expects that this can't be done.
+    pub expects_no: bool,
+}
+
+/// What a line asks for: an action, or a text.
+#[derive(Debug, Drop)]
+pub enum Task {
+    Step(Step),
+    /// These bytes are printed, and a line end behind them.
+    Echo(Listed<u8>),
+}
+
+/// A line of a script that isn't empty.
+#[derive(Debug, Drop)]
 pub struct Line {
     /// Its number, counted from 1; empty lines count too.
     pub number: usize,
-    /// How often its action is done, one time after another; 1 without `repeat`.
+    /// How often its tasks are done, all of them one time after another; 1 without `repeat`.
     pub times: u32,
-    pub action: LineAction,
+    /// What it asks for, in this order.
+    pub tasks: Listed<Task>,
 }
 
-/// Whether a script of simulated slaves may have this action: it may have any but `Report`, `Stop`, `LosePart` and `Served`.
+/// Whether a script of simulated slaves may have this line.
+pub fn is_simulated_line(line: &Line) -> bool
+    ensures { result ≡ takes_line is_simulated line.now }
+{
+    line.tasks
+        .as_slice()
+        .iter()
+        .all(|task| is_simulated_task(task))
+}
+
+/// Whether a script of simulated slaves may have this task.
+fn is_simulated_task(task: &Task) -> bool
+    ensures { result ≡ takes_task is_simulated task.now }
+{
+    match task {
+        Task::Step(step) => is_simulated(step.action),
+        Task::Echo(_) => true,
+    }
+}
+
+/// Whether a script of simulated slaves may have this action: it may have any but `Report`, `LosePart` and `Served`.
 pub fn is_simulated(action: LineAction) -> bool
     ensures { result ≡ is_simulated action }
 {
     !matches!(
         action,
-        LineAction::Report | LineAction::Stop | LineAction::LosePart(_, _) | LineAction::Served
+        LineAction::Report | LineAction::LosePart(_, _) | LineAction::Served
     )
 }

@@ -1,12 +1,14 @@
 //! The output of a line, and what it prints.
 ghost use Rattle.std.specs.Prelude.{◌≡◌, ◌++◌, IfOk, OnOk, slice_get, string_bytes};
 ghost use Rattle.ec_text.specs.ReportText.{report_if};
-ghost use Rattle.ec_script.specs.Outputs.{is_done, is_unmet};
+ghost use Rattle.ec_script.specs.Outputs.{answer_of, is_counted, is_done, is_unmet, output_if};
 ghost use Rattle.ec_script.specs.Texts.{byte_text, output_text, value_text};
 
+use crate::met::is_failed;
 use crate::states::state_lines;
 use crate::view::MasterView;
 use ec_asking::AlStatus;
+use ec_start::StartError;
 use ec_table::{Table, Version};
 use ec_text::{input_lines, write_outcome, write_report};
 use std::alloc::{AllocError, Global};
@@ -60,6 +62,46 @@ impl LineOutput {
         ensures { result ≡ is_unmet self }
     {
         matches!(self, LineOutput::Unmet)
+    }
+
+    /// The output of an expectation, by whether it holds.
+    pub fn of_expectation(holds: bool) -> LineOutput
+        ensures { result ≡ output_if holds }
+    {
+        if holds {
+            LineOutput::Nothing
+        } else {
+            LineOutput::Unmet
+        }
+    }
+
+    /// The output of a step whose action has this one: if the line expects that it can't be done, whether it couldn't.
+    pub fn answer(self, expects_no: bool) -> LineOutput
+        ensures { result ≡ answer_of expects_no self }
+    {
+        if expects_no {
+            LineOutput::of_expectation(matches!(self, LineOutput::No))
+        } else {
+            self
+        }
+    }
+
+    /// Whether it counts as unmet. If lines are taken strictly, one that can't be done or has failed counts too; `outcome` is how the last
+    /// start-up ended.
+    pub fn is_counted(self, strict: bool, outcome: Option<Result<(), StartError>>) -> bool
+        ensures { result ≡ is_counted strict outcome self }
+    {
+        match self {
+            LineOutput::Unmet => true,
+            LineOutput::No | LineOutput::Fault => strict,
+            LineOutput::Ended => strict && is_failed(None, outcome),
+            LineOutput::Nothing
+            | LineOutput::Byte
+            | LineOutput::Report
+            | LineOutput::Values
+            | LineOutput::States
+            | LineOutput::Value(_, _) => false,
+        }
     }
 }
 

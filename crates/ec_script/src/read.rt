@@ -2,18 +2,20 @@
 ghost use Rattle.std.specs.Prelude.{◌≡◌, IfOk, map};
 ghost use Rattle.std.specs.Str.Lines.{lines};
 ghost use Rattle.ec_script.specs.Words.{uncommented, without_end_blanks, words_of};
-ghost use Rattle.ec_script.specs.Scripts.{Gives, is_simulated, line_of_words, line_on, reading_of, repeated_line, script_of, taken_by};
+ghost use Rattle.ec_script.specs.Scripts.{Gives, done_times, is_simulated, line_of_words, line_on, reading_of, repeated_line, script_of, taken_by};
+ghost use Rattle.ec_script.specs.Tasks.{tasks_of};
 
-use crate::forms::action_of_words;
-use crate::line::{Line, is_simulated};
+use crate::draft::Draft;
+use crate::line::{Line, is_simulated_line};
+use crate::script::Script;
+use crate::tasks::tasks_of_words;
 use crate::words::times_of;
 use ec_decode::DecodeError as ScriptError;
-use ec_listed::Listed;
 use ec_table::Table;
 use std::alloc::{AllocError, Global};
 
 /// What a line is, by its text.
-#[derive(Clone, Copy, Debug, PartialEq, Eq, Drop)]
+#[derive(Debug, Drop)]
 pub enum Reading {
     /// Nothing but a comment, or nothing at all.
     Empty,
@@ -46,26 +48,25 @@ pub fn read_line(
     })
 }
 
-/// The lines of a script of simulated slaves that aren't empty without their comments; their names are those of the table.
+/// The lines of a script of simulated slaves that aren't empty without their comments; their names are those of the table. Those of a block
+/// come as many times as it says.
 ///
 /// # Errors
 ///
-/// `BadScript`, with the number of the first line that stands for nothing, or for a report; `Memory` if
-/// memory ran out.
-pub fn read_script(alloc: Global, table: &Table, text: &str) -> Result<Listed<Line>, ScriptError>
+/// `BadScript`, with the number of the first line that stands for nothing, or for a report, or is a `}` without a block, or begins a block
+/// in eight others. If there is none, with the line of the innermost block that has no `}`. `Memory` if memory ran out.
+pub fn read_script(alloc: Global, table: &Table, text: &str) -> Result<Script, ScriptError>
     ensures { Gives result (script_of table.now text.now) }
 {
     let texts = lines_of(alloc, text)?;
-    let mut lines = Listed::new(alloc);
+    let mut draft = Draft::new(alloc);
     for (place, line) in texts.as_slice().iter().enumerate() {
         let number = place + 1;
-        match simulated(read_line(alloc, table, number, line)?) {
-            Reading::Empty => {}
-            Reading::Line(line) => lines.push(line)?,
-            Reading::Bad => return Err(ScriptError::BadScript(number)),
+        if !draft.add(alloc, table, number, line)? {
+            return Err(ScriptError::BadScript(number));
         }
     }
-    Ok(lines)
+    draft.into_script()
 }
 
 /// A line without its comment, which begins at the first `#`, and without the blanks before that.
@@ -79,12 +80,18 @@ pub fn uncommented(line: &str) -> &str
 }
 
 /// What a line of a script of simulated slaves is: `Bad` if it asks for what no simulation does.
-fn simulated(reading: Reading) -> Reading
+pub fn simulated(reading: Reading) -> Reading
     ensures { result ≡ taken_by is_simulated reading }
 {
     match reading {
-        Reading::Line(line) if is_simulated(line.action) => Reading::Line(line),
-        Reading::Line(_) | Reading::Bad => Reading::Bad,
+        Reading::Line(line) => {
+            if is_simulated_line(&line) {
+                Reading::Line(line)
+            } else {
+                Reading::Bad
+            }
+        }
+        Reading::Bad => Reading::Bad,
         Reading::Empty => Reading::Empty,
     }
 }
@@ -113,42 +120,68 @@ fn line_on(
     ensures { IfOk result (λ line. line ≡ line_on table.now number text.now) }
 {
     let words = words_of(alloc, text)?;
-    Ok(line_of_words(table, number, words.as_slice()))
+    line_of_words(alloc, table, number, words.as_slice())
 }
 
 /// The words of a line, which stand between single blanks.
-fn words_of<'a>(alloc: Global, line: &'a str) -> Result<Vec<&'a str>, AllocError>
+pub fn words_of<'a>(alloc: Global, line: &'a str) -> Result<Vec<&'a str>, AllocError>
     ensures { IfOk result (λ v. map (λ x. x.now) v.items ≡ words_of line.now) }
 {
     line.split(' ').collect(alloc)
 }
 
 /// What words stand for as line `number`.
-fn line_of_words(table: &Table, number: usize, words: &[&str]) -> Option<Line>
-    ensures { result ≡ line_of_words table.now number (map (λ x. x.now) words.now) }
+fn line_of_words(
+    alloc: Global,
+    table: &Table,
+    number: usize,
+    words: &[&str],
+) -> Result<Option<Line>, AllocError>
+    ensures { IfOk result (λ line. line ≡ line_of_words table.now number (map (λ x. x.now) words.now)) }
 {
-    let (verb, rest) = words.split_first()?;
+    let Some((verb, rest)) = words.split_first() else {
+        return Ok(None);
+    };
     if *verb == "repeat" {
-        return repeated_line(table, number, rest);
+        return repeated_line(alloc, table, number, rest);
     }
-    let action = action_of_words(table, words)?;
-    Some(Line {
-        number,
-        times: 1,
-        action,
-    })
+    line_of_tasks(alloc, table, number, 1, words)
 }
 
 /// What the words behind `repeat` stand for as line `number`.
-fn repeated_line(table: &Table, number: usize, words: &[&str]) -> Option<Line>
-    ensures { result ≡ repeated_line table.now number (map (λ x. x.now) words.now) }
+fn repeated_line(
+    alloc: Global,
+    table: &Table,
+    number: usize,
+    words: &[&str],
+) -> Result<Option<Line>, AllocError>
+    ensures { IfOk result (λ line. line ≡ repeated_line table.now number (map (λ x. x.now) words.now)) }
 {
-    let (count, words) = words.split_first()?;
-    let times = times_of(count)?;
-    let action = action_of_words(table, words)?;
-    Some(Line {
-        number,
-        times,
-        action,
-    })
+    let Some((count, words)) = words.split_first() else {
+        return Ok(None);
+    };
+    match times_of(count) {
+        None => Ok(None),
+        Some(times) => line_of_tasks(alloc, table, number, times, words),
+    }
+}
+
+/// Line `number`, which does so many times what these words stand for.
+fn line_of_tasks(
+    alloc: Global,
+    table: &Table,
+    number: usize,
+    times: u32,
+    words: &[&str],
+) -> Result<Option<Line>, AllocError>
+    ensures { IfOk result (λ line. line ≡ done_times number times (tasks_of table.now number (map (λ x. x.now) words.now))) }
+{
+    match tasks_of_words(alloc, table, number, words)? {
+        None => Ok(None),
+        Some(tasks) => Ok(Some(Line {
+            number,
+            times,
+            tasks,
+        })),
+    }
 }

@@ -89,8 +89,8 @@ fn write_status(alloc: Global, text: &mut String, state: Option<AlStatus>) -> Re
     }
 }
 
-/// The name of the state with a number; `-` if there is none.
-fn state_name(number: u16) -> &'static str
+/// The name of the AL state with a number; `-` if there is none.
+pub fn state_name(number: u16) -> &'static str
     ensures { result.now ≡ name_text number }
 {
     match number {

@@ -3,7 +3,7 @@ use Rattle.std.proofs.Common.{◌≡◌, ◌∙◌, ℕ, zero, suc, ◌+◌, ◌
 use Rattle.ec_frame.specs.Frame.{Payload, IsFrame}
 use Rattle.ec_cycle.specs.Closing.{nones}
 use Rattle.ec_world.specs.declared.event.Event.{Event}
-use Rattle.ec_world.specs.declared.event.Event.TheVariants.{StartNext, Set, Begin, Pass, Lose, Return, Close, Serve, AppPut, AppGet, Fault, Reset}
+use Rattle.ec_world.specs.declared.event.Event.TheVariants.{StartNext, Set, Begin, Pass, Lose, Return, Close, Serve, AppPut, AppGet, Fault, Reset, Stop}
 use Rattle.ec_world.specs.Plain.{filled}
 use Rattle.ec_world.specs.World.{WorldState, Flight, IsStep, ByStart, Begins, Closes, Gets, GivesUp, Passes, Puts, Returns, Sends, StartReturns, awaits, flights_from}
 use Rattle.ec_simulation.specs.Work.{Onward}
@@ -142,6 +142,7 @@ made_kept (Fault s) old new step h =
     let p = step.happens refl in many_kept old new (ap (λ (w : WorldState). length w.slaves) p ∙ length-set old.slaves s _) (ap (λ (w : WorldState). w.slots) p) h
 made_kept (Reset s) old new step h =
     let p = step.happens refl in many_kept old new (ap (λ (w : WorldState). length w.slaves) p ∙ length-set old.slaves s _) (ap (λ (w : WorldState). w.slots) p) h
+made_kept Stop old new step h = let p = step.happens refl in same_kept old new (ap (λ (w : WorldState). w.slaves) p) (ap (λ (w : WorldState). w.slots) p) h
 
 step_kept : (e : Event) (old new : WorldState) (one : Bool) → IsStep old e new one → AreFrames old.slots → Kept old new
 step_kept e old new true step h = made_kept e old new step h

@@ -26,3 +26,5 @@ pub mod SlotsSent
 pub mod Statuses
 -- turn after turn of a start-up
 pub mod Turning
+-- cycle after cycle until something holds
+pub mod Waiting

@@ -9,17 +9,19 @@ use Rattle.ec_world.specs.Laws.{IsRun}
 use Rattle.ec_world.specs.World.{WorldState, IsStep, awaits, is_up}
 use Rattle.ec_world.proofs.Refinement.StepsRefine.{runs_join}
 use Rattle.ec_script.specs.declared.line.LineAction.{LineAction}
-use Rattle.ec_script.specs.declared.line.LineAction.TheVariants.{Input, Never, Expect, Ready, Cycle, Show, Output, LosePart, Served, Report, States, Stop}
+use Rattle.ec_script.specs.declared.line.LineAction.TheVariants.{Input, Never, Expect, Ready, Cycle, Within, Show, ShowVariable, Output, LosePart, Served, Report, States}
 use Rattle.ec_script.specs.declared.output.LineOutput.{LineOutput}
-use Rattle.ec_script.specs.declared.line.Line.{Line}
+use Rattle.ec_script.specs.declared.expectation.Expectation.{Expectation}
+use Rattle.ec_script.specs.declared.line.Task.{Task}
+use Rattle.ec_script.specs.declared.line.Task.TheVariants as task
 use Rattle.ec_script.specs.declared.output.LineOutput.TheVariants as output
 use Rattle.ec_simulation.specs.Expecting.{is_met}
 use Rattle.ec_simulation.specs.Inputs.{input_events, is_input_of}
 use Rattle.ec_script.specs.Scripts.{repeated}
-use Rattle.ec_simulation.specs.Events.{AreMade, DoesAll, GoesOn, LinesRun, RunsLine, RunsReady, ScriptsRun, cycle_events, lowest_slot, turn_events, turns_events}
+use Rattle.ec_simulation.specs.Events.{AreMade, CycleGoesOn, DoesAll, DoesTask, GoesOn, LinesRun, RunsLine, RunsReady, RunsWithin, ScriptsRun, cycle_events, lowest_slot, turn_events, turns_events}
 use Rattle.ec_simulation.specs.Rounds.{rounds, rounds_found}
 use Rattle.ec_script.specs.Outputs.{is_done, output_if}
-use Rattle.ec_simulation.specs.Work.{MakesAll, Onward, RunsCycle, RunsTurn, Starts, alone, event_of, has_ended, is_starting, last_turn}
+use Rattle.ec_simulation.specs.Work.{CyclesOn, MakesAll, Onward, RunsCycle, RunsTurn, Starts, Waits, alone, event_of, has_ended, is_starting, last_turn}
 use Rattle.ec_simulation.proofs.Goes.{Goes, are_made, goes_all, goes_join, goes_then}
 use Rattle.ec_simulation.proofs.Keeping.{Kept, free_frames, goes_kept}
 use Rattle.ec_simulation.proofs.SlotsSent.{cycle_found, starts_free, turn_found}
@@ -176,11 +178,34 @@ input_made : (b : Bool) (es : List Event) (old new : WorldState) (word : LineOut
 input_made true es old new word h = are_made es old new (is_done word) (goes_all es old new word h)
 input_made false es old new word h = (h.0, ap is_done h.1)
 
+-- cycles until something holds
+
+cycle_on : (rest : WorldState → WorldState → LineOutput → Type 0) (runs : WorldState → WorldState → Type 0) (old mid new : WorldState) (told word : LineOutput) (whole : Bool)
+    → ((v u : WorldState) (w : LineOutput) → rest v u w → runs v u × (is_done w ≡ true)) → AreMade (cycle_events old) old mid whole
+    → Onward whole (rest mid new word) ((new ≡ mid) × (word ≡ output.Unmet)) → CycleGoesOn runs old new × (is_done word ≡ true)
+cycle_on rest runs old mid new told word true f made h =
+    let ahead = f mid new word h in
+    (record { mid = mid; whole = true; made = made; goes_on = ahead.0 }, ahead.1)
+cycle_on rest runs old mid new told word false f made h = (record { mid = mid; whole = false; made = made; goes_on = h.0 }, ap is_done h.1)
+
+met_or : (X Y : Type 0) (b : Bool) (old new : WorldState) (word : LineOutput) → Onward b ((new ≡ old) × (word ≡ output.Nothing)) X → (X → Y × (is_done word ≡ true)) → Onward b (new ≡ old) Y × (is_done word ≡ true)
+met_or X Y true old new word h f = (h.0, ap is_done h.1)
+met_or X Y false old new word h f = f h
+
+waits_run : (n : ℕ) (e : Expectation) (old new : WorldState) (word : LineOutput) → Waits n e old new word → RunsWithin n e old new × (is_done word ≡ true)
+unfolding Waits RunsWithin
+waits_run zero e old new word h = (h.0, ap is_done h.1 ∙ said_done (is_met e old))
+waits_run (suc n) e old new word h =
+    met_or (CyclesOn (Waits n e) old new word) (CycleGoesOn (RunsWithin n e) old new) (is_met e old) old new word h
+    (λ x. cycle_on (Waits n e) (RunsWithin n e) old x.mid new x.told word (is_done x.told) (waits_run n e) (are_made (cycle_events old) old x.mid (is_done x.told) (cycle_goes old x.mid x.told x.cycle)) x.goes_on)
+
 pub lines_run : LinesRun
 lines_run (Input v x) old new word h = input_made (is_input_of x (slice_get old.plan.variables v)) (input_events old v x) old new word h
 lines_run (Never v) old new word h = (h.0, ap is_done h.1)
 lines_run (Expect e) old new word h = are_made [] old new (is_done word) (h.0, ap is_done h.1 ∙ said_done (is_met e old))
 lines_run (Output v) old new word h = h.0
+lines_run (ShowVariable v) old new word h = (h.0, ap is_done h.1)
+lines_run (Within n e) old new word h = waits_run n e old new word h
 lines_run (LosePart n k) old new word h = (h.0, ap is_done h.1)
 lines_run Served old new word h = (h.0, ap is_done h.1)
 lines_run Ready old new word h = ready_made old new (is_done word) (starts_goes last_turn old new word h)
@@ -188,7 +213,6 @@ lines_run Cycle old new word h = are_made (cycle_events old) old new (is_done wo
 lines_run Show old new word h = are_made [] old new (is_done word) (h.0, ap is_done h.1)
 lines_run Report old new word h = are_made [] old new (is_done word) (h.0, ap is_done h.1)
 lines_run States old new word h = are_made [] old new (is_done word) (h.0, ap is_done h.1)
-lines_run Stop old new word h = (h.0, ap is_done h.1)
 lines_run action old new word h = let es = alone (event_of action) in are_made es old new (is_done word) (goes_all es old new word h)
 
 abbrev HasRun : WorldState → WorldState → Type 0
@@ -204,27 +228,46 @@ input_run : (b : Bool) (es : List Event) (old new : WorldState) (all : Bool) →
 input_run true es old new all h = made_run es old new all h
 input_run false es old new all h = none_run old new h.0
 
-line_run : (action : LineAction) (old new : WorldState) (all : Bool) → RunsLine action old new all → HasRun old new
-line_run (Input v x) old new all h = input_run (is_input_of x (slice_get old.plan.variables v)) (input_events old v x) old new all h
-line_run (Never v) old new all h = none_run old new h.0
-line_run (Output v) old new all h = none_run old new h
-line_run (LosePart n k) old new all h = none_run old new h.0
-line_run Served old new all h = none_run old new h.0
-line_run Stop old new all h = none_run old new h.0
-line_run Ready old new all h = made_run (turns_events old h.turns) old new all h.made
-line_run Cycle old new all h = made_run (cycle_events old) old new all h
-line_run action old new all h = made_run (alone (event_of action)) old new all h
-
 both_run : (old mid new : WorldState) → HasRun old mid → HasRun mid new → HasRun old new
 both_run old mid new h g = (
   h.0 ++ g.0,
   subst (λ n. IsRun old (h.0 ++ g.0) new n) (sym (length-append h.0 g.0)) (runs_join old h.0 mid (length h.0) g.0 new (length g.0) h.1 g.1),
 )
 
-all_run : (lines : List Line) (old new : WorldState) → DoesAll lines old new → HasRun old new
+cycle_ahead : (X : Type 0) (whole : Bool) (mid new : WorldState) → Onward whole X (new ≡ mid) → (X → HasRun mid new) → HasRun mid new
+cycle_ahead X true mid new h f = f h
+cycle_ahead X false mid new h f = none_run mid new h
+
+met_run : (X : Type 0) (b : Bool) (old new : WorldState) → Onward b (new ≡ old) X → (X → HasRun old new) → HasRun old new
+met_run X true old new h f = none_run old new h
+met_run X false old new h f = f h
+
+within_run : (n : ℕ) (e : Expectation) (old new : WorldState) → RunsWithin n e old new → HasRun old new
+unfolding RunsWithin
+within_run zero e old new h = none_run old new h
+within_run (suc n) e old new h =
+    met_run (CycleGoesOn (RunsWithin n e) old new) (is_met e old) old new h
+    (λ x. both_run old x.mid new (made_run (cycle_events old) old x.mid x.whole x.made) (cycle_ahead (RunsWithin n e x.mid new) x.whole x.mid new x.goes_on (within_run n e x.mid new)))
+
+line_run : (action : LineAction) (old new : WorldState) (all : Bool) → RunsLine action old new all → HasRun old new
+line_run (Input v x) old new all h = input_run (is_input_of x (slice_get old.plan.variables v)) (input_events old v x) old new all h
+line_run (Never v) old new all h = none_run old new h.0
+line_run (Output v) old new all h = none_run old new h
+line_run (ShowVariable v) old new all h = none_run old new h.0
+line_run (Within n e) old new all h = within_run n e old new h.0
+line_run (LosePart n k) old new all h = none_run old new h.0
+line_run Served old new all h = none_run old new h.0
+line_run Ready old new all h = made_run (turns_events old h.turns) old new all h.made
+line_run Cycle old new all h = made_run (cycle_events old) old new all h
+line_run action old new all h = made_run (alone (event_of action)) old new all h
+
+task_run : (t : Task) (old new : WorldState) → DoesTask t old new → HasRun old new
+task_run (task.Step step) old new h = line_run step.action old new (is_done h.0) (lines_run step.action old new h.0 h.1)
+task_run (task.Echo text) old new h = none_run old new h
+
+all_run : (tasks : List Task) (old new : WorldState) → DoesAll tasks old new → HasRun old new
 all_run [] old new h = none_run old new h
-all_run (line ∷ lines) old new h =
-    both_run old h.0 new (line_run line.action old h.0 (is_done h.1) (lines_run line.action old h.0 h.1 h.2)) (all_run lines h.0 new h.3)
+all_run (t ∷ tasks) old new h = both_run old h.0 new (task_run t old h.0 h.1) (all_run tasks h.0 new h.2)
 
 pub scripts_run : ScriptsRun
 scripts_run lines old new h = all_run (repeated lines) old new h

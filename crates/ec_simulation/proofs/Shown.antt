@@ -1,5 +1,5 @@
 -- An output variable as the slaves publish it, link after link.
-use Rattle.std.proofs.Common.{◌≡◌, ◌∙◌, ℕ, ◌+◌, ◌<◌, ◌≤◌, List, length, drop, get_or, Option, Some, None, option_and_then, sym, ap, arith}
+use Rattle.std.proofs.Common.{◌≡◌, ◌∙◌, ℕ, ◌+◌, ◌<◌, ◌≤◌, List, length, drop, get_or, Option, Some, None, option_and_then, sym, ap}
 use Rattle.std.proofs.lemmas.List.{at_drop_more, drop_all}
 use Rattle.ec_link.specs.declared.image.Variable.{Variable}
 use Rattle.ec_link.specs.declared.plan.Link.{Link}

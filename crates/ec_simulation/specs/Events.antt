@@ -7,9 +7,13 @@ use Rattle.ec_world.specs.Laws.{IsRun}
 use Rattle.ec_world.specs.Plain.{filled}
 use Rattle.ec_world.specs.World.{Flight, WorldState, can_happen, flights_from}
 use Rattle.ec_script.specs.declared.line.LineAction.{LineAction}
-use Rattle.ec_script.specs.declared.line.LineAction.TheVariants.{Input, LosePart, Never, Output, Ready, Cycle, Served, Stop}
+use Rattle.ec_script.specs.declared.expectation.Expectation.{Expectation}
+use Rattle.ec_script.specs.declared.line.LineAction.TheVariants.{Input, LosePart, Never, Output, Ready, Cycle, Served, ShowVariable, Within}
 use Rattle.ec_script.specs.declared.line.Line.{Line}
+use Rattle.ec_script.specs.declared.line.Task.{Task}
+use Rattle.ec_script.specs.declared.line.Task.TheVariants as task
 use Rattle.ec_script.specs.declared.output.LineOutput.{LineOutput}
+use Rattle.ec_simulation.specs.Expecting.{is_met}
 use Rattle.ec_simulation.specs.Inputs.{input_events, is_input_of}
 use Rattle.ec_simulation.specs.Rounds.{greatest, rounds, slots_with}
 use Rattle.ec_script.specs.Scripts.{repeated}
@@ -71,6 +75,20 @@ pub record RunsReady (old new : WorldState) (all : Bool) : Type 0 where
   pub before : (n : ℕ) → 0 < n → n < turns → GoesOn (turns_events old n) old
   pub ended : all ≡ true → (has_ended new ≡ true) ⊎ (turns ≡ last_turn)
 
+-- ---- cycles until something holds
+
+-- a cycle as far as it can be made, and, if that is whole, what follows it
+pub record CycleGoesOn (rest : WorldState → WorldState → Type 0) (old new : WorldState) : Type 0 where
+  pub mid : WorldState
+  pub whole : Bool
+  pub made : AreMade (cycle_events old) old mid whole
+  pub goes_on : Onward whole (rest mid new) (new ≡ mid)
+
+-- Cycle after cycle until the expectation holds, and no further, and at most this many. One that can't be made as a whole is the last.
+unfoldable pub RunsWithin : ℕ → Expectation → WorldState → WorldState → Type 0
+RunsWithin zero e old new = new ≡ old
+RunsWithin (suc n) e old new = Onward (is_met e old) (new ≡ old) (CycleGoesOn (RunsWithin n e) old new)
+
 -- ---- a line
 
 -- Whether all of its events could be made. A line that expects or prints something has none. A line that gives a variable a value
@@ -79,23 +97,30 @@ abbrev pub RunsLine : LineAction → WorldState → WorldState → Bool → Type
 RunsLine (Input v x) old new all = Onward (is_input_of x (slice_get old.plan.variables v)) (AreMade (input_events old v x) old new all) ((new ≡ old) × (all ≡ false))
 RunsLine (Never v) old new all = (new ≡ old) × (all ≡ false)
 RunsLine (Output v) old new all = new ≡ old
+RunsLine (ShowVariable v) old new all = (new ≡ old) × (all ≡ true)
+RunsLine (Within n e) old new all = RunsWithin n e old new × (all ≡ true)
 RunsLine (LosePart n k) old new all = (new ≡ old) × (all ≡ false)
 RunsLine Served old new all = (new ≡ old) × (all ≡ false)
-RunsLine Stop old new all = (new ≡ old) × (all ≡ false)
 RunsLine Ready old new all = RunsReady old new all
 RunsLine Cycle old new all = AreMade (cycle_events old) old new all
 RunsLine action old new all = AreMade (alone (event_of action)) old new all
 
--- What a line does is a run of its events; one that has events says `no` exactly if one can't be made.
+-- What an action does is a run of its events. One that has events says `no` exactly if one can't be made; one that waits for something
+-- never does.
 abbrev pub LinesRun : Type 0
 LinesRun = (action : LineAction) (old new : WorldState) (word : LineOutput) → Does action old new word → RunsLine action old new (is_done word)
 
 -- ---- a script
 
--- lines one after another
-abbrev pub DoesAll : List Line → WorldState → WorldState → Type 0
+-- a task: a text that is printed changes nothing
+abbrev pub DoesTask : Task → WorldState → WorldState → Type 0
+DoesTask (task.Step step) old new = (word : LineOutput) × Does step.action old new word
+DoesTask (task.Echo text) old new = new ≡ old
+
+-- tasks one after another
+abbrev pub DoesAll : List Task → WorldState → WorldState → Type 0
 DoesAll [] old new = new ≡ old
-DoesAll (line ∷ lines) old new = (mid : WorldState) × (word : LineOutput) × Does line.action old mid word × DoesAll lines mid new
+DoesAll (task ∷ tasks) old new = (mid : WorldState) × DoesTask task old mid × DoesAll tasks mid new
 
 -- A run of events does to a world what a script does, with each line as often as it is done.
 abbrev pub ScriptsRun : Type 0

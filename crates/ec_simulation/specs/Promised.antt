@@ -27,7 +27,7 @@ pub record IsReadied (t : Contents) (old new : WorldState) : Type 0 where
   pub run : IsRun old events new (length events)
   pub up : IsBroughtUp t old events new (length events)
 
--- On a new world of devices, or one whose last start-up failed, `ready` brings the slaves up and says how it ended.
+-- On a new world of devices, or one that was stopped or whose last start-up failed, `ready` brings the slaves up and says how it ended.
 abbrev pub ReadyLaw : Type 0
 ReadyLaw = (t : Contents) (old new : WorldState) (word : LineOutput) → IsToStart t old → Does Ready old new word → (word ≡ output.Ended) × IsReadied t old new
 

@@ -5,11 +5,13 @@ use Rattle.ec_start.specs.Running.{outcome_of}
 use Rattle.ec_world.specs.declared.event.Event.{Event}
 use Rattle.ec_world.specs.declared.event.Event.TheVariants as event
 use Rattle.ec_world.specs.World.{WorldState, IsStep}
+use Rattle.ec_script.specs.declared.expectation.Expectation.{Expectation}
 use Rattle.ec_script.specs.declared.line.LineAction.{LineAction}
-use Rattle.ec_script.specs.declared.line.LineAction.TheVariants.{Start, Set, Begin, Pass, Lose, Return, Close, Serve, Put, Get, Fail, Reset, Input, Never, Expect, Ready, Cycle, Show, Output, LosePart, Served, Report, States, Stop}
+use Rattle.ec_script.specs.declared.line.LineAction.TheVariants.{Start, Set, Begin, Pass, Lose, Return, Close, Serve, Put, Get, Fail, Reset, Input, Never, Expect, Ready, Cycle, Within, Show, ShowVariable, Output, LosePart, Served, Report, States, Stop}
 use Rattle.ec_script.specs.declared.output.LineOutput.{LineOutput}
 use Rattle.ec_script.specs.declared.output.LineOutput.TheVariants as output
 use Rattle.ec_script.specs.Outputs.{is_done, output_if}
+use Rattle.ec_text.specs.InputText.{value_of_variable}
 use Rattle.ec_simulation.specs.Expecting.{is_met}
 use Rattle.ec_simulation.specs.Inputs.{input_events, is_input_of}
 use Rattle.ec_simulation.specs.Rounds.{rounds_found}
@@ -84,6 +86,20 @@ last_turn = 2 ^ 64 - 1
 abbrev pub RunsCycle : WorldState → WorldState → LineOutput → Type 0
 RunsCycle old new word = Then always (Makes event.Begin) (λ w. MakesAll (rounds_found false w ++ (event.Close ∷ [])) w) old new word
 
+-- ---- cycles until something holds
+
+-- a cycle, and what follows it; one that can't be run ends the line, whose expectation isn't met then
+pub record CyclesOn (rest : WorldState → WorldState → LineOutput → Type 0) (old new : WorldState) (word : LineOutput) : Type 0 where
+  pub mid : WorldState
+  pub told : LineOutput
+  pub cycle : RunsCycle old mid told
+  pub goes_on : Onward (is_done told) (rest mid new word) ((new ≡ mid) × (word ≡ output.Unmet))
+
+-- at most this many cycles; what is expected is looked at before the first and behind each
+unfoldable pub Waits : ℕ → Expectation → WorldState → WorldState → LineOutput → Type 0
+Waits zero e old new word = (new ≡ old) × (word ≡ output_if (is_met e old))
+Waits (suc n) e old new word = Onward (is_met e old) ((new ≡ old) × (word ≡ output.Nothing)) (CyclesOn (Waits n e) old new word)
+
 -- ---- an input variable
 
 -- slave after slave writes its inputs; if it is no input, or can't hold the value, nothing is done
@@ -107,6 +123,7 @@ event_of (Put s i x) = Some (event.AppPut s i x)
 event_of (Get s i) = Some (event.AppGet s i)
 event_of (Fail s) = Some (event.Fault s)
 event_of (Reset s) = Some (event.Reset s)
+event_of Stop = Some event.Stop
 event_of _ = None
 
 -- that event alone; none of any other action
@@ -121,11 +138,12 @@ Does (Never v) old new word = (new ≡ old) × (word ≡ output.No)
 Does (Expect e) old new word = (new ≡ old) × (word ≡ output_if (is_met e old))
 Does Ready old new word = Starts last_turn old new word
 Does Cycle old new word = RunsCycle old new word
+Does (Within n e) old new word = Waits n e old new word
 Does Show old new word = (new ≡ old) × (word ≡ output.Values)
+Does (ShowVariable v) old new word = (new ≡ old) × (word ≡ output.Value v (value_of_variable old.master v))
 Does (Output v) old new word = (new ≡ old) × (word ≡ said_value v (output_shown old (slice_get old.plan.variables v)))
 Does (LosePart n k) old new word = (new ≡ old) × (word ≡ output.No)
 Does Served old new word = (new ≡ old) × (word ≡ output.No)
 Does Report old new word = (new ≡ old) × (word ≡ output.Report)
 Does States old new word = (new ≡ old) × (word ≡ output.States)
-Does Stop old new word = (new ≡ old) × (word ≡ output.No)
 Does action old new word = MakesAll (alone (event_of action)) old new word

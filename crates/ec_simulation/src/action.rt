@@ -1,16 +1,15 @@
 //! What a line does once, by its action.
 ghost use Rattle.std.specs.Prelude.{◌≡◌};
-ghost use Rattle.ec_script.specs.Outputs.{is_done, output_if};
+ghost use Rattle.ec_script.specs.Outputs.{is_done};
 ghost use Rattle.ec_simulation.specs.Events.{RunsLine};
-ghost use Rattle.ec_simulation.specs.Expecting.{is_met};
 ghost use Rattle.ec_simulation.specs.Observing.{Observes};
 ghost use Rattle.ec_simulation.specs.Work.{Does, event_of};
 
 use crate::inputs::put_input;
-use crate::met::is_met;
 use crate::rounds::{make, run_cycle, start_up};
-use crate::showing::show_output;
-use ec_script::{Expectation, LineAction, LineOutput};
+use crate::showing::{show_output, show_variable};
+use crate::within::{expect, wait_until};
+use ec_script::{LineAction, LineOutput};
 use ec_world::{Event, Watcher, World};
 
 /// Does once what a line asks for, as [`do_action`](crate::do_action) does; a watcher makes its events, and may keep what it
@@ -46,18 +45,20 @@ pub fn event_of(action: LineAction) -> Option<Event>
         LineAction::Get(slave, offset) => Some(Event::AppGet(slave, offset)),
         LineAction::Fail(slave) => Some(Event::Fault(slave)),
         LineAction::Reset(slave) => Some(Event::Reset(slave)),
+        LineAction::Stop => Some(Event::Stop),
         LineAction::Input(_, _)
         | LineAction::Never(_)
         | LineAction::Expect(_)
         | LineAction::Ready
         | LineAction::Cycle
+        | LineAction::Within(_, _)
         | LineAction::Show
+        | LineAction::ShowVariable(_)
         | LineAction::Output(_)
         | LineAction::LosePart(_, _)
         | LineAction::Served
         | LineAction::Report
-        | LineAction::States
-        | LineAction::Stop => None,
+        | LineAction::States => None,
     }
 }
 
@@ -82,26 +83,18 @@ fn perform<S: Watcher>(world: &mut World<'_>, watcher: &mut S, action: LineActio
         LineAction::Get(slave, offset) => make(world, watcher, Event::AppGet(slave, offset)),
         LineAction::Fail(slave) => make(world, watcher, Event::Fault(slave)),
         LineAction::Reset(slave) => make(world, watcher, Event::Reset(slave)),
+        LineAction::Stop => make(world, watcher, Event::Stop),
         LineAction::Input(variable, value) => put_input(world, watcher, variable, value),
-        LineAction::Never(_) | LineAction::Stop => LineOutput::No,
+        LineAction::Never(_) => LineOutput::No,
         LineAction::Expect(expected) => expect(world, expected),
         LineAction::Ready => start_up(world, watcher),
         LineAction::Cycle => run_cycle(world, watcher),
+        LineAction::Within(times, expected) => wait_until(world, watcher, times, expected),
         LineAction::Show => LineOutput::Values,
+        LineAction::ShowVariable(variable) => show_variable(world, variable),
         LineAction::Output(variable) => show_output(world, variable),
         LineAction::LosePart(_, _) | LineAction::Served => LineOutput::No,
         LineAction::Report => LineOutput::Report,
         LineAction::States => LineOutput::States,
-    }
-}
-
-/// The output of an expectation, by whether it holds.
-fn expect(world: &World<'_>, expected: Expectation) -> LineOutput
-    ensures { result ≡ output_if (is_met expected world.now) }
-{
-    if is_met(world, expected) {
-        LineOutput::Nothing
-    } else {
-        LineOutput::Unmet
     }
 }

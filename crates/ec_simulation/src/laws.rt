@@ -15,7 +15,7 @@ pub fn scripts_are_runs()
     ensures { ScriptsRun }
 {}
 
-/// `ready` brings every slave up and says how it ended, in a new world of devices or after a failure.
+/// `ready` brings every slave up and says how it ended, in a new world of devices, after a failure or after a stop.
 pub fn ready_brings_up()
     ensures { ReadyLaw }
 {}

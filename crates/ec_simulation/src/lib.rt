@@ -10,9 +10,11 @@ mod run;
 mod showing;
 mod status;
 mod view;
+mod within;
 
 pub use crate::action::{event_of, watch_action};
 pub use crate::met::is_met;
-pub use crate::run::{do_action, run_line};
+pub use crate::run::{do_action, run_step};
+pub use crate::showing::value_seen;
 pub use crate::status::{printed_text, status_of};
 pub use crate::view::view_of;

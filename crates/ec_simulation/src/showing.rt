@@ -1,13 +1,16 @@
 //! An output variable as the slaves publish it.
 ghost use Rattle.std.specs.Prelude.{◌≡◌, ◌≤◌, if◌then◌else◌, length, slice_get, Some, None};
-ghost use Rattle.ec_bits.specs.Bits.{zeros};
-ghost use Rattle.ec_simulation.specs.Showing.{has_room, output_shown, said_value, value_shown, with_shown};
+ghost use Rattle.ec_text.specs.InputText.{value_of_variable};
+ghost use Rattle.ec_simulation.specs.Showing.{has_room, output_shown, said_value, value_seen, value_shown, with_shown};
+ghost use Rattle.ec_simulation.specs.Inputs.{is_of};
+ghost use Rattle.std.specs.List.{list_any};
 
 use crate::inputs::is_of;
 use ec_bits::{copy_bits, read_bits};
 use ec_link::{Link, Variable};
 use ec_script::LineOutput;
 use ec_table::Direction;
+use ec_text::value_of;
 use ec_world::World;
 
 /// More bits than the memory of a slave has room for.
@@ -22,6 +25,46 @@ pub fn show_output(world: &World<'_>, place: usize) -> LineOutput
         Some(value) => LineOutput::Value(place, value),
         None => LineOutput::No,
     }
+}
+
+/// The output of `show` with a name: a variable and its value in the process image.
+pub fn show_variable(world: &World<'_>, place: usize) -> LineOutput
+    ensures { result ≡ LineOutput.Value place (value_of_variable world.now.master place) }
+{
+    LineOutput::Value(place, value_of(world.master(), place))
+}
+
+/// The value of the variable at a place that an expectation looks at: of an input the one in the process image, of an output the one that
+/// slaves publish. `None` if the slave of one of its links publishes none of the link's bits, and without links.
+pub fn value_seen(world: &World<'_>, place: usize) -> Option<u64>
+    ensures { result ≡ value_seen world.now place (slice_get world.now.plan.variables place) }
+{
+    let variables = world.plan().variables();
+    if place >= variables.len() {
+        return None;
+    }
+    let variable = variables[place];
+    match variable.direction {
+        Direction::In => Some(value_of(world.master(), place)),
+        Direction::Out => {
+            if has_link(world, variable) {
+                value_shown(world, variable)
+            } else {
+                None
+            }
+        }
+    }
+}
+
+/// Whether a link takes bits of a variable to a slave.
+fn has_link(world: &World<'_>, variable: Variable) -> bool
+    ensures { result ≡ list_any (is_of variable) world.now.plan.out_links }
+{
+    world
+        .plan()
+        .out_links()
+        .iter()
+        .any(|link| is_of(variable, link))
 }
 
 /// The value of the output variable at a place, as slaves publish it.

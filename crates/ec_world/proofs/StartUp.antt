@@ -3,6 +3,10 @@
 pub mod Rising
 -- a world whose start-up is ready refines a plain state
 pub mod IsReadyWorld
+-- what lasts of slaves, whatever happens
+pub mod Lasting
+-- it starts up, is Ready, may be stopped and start up again
+pub mod Course
 -- the events of a frame of a start-up
 pub mod TurnEvents
 -- turns of a start-up that nothing disturbs, in any order of the slaves' firmware steps behind the frame

@@ -81,7 +81,7 @@ pub use Rattle.ec_world.specs.Exchanging.{given_in, slave_left, given_by}
 pub use Rattle.ec_world.specs.FrameRefines.{note_at, GaveAs, DatagramsRefine, KeptRefines, DataRefines, FrameRefines, out_bit}
 pub use Rattle.ec_world.specs.Headline.{HeadlineShows, Says, IsMade, IsBegun as HeadlineIsBegun, HasLost, IsUnderWay, HadTrouble, IsInOp, progress_at, variable_bit, output_bits, input_bits, GivesLess, unit_of, unit_of_part as headline_unit_of_part, IsRead, IsTaken as HeadlineIsTaken, FellShort as HeadlineFellShort, Cause, ByLoss, ByEarlyClose, ByFallingShort, IsMissed as HeadlineIsMissed, ListsUnits, CloseShows, HeadlineLaw, EachIsPromised, ShowsLinked, PassShows, HasPassed as HeadlineHasPassed, IsRunWithoutStart, begins_start, input_bit, variable, buffer_of, published, with_buffer, OnlyPublishes, broadcast_at, SetShows, TouchShows, PutShows, FallShows}
 pub use Rattle.ec_world.specs.Held.{AreFrames, cycle_frames, AreOfPlan, IsAnswered, IsTakenIn, IsHandedIn}
-pub use Rattle.ec_world.specs.Laws.{IsRun, BringsWord, notes_round, SlavesFrom, RoundTrip, word_past, in_op, CycleLaw, StepsRefine, RunsRefine, RunsJoin, StepRefines}
+pub use Rattle.ec_world.specs.Laws.{IsRun, BringsWord, notes_round, SlavesFrom, RoundTrip, word_past, in_op, CycleLaw, StepsRefine, RunsRefine, RunsJoin, StepRefines, IsUnstopped, UnstoppedLaw}
 pub use Rattle.ec_world.specs.Lengths.{IsOfLength}
 pub use Rattle.ec_world.specs.NewWorld.{IsTurn, AreTurns, BringUp, IsToStart, IsBroughtUp, NewLaw, MachineLaw, rising_of, IsRest, Passes as NewWorldPasses, Returns as NewWorldReturns, Serves, Ends, servings, TurnLaw}
 pub use Rattle.ec_world.specs.Plain.{Plain, PlainSlave, Health, Working, Faulted, Reset, plain_slave, no_plain_slave, is_working, failing, restarting, at_slave, is_reset, got_byte, PlainFrame, Cycle, unit_full, step, run, frame_at, filled, new_frames, progress_of, moved, keeping, with_note, met_note, all_progress, is_older, lets_by, may_pass, may_return, Note, Other, Short, Full, is_full, all_full, noted_bit, notes_of_part, taken_bit, inputs_taken, linked_outputs, with_slot, giving, met_slave, passing, losing, taking, setting, beginning, closing, Closed, returning}
@@ -93,8 +93,8 @@ pub use Rattle.ec_world.specs.SlaveRefines.{IsQuiet, Holds, IsWorking, IsFaulted
 pub use Rattle.ec_world.specs.Slots.{HavePassed, AreInUse, clearance_behind, AreFreeFrom, HasPassed, HasClearance, no_end, HoldsFrame}
 pub use Rattle.ec_world.specs.Undisturbed.{rounds_of, IsAtRest, Rests, round_of, cycle_of, IsSpoiled, LossLaw, EarlyLaw, ShortLaw, IsExchanged, UndisturbedLaw}
 pub use Rattle.ec_world.specs.Whole.{IsNew, plain_of, new_world, RunOutcome, no_trouble, slot_count, flags_after, flags_of, IsReadyWorld, health_of, plain_slave_of, ShowsZeros, HasStarted, NotYet, Started, WholeLaw, CompiledLaw}
-pub use Rattle.ec_world.specs.World.{WorldState, slave_of, no_slave, with_slave, Puts, Gets, is_up, flight_at, flight_progress, IsStep, Flight, phase_ready, phase_awaits, awaits, resumed, ready_with, flights_from, flights_progress, Passes, ByStart, GivesUp, Closes, can_start, StartReturns, Returns, Begins, can_begin, Happens, is_slave, can_happen, Sends}
+pub use Rattle.ec_world.specs.World.{WorldState, slave_of, no_slave, with_slave, Puts, Gets, is_up, flight_at, flight_progress, IsStep, Flight, phase_ready, phase_awaits, awaits, resumed, ready_with, flights_from, flights_progress, Passes, stopped, can_stop, ByStart, GivesUp, Closes, can_start, StartReturns, Returns, Begins, can_begin, Happens, is_slave, can_happen, Sends}
 pub use Rattle.ec_world.specs.declared.event.Event.{Event}
-pub use Rattle.ec_world.specs.declared.event.Event.TheVariants.{Begin, Close, Pass, Return, Lose, Fault, Reset as ResetSlave, StartNext, Set, Serve, AppPut, AppGet}
+pub use Rattle.ec_world.specs.declared.event.Event.TheVariants.{Begin, Close, Pass, Return, Lose, Fault, Reset as ResetSlave, StartNext, Set, Serve, AppPut, AppGet, Stop}
 pub use Rattle.ec_world.specs.declared.progress.Progress.{Progress}
 pub use Rattle.ec_world.proofs.Lists.{some_of, some_if, none_if, none_mapped, nones-all, is_some-mapped, some_guarded, none_some, some_same, same_progress, all_none, all_from-each, all_from-alike, nones-alike, there_too, map-alike, all_each, theres, first_same, rest_same, get_or-set_default, flight_pairs, passes_there, is_some-guarded, within_of, same_slots, returns_there, same_truth, each_all, Pairs, plain_frame, cycle_begun, filled-none, filled-length, none_free, none_in, some_or}

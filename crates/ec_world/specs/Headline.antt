@@ -35,7 +35,7 @@ use Rattle.ec_cycle.specs.Closing.{ReturnedPart, ReportState}
 use Rattle.ec_cycle.specs.Master.{OpenCycle, value_at}
 use Rattle.ec_bringup.specs.Runs.{is_beginning}
 use Rattle.ec_world.specs.declared.event.Event.{Event}
-use Rattle.ec_world.specs.declared.event.Event.TheVariants.{StartNext, Set, Begin, Pass, Lose, Return, Close, Serve, AppPut, AppGet, Fault, Reset}
+use Rattle.ec_world.specs.declared.event.Event.TheVariants.{StartNext, Set, Begin, Pass, Lose, Return, Close, Serve, AppPut, AppGet, Fault, Reset, Stop}
 use Rattle.ec_world.specs.declared.progress.Progress.{Progress}
 use Rattle.ec_world.specs.World.{WorldState, slave_of, flight_at, flight_progress, is_up, resumed, IsStep}
 use Rattle.ec_world.specs.Laws.{IsRun}
@@ -275,7 +275,7 @@ pub record CloseShows (t : Contents) (old : WorldState) (events : List Event) (w
 
 -- ---- 7. The other events
 -- What they leave of variables, slaves and frames. A Ready start-up sends no more frames, and a firmware step of a
--- slave changes nothing. Begin, Lose and Return touch no slave and no variable.
+-- slave changes nothing. Begin, Lose, Return and Stop touch no slave and no variable; Stop ends the Ready start-up.
 
 -- Set gives variable x this value, and touches no other variable, no slave and no frame.
 pub record SetShows (w : WorldState) (x value : ℕ) (v : WorldState) : Type 0 where
@@ -318,6 +318,7 @@ HeadlineShows t old events w (AppPut s i byte) v = PutShows w s i byte v
 HeadlineShows t old events w (AppGet s i) v = TouchShows w s 2 v.got v × (published (slave_of v s) 2 ≡ published (slave_of w s) 2)
 HeadlineShows t old events w (Fault s) v = FallShows w s SafeOp v × ((o : ℕ) → input_bit v s o ≡ input_bit w s o)
 HeadlineShows t old events w (Reset s) v = FallShows w s Init v × ((o : ℕ) → input_bit v s o ≡ false)
+HeadlineShows t old events w Stop v = (v ≡ record w { start = v.start }) × (is_up v.start ≡ false)
 
 abbrev pub HeadlineLaw : Type 0
 HeadlineLaw =

@@ -1,6 +1,6 @@
 -- Laws over the definitions.
-use Rattle.std.specs.Prelude.{ℕ, ◌+◌, ◌-◌, ◌*◌, ◌^◌, ◌<◌, ◌≡◌, List, [], ◌∷◌, ◌++◌, length, map, get_or, Bool, if◌then◌else◌, is_some, unwrap_or, bit_or}
-use Rattle.std.specs.List.{fold}
+use Rattle.std.specs.Prelude.{ℕ, ◌+◌, ◌-◌, ◌*◌, ◌^◌, ◌<◌, ◌≡◌, List, [], ◌∷◌, ◌++◌, length, map, get_or, Bool, true, if◌then◌else◌, is_some, unwrap_or, bit_or, ◌≢◌}
+use Rattle.std.specs.List.{fold, Contains}
 use Rattle.ec_bits.specs.Bits.{bit}
 use Rattle.ec_al.specs.Al.{status_word}
 use Rattle.ec_frame.specs.Datagram.{Datagram}
@@ -14,8 +14,9 @@ use Rattle.ec_link.specs.Usable.{IsUsable}
 use Rattle.ec_cycle.specs.Closing.{bytes_at}
 use Rattle.ec_cycle.specs.Frames.{cyclic_datagrams, sent_datagrams}
 use Rattle.ec_world.specs.declared.event.Event.{Event}
+use Rattle.ec_world.specs.declared.event.Event.TheVariants.{Stop}
 use Rattle.ec_world.specs.Plain.{Plain, PlainSlave, PlainFrame, Working, Note, step, run, met_note, no_plain_slave, linked_outputs}
-use Rattle.ec_world.specs.World.{WorldState, IsStep, no_slave}
+use Rattle.ec_world.specs.World.{WorldState, IsStep, no_slave, is_up}
 use Rattle.ec_world.specs.Refines.{Refines}
 use Rattle.ec_world.specs.SlaveRefines.{IsWorking, SlaveRefines}
 use Rattle.ec_world.specs.FrameRefines.{DatagramsRefine}
@@ -82,11 +83,16 @@ CycleLaw =
 
 -- ---- one event, and a run
 
--- One event: a world that refines a plain state refines the plain machine's next one, and the two make the same events.
+-- From a Ready world no `Stop` was made: only a stop changes its start-up (`UnstoppedLaw`).
+abbrev pub IsUnstopped : WorldState → WorldState → Type 0
+IsUnstopped old new = new.start ≡ old.start
+
+-- One event: a world that refines a plain state refines the plain machine's next one, and the two make the same events, but for a
+-- stop.
 pub record StepRefines (old : WorldState) (event : Event) (new : WorldState) (made : Bool) : Type 0 where
   pub same_plan : (p : Plain) → Refines old p → new.plan ≡ old.plan
-  pub made_is : (p : Plain) → Refines old p → made ≡ is_some (step (meaning old.plan) p event)
-  pub shown : (p : Plain) → Refines old p → Refines new (unwrap_or (step (meaning old.plan) p event) p)
+  pub made_is : (p : Plain) → Refines old p → IsUnstopped old new → made ≡ is_some (step (meaning old.plan) p event)
+  pub shown : (p : Plain) → Refines old p → IsUnstopped old new → Refines new (unwrap_or (step (meaning old.plan) p event) p)
 
 abbrev pub StepsRefine : Type 0
 StepsRefine =
@@ -103,15 +109,22 @@ IsRun old [] new made = (new ≡ old) × (made ≡ 0)
 IsRun old (e ∷ es) new made =
     (mid : WorldState) × (one : Bool) × (rest : ℕ) × IsStep old e mid one × IsRun mid es new rest × (made ≡ (if one then 1 else 0) + rest)
 
--- A run from a world that refines a plain state ends in one that refines the plain run's, and makes as many events.
+-- A run from a world that refines a plain state ends in one that refines the plain run's, and makes as many events, if it makes no
+-- stop.
 pub record RunRefines (old : WorldState) (events : List Event) (new : WorldState) (made : ℕ) : Type 0 where
-  pub shown : (p : Plain) → Refines old p → Refines new (run (meaning old.plan) p events).plain
-  pub made_is : (p : Plain) → Refines old p → made ≡ (run (meaning old.plan) p events).made
+  pub shown : (p : Plain) → Refines old p → IsUnstopped old new → Refines new (run (meaning old.plan) p events).plain
+  pub made_is : (p : Plain) → Refines old p → IsUnstopped old new → made ≡ (run (meaning old.plan) p events).made
 
 abbrev pub RunsRefine : Type 0
 RunsRefine =
     (old : WorldState) (events : List Event) (new : WorldState) (made : ℕ) → IsUsable old.plan
     → IsRun old events new made → RunRefines old events new made
+
+-- Events that are no `Stop` leave the start-up of a Ready world as it is.
+abbrev pub UnstoppedLaw : Type 0
+UnstoppedLaw =
+    (old : WorldState) (events : List Event) (new : WorldState) (made : ℕ) → is_up old.start ≡ true → (Contains events Stop → ⊥)
+    → IsRun old events new made → IsUnstopped old new
 
 -- Two runs, one after the other, are one.
 abbrev pub RunsJoin : Type 0

@@ -1,4 +1,4 @@
--- A start-up that nothing disturbs ends Ready: that of a new world, and one that begins again after a failure.
+-- A start-up that nothing disturbs ends Ready: that of a new world, and one that begins again after a failure or a stop.
 use Rattle.std.specs.Prelude.{ℕ, zero, suc, ◌+◌, ◌<◌, ◌≤◌, ◌≡◌, ◌⊎◌, List, [], ◌∷◌, ◌++◌, length, get_or, set, replicate, max, Bool, true, false, None}
 use Rattle.ec_device.specs.declared.slave_type.Identity.{Identity}
 use Rattle.ec_table.specs.Contents.{Contents}
@@ -56,7 +56,8 @@ TurnLaw = (n : ℕ) → IsTurn n (turn_of n)
 -- ---- from where
 
 -- A new world of a table that `compile` accepts, with devices of its types, came to w by some events; no frame is on its way; the
--- next one is the first of a start-up, since none was sent yet or since the last start-up failed; and there are numbers for all.
+-- next one is the first of a start-up, since none was sent yet, or the last start-up failed or was stopped (`Failed Lost`); and there
+-- are numbers for all.
 pub record IsToStart (t : Contents) (w : WorldState) : Type 0 where
   pub identities : List Identity
   pub first : WorldState

@@ -11,7 +11,7 @@ use Rattle.ec_link.specs.Usable.{IsUsable}
 use Rattle.ec_cycle.specs.Closing.{ReturnedPart, ReportState, nones}
 use Rattle.ec_cycle.specs.Master.{OpenCycle}
 use Rattle.ec_world.specs.declared.event.Event.{Event}
-use Rattle.ec_world.specs.declared.event.Event.TheVariants.{StartNext, Set, Begin, Pass, Lose, Return, Close, Serve, AppPut, AppGet, Fault, Reset as ResetSlave}
+use Rattle.ec_world.specs.declared.event.Event.TheVariants.{StartNext, Set, Begin, Pass, Lose, Return, Close, Serve, AppPut, AppGet, Fault, Reset as ResetSlave, Stop}
 use Rattle.ec_world.specs.Plain.{Plain, PlainSlave, PlainFrame, Note, Short, Full, Cycle, Working, Faulted, Reset, unit_full, met_note, plain_slave, frame_at, step, run}
 use Rattle.ec_world.specs.World.{WorldState, Flight, IsStep, slave_of, flight_progress}
 use Rattle.ec_world.specs.FrameRefines.{out_bit}
@@ -209,6 +209,7 @@ disturbs m number u p (AppPut s i x) = false
 disturbs m number u p (AppGet s i) = false
 disturbs m number u p (Fault s) = (unit_of_slave m s == u) && (has_outs (share_of m s) && is_awaited m number s p)
 disturbs m number u p (ResetSlave s) = (unit_of_slave m s == u) && ((has_outs (share_of m s) || has_ins (share_of m s)) && is_awaited m number s p)
+disturbs m number u p Stop = false
 
 -- A cycle is quiet for unit u: as it begins no slave of the unit falls short, no event that was made since then disturbs the
 -- unit, and none of the unit's frames is still on its way.

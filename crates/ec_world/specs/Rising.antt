@@ -1,9 +1,11 @@
 -- What holds of a world that starts up: the start-up's own invariant, its frame in the lowest slot, and a master that waits.
-use Rattle.std.specs.Prelude.{ℕ, ◌<◌, ◌≡◌, ◌≢◌, List, length, get_or, Bool, Option, Some, None}
+use Rattle.std.specs.Prelude.{ℕ, ◌<◌, ◌≡◌, ◌≢◌, List, length, get_or, Bool, true, Option, Some, None}
 use Rattle.ec_bringup.specs.Starting.{Starting, Carried}
 use Rattle.ec_bringup.specs.Instants.{Starts}
 use Rattle.ec_bringup.specs.Slots.{IsCarried}
 use Rattle.ec_bringup.specs.Runs.{ends_of}
+use Rattle.ec_cycle.specs.Closing.{ReportState}
+use Rattle.ec_world.specs.Refines.{CountersPredicted}
 use Rattle.ec_world.specs.World.{WorldState, Flight, is_up, slave_of}
 use Rattle.ec_slave.specs.Interface.{AreWhole}
 
@@ -34,5 +36,6 @@ pub record Rising (flags : List Bool) (w : WorldState) : Type 0 where
   pub fit : (i : ℕ) → AreWhole (slave_of w i)
   pub master_plan : w.master.plan ≡ w.plan
   pub no_cycle : w.master.cycle ≡ None
-  pub master_ready : w.master.is_ready ≡ is_up w.start
-  pub no_report : w.report ≡ None
+  pub master_ready : is_up w.start ≡ true → w.master.is_ready ≡ true
+  -- the report of the last cycle before a stop
+  pub reported : (r : ReportState) → w.report ≡ Some r → CountersPredicted w.plan r

@@ -1,5 +1,5 @@
--- A world since it was made: a start-up until it is Ready, and then the plain machine.
-use Rattle.std.specs.Prelude.{ℕ, ◌+◌, ◌<◌, ◌≡◌, ◌⊎◌, List, [], ◌∷◌, ◌++◌, length, map, set, replicate, Bool, true, false, if◌then◌else◌, None}
+-- A world since it was made: a start-up until it is Ready, then the plain machine until it is stopped, and so on.
+use Rattle.std.specs.Prelude.{ℕ, ◌+◌, ◌<◌, ◌≡◌, ◌⊎◌, List, [], ◌∷◌, ◌++◌, length, map, set, replicate, Bool, true, false, if◌then◌else◌, None, option_map}
 use Rattle.ec_device.specs.declared.slave_type.Identity.{Identity}
 use Rattle.ec_cycle.specs.Master.{new_master}
 use Rattle.ec_al.specs.declared.state.State.{State}
@@ -17,11 +17,11 @@ use Rattle.ec_bringup.specs.Standing.{unviewed}
 use Rattle.ec_bringup.specs.Starting.{trouble_at}
 use Rattle.ec_bringup.specs.Runs.{AreStartable, flags_sent}
 use Rattle.ec_world.specs.declared.event.Event.{Event}
-use Rattle.ec_world.specs.declared.event.Event.TheVariants.{StartNext, Set, Begin, Pass, Lose, Return, Close, Serve, AppPut, AppGet, Fault, Reset as ResetSlave}
+use Rattle.ec_world.specs.declared.event.Event.TheVariants.{StartNext, Set, Begin, Pass, Lose, Return, Close, Serve, AppPut, AppGet, Fault, Reset as ResetSlave, Stop}
 use Rattle.ec_world.specs.Plain.{Plain, PlainSlave, Health, Working, Faulted, Reset, plain_slave, run}
 use Rattle.ec_world.specs.World.{WorldState, is_up, resumed, IsStep}
-use Rattle.ec_world.specs.Refines.{Refines}
-use Rattle.ec_world.specs.Laws.{IsRun}
+use Rattle.ec_world.specs.Refines.{Refines, said}
+use Rattle.ec_world.specs.Laws.{IsRun, IsUnstopped}
 use Rattle.ec_table.specs.Sound as table
 
 -- ---- the flags
@@ -41,6 +41,7 @@ flags_after w (AppPut s i x) flags = flags
 flags_after w (AppGet s i) flags = flags
 flags_after w (Fault s) flags = set flags s true
 flags_after w (ResetSlave s) flags = set flags s true
+flags_after w Stop flags = flags
 
 -- ---- what a world is when its start-up is ready
 
@@ -57,14 +58,14 @@ plain_slave_of s = record { health = health_of s.al.state; outputs = (manager_at
 abbrev pub ShowsZeros : Buffer → Type 0
 ShowsZeros b = unviewed b ≡ emptied_buffer (length b.published)
 
--- its image and its number, no cycle, no report, no frame, and each slave's own values
+-- its image and its number, no cycle, no frame, each slave's own values, and what the last report said before a stop
 abbrev pub plain_of : WorldState → Plain
 plain_of w = record {
   outputs = w.master.outputs;
   inputs = w.master.inputs;
   next = w.master.next;
   cycle = None;
-  closed = None;
+  closed = option_map said w.report;
   got = w.got;
   slaves = map plain_slave_of w.slaves;
   slots = map (λ o. None) w.slots;
@@ -117,7 +118,7 @@ abbrev pub flags_of : (old : WorldState) (es : List Event) (new : WorldState) (m
 flags_of old [] new made h flags = flags
 flags_of old (e ∷ es) new made h flags = flags_of h.0 es new h.2 h.4 (if h.1 then flags_after old e flags else flags)
 
--- the event that makes it ready, the world then, and the run after it
+-- the last event that made it ready, the world then, and the run after it, in which no stop was made
 pub record HasStarted (old : WorldState) (es : List Event) (new : WorldState) (made : ℕ) (flags : List Bool) : Type 0 where
   pub before : List Event
   pub event : Event
@@ -131,16 +132,17 @@ pub record HasStarted (old : WorldState) (es : List Event) (new : WorldState) (m
   pub step : IsStep mid event ready true
   pub plan_is : ready.plan ≡ old.plan
   pub is_ready : IsReadyWorld (flags_after mid event (flags_of old before mid first to_mid flags)) ready
+  pub unstopped : IsUnstopped ready new
   pub shown : Refines new (run (meaning ready.plan) (plain_of ready) after).plain
   pub made_is : made ≡ first + 1 + (run (meaning ready.plan) (plain_of ready) after).made
 
--- a run up to its last event: still starting, or it started on the way
+-- a run up to its last event: still starting, or stopped, or it started on the way
 pub data RunOutcome (old : WorldState) (es : List Event) (new : WorldState) (made : ℕ) (flags : List Bool) : Type 0 where
   NotYet : is_up new.start ≡ false → ((p : Plain) → Refines new p → ⊥) → RunOutcome old es new made flags
   Started : HasStarted old es new made flags → RunOutcome old es new made flags
 
--- A new world of a usable plan that can be started up, over every list of events: nothing is shown until the start-up is ready.
--- Then the world refines the run of the plain machine, beginning with the state that it is ready in.
+-- A new world of a usable plan that can be started up, over every list of events: nothing is shown until the start-up is ready, nor
+-- behind a stop until the next one is. Then the world refines the run of the plain machine, beginning with the state that it is ready in.
 abbrev pub WholeLaw : Type 0
 WholeLaw =
     (plan : PlanState) (identities : List Identity) → IsUsable plan → AreStartable plan.slaves → length identities ≡ length plan.slaves

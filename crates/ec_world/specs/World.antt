@@ -1,5 +1,5 @@
 -- The world: a start-up, a master, the slaves, and the frames between them; and what each event does to it.
-use Rattle.std.specs.Prelude.{ℕ, ◌+◌, ◌≡◌, ◌==◌, ◌&&◌, ◌||◌, not, List, [], ◌∷◌, length, map, get_or, set, Bool, true, false, if◌then◌else◌, nat_lt, nat_le, Option, Some, None, is_some, is_none, option_map, slice_get}
+use Rattle.std.specs.Prelude.{ℕ, ◌+◌, ◌≡◌, ◌==◌, ◌&&◌, ◌||◌, not, List, [], ◌∷◌, length, map, get_or, set, Bool, true, false, if◌then◌else◌, nat_lt, nat_le, max, Option, Some, None, is_some, is_none, option_map, slice_get}
 use Rattle.ec_device.specs.Types.{plain_kind, device_identity}
 use Rattle.ec_sync.specs.Buffer.{Got}
 use Rattle.ec_al.specs.Al as al
@@ -18,7 +18,7 @@ use Rattle.ec_link.specs.Plan.{PlanState}
 use Rattle.ec_cycle.specs.Closing.{ReportState, report_of, nones}
 use Rattle.ec_cycle.specs.Master.{MasterState, readied, OpenCycle, holds_value, variable_set, cycle_limit, Begun, IsTaken, closed}
 use Rattle.ec_world.specs.declared.event.Event.{Event}
-use Rattle.ec_world.specs.declared.event.Event.TheVariants.{StartNext, Set, Begin, Pass, Lose, Return, Close, Serve, AppPut, AppGet, Fault, Reset as ResetSlave}
+use Rattle.ec_world.specs.declared.event.Event.TheVariants.{StartNext, Set, Begin, Pass, Lose, Return, Close, Serve, AppPut, AppGet, Fault, Reset as ResetSlave, Stop}
 use Rattle.ec_world.specs.declared.progress.Progress.{Progress}
 use Rattle.ec_world.specs.Plain.{may_pass, may_return, filled}
 
@@ -85,12 +85,17 @@ with_slave w s x = record w { slaves = set w.slaves s x }
 abbrev pub is_slave : WorldState → ℕ → Bool
 is_slave w s = nat_lt s (length w.slaves)
 
+-- a cycle begins under a Ready start-up
 abbrev pub can_begin : WorldState → Bool
-can_begin w = w.master.is_ready && (is_none w.master.cycle && (nat_le (length w.plan.parts) (nones w.slots) && nat_lt w.master.next cycle_limit))
+can_begin w = is_up w.start && (w.master.is_ready && (is_none w.master.cycle && (nat_le (length w.plan.parts) (nones w.slots) && nat_lt w.master.next cycle_limit)))
 
 -- a start-up that isn't Ready goes on, or begins again after a failure, if nothing is on its way
 abbrev pub can_start : WorldState → Bool
 can_start w = not (is_up w.start) && (not (awaits w.start) && ((nones w.slots == length w.slots) && nat_lt w.start.next last_number))
+
+-- a Ready master gives up, if no cycle is open and nothing is on its way
+abbrev pub can_stop : WorldState → Bool
+can_stop w = is_up w.start && (is_none w.master.cycle && (nones w.slots == length w.slots))
 
 abbrev pub can_happen : WorldState → Event → Bool
 can_happen w StartNext = can_start w
@@ -105,6 +110,7 @@ can_happen w (AppPut s i x) = is_slave w s && is_some (input_put (slave_of w s) 
 can_happen w (AppGet s i) = is_slave w s && is_some (output_got (slave_of w s) i)
 can_happen w (Fault s) = is_slave w s && al.is_operational (slave_of w s).al.state
 can_happen w (ResetSlave s) = is_slave w s
+can_happen w Stop = can_stop w
 
 -- ---- and what it does
 
@@ -183,6 +189,10 @@ pub record StartReturns (old : WorldState) (k : ℕ) (new : WorldState) : Type 0
 abbrev pub GivesUp : WorldState → WorldState → Type 0
 GivesUp old new = new ≡ record old { start = given_up old.start }
 
+-- A Ready start-up is given up as one that sent no frame yet. The next one begins behind the numbers of its frames and of the cycles.
+abbrev pub stopped : StartState → MasterState → StartState
+stopped s m = given_up (begun s.plan (max s.next m.next))
+
 -- an event goes to the start-up while it awaits a frame, else to the master
 abbrev pub ByStart : Bool → Type 0 → Type 0 → Type 0
 ByStart true x y = x
@@ -201,6 +211,7 @@ Happens old (AppPut s i x) new = Puts old s i x new
 Happens old (AppGet s i) new = Gets old s i new
 Happens old (Fault s) new = new ≡ with_slave old s (faulted (slave_of old s))
 Happens old (ResetSlave s) new = new ≡ with_slave old s (power_on (slave_of old s).kind (slave_of old s).identity)
+Happens old Stop new = new ≡ record old { start = stopped old.start old.master }
 
 -- a step: what can't be made changes nothing
 pub record IsStep (old : WorldState) (event : Event) (new : WorldState) (made : Bool) : Type 0 where

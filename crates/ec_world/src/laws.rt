@@ -1,5 +1,5 @@
 //! What is promised of a world, and laws of the definitions. Each function does nothing: its contract is the law.
-ghost use Rattle.ec_world.specs.Laws.{RoundTrip, CycleLaw, StepsRefine, PlanLaw, RunsRefine, RunsJoin};
+ghost use Rattle.ec_world.specs.Laws.{RoundTrip, CycleLaw, StepsRefine, PlanLaw, RunsRefine, RunsJoin, UnstoppedLaw};
 ghost use Rattle.ec_world.specs.Whole.{WholeLaw, CompiledLaw};
 ghost use Rattle.ec_world.specs.NewWorld.{NewLaw, MachineLaw, TurnLaw};
 ghost use Rattle.ec_world.specs.AlWords.{WordLaw, OpWordLaw};
@@ -73,17 +73,23 @@ pub fn cycles_exchange()
 {}
 
 /// In a world that refines a plain state, an event is made exactly if the plain machine makes it, and the world then refines the
-/// plain machine's next state.
+/// plain machine's next state, unless the event stops the world.
 #[tactic(auto, using(crate::proofs::Refinement::StepsRefine::steps_refine))]
 pub fn steps_refine()
     ensures { StepsRefine }
 {}
 
-/// If a world refines a plain state, every list of events leads it to a world that refines the plain machine's run of these events,
-/// and as many of them are made.
+/// If a world refines a plain state, every list of events that makes no stop leads it to a world that refines the plain machine's
+/// run of these events, and as many of them are made.
 #[tactic(auto, using(crate::proofs::Refinement::StepsRefine::runs_refine))]
 pub fn runs_refine()
     ensures { RunsRefine }
+{}
+
+/// No stop is made by a list without `Stop`.
+#[tactic(auto, using(crate::proofs::Runs::Unstopped::unstopped_law))]
+pub fn stops_are_events()
+    ensures { UnstoppedLaw }
 {}
 
 /// No event changes the plan of a world, whether it can be made or not.
@@ -99,8 +105,8 @@ pub fn runs_join()
 {}
 
 /// A new world of a usable plan that can be started up (`IsUsable`, `AreStartable`), over every list of events. Nothing is shown
-/// until the start-up is ready; then the world refines the run of the plain machine. Each slave that doesn't work when the
-/// start-up is ready had a fault or a reset since that start-up began.
+/// until the start-up is ready; then the world refines the run of the plain machine, until it is stopped. Each slave that doesn't
+/// work when the start-up is ready had a fault or a reset since that start-up began.
 pub fn whole_runs()
     ensures { WholeLaw }
 {}
@@ -148,7 +154,7 @@ pub fn cycles_begin_once()
     ensures { BegunOnceLaw }
 {}
 
-/// A frame passes a slave once, if it is on its way after the start-up is Ready.
+/// A frame passes a slave once, if it passes it after a start-up was Ready.
 pub fn frames_pass_once()
     ensures { PassedOnceLaw }
 {}

@@ -1,9 +1,9 @@
 //! What each event does, by calls of the start-up, the master, the ring and its slaves.
 ghost use Rattle.std.specs.Prelude.{◌≡◌, Bool, length, is_some, true};
 ghost use Rattle.ec_start.specs.Running.{IsStartTaken};
-ghost use Rattle.ec_world.specs.declared.event.Event.TheVariants.{StartNext, Set, Begin, Pass, Lose, Return, Close, Serve, AppPut, AppGet, Fault, Reset as ResetSlave};
+ghost use Rattle.ec_world.specs.declared.event.Event.TheVariants.{StartNext, Set, Begin, Pass, Lose, Return, Close, Serve, AppPut, AppGet, Fault, Reset as ResetSlave, Stop};
 ghost use Rattle.ec_world.specs.Plain.{filled};
-ghost use Rattle.ec_world.specs.World.{IsStep, can_begin, can_start, awaits, ready_with, resumed, flights_from};
+ghost use Rattle.ec_world.specs.World.{IsStep, can_begin, can_start, can_stop, awaits, ready_with, resumed, stopped, flights_from};
 ghost use Rattle.ec_world.specs.Held.{cycle_frames, AreFrames, FitSlots, IsHandedIn};
 
 use crate::event::Event;
@@ -31,6 +31,18 @@ fn resume(start: &mut Startup)
         Phase::Failed(_) => start.restart(),
         _ => {}
     }
+}
+
+/// Gives a Ready start-up up: it is as one that was given up before its first frame, behind the numbers of its frames and of the
+/// cycles.
+#[tactic(auto, using(crate::proofs::Runs::Unstopped::stopped_plan))]
+fn give_up(start: &mut Startup, master: &Master<'_>)
+    ensures value { start.new ≡ stopped start.old master.now }
+    ensures plan { start.new.plan ≡ start.old.plan }
+{
+    let number = start.next_number().max(master.next_number());
+    start.begin_again(number);
+    start.give_up();
 }
 
 /// Gives a payload to the start-up. If the start-up is Ready then, the master becomes ready.
@@ -89,6 +101,7 @@ impl World<'_> {
             Event::AppGet(slave, offset) => self.get(slave, offset),
             Event::Fault(slave) => self.fault(slave),
             Event::Reset(slave) => self.reset(slave),
+            Event::Stop => self.stop(),
         }
     }
 
@@ -130,12 +143,14 @@ impl World<'_> {
         true
     }
 
-    /// Whether a cycle can begin: the master is ready and has none open, a slot is free for each part, and a number is left.
+    /// Whether a cycle can begin: the start-up and the master are Ready, none is open, a slot is free for each part, and a number is
+    /// left.
     #[tactic(auto, using(crate::proofs::SlotLaws::Filled::nones_counted))]
     fn can_begin(&self) -> bool
         ensures { result ≡ can_begin self.now }
     {
-        self.master.is_ready()
+        self.is_ready()
+            && self.master.is_ready()
             && !self.master.is_open()
             && self.plan.parts().len() <= self.slots.free()
             && self.master.next_number() < u64::MAX
@@ -253,6 +268,25 @@ impl World<'_> {
             return false;
         }
         self.ring.slave_mut(slave).fault()
+    }
+
+    /// Whether the master can give up: it is Ready, no cycle is open, and no frame is on its way.
+    #[tactic(auto, using(crate::proofs::SlotLaws::Filled::nones_counted))]
+    fn can_stop(&self) -> bool
+        ensures { result ≡ can_stop self.now }
+    {
+        self.is_ready() && !self.master.is_open() && self.slots.free() == self.slots.len()
+    }
+
+    /// The master gives up. The next start-up begins behind all numbers that were used.
+    fn stop(&mut self) -> bool
+        ensures { IsStep self.old Stop self.new result }
+    {
+        if !self.can_stop() {
+            return false;
+        }
+        give_up(&mut self.start, &self.master);
+        true
     }
 
     /// Switches a slave off and on.

@@ -122,8 +122,8 @@ impl<'p> World<'p> {
     /// cause. `Set` gives its variable the value, and touches no other variable and no slave. `AppPut`, `AppGet`, `Fault` and
     /// `Reset` touch only their slave, and no variable. All other events touch no slave and no variable.
     ///
-    /// If the world refines a plain state, the event is made exactly if the plain machine makes it, and the world then refines the
-    /// plain machine's next state. The plan stays.
+    /// If the world refines a plain state, and the event doesn't stop it, the event is made exactly if the plain machine makes it,
+    /// and the world then refines the plain machine's next state. The plan stays.
     pub fn step(&mut self, event: Event) -> bool
         ensures step { IsStep self.old event self.new result }
         ensures plan { self.new.plan ≡ self.old.plan }
@@ -136,12 +136,13 @@ impl<'p> World<'p> {
 
     /// Makes those of the events that can be made, in their order, and returns how many they were.
     ///
-    /// If the world refines a plain state, it ends in one that refines the run of the plain machine, of as many events. A new world
-    /// shows nothing until its start-up is Ready. With the event that makes it so, it refines a plain state in which each slave
-    /// that isn't in OP had a fault or a reset since that start-up began. Then it refines the run of the plain machine. If nothing
-    /// disturbs it, a start-up is Ready after as many frames as it has steps. This holds for a new world of devices of its
-    /// table's types, and for one whose last start-up failed and that has no frame on its way. Each event that is made once the
-    /// start-up is Ready does what `step` says of it. The plan stays.
+    /// If the world refines a plain state, and no `Stop` is made, it ends in one that refines the run of the plain machine, of as
+    /// many events. A new world shows nothing until its start-up is Ready, and so does a stopped one. With the event that makes it
+    /// so, it refines a plain state in which each slave that isn't in OP had a fault or a reset since that start-up began. Then it
+    /// refines the run of the plain machine, until it is stopped. If nothing disturbs it, a start-up is Ready after as many frames
+    /// as it has steps. This holds for a new world of devices of its table's types, and for one that was stopped, or whose last
+    /// start-up failed, and that has no frame on its way. Each event that is made while the start-up is Ready does what `step`
+    /// says of it. The plan stays.
     pub fn run(&mut self, events: &[Event]) -> usize
         ensures steps { IsRun self.old events.now self.new result }
         ensures plan { self.new.plan ≡ self.old.plan }
@@ -168,7 +169,7 @@ impl<'p> World<'p> {
         self.plan
     }
 
-    /// Whether its start-up ended Ready. That stays so when a slave has a fault or is reset afterwards.
+    /// Whether its start-up ended Ready. That stays so when a slave has a fault or is reset afterwards, until `Stop`.
     pub fn is_ready(&self) -> bool
         ensures { result ≡ is_up self.now.start }
     {
@@ -178,7 +179,7 @@ impl<'p> World<'p> {
         }
     }
 
-    /// How its start-up ended; none while it runs.
+    /// How its start-up ended; none while it runs, and `Lost` after `Stop`.
     pub fn outcome(&self) -> Option<Result<(), StartError>>
         ensures { result ≡ outcome_of self.now.start.phase }
     {

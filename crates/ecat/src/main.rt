@@ -2,19 +2,26 @@
 //! `ec_app` over the arguments, the streams and the memory of the system.
 #![tactic(auto)]
 
-use ec_app::{Console, InputStream, OutputStream, run_program};
+use ec_app::{Console, InputStream, Origin, OutputStream, Terminals, run_program};
 use std::env;
+use std::io::IsTerminal;
 use std::process::ExitCode;
 
 /// The descriptor of standard input.
 const STDIN: i32 = 0;
 
 fn main(rt: HostRuntime) -> ExitCode {
+    let (input, faults) = (rt.stdin(), rt.stderr());
+    let terminals = Terminals {
+        input: input.is_terminal(),
+        faults: faults.is_terminal(),
+    };
     let mut console = Console::new(
         rt.alloc(),
-        InputStream::watched(rt.stdin(), STDIN),
+        InputStream::watched(Origin::Given(input), STDIN),
         OutputStream::new(rt.stdout()),
-        OutputStream::new(rt.stderr()),
+        OutputStream::new(faults),
     );
+    console.terminals = terminals;
     ExitCode::from(run_program(&rt, env::args(&rt), &mut console))
 }

@@ -7,8 +7,8 @@ mod cycles;
 use crate::args::number;
 use crate::tables::cycles::write_cycles;
 use ec_link::Machine;
-use ec_script::{Line, read_script};
-use ec_simulation::run_line;
+use ec_script::{Line, Script, Task, read_script};
+use ec_simulation::run_step;
 use ec_table::Table;
 use ec_text::plan_text;
 use ec_world::World;
@@ -29,8 +29,24 @@ fn write_line(
     text: &mut String,
 ) -> Result<(), AllocError> {
     for _ in 0..line.times {
-        let printed = run_line(alloc, world, table, line)?;
-        text.push_str(printed.as_str())?;
+        write_tasks(alloc, table, world, line.tasks.as_slice(), text)?;
+    }
+    Ok(())
+}
+
+/// Adds what the steps among some tasks print.
+fn write_tasks(
+    alloc: Global,
+    table: &Table,
+    world: &mut World<'_>,
+    tasks: &[Task],
+    text: &mut String,
+) -> Result<(), AllocError> {
+    for task in tasks {
+        if let Task::Step(step) = task {
+            let printed = run_step(alloc, world, table, step)?;
+            text.push_str(printed.as_str())?;
+        }
     }
     Ok(())
 }
@@ -40,10 +56,10 @@ fn write_lines(
     alloc: Global,
     table: &Table,
     world: &mut World<'_>,
-    lines: &[Line],
+    lines: &Script,
     text: &mut String,
 ) -> Result<(), AllocError> {
-    for line in lines {
+    for line in lines.lines() {
         write_line(alloc, table, world, line, text)?;
     }
     Ok(())
@@ -60,7 +76,7 @@ fn write_answers(
         return Ok(false);
     };
     let mut world = World::of_machine(alloc, machine)?;
-    write_lines(alloc, machine.table(), &mut world, lines.as_slice(), text)?;
+    write_lines(alloc, machine.table(), &mut world, &lines, text)?;
     Ok(true)
 }
 

@@ -7,7 +7,7 @@ use crate::compare::expect_same;
 use crate::streams::Sink;
 use cmd_sim::run_live;
 use ec_console::{
-    Capture, InputStream, OutputStream, Reasons, Refusal, SlaveForm, Source, read_source,
+    Capture, InputStream, Manner, OutputStream, Refusal, SlaveForm, Source, read_source,
     read_stated,
 };
 use std::fs::Files;
@@ -26,7 +26,7 @@ fn run<H: AllocGlobal + Files, R: Read + Drop>(
     run_live(
         rt.alloc(),
         &stated.machine,
-        Reasons::Omitted,
+        Manner::of(false, false),
         &mut capture,
         input,
         output,

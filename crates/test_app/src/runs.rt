@@ -3,9 +3,10 @@
 //! `tools/reach/run`, `tools/scan/run`).
 use crate::compare::expect_same;
 use crate::streams::{HandedOn, Sink, Source, nothing_handed_on, sink_of, source_of};
-use ec_app::{App, Console, InputStream, OutputStream, print_text, read_text, run_console};
+use ec_app::{App, Console, InputStream, Origin, OutputStream, print_text, read_text, run_console};
 use std::alloc::Global;
 use std::fs::Files;
+use std::io::Read;
 use std::net::Net;
 use std::process::Abort;
 use std::time::Clock;
@@ -64,7 +65,7 @@ fn refuses(wrong: &str) -> (bool, bool, bool) {
 }
 
 /// The input of a run.
-fn input_of<'a>(wrong: &str, text: &'a str) -> InputStream<Source<'a>> {
+fn input_of<'a, O: Read + Drop>(wrong: &str, text: &'a str) -> InputStream<Origin<Source<'a>, O>> {
     let mut source = source_of(text.as_bytes());
     match wrong {
         "endless input" => {
@@ -80,7 +81,7 @@ fn input_of<'a>(wrong: &str, text: &'a str) -> InputStream<Source<'a>> {
         }
         _ => {}
     }
-    InputStream::new(source)
+    InputStream::new(Origin::Given(source))
 }
 
 /// Whether bytes are those of a text, or begin so where it ends with `..`.
@@ -115,17 +116,18 @@ fn expect_ended(
 }
 
 /// Compares how a run ended, after which its streams go away.
-fn expect_console(
+fn expect_console<O: Read + Drop>(
     rt: &impl Abort,
     run: &Run,
     status: u8,
-    console: Console<Source<'_>, Sink<'_>, Sink<'_>>,
+    console: Console<Origin<Source<'_>, O>, Sink<'_>, Sink<'_>>,
 ) {
     let Console {
         input,
         output,
         faults,
         explanation: _,
+        terminals: _,
     } = console;
     let is_refused = (input.is_refused(), output.is_refused(), faults.is_refused());
     let (output, faults) = (output.into_stream(), faults.into_stream());
@@ -136,7 +138,7 @@ fn expect_console(
 fn run_args<H: AllocGlobal + Net + Files + Clock>(
     rt: &H,
     args: &[&str],
-    console: &mut Console<Source<'_>, Sink<'_>, Sink<'_>>,
+    console: &mut Console<Origin<Source<'_>, H::File>, Sink<'_>, Sink<'_>>,
 ) -> u8 {
     run_console(rt, args, console, &mut OneByte)
 }

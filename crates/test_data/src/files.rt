@@ -510,15 +510,12 @@ expect mode_switch 2
 expect door_closed 1
 
 # The control program locks the door and lights the lamp; the lock answers.
-set lock_door 1
-set ready_lamp 1
-cycle
-expect lock_door 1
+set lock_door 1 ready_lamp 1
+within 1 expect lock_door 1
 expect ready_lamp 1
 expect fault_lamp 0
 in door_locked 1
-cycle
-expect door_locked 1
+within 1 expect door_locked 1
 
 # The frame of the door's unit is lost: the machine's inputs go on, and the door's stay.
 in stop_button 1
@@ -556,37 +553,29 @@ expect ready
 expect state axis OP 0000
 
 # Switch on disabled.
-in statusword 0x0040
-cycle
-expect statusword 0x0040
+in statusword 0x0240
+within 1 expect statusword & 0x004F == 0x0040
 
-# Shutdown: ready to switch on.
-set mode 8                  # cyclic synchronous position
-set controlword 0x0006
-cycle
-expect controlword 0x0006
+# Shutdown: ready to switch on. Mode 8 is cyclic synchronous position.
+set mode 8 controlword 0x0006
+within 1 expect controlword 0x0006
 expect mode 8
-in statusword 0x0021
 in mode_shown 8
-cycle
-expect statusword 0x0021
+in statusword 0x0221
+within 1 expect statusword & 0x006F == 0x0021
 expect mode_shown 8
 
 # Switch on: switched on.
 set controlword 0x0007
-cycle
-expect controlword 0x0007
-in statusword 0x0023
-cycle
-expect statusword 0x0023
+within 1 expect controlword 0x0007
+in statusword 0x0233
+within 1 expect statusword & 0x006F == 0x0023
 
 # Enable operation: operation enabled.
 set controlword 0x000F
-cycle
-expect controlword 0x000F
-in statusword 0x0027
-cycle
-expect statusword 0x0027
+within 1 expect controlword 0x000F
+in statusword 0x0237
+within 1 expect statusword & 0x006F == 0x0027
 
 # A move backwards, to the home switch.
 set target_position -1000
@@ -602,15 +591,12 @@ expect position -1000
 expect home_switch 1
 
 # The drive has a fault, which is reset.
-in statusword 0x0008
-cycle
-expect statusword 0x0008
+in statusword 0x0218
+within 1 expect statusword & 0x004F == 0x0008
 set controlword 0x0080
-cycle
-expect controlword 0x0080
-in statusword 0x0040
-cycle
-expect statusword 0x0040
+within 1 expect controlword 0x0080
+in statusword 0x0240
+within 1 expect statusword & 0x004F == 0x0040
 
 # Its application fails: the slave leaves OP, and nothing is taken any more.
 fault axis
@@ -630,12 +616,8 @@ repeat 3 cycle
 expect taken
 
 # Each word reaches its terminal, and no other.
-set open_1 0x8001
-set open_2 0x0100
-set open_5 0xFFFF
-set open_8 0x00A5
-cycle
-expect open_1 0x8001
+set open_1 0x8001 open_2 0x0100 open_5 0xFFFF open_8 0x00A5
+within 1 expect open_1 0x8001
 expect open_2 0x0100
 expect open_3 0
 expect open_4 0
@@ -669,6 +651,5 @@ expect seen_7 0
 
 # Of the valves behind it the frame is as good as before.
 set open_8 0
-cycle
-expect open_8 0
+within 1 expect open_8 0
 "#;

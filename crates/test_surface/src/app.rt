@@ -5,8 +5,8 @@ ghost use Rattle.ec_link.specs.Plan.{plan_of};
 use crate::compare::{expect, expect_same};
 use crate::machines::{machine_of, make_ready, master_of, ring_of, startup_of};
 use ec_app::{
-    App, Line, MemoryWire, UdpWire, Wire, bring_up_resting, bring_up_wire, pass_hex, plan_text,
-    read_script, run_command, run_cycle, run_line, run_lossy_cycle, serve_segment,
+    App, Line, MemoryWire, Task, UdpWire, Wire, bring_up_resting, bring_up_wire, pass_hex,
+    plan_text, read_script, run_command, run_cycle, run_lossy_cycle, run_step, serve_segment,
 };
 use ec_cycle::Master;
 use ec_link::Machine;
@@ -122,14 +122,19 @@ const PRINTED: [&str; 5] = [
     "c 5\nd 0\n",
 ];
 
-/// What a line prints, which is done in a world.
+/// What a line of one step prints, which is done in a world.
 fn printed(
     rt: &(impl AllocGlobal + Abort),
     world: &mut World<'_>,
     machine: &Machine,
     line: &Line,
 ) -> String {
-    run_line(rt.alloc(), world, machine.table(), line).expect(rt, "memory")
+    match line.tasks.as_slice().first() {
+        Some(Task::Step(step)) => {
+            run_step(rt.alloc(), world, machine.table(), step).expect(rt, "memory")
+        }
+        _ => String::new(rt.alloc()),
+    }
 }
 
 /// Compares what a line prints.
@@ -146,11 +151,13 @@ fn expect_printed(
 
 /// Does the lines of a script in a world.
 fn expect_lines(rt: &(impl AllocGlobal + Abort), world: &mut World<'_>, machine: &Machine) {
-    let lines = read_script(rt.alloc(), machine.table(), SCRIPT).expect(rt, "a script");
-    expect(rt, lines.as_slice().len() == PRINTED.len(), "a script");
-    for (line, wanted) in lines.as_slice().iter().zip(&PRINTED) {
+    let script = read_script(rt.alloc(), machine.table(), SCRIPT).expect(rt, "a script");
+    let mut lines = script.lines();
+    for wanted in &PRINTED {
+        let line = lines.next().expect(rt, "a line");
         expect_printed(rt, world, machine, line, *wanted);
     }
+    expect(rt, lines.next().is_none(), "a script");
 }
 
 /// The same in a new world.

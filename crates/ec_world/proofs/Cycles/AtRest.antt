@@ -1,8 +1,9 @@
 -- A cycle of a world that is Ready, with no cycle open and no frame on its way: it can begin, and be closed.
-use Rattle.ec_world.proofs.Words.{ℕ, zero, suc, ◌+◌, ◌-◌, ◌^◌, ◌<◌, ◌≤◌, ◌≡◌, nat_le, Bool, true, Option, Some, None, refl, sym, ◌∙◌, ap, subst, arith, List, [], ◌∷◌, ◌++◌, length, map, get_or, replicate, is_none, option_map, unwrap_or, and_from, lt-ltb, le-leb, length-map, if_true, Identity, Contents, PartPlan, Meaning, meaning, PlanState, plan_of, IsUsable, plan_sound, nones, OpenCycle, cycle_limit, Event, Begin, Close, Plain, PlainFrame, Cycle, unit_full, step, run, frame_at, progress_of, WorldState, is_up, flight_at, flight_progress, IsStep, Refines, CyclesRefine, IsRun, IsNew, plain_of, IsBegun, IsClosedAs, Says, rounds_of, IsAtRest, Rests, same_progress, none_some, some_same, all_none, cycle_begun, closing, is_some, if◌then◌else◌, length-append, nones-all, none_mapped}
+use Rattle.ec_world.proofs.Words.{IsUnstopped, ℕ, zero, suc, ◌+◌, ◌-◌, ◌^◌, ◌<◌, ◌≤◌, ◌≡◌, nat_le, Bool, true, Option, Some, None, refl, sym, ◌∙◌, ap, subst, arith, List, [], ◌∷◌, ◌++◌, length, map, get_or, replicate, is_none, option_map, unwrap_or, and_from, lt-ltb, le-leb, length-map, if_true, Identity, Contents, PartPlan, Meaning, meaning, PlanState, plan_of, IsUsable, plan_sound, nones, OpenCycle, cycle_limit, Event, Begin, Close, Plain, PlainFrame, Cycle, unit_full, step, run, frame_at, progress_of, WorldState, is_up, flight_at, flight_progress, IsStep, Refines, CyclesRefine, IsRun, IsNew, plain_of, IsBegun, IsClosedAs, Says, rounds_of, IsAtRest, Rests, same_progress, none_some, some_same, all_none, cycle_begun, closing, is_some, if◌then◌else◌, length-append, nones-all, none_mapped}
 use Rattle.ec_world.proofs.Refinement.StepsRefine.{runs_refine, runs_join}
 use Rattle.ec_world.proofs.Cycles.InputsLaw.{inputs_law}
 use Rattle.ec_world.proofs.Runs.Sizes.{run_same}
+use Rattle.ec_world.proofs.Runs.Unstopped.{calm_run, full_calm}
 use Rattle.ec_world.proofs.Cycles.RoundsGo.{Slots, at_way, empty, fresh, Between, AllMade, get_mapped, rounds_go, filled_fresh, run_made}
 use Rattle.ec_world.proofs.Headline.LinkedBits.{MadeAt, made_at, Sees, sees}
 use Rattle.ec_world.proofs.Headline.HeadlineLaw.{says}
@@ -164,7 +165,7 @@ pub record AtClose (t : Contents) (ids : List Identity) (w : WorldState) (b : Be
 pub at_close : (t : Contents) (ids : List Identity) (w : WorldState) → Comes t ids w → (b : Beginning t w) (mid : List Event) (c : Cycle) → (run (meaning w.plan) b.begun mid).made ≡ length mid
     → (run (meaning w.plan) b.begun mid).plain.cycle ≡ Some c → (v : WorldState) (count : ℕ) → IsRun w (Begin ∷ (mid ++ (Close ∷ []))) v count → AtClose t ids w b mid c v count
 at_close t ids w o b mid c made_mid open_mid v count run_on = record {
-  all_made = (runs_refine w (Begin ∷ (mid ++ (Close ∷ []))) v count b.usable run_on).made_is p b.shown ∙ whole_made t w b mid c made_mid open_mid;
+  all_made = (runs_refine w (Begin ∷ (mid ++ (Close ∷ []))) v count b.usable run_on).made_is p b.shown still ∙ whole_made t w b mid c made_mid open_mid;
   at = mc.made.at;
   comes = record {
     old = o.old;
@@ -186,6 +187,10 @@ at_close t ids w o b mid c made_mid open_mid v count run_on = record {
     p : Plain
     p = b.p
 
+    -- each of its events is made, so none is a stop
+    still : IsUnstopped w v
+    still = calm_run (Begin ∷ (mid ++ (Close ∷ []))) w v count (full_calm m p (Begin ∷ (mid ++ (Close ∷ []))) (whole_made t w b mid c made_mid open_mid)) b.shown.started run_on
+
     P : Plain
     P = (run m p (Begin ∷ mid)).plain
 
@@ -196,7 +201,7 @@ at_close t ids w o b mid c made_mid open_mid v count run_on = record {
     opened = ap (λ (x : Plain). x.cycle) P_is ∙ open_mid
 
     mc : MadeAt m w p (Begin ∷ (mid ++ (Close ∷ []))) (Begin ∷ mid) Close [] (closing m P c) v
-    mc = made_at w p (Begin ∷ (mid ++ (Close ∷ []))) v count (Begin ∷ mid) Close [] (closing m P c) b.usable b.shown run_on refl (ap (option_map (closing m P)) opened)
+    mc = made_at w p (Begin ∷ (mid ++ (Close ∷ []))) v count (Begin ∷ mid) Close [] (closing m P c) b.usable b.shown run_on still refl (ap (option_map (closing m P)) opened)
 
     v_is : v ≡ mc.made.next
     v_is = (subst (λ (xs : List Event). IsRun mc.made.next xs v mc.made.rest) mc.behind_is mc.made.onward).0

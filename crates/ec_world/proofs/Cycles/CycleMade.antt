@@ -1,34 +1,24 @@
 -- A world at rest makes a cycle whole.
-use Rattle.ec_world.proofs.Words.{◌≡◌, ◌≤◌, Bool, true, None, refl, ◌∙◌, ap, arith, List, [], ◌∷◌, length, replicate, unwrap_or, Identity, Contents, Meaning, meaning, PlanState, plan_of, plan_sound, Plain, run, WorldState, cycle_of, Rests, ℕ, suc, ◌+◌, false, if◌then◌else◌, is_some, sym, subst, IsUsable, Event, step, Refines}
+use Rattle.ec_world.proofs.Words.{IsUnstopped, ◌≡◌, ◌≤◌, Bool, true, None, ◌∙◌, ap, arith, List, [], ◌∷◌, length, replicate, unwrap_or, Identity, Contents, meaning, PlanState, plan_of, plan_sound, Plain, run, WorldState, cycle_of, Rests, false, sym, subst, IsUsable, Event, step, Refines}
 use Rattle.ec_world.proofs.Cycles.AtRest.{Beginning, beginning, comes_of, free_of, rounds, going, whole_made}
 use Rattle.ec_world.proofs.StartUp.NewLaw.{free_slots}
 use Rattle.ec_world.proofs.Refinement.StepsRefine.{steps_refine}
 use Rattle.ec_world.proofs.Runs.Sizes.{run_same}
+use Rattle.ec_world.proofs.Runs.Unstopped.{calm_step, made_calm, full_parts}
 use Rattle.ec_world.proofs.StartUp.HasTurned as turns
 
 -- ---- what the plain machine makes whole, a world that shows it makes whole
-
-made_few : (m : Meaning) (p : Plain) (es : List Event) → (run m p es).made ≤ length es
-made_few m p [] = omega arith
-made_few m p (e ∷ es) = by (is_some (step m p e)) (made_few m (unwrap_or (step m p e) p) es)
-  where
-    by : (b : Bool) → (run m (unwrap_or (step m p e) p) es).made ≤ length es → (if b then 1 else 0) + (run m (unwrap_or (step m p e) p) es).made ≤ suc (length es)
-    by true l = omega (arith, l)
-    by false l = omega (arith, l)
-
-one_made : (one : Bool) (rest : ℕ) (es : List Event) (e : Event) → rest ≤ length es → (if one then 1 else 0) + rest ≡ length (e ∷ es) → (one ≡ true) × (rest ≡ length es)
-one_made true rest es e l h = (refl, omega (arith, h))
-one_made false rest es e l h = absurd (omega (arith, l, h))
 
 goes_full : (es : List Event) (w new : WorldState) (all : Bool) (p : Plain) → IsUsable w.plan → Refines w p → turns.Goes es w new all → (run (meaning w.plan) p es).made ≡ length es → all ≡ true
 goes_full [] w new all p usable shows h full = h.1
 goes_full (e ∷ es) w new all p usable shows h full =
     let s = steps_refine w e h.0 h.1 usable h.2 in
     let q : Plain = unwrap_or (step (meaning w.plan) p e) p in
-    let both = one_made (is_some (step (meaning w.plan) p e)) (run (meaning w.plan) q es).made es e (made_few (meaning w.plan) q es) full in
+    let both = full_parts (meaning w.plan) p e es full in
+    let still : IsUnstopped w h.0 = calm_step w e h.0 h.1 (made_calm (meaning w.plan) p e both.0) shows.started h.2 in
     let plan = s.same_plan p shows in
-    goes_full es h.0 new all q (subst IsUsable (sym plan) usable) (s.shown p shows)
-    (turns.onward ((new ≡ h.0) × (all ≡ false)) h.1 (s.made_is p shows ∙ both.0) h.3)
+    goes_full es h.0 new all q (subst IsUsable (sym plan) usable) (s.shown p shows still)
+    (turns.onward ((new ≡ h.0) × (all ≡ false)) h.1 (s.made_is p shows still ∙ both.0) h.3)
     (ap (λ (x : PlanState). (run (meaning x) q es).made) plan ∙ both.1)
 
 -- ---- of a world at rest

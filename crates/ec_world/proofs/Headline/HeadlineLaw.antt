@@ -1,29 +1,31 @@
 -- The headline of a close, of what a world's calls show.
-use Rattle.ec_world.proofs.Words.{ℕ, zero, suc, ◌+◌, ◌*◌, ◌<◌, ◌≤◌, ◌≡◌, ◌≢◌, ◌==◌, ◌||◌, Bool, true, false, Option, Some, None, refl, sym, ◌∙◌, ap, subst, inl, inr, arith, List, [], ◌∷◌, ◌++◌, length, map, get_or, if◌then◌else◌, option_map, option_and_then, slice_get, option_map_or, AllByRecursion, bit_at, cases_Bool, cases_lt, cases_eq, and_from, or_left, or_right, or_cases, lt-ltb, ltb-true, eq-eqb, true≢false, append_assoc, list_get_or-map as get_or-map, length-map, length-replicate, slice_get-get_or, bit_at_above, bit, bytes_of_bits, if_true, if_false, bits_number-lt, bit_at-bits_number, Identity, Buffer, SlaveState, inputs_of, published, Direction, Out, In, SlaveRow, Contents, Variable, Share, SlavePlan, has_outs, has_ins, predicted, unit_of_part as unit_of_plain, IsLinked, is_out, image_from, IsPair, AreItsLinks, Meaning, Linked, meaning, share_of, in_source, slave_at as settings_of, PlanState, plan_of, part_of, part_at, IsUsable, IsInImage, HasBit, IsPlaced, linked_inputs, variables_are_placed, linked_bits_are_there, plan_sound, links_are_the_tables, lists_units, bits_are_apart, ReportState, MasterState, OpenCycle, ReturnedPart, value_at, value_of, Event, StartNext, Set, Begin, Pass, Lose, Return, Close, Serve, AppPut, AppGet, Fault, ResetSlave, Progress, Plain, PlainSlave, PlainFrame, Health, Faulted, Reset, Note, Short, Full, Cycle, unit_full, giving, step, run, frame_at, plain_slave, progress_of, met_note, WorldState, slave_of, is_up, ByStart, GivesUp, Closes, IsStep, IsAs, Refines, CyclesRefine, IsRun, IsNew, plain_of, IsNoted, IsMissed as IsMissedPlain, NotBack, FellShort as FellShortAt, FallsShort, IsClosedAs, IsNotedAt, IsBegun as IsBegunPlain, PromisesIsQuiet as IsQuiet, unit_of_slave, is_of_unit, holds_of_unit, IsMade, HeadlineIsBegun as IsBegun, HasLost, IsUnderWay, HadTrouble, IsInOp, progress_at, variable_bit, output_bits, input_bits, GivesLess, unit_of, headline_unit_of_part as unit_of_part, Says, IsRead, HeadlineIsTaken as IsTaken, HeadlineFellShort as FellShort, Cause, ByLoss, ByEarlyClose, ByFallingShort, HeadlineIsMissed as IsMissed, ListsUnits, CloseShows, HeadlineLaw, EachIsPromised, same_progress, none_some, some_same, plain_frame, some_of, HeadlineShows}
+use Rattle.ec_world.proofs.Words.{Stop, ℕ, zero, suc, ◌+◌, ◌*◌, ◌<◌, ◌≤◌, ◌≡◌, ◌≢◌, ◌==◌, ◌||◌, Bool, true, false, Option, Some, None, refl, sym, ◌∙◌, ap, subst, inl, inr, arith, List, [], ◌∷◌, ◌++◌, length, map, get_or, if◌then◌else◌, option_map, option_and_then, slice_get, option_map_or, AllByRecursion, bit_at, cases_Bool, cases_lt, cases_eq, and_from, or_left, or_right, or_cases, lt-ltb, ltb-true, eq-eqb, true≢false, append_assoc, list_get_or-map as get_or-map, length-map, length-replicate, slice_get-get_or, bit_at_above, bit, bytes_of_bits, if_true, if_false, bits_number-lt, bit_at-bits_number, Identity, Buffer, SlaveState, inputs_of, published, Direction, Out, In, SlaveRow, Contents, Variable, Share, SlavePlan, has_outs, has_ins, predicted, unit_of_part as unit_of_plain, IsLinked, is_out, image_from, IsPair, AreItsLinks, Meaning, Linked, meaning, share_of, in_source, slave_at as settings_of, PlanState, plan_of, part_of, part_at, IsUsable, IsInImage, HasBit, IsPlaced, linked_inputs, variables_are_placed, linked_bits_are_there, plan_sound, links_are_the_tables, lists_units, bits_are_apart, ReportState, MasterState, OpenCycle, ReturnedPart, value_at, value_of, Event, StartNext, Set, Begin, Pass, Lose, Return, Close, Serve, AppPut, AppGet, Fault, ResetSlave, Progress, Plain, PlainSlave, PlainFrame, Health, Faulted, Reset, Note, Short, Full, Cycle, unit_full, giving, step, run, frame_at, plain_slave, progress_of, met_note, WorldState, slave_of, is_up, ByStart, GivesUp, Closes, IsStep, IsAs, Refines, CyclesRefine, IsRun, IsNew, plain_of, IsNoted, IsMissed as IsMissedPlain, NotBack, FellShort as FellShortAt, FallsShort, IsClosedAs, IsNotedAt, IsBegun as IsBegunPlain, PromisesIsQuiet as IsQuiet, unit_of_slave, is_of_unit, holds_of_unit, IsMade, HeadlineIsBegun as IsBegun, HasLost, IsUnderWay, HadTrouble, IsInOp, progress_at, variable_bit, output_bits, input_bits, GivesLess, unit_of, headline_unit_of_part as unit_of_part, Says, IsRead, HeadlineIsTaken as IsTaken, HeadlineFellShort as FellShort, Cause, ByLoss, ByEarlyClose, ByFallingShort, HeadlineIsMissed as IsMissed, ListsUnits, CloseShows, HeadlineLaw, EachIsPromised, same_progress, none_some, some_same, plain_frame, some_of, HeadlineShows}
 use Rattle.ec_world.proofs.Refinement.Close.{unit_is as part_unit}
-use Rattle.ec_world.proofs.Runs.TroubleLaw.{made_later, preceded}
+use Rattle.ec_world.proofs.Runs.TroubleLaw.{made_later, preceded, extended}
 use Rattle.ec_link.specs.Sound as link
 use Rattle.ec_world.proofs.Refinement.CyclicFrame.{share_is}
 use Rattle.ec_world.proofs.Refinement.MasterEvents.{OpenBoth, open_both}
 use Rattle.ec_world.proofs.Refinement.StepsRefine.{runs_refine, runs_join, steps_refine}
 use Rattle.ec_world.proofs.Cycles.InputsLaw.{inputs_law, notes_law}
 use Rattle.ec_world.proofs.Runs.PublishedLaw.{published_law}
-use Rattle.ec_world.proofs.Headline.LinkedBits.{bit_past, visible_bit, MadeAt, made_at, run_plan, Sees, sees, PassedOn, passed_on, op_works, works_op, part_is, free_slots, outs_are, ins_are, state_in, state_is, health_is, cut, headline_outputs, row_of}
+use Rattle.ec_world.proofs.Headline.LinkedBits.{bit_past, visible_bit, MadeAt, made_at, Sees, sees, PassedOn, passed_on, op_works, works_op, part_is, free_slots, outs_are, ins_are, state_in, state_is, health_is, cut, headline_outputs, row_of}
 use Rattle.ec_world.proofs.Runs.BeganAt.{BeganAt, are_begun, begun_of, begun_on}
 use Rattle.ec_world.proofs.Cycles.QuietLaw.{in_parts, quiet_law, spoiled_not_full, in_op_whole}
 use Rattle.ec_world.proofs.Cycles.TakenLaw.{Away}
 use Rattle.ec_world.proofs.Runs.Located.{Place, IsReturned, OnItsWay, Lost, LostAt, located}
 use Rattle.ec_world.proofs.Runs.Sizes.{run_same}
 use Rattle.ec_world.proofs.Headline.Buffers.{published_is}
-use Rattle.ec_world.proofs.Headline.OtherEvents.{never_starts, set_shows, begin_shows, return_shows, serve_shows, put_shows, get_shows, fault_shows, reset_shows}
-use Rattle.ec_world.proofs.Runs.HadTrouble.{without_start, extended, falls}
+use Rattle.ec_world.proofs.Headline.OtherEvents.{never_starts, stop_shows, set_shows, begin_shows, return_shows, serve_shows, put_shows, get_shows, fault_shows, reset_shows}
+use Rattle.ec_world.proofs.Runs.HadTrouble.{without_start, falls}
+use Rattle.ec_world.proofs.Runs.PlanLaw.{run_keeps}
+use Rattle.ec_world.proofs.Runs.Unstopped.{at_still, next_still}
 
 -- ---- events behind the beginning of a cycle
 
 pub made_by : (old : WorldState) (plan : PlanState) → old.plan ≡ plan → (p : Plain) (events : List Event) (new : WorldState) (count : ℕ) (xs : List Event) (e : Event) (ys : List Event) (q : Plain)
-    → IsUsable plan → Refines old p → IsRun old events new count → events ≡ xs ++ (e ∷ ys) → step (meaning plan) (run (meaning plan) p xs).plain e ≡ Some q → MadeAt (meaning plan) old p events xs e ys q new
-made_by old plan same p events new count xs e ys q sound s h split does =
-    subst (λ (x : PlanState). MadeAt (meaning x) old p events xs e ys q new) same (made_at old p events new count xs e ys q (subst IsUsable (sym same) sound) s h split
+    → IsUsable plan → Refines old p → IsRun old events new count → new.start ≡ old.start → events ≡ xs ++ (e ∷ ys) → step (meaning plan) (run (meaning plan) p xs).plain e ≡ Some q → MadeAt (meaning plan) old p events xs e ys q new
+made_by old plan same p events new count xs e ys q sound s h still split does =
+    subst (λ (x : PlanState). MadeAt (meaning x) old p events xs e ys q new) same (made_at old p events new count xs e ys q (subst IsUsable (sym same) sound) s h still split
     (subst (λ (x : PlanState). step (meaning x) (run (meaning x) p xs).plain e ≡ Some q) (sym same) does))
 
 -- ---- the inputs of a slave
@@ -140,7 +142,7 @@ module _ (t : Contents) (ids : List Identity) (old : WorldState) (events : List 
   opened = ap (λ (x : Plain). x.cycle) (sym on) ∙ both.is
 
   mb : MadeAt M s.ready first s.after b.before Begin b.behind b.begun w
-  mb = made_at s.ready first s.after w s.rest b.before Begin b.behind b.begun s.usable s.shows s.onward b.split b.begins
+  mb = made_at s.ready first s.after w s.rest b.before Begin b.behind b.begun s.usable s.shows s.onward s.unstopped b.split b.begins
 
   abbrev begun : IsBegun old events w c.number
   begun = record {
@@ -205,12 +207,16 @@ module _ (t : Contents) (ids : List Identity) (old : WorldState) (events : List 
     pub shows : Refines event.at (run M b.begun np.before).plain
     pub plan : event.at.plan ≡ w.plan
 
+  -- no stop since the cycle began
+  still_w : w.start ≡ mb.made.next.start
+  still_w = s.unstopped ∙ sym mb.next_start
+
   to_w : s.ready.plan ≡ w.plan
   to_w = s.plan_is ∙ sym s.plan_kept
 
   pass_at : (k i : ℕ) (x : Note) (np : IsNotedAt M b.begun pb.next b.behind k i x) → Pass_ k i x np
   pass_at k i x np =
-      let mp = made_by mb.made.next s.ready.plan mb.next_plan b.begun mb.made.behind w mb.made.rest np.before (Pass np.slot) np.behind np.next s.usable mb.next_shows mb.made.onward (mb.behind_is ∙ np.split) np.made in
+      let mp = made_by mb.made.next s.ready.plan mb.next_plan b.begun mb.made.behind w mb.made.rest np.before (Pass np.slot) np.behind np.next s.usable mb.next_shows mb.made.onward still_w (mb.behind_is ∙ np.split) np.made in
       record {
         event = mp.made;
         frame = same_progress mp.made.at.slots (run M b.begun np.before).plain.slots np.slot mp.at_shows.progress
@@ -268,7 +274,7 @@ module _ (t : Contents) (ids : List Identity) (old : WorldState) (events : List 
 
   lost : (k u : ℕ) → unit_of_part t k ≡ u → LostAt M b.begun pb.next b.behind k → HasLost t begun.event.next begun.event.behind w c.number u
   lost k u mine x =
-      let ml = made_by mb.made.next s.ready.plan mb.next_plan b.begun mb.made.behind w mb.made.rest x.before (Lose x.slot) x.behind x.next s.usable mb.next_shows mb.made.onward (mb.behind_is ∙ x.split) x.made in
+      let ml = made_by mb.made.next s.ready.plan mb.next_plan b.begun mb.made.behind w mb.made.rest x.before (Lose x.slot) x.behind x.next s.usable mb.next_shows mb.made.onward still_w (mb.behind_is ∙ x.split) x.made in
       record {
         slot = x.slot;
         event = ml.made;
@@ -346,8 +352,11 @@ module _ (t : Contents) (ids : List Identity) (old : WorldState) (events : List 
       run_way : IsRun s.ready way x (mb.made.first + (1 + at.event.first))
       run_way = runs_join s.ready mb.made.before mb.made.at mb.made.first (Begin ∷ at.event.before) x (1 + at.event.first) mb.made.to_it (mb.made.next, true, at.event.first, mb.made.step, at.event.to_it, refl)
 
+      still_way : x.start ≡ s.ready.start
+      still_way = at_still mb.made.next mb.made.behind w (Pass np.slot) mb.next_shows.started at.event still_w ∙ mb.next_start
+
       shows_way : Refines x (run M first way).plain
-      shows_way = (runs_refine s.ready way x (mb.made.first + (1 + at.event.first)) s.usable run_way).shown first s.shows
+      shows_way = (runs_refine s.ready way x (mb.made.first + (1 + at.event.first)) s.usable run_way).shown first s.shows still_way
 
       here_ready : i < length s.ready.plan.slaves
       here_ready = let z = here in let y = ap (λ (f : PlanState). length f.slaves) to_w in omega (arith, y, z)
@@ -358,8 +367,8 @@ module _ (t : Contents) (ids : List Identity) (old : WorldState) (events : List 
       since : HadTrouble old (s.before ++ way) x i
       since = elim (s.told i here_ready) [
         | inl works ↦ preceded s.before old s.ready s.first way x i s.to_ready
-            (falls way s.ready x (mb.made.first + (1 + at.event.first)) first i s.usable s.shows run_way works (λ z. no_op (works_op x (run M first way).plain i shows_way here_x z)))
-        | inr had ↦ extended old s.before s.ready way x (mb.made.first + (1 + at.event.first)) i run_way (without_start way s.ready x (mb.made.first + (1 + at.event.first)) first s.usable s.shows run_way) had
+            (falls way s.ready x (mb.made.first + (1 + at.event.first)) first i s.usable s.shows run_way still_way works (λ z. no_op (works_op x (run M first way).plain i shows_way here_x z)))
+        | inr had ↦ extended old s.before s.ready way x (mb.made.first + (1 + at.event.first)) i run_way (without_start way s.ready x (mb.made.first + (1 + at.event.first)) first s.usable s.shows run_way still_way) had
       ]
 
       trouble : HadTrouble old (begun.event.before ++ (Begin ∷ at.event.before)) x i
@@ -393,11 +402,13 @@ module _ (t : Contents) (ids : List Identity) (old : WorldState) (events : List 
   seen_ : (e : Event) (x : IsMade mb.made.next mb.made.behind w e) → Seen_ e x
   seen_ e x =
       let P = (run M b.begun x.before).plain in
-      let at_next : Refines x.at (run (meaning mb.made.next.plan) b.begun x.before).plain = (runs_refine mb.made.next x.before x.at x.first usable_next x.to_it).shown b.begun mb.next_shows in
+      let still_x : x.at.start ≡ mb.made.next.start = at_still mb.made.next mb.made.behind w e mb.next_shows.started x still_w in
+      let still_on : x.next.start ≡ x.at.start = next_still mb.made.next mb.made.behind w e mb.next_shows.started x still_w ∙ sym still_x in
+      let at_next : Refines x.at (run (meaning mb.made.next.plan) b.begun x.before).plain = (runs_refine mb.made.next x.before x.at x.first usable_next x.to_it).shown b.begun mb.next_shows still_x in
       let shows : Refines x.at P = subst (λ (z : PlanState). Refines x.at (run (meaning z) b.begun x.before).plain) mb.next_plan at_next in
-      let plan : x.at.plan ≡ s.ready.plan = run_plan mb.made.next x.before x.at x.first b.begun usable_next x.to_it mb.next_shows ∙ mb.next_plan in
+      let plan : x.at.plan ≡ s.ready.plan = run_keeps mb.made.next x.before x.at x.first x.to_it ∙ mb.next_plan in
       let one = steps_refine x.at e x.next true (subst IsUsable (sym plan) s.usable) x.step in
-      let made_one = some_of (step (meaning x.at.plan) P e) (sym (one.made_is P shows)) in
+      let made_one = some_of (step (meaning x.at.plan) P e) (sym (one.made_is P shows still_on)) in
       record {
         split = sym mb.behind_is ∙ x.split;
         next = made_one.0;
@@ -600,6 +611,7 @@ headline_law t ids old events w made n h up (AppPut s i byte) v does = put_shows
 headline_law t ids old events w made n h up (AppGet s i) v does = get_shows t ids old events w made n h up v s i does
 headline_law t ids old events w made n h up (Fault s) v does = fault_shows t ids old events w made n h up v s does
 headline_law t ids old events w made n h up (ResetSlave s) v does = reset_shows t ids old events w made n h up v s does
+headline_law t ids old events w made n h up Stop v does = stop_shows w v does
 
 -- ---- over a list of events
 

@@ -1,5 +1,5 @@
 -- A linked bit of a variable, as a bit of the image.
-use Rattle.ec_world.proofs.Words.{ℕ, ◌+◌, ◌*◌, ◌/◌, ◌%◌, ◌≤◌, ◌≡◌, ◌==◌, false, ◌∙◌, ap, arith, List, length, get_or, if◌then◌else◌, slice_get, zero, suc, ◌<◌, ◌≢◌, ◌⊎◌, ◌&&◌, Bool, true, Option, Some, None, refl, sym, subst, inl, inr, [], ◌∷◌, ◌++◌, map, set, replicate, is_some, option_map, unwrap_or, nat_lt, get_or-set_same, get_or-set_other, bit_at, get_or_past, set-get_or, bit_at-zero, bit, bytes_of_bits, bit_at-bits_number, Direction, Contents, Variable, is_out, IsLinked, image_from, HasBit, output_manager, plan_of, PlanState, part_of, variables_are_placed, linked_bits_are_there, value_at, WorldState, Flight, slave_of, no_slave, flight_at, flight_progress, is_up, Passes, IsStep, variable_bit, IsMade, HeadlineIsBegun as IsBegun, HadTrouble, IsInOp, progress_at, output_bits, input_bits, ShowsLinked, PassShows, option_map_or, cases_Bool, cases_lt, and_from, and_left, eqb-true, eq-eqb, lt-ltb, le-ltb, true≢false, slice_get-get_or, slice_get_within, if_true, if_false, Identity, SyncManagerSettings, is_set, is_buffered, Init, SafeOp, Op, Buffer, SyncManager, no_manager, Al, switched_on, SlaveState, manager_at, with_memory, with_outputs, with_published, outputs_shown, Out, SlaveRow, object_bits, Share, SlavePlan, Gave, has_outs, compile_fault, AreItsLinks, Meaning, meaning, share_of, out_source, slave_at as settings_of, no_slave_plan, IsUsable, listed, plan_sound, plan_usable, links_are_the_tables, AreStartable, are-plans, Event, Begin, Pass, Progress, Plain, PlainSlave, PlainFrame, Health, Working, Faulted, Reset, step, run, frame_at, plain_slave, linked_outputs, progress_of, given_by, given_in, slave_left, IsAs, IsWorking, Refines, IsRun, IsNew, plain_of, AreLinked, some_same, within_of, State, Rising}
+use Rattle.ec_world.proofs.Words.{IsUnstopped, ℕ, ◌+◌, ◌*◌, ◌/◌, ◌%◌, ◌≤◌, ◌≡◌, ◌==◌, false, ◌∙◌, ap, arith, List, length, get_or, if◌then◌else◌, slice_get, zero, suc, ◌<◌, ◌≢◌, ◌⊎◌, ◌&&◌, Bool, true, Option, Some, None, refl, sym, subst, inl, inr, [], ◌∷◌, ◌++◌, map, set, replicate, is_some, option_map, unwrap_or, nat_lt, get_or-set_same, get_or-set_other, bit_at, get_or_past, set-get_or, bit_at-zero, bit, bytes_of_bits, bit_at-bits_number, Direction, Contents, Variable, is_out, IsLinked, image_from, HasBit, output_manager, plan_of, PlanState, part_of, variables_are_placed, linked_bits_are_there, value_at, WorldState, Flight, slave_of, no_slave, flight_at, flight_progress, is_up, Passes, IsStep, variable_bit, IsMade, HeadlineIsBegun as IsBegun, HadTrouble, IsInOp, progress_at, output_bits, input_bits, ShowsLinked, PassShows, option_map_or, cases_Bool, cases_lt, and_from, and_left, eqb-true, eq-eqb, lt-ltb, le-ltb, true≢false, slice_get-get_or, slice_get_within, if_true, if_false, Identity, SyncManagerSettings, is_set, is_buffered, Init, SafeOp, Op, Buffer, SyncManager, no_manager, Al, switched_on, SlaveState, manager_at, with_memory, with_outputs, with_published, outputs_shown, Out, SlaveRow, object_bits, Share, SlavePlan, Gave, has_outs, compile_fault, AreItsLinks, Meaning, meaning, share_of, out_source, slave_at as settings_of, no_slave_plan, IsUsable, listed, plan_sound, plan_usable, links_are_the_tables, AreStartable, are-plans, Event, Begin, Pass, Progress, Plain, PlainSlave, PlainFrame, Health, Working, Faulted, Reset, step, run, frame_at, plain_slave, linked_outputs, progress_of, given_by, given_in, slave_left, IsAs, IsWorking, Refines, IsRun, IsNew, plain_of, AreLinked, some_same, within_of, State, Rising}
 use Rattle.ec_table.specs.Sound as table
 use Rattle.ec_link.specs.Sound as link
 use Rattle.ec_world.proofs.Refinement.FrameEvents.{has_met, same_way}
@@ -9,6 +9,8 @@ use Rattle.ec_world.proofs.Refinement.ApplicationEvents.{two_there}
 use Rattle.ec_world.proofs.Headline.Buffers.{only_publishes}
 use Rattle.ec_world.proofs.Refinement.StepsRefine.{runs_refine, steps_refine}
 use Rattle.ec_world.proofs.StartUp.WholeLaw.{new-rises, new-low}
+use Rattle.ec_world.proofs.Runs.PlanLaw.{run_keeps}
+use Rattle.ec_world.proofs.Runs.Unstopped.{still_at, still_next}
 use Rattle.ec_world.proofs.Cycles.InputsLaw.{linked as linked_exactly}
 use Rattle.ec_world.proofs.Runs.SnapshotsLaw.{snapshots_law}
 use Rattle.ec_world.proofs.Runs.TroubleLaw.{none_flagged, started, made_later, Started}
@@ -58,27 +60,23 @@ pub record MadeAt (m : Meaning) (old : WorldState) (p : Plain) (events : List Ev
   pub behind_is : made.behind ≡ ys
   pub at_plan : made.at.plan ≡ old.plan
   pub next_plan : made.next.plan ≡ old.plan
+  pub next_start : made.next.start ≡ old.start
   pub at_shows : Refines made.at (run m p xs).plain
   pub next_shows : Refines made.next q
 
-pub run_plan : (old : WorldState) (es : List Event) (new : WorldState) (made : ℕ) (p : Plain) → IsUsable old.plan → IsRun old es new made → Refines old p → new.plan ≡ old.plan
-run_plan old [] new made p sound h s = ap (λ (w : WorldState). w.plan) h.0
-run_plan old (e ∷ es) new made p sound h s =
-    let one = steps_refine old e h.0 h.1 sound h.3 in
-    let same : h.0.plan ≡ old.plan = one.same_plan p s in
-    run_plan h.0 es new h.2 _ (subst IsUsable (sym same) sound) h.4 (one.shown p s) ∙ same
-
 pub made_at : (old : WorldState) (p : Plain) (events : List Event) (new : WorldState) (count : ℕ) (xs : List Event) (e : Event) (ys : List Event) (q : Plain)
-    → IsUsable old.plan → Refines old p → IsRun old events new count → events ≡ xs ++ (e ∷ ys) → step (meaning old.plan) (run (meaning old.plan) p xs).plain e ≡ Some q
+    → IsUsable old.plan → Refines old p → IsRun old events new count → IsUnstopped old new → events ≡ xs ++ (e ∷ ys) → step (meaning old.plan) (run (meaning old.plan) p xs).plain e ≡ Some q
     → MadeAt (meaning old.plan) old p events xs e ys q new
-made_at old p events new count xs e ys q sound s h split does =
+made_at old p events new count xs e ys q sound s h still split does =
     let c = cut old xs e ys new count (subst (λ (zs : List Event). IsRun old zs new count) split h) in
-    let at = (runs_refine old xs c.at c.first sound c.to_it).shown p s in
-    let same : c.at.plan ≡ old.plan = run_plan old xs c.at c.first p sound c.to_it s in
+    let still_at : IsUnstopped old c.at = still_at old xs c.at c.first (e ∷ ys) new _ s.started c.to_it (c.next, c.one, c.rest, c.step, c.onward, refl) still in
+    let at = (runs_refine old xs c.at c.first sound c.to_it).shown p s still_at in
+    let still_on : IsUnstopped c.at c.next = still_next c.at e c.next c.one ys new c.rest at.started c.step c.onward (still ∙ sym still_at) in
+    let same : c.at.plan ≡ old.plan = run_keeps old xs c.at c.first c.to_it in
     let x = (run (meaning old.plan) p xs).plain in
     let one = steps_refine c.at e c.next c.one (subst IsUsable (sym same) sound) c.step in
     let here : step (meaning c.at.plan) x e ≡ Some q = ap (λ (y : PlanState). step (meaning y) x e) same ∙ does in
-    let done : c.one ≡ true = one.made_is x at ∙ ap (λ o. is_some o) here in
+    let done : c.one ≡ true = one.made_is x at still_on ∙ ap (λ o. is_some o) here in
     record {
       made = record {
         before = xs;
@@ -96,8 +94,9 @@ made_at old p events new count xs e ys q sound s h split does =
       behind_is = refl;
       at_plan = same;
       next_plan = one.same_plan x at ∙ same;
+      next_start = still_on ∙ still_at;
       at_shows = at;
-      next_shows = subst (λ o. Refines c.next (unwrap_or o x)) here (one.shown x at);
+      next_shows = subst (λ o. Refines c.next (unwrap_or o x)) here (one.shown x at still_on);
     }
 
 -- ---- what holds of a world that is Ready
@@ -105,7 +104,7 @@ made_at old p events new count xs e ys q sound s h split does =
 pub record Sees (t : Contents) (old : WorldState) (events : List Event) (w : WorldState) : Type 0 where
   pub flags : List Bool
   pub start : Started old events w flags
-  pub open start use {before, after, split, ready, first, rest, to_ready, onward}
+  pub open start use {before, after, split, ready, first, rest, to_ready, onward, unstopped}
   pub plan_is : ready.plan ≡ plan_of t
   pub usable : IsUsable ready.plan
   pub shows : Refines ready (plain_of ready)
@@ -126,14 +125,14 @@ sees t ids old events w made n h up =
     (subst (Rising flags) (sym n.is) (new-rises plan ids sound planned many)) (ap (λ (x : WorldState). is_up x.start) n.is ∙ new-low plan ids) h up in
     let is : s.ready.plan ≡ plan = s.plan_is ∙ old_plan in
     let usable : IsUsable s.ready.plan = subst IsUsable (sym is) sound in
-    let kept : w.plan ≡ plan = run_plan s.ready s.after w s.rest (plain_of s.ready) usable s.onward s.is_ready.shows ∙ is in
+    let kept : w.plan ≡ plan = run_keeps s.ready s.after w s.rest s.onward ∙ is in
     record {
       flags = flags;
       start = s;
       plan_is = is;
       usable = usable;
       shows = s.is_ready.shows;
-      shown = (runs_refine s.ready s.after w s.rest usable s.onward).shown (plain_of s.ready) s.is_ready.shows;
+      shown = (runs_refine s.ready s.after w s.rest usable s.onward).shown (plain_of s.ready) s.is_ready.shows s.unstopped;
       plan_kept = kept;
       still_usable = subst IsUsable (sym kept) sound;
       told = λ i l. elim (s.is_ready.told i l) [
@@ -418,7 +417,7 @@ headline_outputs t ids old events w made n h up k v does f at = subst (λ (g : P
     b = (are_begun (meaning s.ready.plan) first s.after (free_slots s.ready.slots) refl).frames k g o.there
 
     made_begin : MadeAt (meaning s.ready.plan) s.ready first s.after b.before Begin b.behind b.begun w
-    made_begin = made_at s.ready first s.after w s.rest b.before Begin b.behind b.begun s.usable s.shows s.onward b.split b.begins
+    made_begin = made_at s.ready first s.after w s.rest b.before Begin b.behind b.begun s.usable s.shows s.onward s.unstopped b.split b.begins
 
     begun : IsBegun old events w g.number
     begun = record {

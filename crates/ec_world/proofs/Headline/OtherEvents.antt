@@ -1,5 +1,5 @@
 -- The headline of the events that are neither a pass nor a close.
-use Rattle.ec_world.proofs.Words.{ℕ, ◌+◌, ◌<◌, app_written, app_read, is_running, is_some, ◌≡◌, ◌≢◌, ◌&&◌, not, Bool, true, false, Option, Some, None, refl, sym, ◌∙◌, ap, subst, arith, List, [], length, set, if◌then◌else◌, option_map, slice_get, and_left, and_parts, true≢false, ltb-true, if_false, length-replicate, get_or-set_same, bit, bit-zeros, bytes_of_bits, zeros, is_set, is_buffered, Buffer, SyncManager, Identity, SlaveState, manager_at, power_on, switched_on, served, faulted, input_put, output_got, with_manager, outputs_shown, Init, SafeOp, Contents, PlanState, plan_of, meaning, slave_at as settings_of, listed, IsUsable, bits_are_apart, MasterState, variable_set, Event, StartNext, Set, Begin, Return, Serve, AppPut, AppGet, Fault, ResetSlave, Plain, PlainSlave, Health, Working, Faulted, Reset, is_working, failing, run, plain_slave, WorldState, slave_of, no_slave, with_slave, is_up, is_slave, Puts, Gets, Begins, Returns, StartReturns, ByStart, IsStep, IsAs, IsWorking, IsFaulted, HoldsData, IsOfLength, IsRun, IsNew, plain_of, input_bit, variable, published, with_buffer, SetShows, TouchShows, PutShows, FallShows, none_some}
+use Rattle.ec_world.proofs.Words.{Stop, stopped, StartState, ℕ, ◌+◌, ◌<◌, app_written, app_read, is_running, is_some, ◌≡◌, ◌≢◌, ◌&&◌, not, Bool, true, false, Option, Some, None, refl, sym, ◌∙◌, ap, subst, arith, List, [], length, set, if◌then◌else◌, option_map, slice_get, and_left, and_parts, true≢false, ltb-true, if_false, length-replicate, get_or-set_same, bit, bit-zeros, bytes_of_bits, zeros, is_set, is_buffered, Buffer, SyncManager, Identity, SlaveState, manager_at, power_on, switched_on, served, faulted, input_put, output_got, with_manager, outputs_shown, Init, SafeOp, Contents, PlanState, plan_of, meaning, slave_at as settings_of, listed, IsUsable, bits_are_apart, MasterState, variable_set, Event, StartNext, Set, Begin, Return, Serve, AppPut, AppGet, Fault, ResetSlave, Plain, PlainSlave, Health, Working, Faulted, Reset, is_working, failing, run, plain_slave, WorldState, slave_of, no_slave, with_slave, is_up, is_slave, Puts, Gets, Begins, Returns, StartReturns, ByStart, IsStep, IsAs, IsWorking, IsFaulted, HoldsData, IsOfLength, IsRun, IsNew, plain_of, input_bit, variable, published, with_buffer, SetShows, TouchShows, PutShows, FallShows, none_some}
 use Rattle.ec_al.specs.Al as al
 use Rattle.ec_cycle.proofs.Variables.{set_reads_back, set_keeps_others}
 use Rattle.ec_link.specs.Variables.{AreApart}
@@ -9,6 +9,7 @@ use Rattle.ec_world.proofs.Refinement.ApplicationEvents.{quiet-rests, quiet, two
 use Rattle.ec_world.proofs.Headline.Buffers.{no_value, published_is, with_buffer_is, buffer_kept, Written, written, last_published, others_keep, read_keeps}
 use Rattle.ec_world.proofs.Headline.LinkedBits.{Sees, sees, bit_past}
 use Rattle.ec_world.proofs.Runs.Sizes.{run_same, taken_cycle}
+use Rattle.ec_world.proofs.Runs.Unstopped.{stopped_low}
 use Rattle.ec_world.proofs.Refinement.IsStep.{same-slave}
 use Rattle.ec_world.proofs.Runs.Leaves.{Mapped, mapped, is_in_op}
 
@@ -16,6 +17,11 @@ use Rattle.ec_world.proofs.Runs.Leaves.{Mapped, mapped, is_in_op}
 
 pub never_starts : (w v : WorldState) → is_up w.start ≡ true → IsStep w StartNext v true → ⊥
 never_starts w v up does = true≢false (sym (and_parts (not (is_up w.start)) _ (sym does.can)).0 ∙ ap not up)
+
+pub stop_shows : (w v : WorldState) → IsStep w Stop v true → (v ≡ record w { start = v.start }) × (is_up v.start ≡ false)
+stop_shows w v does =
+    let h : v ≡ record w { start = stopped w.start w.master } = does.happens refl in
+    (h ∙ ap (λ (s : StartState). record w { start = s }) (sym (ap (λ (x : WorldState). x.start) h)), ap (λ (x : WorldState). is_up x.start) h ∙ stopped_low w.start w.master)
 
 pub begin_shows : (w v : WorldState) → IsStep w Begin v true → v ≡ record w { master = record w.master { next = w.master.next + 1; cycle = v.master.cycle }; slots = v.slots }
 begin_shows w v does =

@@ -1,5 +1,5 @@
 -- Events of the master: a variable set, a cycle begun, a frame that comes back, a cycle closed.
-use Rattle.ec_world.proofs.Words.{ℕ, zero, suc, ◌+◌, ◌-◌, ◌^◌, ◌<◌, ◌≡◌, ◌&&◌, true, false, Option, Some, None, refl, sym, ◌∙◌, ap, subst, arith, List, [], ◌∷◌, length, map, get_or, is_some, is_none, slice_get, option_map, unwrap_or, nat_lt, nat_le, and_parts, ltb-true, length-map, is_out, with_number, if_true, IsFrame, bare_payload, Variable, PlanState, meaning, IsUsable, ReturnedPart, nones, inputs_closed, report_of, ReportState, sent_datagrams, MasterState, OpenCycle, closed, holds_value, value_put, variable_set, Plain, PlainFrame, Note, Cycle, progress_of, all_progress, filled, new_frames, setting, beginning, closing, WorldState, Flight, flight_progress, flights_progress, flights_from, can_begin, Begins, Closes, Refines, CyclesRefine, CycleRefines, said, CountersPredicted, FrameRefines, theres, nones-alike, none_some, some_same, same_slots, cycle_begun, none_in, some_guarded, is_some-mapped}
+use Rattle.ec_world.proofs.Words.{is_up, ℕ, zero, suc, ◌+◌, ◌-◌, ◌^◌, ◌<◌, ◌≡◌, ◌&&◌, true, false, Option, Some, None, refl, sym, ◌∙◌, ap, subst, arith, List, [], ◌∷◌, length, map, get_or, is_some, is_none, slice_get, option_map, unwrap_or, nat_lt, nat_le, and_parts, ltb-true, length-map, is_out, with_number, if_true, IsFrame, bare_payload, Variable, PlanState, meaning, IsUsable, ReturnedPart, nones, inputs_closed, report_of, ReportState, sent_datagrams, MasterState, OpenCycle, closed, holds_value, value_put, variable_set, Plain, PlainFrame, Note, Cycle, progress_of, all_progress, filled, new_frames, setting, beginning, closing, WorldState, Flight, flight_progress, flights_progress, flights_from, can_begin, Begins, Closes, Refines, CyclesRefine, CycleRefines, said, CountersPredicted, FrameRefines, theres, nones-alike, none_some, some_same, same_slots, cycle_begun, none_in, some_guarded, is_some-mapped}
 use Rattle.ec_world.proofs.SlotLaws.Filled.{filled-map, filled-both}
 use Rattle.ec_world.proofs.Refinement.FreshFrame.{fresh, fresh_shows}
 use Rattle.ec_world.proofs.Refinement.Close.{inputs_same, report_said, counters_predicted}
@@ -51,7 +51,7 @@ begin_made : (w : WorldState) (p : Plain) → Refines w p
 begin_made w p s =
     let parts : length (meaning w.plan).parts ≡ length w.plan.parts = length-map w.plan.parts (λ k. k.unit) in
     let free : nones p.slots ≡ nones w.slots = sym (nones-alike w.slots p.slots (same_slots w.slots p.slots s.progress)) in
-    rw (not_same w.master.cycle p.cycle s.cycle, parts, free, s.next, s.is_ready) refl
+    rw (not_same w.master.cycle p.cycle s.cycle, parts, free, s.next, s.is_ready, s.started) refl
   where
     not_same : (o : Option OpenCycle) (q : Option Cycle) → CyclesRefine w.plan o q → is_none q ≡ is_none o
     not_same None None h = refl
@@ -106,7 +106,7 @@ begin_shows w p w2 sound s can begins =
     let parts : length m.parts ≡ length w.plan.parts = length-map w.plan.parts (λ k. k.unit) in
     let plan_parts : length w.master.plan.parts ≡ length w.plan.parts = ap (λ (x : PlanState). length x.parts) s.same_plan in
     let as_many : length c.frames ≡ length m.parts = b.count ∙ (plan_parts ∙ sym parts) in
-    let fits : w.master.next < 2 ^ 64 - 1 = ltb-true _ _ (and_parts (nat_le (length w.plan.parts) (nones w.slots)) _ (and_parts (is_none w.master.cycle) _ (and_parts w.master.is_ready _ can).1).1).1 in
+    let fits : w.master.next < 2 ^ 64 - 1 = ltb-true _ _ (and_parts (nat_le (length w.plan.parts) (nones w.slots)) _ (and_parts (is_none w.master.cycle) _ (and_parts w.master.is_ready _ (and_parts (is_up w.start) _ can).1).1).1).1 in
     let cycle : CycleRefines w.plan c (record { number = p.next; kept = map (λ u. None) m.parts }) = record {
       number = b.number ∙ s.next;
       number_fits = let e = s.next in omega arith;

@@ -1,7 +1,8 @@
 -- One event, and runs of events.
-use Rattle.ec_world.proofs.Words.{ℕ, ◌<◌, ◌≡◌, ◌&&◌, ◌||◌, not, Bool, true, false, Option, Some, None, refl, sym, ◌∙◌, ap, subst, inl, inr, length, is_some, if◌then◌else◌, unwrap_or, ◌+◌, ◌++◌, arith, List, [], ◌∷◌, cases_Bool, cases_lt, both_ways, and_parts, and_left, listed, if_true, power_on, slave_at, meaning, IsUsable, Event, StartNext, Set, Begin, Pass, Lose, Return, Close, Serve, AppPut, AppGet, Fault, ResetSlave, Plain, PlainSlave, step, plain_slave, is_working, failing, restarting, at_slave, run, WorldState, awaits, ByStart, Returns, Closes, can_start, can_happen, Happens, is_slave, slave_of, StartReturns, GivesUp, with_slave, IsStep, is_up, ready_with, resumed, served, faulted, Refines, StepsRefine, IsRun, RunsRefine, RunsJoin, PlanState, SlavePlan, Phase, Failed, StartState, asked, begun, IsStartTaken, plans_stay, MasterState, readied, master_plan, AreOfPlan, IsAnswered, IsTakenIn, IsHandedIn, none_if, some_guarded}
+use Rattle.ec_world.proofs.Words.{false≢true, ◌⊎◌, Stop, ℕ, ◌<◌, ◌≡◌, ◌&&◌, ◌||◌, not, Bool, true, false, Option, Some, None, refl, sym, ◌∙◌, ap, subst, inl, inr, length, is_some, if◌then◌else◌, unwrap_or, ◌+◌, ◌++◌, arith, List, [], ◌∷◌, cases_Bool, cases_lt, both_ways, and_parts, and_left, listed, if_true, power_on, slave_at, meaning, IsUsable, Event, StartNext, Set, Begin, Pass, Lose, Return, Close, Serve, AppPut, AppGet, Fault, ResetSlave, Plain, PlainSlave, step, plain_slave, is_working, failing, restarting, at_slave, run, WorldState, awaits, ByStart, Returns, Closes, can_start, can_happen, Happens, is_slave, slave_of, StartReturns, GivesUp, with_slave, IsStep, is_up, ready_with, resumed, served, faulted, Refines, StepsRefine, IsRun, RunsRefine, RunsJoin, PlanState, SlavePlan, Phase, Failed, StartState, asked, begun, IsStartTaken, plans_stay, MasterState, readied, master_plan, AreOfPlan, IsAnswered, IsTakenIn, IsHandedIn, none_if, some_guarded}
 use Rattle.ec_al.specs.Al as al
 use Rattle.ec_world.specs.Plain as plain
+use Rattle.ec_world.proofs.Runs.Unstopped.{is_calm, stop_is_seen, still_next}
 use Rattle.ec_world.proofs.Refinement.FrameEvents.{lose_can, lose_shows, pass_made, pass_shows}
 use Rattle.ec_world.proofs.Refinement.MasterEvents.{set_can, set_shows, begin_can, begin_shows, close_can, close_shows}
 use Rattle.ec_world.proofs.Refinement.Return.{return_made, return_shows}
@@ -55,40 +56,54 @@ no_start w p s = and_left _ _ (ap not s.started)
 close_let : (w : WorldState) (p : Plain) → Refines w p → (is_some w.master.cycle || awaits w.start) ≡ is_some w.master.cycle
 close_let w p s = ap (λ b. is_some w.master.cycle || b) s.no_start ∙ (elim (is_some w.master.cycle) as (λ b. (b || false) ≡ b) [ true ↦ refl | false ↦ refl ])
 
-pub event_can : (w : WorldState) (p : Plain) (e : Event) → IsUsable w.plan → Refines w p → can_happen w e ≡ is_some (step (meaning w.plan) p e)
-event_can w p StartNext sound s = no_start w p s
-event_can w p (Set v x) sound s = set_can w p v x s
-event_can w p Begin sound s = begin_can w p s
-event_can w p (Pass k) sound s = pass_made w p k s
-event_can w p (Lose k) sound s = lose_can w p k s
-event_can w p (Return k) sound s = return_made w p k s
-event_can w p Close sound s = close_let w p s ∙ close_can w p s
-event_can w p (Serve t) sound s = slave_let w p t (λ q. p) s
-event_can w p (AppPut t i x) sound s = put_can w p t i x sound s
-event_can w p (AppGet t i) sound s = get_can w p t i sound s
-event_can w p (Fault t) sound s = fault_can w p t sound s
-event_can w p (ResetSlave t) sound s = slave_let w p t (λ q. plain.with_slave p t (restarting q)) s
+pub event_can : (w : WorldState) (p : Plain) (e : Event) → is_calm e ≡ true → IsUsable w.plan → Refines w p → can_happen w e ≡ is_some (step (meaning w.plan) p e)
+event_can w p StartNext calm sound s = no_start w p s
+event_can w p (Set v x) calm sound s = set_can w p v x s
+event_can w p Begin calm sound s = begin_can w p s
+event_can w p (Pass k) calm sound s = pass_made w p k s
+event_can w p (Lose k) calm sound s = lose_can w p k s
+event_can w p (Return k) calm sound s = return_made w p k s
+event_can w p Close calm sound s = close_let w p s ∙ close_can w p s
+event_can w p (Serve t) calm sound s = slave_let w p t (λ q. p) s
+event_can w p (AppPut t i x) calm sound s = put_can w p t i x sound s
+event_can w p (AppGet t i) calm sound s = get_can w p t i sound s
+event_can w p (Fault t) calm sound s = fault_can w p t sound s
+event_can w p (ResetSlave t) calm sound s = slave_let w p t (λ q. plain.with_slave p t (restarting q)) s
+event_can w p Stop calm sound s = absurd (false≢true calm)
 
-pub event_shows : (w : WorldState) (p : Plain) (e : Event) (w2 : WorldState) → IsUsable w.plan → Refines w p
+pub event_shows : (w : WorldState) (p : Plain) (e : Event) (w2 : WorldState) → is_calm e ≡ true → IsUsable w.plan → Refines w p
     → can_happen w e ≡ true → Happens w e w2 → Refines w2 (unwrap_or (step (meaning w.plan) p e) p)
-event_shows w p StartNext w2 sound s can h = absurd (both_ways _ (no_start w p s) can)
-event_shows w p (Set v x) w2 sound s can h = subst (λ (y : WorldState). Refines y (unwrap_or (step (meaning w.plan) p (Set v x)) p)) (sym h) (set_shows w p v x s can)
-event_shows w p Begin w2 sound s can h = begin_shows w p w2 sound s can h
-event_shows w p (Pass k) w2 sound s can h = pass_shows w p k w2 sound s can h
-event_shows w p (Lose k) w2 sound s can h = subst (λ (y : WorldState). Refines y (unwrap_or (step (meaning w.plan) p (Lose k)) p)) (sym h) (lose_shows w p k s can)
-event_shows w p (Return k) w2 sound s can h = return_shows w p k w2 sound s can (subst (λ (b : Bool). ByStart b (StartReturns w k w2) (Returns w k w2)) s.no_start h)
-event_shows w p Close w2 sound s can h = close_shows w p w2 sound s (subst (λ (b : Bool). ByStart b (GivesUp w w2) (Closes w w2)) s.no_start h)
-event_shows w p (Serve t) w2 sound s can h =
+event_shows w p StartNext w2 calm sound s can h = absurd (both_ways _ (no_start w p s) can)
+event_shows w p (Set v x) w2 calm sound s can h = subst (λ (y : WorldState). Refines y (unwrap_or (step (meaning w.plan) p (Set v x)) p)) (sym h) (set_shows w p v x s can)
+event_shows w p Begin w2 calm sound s can h = begin_shows w p w2 sound s can h
+event_shows w p (Pass k) w2 calm sound s can h = pass_shows w p k w2 sound s can h
+event_shows w p (Lose k) w2 calm sound s can h = subst (λ (y : WorldState). Refines y (unwrap_or (step (meaning w.plan) p (Lose k)) p)) (sym h) (lose_shows w p k s can)
+event_shows w p (Return k) w2 calm sound s can h = return_shows w p k w2 sound s can (subst (λ (b : Bool). ByStart b (StartReturns w k w2) (Returns w k w2)) s.no_start h)
+event_shows w p Close w2 calm sound s can h = close_shows w p w2 sound s (subst (λ (b : Bool). ByStart b (GivesUp w w2) (Closes w w2)) s.no_start h)
+event_shows w p (Serve t) w2 calm sound s can h =
     let l = slave_here w p t s can in
     subst (λ (y : WorldState). Refines y (unwrap_or (step (meaning w.plan) p (Serve t)) p)) (sym h)
     (subst (λ (o : Option Plain). Refines (with_slave w t (served (slave_of w t))) (unwrap_or o p)) (sym (at_there w p t (λ q. Some p) s l)) (serve_shows w p t s l))
-event_shows w p (AppPut t i x) w2 sound s can h = put_shows_both w p t i x w2 sound s can h
-event_shows w p (AppGet t i) w2 sound s can h = get_shows_both w p t i w2 sound s can h
-event_shows w p (Fault t) w2 sound s can h = subst (λ (y : WorldState). Refines y (unwrap_or (step (meaning w.plan) p (Fault t)) p)) (sym h) (fault_shows w p t sound s can)
-event_shows w p (ResetSlave t) w2 sound s can h =
+event_shows w p (AppPut t i x) w2 calm sound s can h = put_shows_both w p t i x w2 sound s can h
+event_shows w p (AppGet t i) w2 calm sound s can h = get_shows_both w p t i w2 sound s can h
+event_shows w p (Fault t) w2 calm sound s can h = subst (λ (y : WorldState). Refines y (unwrap_or (step (meaning w.plan) p (Fault t)) p)) (sym h) (fault_shows w p t sound s can)
+event_shows w p (ResetSlave t) w2 calm sound s can h =
     let l = slave_here w p t s can in
     subst (λ (y : WorldState). Refines y (unwrap_or (step (meaning w.plan) p (ResetSlave t)) p)) (sym h)
     (subst (λ (o : Option Plain). Refines (with_slave w t (power_on (slave_of w t).kind (slave_of w t).identity)) (unwrap_or o p)) (sym (at_there w p t (λ q. Some (plain.with_slave p t (restarting q))) s l)) (reset_shows w p t s l))
+event_shows w p Stop w2 calm sound s can h = absurd (false≢true calm)
+
+-- it is no stop, or a stop that wasn't made
+calm_or_refused : (old : WorldState) (e : Event) (new : WorldState) (made : Bool) → is_up old.start ≡ true → IsStep old e new made → new.start ≡ old.start → (is_calm e ≡ true) ⊎ ((e ≡ Stop) × (made ≡ false))
+calm_or_refused old Stop new true up h same = absurd (stop_is_seen old new up h same)
+calm_or_refused old Stop new false up h same = inr (refl, refl)
+calm_or_refused old _ new made up h same = inl refl
+
+made_as : (old : WorldState) (e : Event) (new : WorldState) (made : Bool) (p : Plain) → IsUsable old.plan → Refines old p → IsStep old e new made → new.start ≡ old.start → made ≡ is_some (step (meaning old.plan) p e)
+made_as old e new made p sound s h same = elim (calm_or_refused old e new made s.started h same) [
+  | inl calm ↦ h.can ∙ event_can old p e calm sound s
+  | inr stop ↦ stop.1 ∙ ap (λ (d : Event). is_some (step (meaning old.plan) p d)) (sym stop.0)
+]
 
 -- one event
 pub steps_refine : StepsRefine
@@ -97,11 +112,14 @@ steps_refine old event new made sound h = record {
     | inl on ↦ same_plan old event new s.no_start (no_start old p s) (sym h.can ∙ on) (h.happens on)
     | inr off ↦ ap (λ (w : WorldState). w.plan) (h.refused off)
   ];
-  made_is = λ p s. h.can ∙ event_can old p event sound s;
-  shown = λ p s. elim (cases_Bool made) [
-    | inl on ↦ event_shows old p event new sound s (sym h.can ∙ on) (h.happens on)
+  made_is = λ p s same. made_as old event new made p sound s h same;
+  shown = λ p s same. elim (cases_Bool made) [
+    | inl on ↦ elim (calm_or_refused old event new made s.started h same) [
+      | inl calm ↦ event_shows old p event new calm sound s (sym h.can ∙ on) (h.happens on)
+      | inr stop ↦ absurd (both_ways _ stop.1 on)
+    ]
     | inr off ↦
-        let none : is_some (step (meaning old.plan) p event) ≡ false = sym (h.can ∙ event_can old p event sound s) ∙ off in
+        let none : is_some (step (meaning old.plan) p event) ≡ false = sym (made_as old event new made p sound s h same) ∙ off in
         subst (λ (w : WorldState). Refines w (unwrap_or (step (meaning old.plan) p event) p)) (sym (h.refused off))
         (subst (λ (q : Plain). Refines old q) (sym (none_if (step (meaning old.plan) p event) p none)) s)
   ];
@@ -110,22 +128,23 @@ steps_refine old event new made sound h = record {
 -- ---- runs of events, by induction over the events
 
 run_shows : (old : WorldState) (events : List Event) (new : WorldState) (made : ℕ) → IsUsable old.plan
-    → IsRun old events new made → (p : Plain) → Refines old p → Refines new (run (meaning old.plan) p events).plain × (made ≡ (run (meaning old.plan) p events).made)
-run_shows old [] new made sound h p s = (subst (λ (w : WorldState). Refines w p) (sym h.0) s, h.1)
-run_shows old (e ∷ es) new made sound h p s =
+    → IsRun old events new made → (p : Plain) → Refines old p → new.start ≡ old.start → Refines new (run (meaning old.plan) p events).plain × (made ≡ (run (meaning old.plan) p events).made)
+run_shows old [] new made sound h p s still = (subst (λ (w : WorldState). Refines w p) (sym h.0) s, h.1)
+run_shows old (e ∷ es) new made sound h p s still =
     let mid = h.0 in
+    let here : mid.start ≡ old.start = still_next old e mid h.1 es new h.2 s.started h.3 h.4 still in
     let one = steps_refine old e mid h.1 sound h.3 in
     let same : mid.plan ≡ old.plan = one.same_plan p s in
     let p2 = unwrap_or (step (meaning old.plan) p e) p in
-    let rest = run_shows mid es new h.2 (subst (λ (x : PlanState). IsUsable x) (sym same) sound) h.4 p2 (one.shown p s) in (
+    let rest = run_shows mid es new h.2 (subst (λ (x : PlanState). IsUsable x) (sym same) sound) h.4 p2 (one.shown p s here) (still ∙ sym here) in (
       subst (λ (x : PlanState). Refines new (run (meaning x) p2 es).plain) same rest.0,
-      h.5 ∙ (ap (λ b. (if b then 1 else 0) + h.2) (one.made_is p s) ∙ ap (λ n. (if is_some (step (meaning old.plan) p e) then 1 else 0) + n) (rest.1 ∙ ap (λ x. (run (meaning x) p2 es).made) same)),
+      h.5 ∙ (ap (λ b. (if b then 1 else 0) + h.2) (one.made_is p s here) ∙ ap (λ n. (if is_some (step (meaning old.plan) p e) then 1 else 0) + n) (rest.1 ∙ ap (λ x. (run (meaning x) p2 es).made) same)),
     )
 
 pub runs_refine : RunsRefine
 runs_refine old events new made sound h = record {
-  shown = λ p s. (run_shows old events new made sound h p s).0;
-  made_is = λ p s. (run_shows old events new made sound h p s).1;
+  shown = λ p s still. (run_shows old events new made sound h p s still).0;
+  made_is = λ p s still. (run_shows old events new made sound h p s still).1;
 }
 
 -- a run with one step more, for a loop over the events

@@ -1,5 +1,5 @@
 -- What each event of the plain machine leaves of frames, of the open cycle and of slaves.
-use Rattle.ec_world.proofs.Words.{ℕ, ◌+◌, ◌<◌, ◌≤◌, ◌≡◌, ◌==◌, not, Bool, true, false, Option, Some, None, refl, sym, ◌∙◌, ap, subst, length, map, set, is_none, if◌then◌else◌, option_map, option_and_then, nat_lt, nat_le, slice_get, and_parts, leb-true, ltb-true, eqb-true, slice_get_within, get_or_from_slice_get, Variable, Meaning, share_of, has_outs, with_number, publishing, app_written, app_read, nones, Event, StartNext, Set, Begin, Pass, Lose, Return, Close, Serve, AppPut, AppGet, Fault, ResetSlave, Plain, PlainSlave, PlainFrame, step, frame_at, setting, moved, keeping, closing, filled, new_frames, is_working, is_reset, got_byte, failing, restarting, plain_slave, no_plain_slave, linked_outputs, may_pass, may_return, all_progress, progress_of, met_slave, taking, Health, Working, Faulted, Reset, none_some, some_same, cycle_begun, Buffer, List}
+use Rattle.ec_world.proofs.Words.{ℕ, ◌+◌, ◌<◌, ◌≤◌, ◌≡◌, ◌==◌, not, Bool, true, false, Option, Some, None, refl, sym, ◌∙◌, ap, subst, length, map, set, is_none, if◌then◌else◌, option_map, option_and_then, nat_lt, nat_le, slice_get, and_parts, leb-true, ltb-true, eqb-true, slice_get_within, get_or_from_slice_get, Variable, Meaning, share_of, has_outs, with_number, publishing, app_written, app_read, nones, Event, StartNext, Set, Begin, Pass, Lose, Return, Close, Serve, AppPut, AppGet, Fault, ResetSlave, Stop, Plain, PlainSlave, PlainFrame, step, frame_at, setting, moved, keeping, closing, filled, new_frames, is_working, is_reset, got_byte, failing, restarting, plain_slave, no_plain_slave, linked_outputs, may_pass, may_return, all_progress, progress_of, met_slave, taking, Health, Working, Faulted, Reset, none_some, some_same, cycle_begun, Buffer, List}
 use Rattle.ec_world.specs.Plain as plain
 
 pub guarded : {X : Type 0} (b : Bool) (x q : X) → (if b then Some x else None) ≡ Some q → x ≡ q
@@ -83,6 +83,7 @@ leaves m p (Fault s) q e =
 leaves m p (ResetSlave s) q e =
     let r = chained (λ y. Some (plain.with_slave p s (restarting y))) (slice_get p.slaves s) q e in
     stays_by m p (ResetSlave s) q (plain.with_slave p s (restarting r.value)) (some_same _ q r.is) refl refl refl
+leaves m p Stop q e = absurd (none_some q e)
 
 -- ---- slaves
 
@@ -149,3 +150,4 @@ treats m p (Fault s) q e =
 treats m p (ResetSlave s) q e =
     let r = chained (λ y. Some (plain.with_slave p s (restarting y))) (slice_get p.slaves s) q e in
     Resets s (restarting r.value) refl (sym (ap (λ (y : Plain). y.slaves) (some_same _ q r.is))) refl
+treats m p Stop q e = absurd (none_some q e)

@@ -1,14 +1,11 @@
 -- A cycle is begun once, and a frame passes each slave once.
-use Rattle.ec_world.proofs.Words.{ℕ, ◌+◌, ◌<◌, ◌≤◌, ◌≡◌, Bool, true, false, Some, refl, sym, ◌∙◌, ap, subst, inl, inr, arith, List, [], ◌∷◌, ◌++◌, length, if◌then◌else◌, unwrap_or, cases_lt, append_assoc, IsUsable, Meaning, meaning, PlanState, StartState, MasterState, readied, Event, StartNext, Begin, Pass, Return, Close, AppPut, AppGet, Progress, Plain, PlainFrame, step, run, frame_at, progress_of, WorldState, awaits, is_up, ready_with, can_begin, Begins, Happens, IsStep, ByStart, StartReturns, Returns, GivesUp, Closes, Refines, IsRun, IsNew, plain_of, Contents, Identity, IsBegun as IsBegunPlain, HeadlineIsBegun as IsBegun, HeadlineHasPassed as HasPassed, BegunOnceLaw, PassedOnceLaw, first_same, rest_same, some_same, plain_frame}
+use Rattle.ec_world.proofs.Words.{ℕ, ◌+◌, ◌<◌, ◌≤◌, ◌≡◌, Bool, true, false, Some, None, refl, sym, ◌∙◌, ap, subst, inl, inr, arith, List, [], ◌∷◌, ◌++◌, length, if◌then◌else◌, cases_lt, get_or-set_same, StartState, MasterState, readied, Event, StartNext, Begin, Pass, Return, Close, AppPut, AppGet, Progress, WorldState, Flight, awaits, is_up, flight_at, flight_progress, progress_at, ready_with, can_begin, can_happen, Begins, Passes, Happens, IsStep, ByStart, StartReturns, Returns, GivesUp, Closes, IsRun, IsNew, Contents, Identity, HeadlineIsBegun as IsBegun, HeadlineHasPassed as HasPassed, BegunOnceLaw, PassedOnceLaw, first_same, rest_same, some_same, within_of}
 use Rattle.std.proofs.Math.Nat.{le-max_left}
-use Rattle.ec_world.proofs.Headline.LinkedBits.{cut, run_plan, Sees, sees, PassedOn, passed_on, free_slots}
-use Rattle.ec_world.proofs.Runs.SnapshotsLaw.{run_always, run_joins}
-use Rattle.ec_world.proofs.Runs.OrderLaw.{Was, Stayed, stayed_step}
+use Rattle.ec_world.proofs.Headline.LinkedBits.{cut}
 use Rattle.ec_world.proofs.Runs.OneOutcomeLaw.{one_outcome}
-use Rattle.ec_world.proofs.Runs.BeganAt.{BeganAt, are_begun, begun_of, begun_on}
-use Rattle.ec_world.proofs.Runs.Single.{Single, single_step, single_begun}
+use Rattle.ec_world.proofs.Runs.Numbers.{newest, Numbered, numbered_run, new_numbered, stayed}
+use Rattle.ec_world.proofs.Runs.OrderLaw.{flight_there, one_outcome_from}
 use Rattle.ec_world.proofs.Runs.Sizes.{taken_cycle}
-use Rattle.ec_world.proofs.Refinement.StepsRefine.{runs_refine, runs_join, steps_refine}
 
 -- ---- two places of one list
 
@@ -98,103 +95,40 @@ begun_once t ids old n events w number x y =
 
 -- ---- a frame passes a slave once
 
-module _ (t : Contents) (ids : List Identity) (old : WorldState) (events : List Event) (w : WorldState) (made : ℕ) (n : IsNew t ids old) (h : IsRun old events w made) (up : is_up w.start ≡ true) (more : List Event) (v : WorldState) (number part s : ℕ) (x y : HasPassed w more v number part s) where
-  abbrev e : Sees t old events w
-  e = sees t ids old events w made n h up
-
-  abbrev M : Meaning
-  M = meaning e.ready.plan
-
-  abbrev first : Plain
-  first = plain_of e.ready
-
-  abbrev R : List Event → Plain
-  R es = (run M first (e.after ++ es)).plain
-
+module _ (t : Contents) (ids : List Identity) (old : WorldState) (events : List Event) (w : WorldState) (made : ℕ) (n : IsNew t ids old) (h : IsRun old events w made) (more : List Event) (v : WorldState) (number part s : ℕ) (x y : HasPassed w more v number part s) where
   abbrev f : Progress
   f = record { number = number; part = part; passed = s }
-
-  run_x : IsRun e.ready (e.after ++ x.event.before) x.event.at (e.rest + x.event.first)
-  run_x = runs_join e.ready e.after w e.rest x.event.before x.event.at x.event.first e.onward x.event.to_it
-
-  run_y : IsRun e.ready (e.after ++ y.event.before) y.event.at (e.rest + y.event.first)
-  run_y = runs_join e.ready e.after w e.rest y.event.before y.event.at y.event.first e.onward y.event.to_it
-
-  at_x : Refines x.event.at (R x.event.before)
-  at_x = (runs_refine e.ready (e.after ++ x.event.before) x.event.at (e.rest + x.event.first) e.usable run_x).shown first e.shows
-
-  at_y : Refines y.event.at (R y.event.before)
-  at_y = (runs_refine e.ready (e.after ++ y.event.before) y.event.at (e.rest + y.event.first) e.usable run_y).shown first e.shows
-
-  plan_x : x.event.at.plan ≡ e.ready.plan
-  plan_x = run_plan e.ready (e.after ++ x.event.before) x.event.at (e.rest + x.event.first) first e.usable run_x e.shows
-
-  usable_x : IsUsable x.event.at.plan
-  usable_x = subst IsUsable (sym plan_x) e.usable
-
-  -- the plain machine behind the first pass
-  abbrev Q : Plain
-  Q = unwrap_or (step M (R x.event.before) (Pass x.slot)) (R x.event.before)
-
-  next_x : Refines x.event.next Q
-  next_x = subst (λ (z : PlanState). Refines x.event.next (unwrap_or (step (meaning z) (R x.event.before) (Pass x.slot)) (R x.event.before))) plan_x
-      ((steps_refine x.event.at (Pass x.slot) x.event.next true usable_x x.event.step).shown (R x.event.before) at_x)
-
-  o : PassedOn x.event.at (R x.event.before) x.slot f x.event.next
-  o = passed_on x.event.at (R x.event.before) x.slot f x.event.next usable_x at_x x.frame x.event.step
-
-  abbrev moved : Progress
-  moved = record { number = o.frame.number; part = o.frame.part; passed = length o.frame.notes + 1 }
-
-  now : (g : PlainFrame) × ((frame_at Q x.slot ≡ Some g) × (progress_of g ≡ moved))
-  now = plain_frame x.event.next Q x.slot moved next_x o.goes_on
-
-  abbrev done : List Event
-  done = (e.after ++ x.event.before) ++ (Pass x.slot ∷ [])
-
-  Q_is : (run M first done).plain ≡ Q
-  Q_is = run_joins M first (e.after ++ x.event.before) (Pass x.slot ∷ [])
-
-  b : BeganAt M first done now.0.number
-  b = (are_begun M first done (free_slots e.ready.slots) refl).frames x.slot now.0 (ap (λ (z : Plain). frame_at z x.slot) Q_is ∙ now.1.0)
-
-  is_begun : IsBegunPlain M (run M first b.before).plain b.begun
-  is_begun = begun_of M first done now.0.number (free_slots e.ready.slots) b
-
-  single : Single M now.0.number Q
-  single = subst (Single M now.0.number) (sym (begun_on M first done now.0.number b) ∙ Q_is)
-      (run_always (Single M now.0.number) M (λ p a q made r. single_step M now.0.number p a q made r) b.begun b.behind
-      (subst (λ (k : ℕ). Single M k b.begun) b.number_is (single_begun M (run M first b.before).plain b.begun is_begun)))
-
-  g : (g : PlainFrame) × ((frame_at (R y.event.before) y.slot ≡ Some g) × (progress_of g ≡ f))
-  g = plain_frame y.event.at (R y.event.before) y.slot f at_y y.frame
-
-  same_number : now.0.number ≡ number
-  same_number = ap (λ (z : Progress). z.number) now.1.1 ∙ ap (λ (z : Progress). z.number) o.same
-
-  same_part : now.0.part ≡ part
-  same_part = ap (λ (z : Progress). z.part) now.1.1 ∙ ap (λ (z : Progress). z.part) o.same
 
   pub no_second : length x.event.before < length y.event.before → ⊥
   no_second l =
       let d = later x.event.before y.event.before x.event.behind y.event.behind (Pass x.slot) (Pass y.slot) (sym x.event.split ∙ y.event.split) l in
-      let on : R y.event.before ≡ (run M Q d.0).plain
-      = ap R d.1
-      ∙ (ap (λ (es : List Event). (run M first es).plain) (sym (append_assoc e.after x.event.before (Pass x.slot ∷ d.0)))
-      ∙ run_joins M first (e.after ++ x.event.before) (Pass x.slot ∷ d.0)) in
-      let stayed : Stayed Q (run M Q d.0).plain
-      = run_always (Stayed Q) M (λ p a q made r. stayed_step Q M p a q made r) Q d.0 (record { past = omega arith; each = λ j z at low. record { frame = z; there = at; number_is = refl; part_is = refl; behind = omega arith } }) in
-      let num : g.0.number ≡ number = ap (λ (z : Progress). z.number) g.1.1 in
-      let own : g.0.part ≡ part = ap (λ (z : Progress). z.part) g.1.1 in
-      let low : g.0.number < Q.next = let a = single.past in omega (arith, a, num, same_number) in
-      let was : Was Q y.slot g.0 = stayed.each y.slot g.0 (sym (ap (λ (z : Plain). frame_at z y.slot) on) ∙ g.1.0) low in
-      let slot : y.slot ≡ x.slot = single.once y.slot x.slot was.frame now.0 was.there now.1.0 (was.number_is ∙ (num ∙ sym same_number)) refl (was.part_is ∙ (own ∙ sym same_part)) in
-      let one : was.frame ≡ now.0 = some_same was.frame now.0 (sym was.there ∙ (ap (λ (k : ℕ). frame_at Q k) slot ∙ now.1.0)) in
-      let far : length was.frame.notes ≡ s + 1 = ap (λ (z : PlainFrame). length z.notes) one ∙ (ap (λ (z : Progress). z.passed) now.1.1 ∙ ap (λ (z : Progress). z.passed + 1) o.same) in
-      let here : length g.0.notes ≡ s = ap (λ (z : Progress). z.passed) g.1.1 in
-      omega (arith, far, here, was.behind)
+      let c = cut w x.event.before (Pass x.slot) d.0 y.event.at y.event.first (subst (λ (zs : List Event). IsRun w zs y.event.at y.event.first) d.1 y.event.to_it) in
+      let same : c.at ≡ x.event.at = one_outcome_from t ids old n events w made h x.event.before c.at x.event.at c.first x.event.first c.to_it x.event.to_it in
+      let yes : c.one ≡ true = c.step.can ∙ (ap (λ (z : WorldState). can_happen z (Pass x.slot)) same ∙ sym x.event.step.can) in
+      let passes : Passes c.at x.slot c.next = c.step.happens yes in
+      let g = flight_there c.at x.slot f (ap (λ (z : WorldState). progress_at z x.slot) same ∙ x.frame) in
+      let own : flight_progress passes.flight ≡ f = ap flight_progress (some_same passes.flight g.0 (sym passes.there ∙ g.1.0)) ∙ g.1.1 in
+      let on : Flight = record passes.flight { bytes = passes.bytes; passed = passes.flight.passed + 1 } in
+      let there : flight_at c.next x.slot ≡ Some on
+      = ap (λ (z : WorldState). flight_at z x.slot) passes.is ∙ get_or-set_same c.at.slots x.slot (Some on) None (within_of c.at.slots x.slot passes.flight passes.there) in
+      let n_at : Numbered c.at = numbered_run x.event.before w c.at c.first c.to_it (numbered_run events old w made h (new_numbered t ids old n)) in
+      let n_next : Numbered c.next = numbered_run (Pass x.slot ∷ []) c.at c.next _ (c.next, c.one, 0, c.step, (refl, refl), refl) n_at in
+      let late = flight_there y.event.at y.slot f y.frame in
+      let on_number : on.number ≡ number = ap (λ (z : Progress). z.number) own in
+      let on_part : on.part ≡ part = ap (λ (z : Progress). z.part) own in
+      let on_passed : on.passed ≡ s + 1 = ap (λ (z : Progress). z.passed + 1) own in
+      let late_number : late.0.number ≡ number = ap (λ (z : Progress). z.number) late.1.1 in
+      let late_part : late.0.part ≡ part = ap (λ (z : Progress). z.part) late.1.1 in
+      let late_passed : late.0.passed ≡ s = ap (λ (z : Progress). z.passed) late.1.1 in
+      let low : late.0.number < newest c.next = (let b = n_next.below x.slot on there in omega (arith, b, on_number, late_number)) in
+      let was = (stayed c.next d.0 y.event.at c.rest n_next c.onward).each y.slot late.0 late.1.0 low in
+      let slot : y.slot ≡ x.slot = n_next.once y.slot x.slot was.flight on was.there there (was.number ∙ (late_number ∙ sym on_number)) (was.part ∙ (late_part ∙ sym on_part)) in
+      let one : was.flight ≡ on = some_same was.flight on (sym was.there ∙ (ap (λ (k : ℕ). flight_at c.next k) slot ∙ there)) in
+      let far : was.flight.passed ≡ s + 1 = ap (λ (z : Flight). z.passed) one ∙ on_passed in
+      let least = was.passed in
+      omega (arith, far, late_passed, least)
 
 pub passed_once : PassedOnceLaw
 passed_once t ids old events w made n h up more v number part s x y =
     one_place x.event.before y.event.before (Pass x.slot ∷ x.event.behind) (Pass y.slot ∷ y.event.behind) (sym x.event.split ∙ y.event.split)
-    (no_second t ids old events w made n h up more v number part s x y) (no_second t ids old events w made n h up more v number part s y x)
+    (no_second t ids old events w made n h more v number part s x y) (no_second t ids old events w made n h more v number part s y x)

@@ -13,7 +13,7 @@ taken_one m payload true false n k x y = let a = x.only refl in absurd (false≢
 taken_one m payload false true n k x y = let a = y.only refl in absurd (false≢true (x.kept a.cycle a.part a.frame a.answer).0)
 taken_one m payload false false n k x y = (x.foreign (λ c j p a. false≢true (x.kept c j p a).0)).1 ∙ sym (y.foreign (λ c j p a. false≢true (y.kept c j p a).0)).1
 
-second_there : (ds : List Datagram) (a b : Datagram) → map shape_sent ds ≡ map shape_sent (a ∷ b ∷ []) → (d : Datagram) × (second ds ≡ Some d)
+pub second_there : (ds : List Datagram) (a b : Datagram) → map shape_sent ds ≡ map shape_sent (a ∷ b ∷ []) → (d : Datagram) × (second ds ≡ Some d)
 second_there [] a b e = absurd (cc e)
 second_there (d ∷ []) a b e = absurd (cc (rest_same _ _ _ _ e))
 second_there (d ∷ x ∷ ds) a b e = (x, refl)
@@ -29,10 +29,10 @@ start_taken_one s payload true true n k x y =
 
 -- ---- slots hold frames
 
-abbrev HoldsFrame : Flight → Type 0
+abbrev pub HoldsFrame : Flight → Type 0
 HoldsFrame x = (p : Payload) × IsFrame x.bytes p
 
-abbrev HoldsFrames : WorldState → Type 0
+abbrev pub HoldsFrames : WorldState → Type 0
 HoldsFrames w = (k : ℕ) (x : Flight) → flight_at w k ≡ Some x → HoldsFrame x
 
 flights_hold : (number k : ℕ) (bs : List (List ℕ)) → ((i : ℕ) → i < length bs → (p : Payload) × IsFrame (get_or bs i []) p) → (i : ℕ) (x : Flight) → slice_get (flights_from number k bs) i ≡ Some x → HoldsFrame x
@@ -70,7 +70,7 @@ happens_holds old (AppPut s i x) new h all = subst HoldsFrames (sym h.is) all
 happens_holds old (AppGet s i) new h all = subst HoldsFrames (sym h.is) all
 happens_holds old _ new h all = subst HoldsFrames (sym h) all
 
-step_holds : (old : WorldState) (e : Event) (new : WorldState) (one : Bool) → IsStep old e new one → HoldsFrames old → HoldsFrames new
+pub step_holds : (old : WorldState) (e : Event) (new : WorldState) (one : Bool) → IsStep old e new one → HoldsFrames old → HoldsFrames new
 step_holds old e new true h all = happens_holds old e new (h.happens refl) all
 step_holds old e new false h all = subst HoldsFrames (sym (h.refused refl)) all
 

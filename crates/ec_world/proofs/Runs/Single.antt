@@ -45,32 +45,56 @@ new_part number k image [] i f e = absurd (none_some f e)
 new_part number k image (u ∷ us) zero f e = let z : k ≡ f.part = ap (λ (x : PlainFrame). x.part) (some_same _ f e) in (omega (arith, z), omega (arith, z))
 new_part number k image (u ∷ us) (suc i) f e = let r = new_part number (k + 1) image us i f e in let a = r.0 in let b = r.1 in (omega (arith, a), omega (arith, b))
 
--- no slot has a frame with the number
-abbrev IsForeign : ℕ → List (Option PlainFrame) → Type 0
-IsForeign number os = (i : ℕ) (f : PlainFrame) → get_or os i None ≡ Some f → f.number ≡ number → ⊥
+-- new frames, by their numbers and parts: all of one number, and one part after another
+abbrev pub InParts : {X : Type 0} (N P : X → ℕ) (number k : ℕ) → List X → Type 0
+InParts N P number k [] = Unit {0}
+InParts N P number k (x ∷ xs) = (N x ≡ number) × (P x ≡ k) × InParts N P number (k + 1) xs
 
-behind : (number k : ℕ) (image us : List ℕ) (os : List (Option PlainFrame)) → IsForeign number os
-    → (j : ℕ) (g : PlainFrame) → get_or (filled (new_frames number image k us) os) j None ≡ Some g → g.number ≡ number → k ≤ g.part
-behind number k image us os old j g e own = filled_has (λ (h : PlainFrame). h.number ≡ number → k ≤ h.part) (new_frames number image k us) os
-    (λ i h there num. (new_part number k image us i h there).0) (λ i h there num. absurd (old i h there num)) j g e own
+pub in_parts_number : {X : Type 0} (N P : X → ℕ) (number k : ℕ) (xs : List X) (i : ℕ) (x : X) → InParts N P number k xs → slice_get xs i ≡ Some x → N x ≡ number
+in_parts_number N P number k [] i x h e = absurd (none_some x e)
+in_parts_number N P number k (y ∷ xs) zero x h e = sym (ap N (some_same y x e)) ∙ h.0
+in_parts_number N P number k (y ∷ xs) (suc i) x h e = in_parts_number N P number (k + 1) xs i x h.2 e
+
+in_parts_least : {X : Type 0} (N P : X → ℕ) (number k : ℕ) (xs : List X) (i : ℕ) (x : X) → InParts N P number k xs → slice_get xs i ≡ Some x → k ≤ P x
+in_parts_least N P number k [] i x h e = absurd (none_some x e)
+in_parts_least N P number k (y ∷ xs) zero x h e = let z : P x ≡ k = sym (ap P (some_same y x e)) ∙ h.1 in omega (arith, z)
+in_parts_least N P number k (y ∷ xs) (suc i) x h e = let l = in_parts_least N P number (k + 1) xs i x h.2 e in omega (arith, l)
+
+-- no slot has a frame with the number
+abbrev pub IsForeign : {X : Type 0} (N : X → ℕ) (number : ℕ) → List (Option X) → Type 0
+IsForeign N number os = (i : ℕ) (f : _) → get_or os i None ≡ Some f → N f ≡ number → ⊥
+
+least : {X : Type 0} (N P : X → ℕ) (number k : ℕ) (fs : List X) (os : List (Option X)) → InParts N P number k fs → IsForeign N number os
+    → (j : ℕ) (g : X) → get_or (filled fs os) j None ≡ Some g → N g ≡ number → k ≤ P g
+least N P number k fs os parts old j g e own = filled_has (λ h. N h ≡ number → k ≤ P h) fs os
+    (λ i h there num. in_parts_least N P number k fs i h parts there) (λ i h there num. absurd (old i h there num)) j g e own
 
 -- the new frames of two slots are of two parts
-once_new : (number k : ℕ) (image us : List ℕ) (os : List (Option PlainFrame)) → IsForeign number os
-    → (i j : ℕ) (f g : PlainFrame) → get_or (filled (new_frames number image k us) os) i None ≡ Some f → get_or (filled (new_frames number image k us) os) j None ≡ Some g
-    → f.number ≡ number → g.number ≡ number → f.part ≡ g.part → i ≡ j
-once_new number k image us [] old i j f g ef eg nf ng same = absurd (none_some f ef)
-once_new number k image [] (o ∷ os) old i j f g ef eg nf ng same = absurd (old i f ef nf)
-once_new number k image (u ∷ us) (None ∷ os) old zero zero f g ef eg nf ng same = refl
-once_new number k image (u ∷ us) (None ∷ os) old zero (suc j) f g ef eg nf ng same =
-    absurd (let z : k ≡ f.part = ap (λ (x : PlainFrame). x.part) (some_same _ f ef) in let l = behind number (k + 1) image us os (λ a. old (suc a)) j g eg ng in omega (arith, z, l, same))
-once_new number k image (u ∷ us) (None ∷ os) old (suc i) zero f g ef eg nf ng same =
-    absurd (let z : k ≡ g.part = ap (λ (x : PlainFrame). x.part) (some_same _ g eg) in let l = behind number (k + 1) image us os (λ a. old (suc a)) i f ef nf in omega (arith, z, l, same))
-once_new number k image (u ∷ us) (None ∷ os) old (suc i) (suc j) f g ef eg nf ng same =
-    ap (λ (n : ℕ). suc n) (once_new number (k + 1) image us os (λ a. old (suc a)) i j f g ef eg nf ng same)
-once_new number k image (u ∷ us) (Some h ∷ os) old zero j f g ef eg nf ng same = absurd (old 0 f ef nf)
-once_new number k image (u ∷ us) (Some h ∷ os) old (suc i) zero f g ef eg nf ng same = absurd (old 0 g eg ng)
-once_new number k image (u ∷ us) (Some h ∷ os) old (suc i) (suc j) f g ef eg nf ng same =
-    ap (λ (n : ℕ). suc n) (once_new number k image (u ∷ us) os (λ a. old (suc a)) i j f g ef eg nf ng same)
+pub once_new : {X : Type 0} (N P : X → ℕ) (number k : ℕ) (fs : List X) (os : List (Option X)) → InParts N P number k fs → IsForeign N number os
+    → (i j : ℕ) (f g : X) → get_or (filled fs os) i None ≡ Some f → get_or (filled fs os) j None ≡ Some g → N f ≡ number → N g ≡ number → P f ≡ P g → i ≡ j
+once_new N P number k fs [] parts old i j f g ef eg nf ng same = absurd (none_some f ef)
+once_new N P number k [] (o ∷ os) parts old i j f g ef eg nf ng same = absurd (old i f ef nf)
+once_new N P number k (x ∷ fs) (None ∷ os) parts old zero zero f g ef eg nf ng same = refl
+once_new N P number k (x ∷ fs) (None ∷ os) parts old zero (suc j) f g ef eg nf ng same =
+    absurd (let z : k ≡ P f = sym parts.1 ∙ ap P (some_same x f ef) in let l = least N P number (k + 1) fs os parts.2 (λ a. old (suc a)) j g eg ng in omega (arith, z, l, same))
+once_new N P number k (x ∷ fs) (None ∷ os) parts old (suc i) zero f g ef eg nf ng same =
+    absurd (let z : k ≡ P g = sym parts.1 ∙ ap P (some_same x g eg) in let l = least N P number (k + 1) fs os parts.2 (λ a. old (suc a)) i f ef nf in omega (arith, z, l, same))
+once_new N P number k (x ∷ fs) (None ∷ os) parts old (suc i) (suc j) f g ef eg nf ng same =
+    ap (λ (n : ℕ). suc n) (once_new N P number (k + 1) fs os parts.2 (λ a. old (suc a)) i j f g ef eg nf ng same)
+once_new N P number k (x ∷ fs) (Some h ∷ os) parts old zero j f g ef eg nf ng same = absurd (old 0 f ef nf)
+once_new N P number k (x ∷ fs) (Some h ∷ os) parts old (suc i) zero f g ef eg nf ng same = absurd (old 0 g eg ng)
+once_new N P number k (x ∷ fs) (Some h ∷ os) parts old (suc i) (suc j) f g ef eg nf ng same =
+    ap (λ (n : ℕ). suc n) (once_new N P number k (x ∷ fs) os parts (λ a. old (suc a)) i j f g ef eg nf ng same)
+
+abbrev number_in : PlainFrame → ℕ
+number_in f = f.number
+
+abbrev part_in : PlainFrame → ℕ
+part_in f = f.part
+
+new_parts : (number k : ℕ) (image us : List ℕ) → InParts number_in part_in number k (new_frames number image k us)
+new_parts number k image [] = tt
+new_parts number k image (u ∷ us) = (refl, refl, new_parts number (k + 1) image us)
 
 -- ---- frames of one cycle
 
@@ -168,13 +192,13 @@ single_begun m p begun b = record {
   inside = λ i f at own. filled_has (λ (g : PlainFrame). g.number ≡ p.next → g.part < length m.parts) (new_frames p.next p.outputs 0 m.parts) p.slots
       (λ a g there num. let r = (new_part p.next 0 p.outputs m.parts a g there).1 in omega (arith, r))
       (λ a g there num. absurd (old a g there num)) i f (ap (λ (x : Plain). frame_at x i) is ∙ at) own;
-  once = λ i j f g ef eg. once_new p.next 0 p.outputs m.parts p.slots old i j f g (ap (λ (x : Plain). frame_at x i) is ∙ ef) (ap (λ (x : Plain). frame_at x j) is ∙ eg);
+  once = λ i j f g ef eg. once_new number_in part_in p.next 0 (new_frames p.next p.outputs 0 m.parts) p.slots (new_parts p.next 0 p.outputs m.parts) old i j f g (ap (λ (x : Plain). frame_at x i) is ∙ ef) (ap (λ (x : Plain). frame_at x j) is ∙ eg);
   size = λ d at own. ap (λ (x : Cycle). length x.kept) (sym (some_same _ d (ap (λ (x : Plain). x.cycle) is ∙ at))) ∙ length-map {A = ℕ} {B = Option (List Note)} m.parts (λ v. None);
   missing = λ d at own i f here num.
       ap (λ (x : Cycle). get_or x.kept f.part None) (sym (some_same _ d (ap (λ (x : Plain). x.cycle) is ∙ at))) ∙ none_all m.parts f.part;
 }
   where
-    old : IsForeign p.next p.slots
+    old : IsForeign number_in p.next p.slots
     old i f at own = let x = begun_below m p begun b i f at in omega (arith, x, own)
 
     is : cycle_begun m p ≡ begun

@@ -56,7 +56,7 @@ event_same old (AppPut s i x) new h = subst (Same old) (sym h.is) (record { outp
 event_same old (AppGet s i) new h = subst (Same old) (sym h.is) (record { outputs = refl; inputs = refl; slots = refl })
 event_same old _ new h = subst (Same old) (sym h) (record { outputs = refl; inputs = refl; slots = refl })
 
-step_same : (old : WorldState) (e : Event) (new : WorldState) (one : Bool) → IsStep old e new one → Same old new
+pub step_same : (old : WorldState) (e : Event) (new : WorldState) (one : Bool) → IsStep old e new one → Same old new
 step_same old e new true h = event_same old e new (h.happens refl)
 step_same old e new false h = subst (Same old) (sym (h.refused refl)) (unchanged old)
 

@@ -1,8 +1,8 @@
 -- A world that is Ready: the world in which its start-up ended, and where its slaves' troubles come from.
-use Rattle.ec_world.proofs.Words.{ℕ, zero, suc, ◌+◌, ◌≡◌, ◌⊎◌, ◌&&◌, Bool, true, false, refl, sym, ◌∙◌, ap, subst, inl, inr, List, [], ◌∷◌, ◌++◌, length, replicate, if◌then◌else◌, get_or-set_other, cases_Bool, cases_eq, both_ways, true≢false, if_true, if_false, PlanState, IsUsable, trouble_at, AreStartable, is_beginning, Event, StartNext, Fault, ResetSlave as Reset, WorldState, is_up, resumed, IsStep, IsRun, flags_after, flags_of, no_trouble, IsReadyWorld, Rising, HadTrouble, IsRunWithoutStart, begins_start, TroubleLaw, IsMade, append_assoc}
+use Rattle.ec_world.proofs.Words.{ℕ, zero, suc, ◌+◌, ◌≡◌, ◌⊎◌, ◌&&◌, Bool, true, false, refl, sym, ◌∙◌, ap, subst, inl, inr, List, [], ◌∷◌, ◌++◌, length, replicate, if◌then◌else◌, get_or-set_other, cases_Bool, cases_eq, both_ways, true≢false, if_true, if_false, PlanState, IsUsable, trouble_at, AreStartable, is_beginning, Event, StartNext, Fault, ResetSlave as Reset, WorldState, is_up, resumed, IsStep, IsRun, IsUnstopped, flags_after, flags_of, no_trouble, IsReadyWorld, Rising, HadTrouble, IsRunWithoutStart, begins_start, TroubleLaw, IsMade, append_assoc}
 use Rattle.ec_world.proofs.StartUp.IsReadyWorld.{ready-world}
 use Rattle.ec_world.proofs.Refinement.StepsRefine.{runs_join}
-use Rattle.ec_world.proofs.StartUp.WholeLaw.{step-rises, step-plan}
+use Rattle.ec_world.proofs.StartUp.Course.{Course, IsLow, IsHigh, course}
 
 -- ---- flags
 
@@ -71,6 +71,37 @@ origin_more old e mid one es new rest flags i step run (inl h) = elim (flagged_b
   | inr now ↦ inr (record { event = e; what = now.0; made = made_first old e mid es new rest (subst (IsStep old e mid) now.1 step) run; since = h.1 })
 ]
 
+-- ---- flags over a run
+
+pub flags_come : (es : List Event) (old new : WorldState) (made : ℕ) (run : IsRun old es new made) (flags : List Bool) (i : ℕ) → trouble_at (flags_of old es new made run flags) i ≡ true → Origin old es new flags i
+flags_come [] old new made run flags i t = inl (t, run.0)
+flags_come (e ∷ es) old new made run flags i t =
+    origin_more old e run.0 run.1 es new run.2 flags i run.3 run.4 (flags_come es run.0 new run.2 run.4 (if run.1 then flags_after old e flags else flags) i t)
+
+-- a run without a start, behind one
+joined : (xs ys : List Event) (a b c : WorldState) → IsRunWithoutStart a xs b → IsRunWithoutStart b ys c → IsRunWithoutStart a (xs ++ ys) c
+joined [] ys a b c h g = subst (λ (w : WorldState). IsRunWithoutStart w ys c) h g
+joined (x ∷ xs) ys a b c h g = (h.0, h.1, h.2, h.3, joined xs ys h.0 b c h.4 g)
+
+pub extended : (old : WorldState) (done : List Event) (mid : WorldState) (es : List Event) (new : WorldState) (made i : ℕ) → IsRun mid es new made → IsRunWithoutStart mid es new → HadTrouble old done mid i → HadTrouble old (done ++ es) new i
+extended old done mid es new made i run without h = record {
+  event = h.event;
+  what = h.what;
+  made = record {
+    before = h.made.before;
+    behind = h.made.behind ++ es;
+    split = ap (λ (xs : List Event). xs ++ es) h.made.split ∙ append_assoc h.made.before (h.event ∷ h.made.behind) es;
+    at = h.made.at;
+    next = h.made.next;
+    first = h.made.first;
+    rest = h.made.rest + made;
+    to_it = h.made.to_it;
+    step = h.made.step;
+    onward = runs_join h.made.next h.made.behind mid h.made.rest es new made h.made.onward run;
+  };
+  since = joined h.made.behind es h.made.next mid new h.since without;
+}
+
 -- ---- the world in which the start-up ended
 
 pub record Started (old : WorldState) (es : List Event) (new : WorldState) (flags : List Bool) : Type 0 where
@@ -82,61 +113,54 @@ pub record Started (old : WorldState) (es : List Event) (new : WorldState) (flag
   pub rest : ℕ
   pub to_ready : IsRun old before ready first
   pub onward : IsRun ready after new rest
+  pub unstopped : IsUnstopped ready new
   pub plan_is : ready.plan ≡ old.plan
   pub flags_then : List Bool
   pub is_ready : IsReadyWorld flags_then ready
   pub origin : (i : ℕ) → trouble_at flags_then i ≡ true → Origin old before ready flags i
 
+-- a flag behind one event more
+origin_behind : (old : WorldState) (before : List Event) (mid : WorldState) (first : ℕ) (to_mid : IsRun old before mid first) (e : Event) (ready : WorldState) (flags : List Bool) (i : ℕ) → IsStep mid e ready true
+    → trouble_at (flags_after mid e (flags_of old before mid first to_mid flags)) i ≡ true → Origin old (before ++ (e ∷ [])) ready flags i
+origin_behind old before mid first to_mid e ready flags i step t = elim (flagged mid e (flags_of old before mid first to_mid flags) i t) [
+  | inr now ↦ inr (record {
+    event = e;
+    what = now.0;
+    made = record { before = before; behind = []; split = refl; at = mid; next = ready; first = first; rest = 0; to_it = to_mid; step = step; onward = (refl, refl) };
+    since = refl;
+  })
+  | inl was ↦
+      let last : IsRunWithoutStart mid (e ∷ []) ready = (ready, true, step, was.1, refl) in
+      elim (flags_come before old mid first to_mid flags i was.0) as (λ _. Origin old (before ++ (e ∷ [])) ready flags i) [
+        | inl none ↦ inl (none.0, joined before (e ∷ []) old mid ready none.1 last)
+        | inr had ↦ inr (extended old before mid (e ∷ []) ready 1 i (ready, true, 0, step, (refl, refl), refl) last had)
+      ]
+]
+
 pub started : (es : List Event) (old new : WorldState) (made : ℕ) (flags : List Bool) → IsUsable old.plan → AreStartable old.plan.slaves → Rising flags old → is_up old.start ≡ false → IsRun old es new made
     → is_up new.start ≡ true → Started old es new flags
-started [] old new made flags sound planned r low h up = absurd (both_ways _ (ap (λ (w : WorldState). is_up w.start) h.0 ∙ low) up)
-started (e ∷ es) old new made flags sound planned r low h up =
-    let mid = h.0 in
-    let one = h.1 in
-    let same : mid.plan ≡ old.plan = step-plan flags old e mid one r low h.3 in
-    let after : List Bool = if one then flags_after old e flags else flags in
-    let rises : Rising after mid = step-rises flags old e mid one planned r low h.3 in
-    let usable : IsUsable mid.plan = subst IsUsable (sym same) sound in
-    let startable : AreStartable mid.plan.slaves = subst (λ (p : PlanState). AreStartable p.slaves) (sym same) planned in
-    elim (cases_Bool (is_up mid.start)) as (λ _. Started old (e ∷ es) new flags) [
-      | inl now ↦ record {
-        before = e ∷ [];
-        after = es;
-        split = refl;
-        ready = mid;
-        first = (if one then 1 else 0) + 0;
-        rest = h.2;
-        to_ready = (mid, one, 0, h.3, (refl, refl), refl);
-        onward = h.4;
-        plan_is = same;
-        flags_then = after;
-        is_ready = ready-world after mid usable startable rises now;
-        origin = λ i t. origin_more old e mid one [] mid 0 flags i h.3 (refl, refl) (inl (t, refl));
-      }
-      | inr still ↦ (
-          let s = started es mid new h.2 after usable startable rises still h.4 up in
-          record {
-            before = e ∷ s.before;
-            after = s.after;
-            split = ap (λ (xs : List Event). e ∷ xs) s.split;
-            ready = s.ready;
-            first = (if one then 1 else 0) + s.first;
-            rest = s.rest;
-            to_ready = (mid, one, s.first, h.3, s.to_ready, refl);
-            onward = s.onward;
-            plan_is = s.plan_is ∙ same;
-            flags_then = s.flags_then;
-            is_ready = s.is_ready;
-            origin = λ i t. origin_more old e mid one s.before s.ready s.first flags i h.3 s.to_ready (s.origin i t);
-          })
-    ]
-
--- ---- flags over a run
-
-pub flags_come : (es : List Event) (old new : WorldState) (made : ℕ) (run : IsRun old es new made) (flags : List Bool) (i : ℕ) → trouble_at (flags_of old es new made run flags) i ≡ true → Origin old es new flags i
-flags_come [] old new made run flags i t = inl (t, run.0)
-flags_come (e ∷ es) old new made run flags i t =
-    origin_more old e run.0 run.1 es new run.2 flags i run.3 run.4 (flags_come es run.0 new run.2 run.4 (if run.1 then flags_after old e flags else flags) i t)
+started es old new made flags sound planned r low h up = by (course es old new made flags sound planned r low h)
+  where
+    by : Course old es new made flags → Started old es new flags
+    by (IsLow off now rises) = absurd (both_ways _ off up)
+    by (IsHigh x) =
+        let usable : IsUsable x.ready.plan = subst IsUsable (sym x.plan_is) sound in
+        let startable : AreStartable x.ready.plan.slaves = subst (λ (p : PlanState). AreStartable p.slaves) (sym x.plan_is) planned in
+        record {
+          before = x.before ++ (x.event ∷ []);
+          after = x.after;
+          split = x.split ∙ sym (append_assoc x.before (x.event ∷ []) x.after);
+          ready = x.ready;
+          first = x.first + 1;
+          rest = x.rest;
+          to_ready = runs_join old x.before x.mid x.first (x.event ∷ []) x.ready 1 x.to_mid (x.ready, true, 0, x.step, (refl, refl), refl);
+          onward = x.onward;
+          unstopped = x.unstopped;
+          plan_is = x.plan_is;
+          flags_then = flags_after x.mid x.event (flags_of old x.before x.mid x.first x.to_mid flags);
+          is_ready = ready-world _ x.ready usable startable x.rises x.up;
+          origin = λ i t. origin_behind old x.before x.mid x.first x.to_mid x.event x.ready flags i x.step t;
+        }
 
 pub trouble_law : TroubleLaw
 trouble_law t ids old events w made n run s flag = elim (flags_come events old w made run (no_trouble old) s flag) [

@@ -1,5 +1,5 @@
 -- What the frames of a cycle hear of the slaves' AL status, over a world's run; and the AL word of a report.
-use Rattle.ec_world.proofs.Words.{ℕ, zero, suc, ◌+◌, ◌*◌, ◌^◌, ◌<◌, ◌≡◌, ◌⊎◌, ◌==◌, ◌&&◌, not, Bool, true, false, Option, Some, None, refl, sym, ◌∙◌, ap, subst, inl, inr, arith, List, [], ◌∷◌, ◌++◌, length, map, get_or, set, is_some, option_map, nat_lt, slice_get, slice_index, bit_or, fold, cases_lt, and_parts, eqb-true, false≢true, append_assoc, length_push, length-map, list_get_or-map as get_or-map, fold-append, get_or-append_seam, get_or-append, Identity, Payload, IsFrame, bare_payload, one_payload, Contents, ExpectedCounters, Meaning, meaning, PlanState, part_at, IsUsable, plan_sound, last_number, ReturnedPart, nones, returned_part_of, bytes_at, joined, word_of_returned, report_of, sent_datagrams, MasterState, OpenCycle, IsAnswer, IsTaken, Event, StartNext, Begin, Pass, Lose, Return, Close, AppPut, AppGet, Plain, Cycle, run, may_return, WorldState, Flight, slave_of, flight_at, flight_progress, flights_progress, flights_from, awaits, is_up, can_start, ByStart, StartReturns, Returns, GivesUp, Closes, Passes, Begins, IsStep, Refines, CyclesRefine, IsRun, IsNew, plain_of, HeadlineIsBegun as IsBegun, HeadlineHasPassed as HasPassed, said_by, IsHeard, AreHeard, PartSays, IsNotBack, IsBack, WordShows, WordLaw, OpWordLaw, flight_pairs, none_some, some_same, none_in}
+use Rattle.ec_world.proofs.Words.{IsUnstopped, ℕ, zero, suc, ◌+◌, ◌*◌, ◌^◌, ◌<◌, ◌≡◌, ◌⊎◌, ◌==◌, ◌&&◌, not, Bool, true, false, Option, Some, None, refl, sym, ◌∙◌, ap, subst, inl, inr, arith, List, [], ◌∷◌, ◌++◌, length, map, get_or, set, is_some, option_map, nat_lt, slice_get, slice_index, bit_or, fold, cases_lt, and_parts, eqb-true, false≢true, append_assoc, length_push, length-map, list_get_or-map as get_or-map, fold-append, get_or-append_seam, get_or-append, Identity, Payload, IsFrame, bare_payload, one_payload, Contents, ExpectedCounters, Meaning, meaning, PlanState, part_at, IsUsable, plan_sound, last_number, ReturnedPart, nones, returned_part_of, bytes_at, joined, word_of_returned, report_of, sent_datagrams, MasterState, OpenCycle, IsAnswer, IsTaken, Event, StartNext, Begin, Pass, Lose, Return, Close, AppPut, AppGet, Plain, Cycle, run, may_return, WorldState, Flight, slave_of, flight_at, flight_progress, flights_progress, flights_from, awaits, is_up, can_start, ByStart, StartReturns, Returns, GivesUp, Closes, Passes, Begins, IsStep, Refines, CyclesRefine, IsRun, IsNew, plain_of, HeadlineIsBegun as IsBegun, HeadlineHasPassed as HasPassed, said_by, IsHeard, AreHeard, PartSays, IsNotBack, IsBack, WordShows, WordLaw, OpWordLaw, flight_pairs, none_some, some_same, none_in}
 use Rattle.ec_world.proofs.Runs.TroubleLaw.{made_later}
 use Rattle.ec_world.proofs.Refinement.AlWord.{FrameBrings, frame_word}
 use Rattle.ec_world.proofs.Refinement.Return.{answer_tells}
@@ -8,6 +8,7 @@ use Rattle.ec_world.proofs.Runs.SnapshotsLaw.{AreBelow, filled_has, set_has, set
 use Rattle.ec_world.proofs.Refinement.MasterEvents.{OpenBoth, open_both}
 use Rattle.ec_world.proofs.Runs.BeganAt.{BeganAt, are_begun, begun_of}
 use Rattle.ec_world.proofs.Refinement.StepsRefine.{steps_refine, run_more}
+use Rattle.ec_world.proofs.Runs.Unstopped.{still_next}
 use Rattle.ec_world.proofs.Headline.LinkedBits.{MadeAt, made_at, Sees, sees, free_slots}
 
 -- ---- frames as a cycle begins
@@ -232,14 +233,15 @@ module _ (base : WorldState) (all : List Event) (last : WorldState) (number : �
   stepped n w e v false p before behind first rest split to does on sound many s h = subst (Hearing n) (sym (does.refused refl)) h
 
   pub hears : (n : ℕ) (es : List Event) (before : List Event) (w : WorldState) (first rest : ℕ) (p : Plain) → all ≡ before ++ es → IsRun base before w first → IsRun w es last rest
-      → IsUsable w.plan → length w.plan.slaves ≡ n → Refines w p → Hearing n w → Hearing n last
-  hears n [] before w first rest p split to on sound many s h = subst (Hearing n) (sym on.0) h
-  hears n (e ∷ es) before w first rest p split to on sound many s h =
+      → IsUnstopped w last → IsUsable w.plan → length w.plan.slaves ≡ n → Refines w p → Hearing n w → Hearing n last
+  hears n [] before w first rest p split to on still sound many s h = subst (Hearing n) (sym on.0) h
+  hears n (e ∷ es) before w first rest p split to on still sound many s h =
       let v = on.0 in
+      let here : IsUnstopped w v = still_next w e v on.1 es last on.2 s.started on.3 on.4 still in
       let one = steps_refine w e v on.1 sound on.3 in
       let same : v.plan ≡ w.plan = one.same_plan p s in
-      hears n es (before ++ (e ∷ [])) v _ on.2 _ (split ∙ sym (append_assoc before (e ∷ []) es)) (run_more base before w first e v on.1 to on.3) on.4
-      (subst IsUsable (sym same) sound) (ap (λ (x : PlanState). length x.slaves) same ∙ many) (one.shown p s)
+      hears n es (before ++ (e ∷ [])) v _ on.2 _ (split ∙ sym (append_assoc before (e ∷ []) es)) (run_more base before w first e v on.1 to on.3) on.4 (still ∙ sym here)
+      (subst IsUsable (sym same) sound) (ap (λ (x : PlanState). length x.slaves) same ∙ many) (one.shown p s here)
       (stepped n w e v on.1 p before es first on.2 split to on.3 on.4 sound many s h)
 
 -- ---- a report
@@ -278,7 +280,7 @@ module _ (t : Contents) (ids : List Identity) (old : WorldState) (events : List 
   b = (are_begun M start s.after (free_slots s.ready.slots) refl).cycle q both.is
 
   mb : MadeAt M s.ready start s.after b.before Begin b.behind b.begun w
-  mb = made_at s.ready start s.after w s.rest b.before Begin b.behind b.begun s.usable s.shows s.onward b.split b.begins
+  mb = made_at s.ready start s.after w s.rest b.before Begin b.behind b.begun s.usable s.shows s.onward s.unstopped b.split b.begins
 
   abbrev begun : IsBegun old events w q.number
   begun = record {
@@ -294,7 +296,7 @@ module _ (t : Contents) (ids : List Identity) (old : WorldState) (events : List 
       (begun_below M (run M start b.before).plain b.begun (begun_of M start s.after q.number (free_slots s.ready.slots) b))
 
   heard : Hearing mb.made.next mb.made.behind w q.number (length t.slaves) w
-  heard = hears mb.made.next mb.made.behind w q.number (length t.slaves) mb.made.behind [] mb.made.next 0 mb.made.rest b.begun refl (refl, refl) mb.made.onward
+  heard = hears mb.made.next mb.made.behind w q.number (length t.slaves) mb.made.behind [] mb.made.next 0 mb.made.rest b.begun refl (refl, refl) mb.made.onward (s.unstopped ∙ sym mb.next_start)
       (subst IsUsable (sym mb.next_plan) s.usable) many mb.next_shows first
 
   part : (k : ℕ) → k < length c.kept → PartSays t mb.made.next mb.made.behind w q.number k (get_or (report_of w.master.plan c.kept).counters k None) (get_or (map word_of_returned c.kept) k 0)

@@ -1,5 +1,5 @@
 -- A world whose start-up is ready refines a plain state.
-use Rattle.ec_world.proofs.Words.{ℕ, zero, suc, ◌<◌, ◌≡◌, ◌⊎◌, Bool, true, false, Option, Some, None, refl, sym, ◌∙◌, ap, subst, inl, inr, arith, List, [], ◌∷◌, length, map, get_or, option_map, get_or-map as get_or-mapped, ext_get_or, get_or_past, list_get_or-map as get_or-map, length-map, length-replicate, bytes_of_bits, no_settings, no_fmmu, Identity, SlaveKind, Buffer, emptied_buffer, SyncManager, no_manager, buffer_length, switched_on, SlaveState, manager_at, power_on, SlavePlan, slave_at as settings_of, AreListed, input_manager, IsUsable, listed, IsStartable, end_of, Phase, Ready, IsOfKind, unviewed, Config, OpenCycle, ReportState, fmmus-held, Starting, trouble_at, no_plan, kind_at, Starts, Between, UnderWay, Adrift, Over, IsReady, AreStartable, ends_of, HoldsAll, SlaveHealth, ready-shown, PlainSlave, Health, Working, Faulted, Reset, no_plain_slave, plain_slave, all_progress, WorldState, Flight, no_slave, slave_of, flights_progress, is_up, phase_ready, phase_awaits, Holds, IsQuiet, HoldsData, IsAs, SlaveRefines, CyclesRefine, said, AreWhole, SlotsHold, starting_of, Rising, health_of, plain_slave_of, plain_of, ShowsZeros, IsReadyWorld, none_some, PlainFrame, FrameRefines, ReportRefines, flight_at}
+use Rattle.ec_world.proofs.Words.{ℕ, zero, suc, ◌<◌, ◌≡◌, ◌⊎◌, Bool, true, false, Option, Some, None, refl, sym, ◌∙◌, ap, subst, inl, inr, arith, List, [], ◌∷◌, length, map, get_or, option_map, get_or-map as get_or-mapped, ext_get_or, get_or_past, list_get_or-map as get_or-map, length-map, length-replicate, bytes_of_bits, no_settings, no_fmmu, Identity, SlaveKind, Buffer, emptied_buffer, SyncManager, no_manager, buffer_length, switched_on, SlaveState, manager_at, power_on, SlavePlan, slave_at as settings_of, AreListed, input_manager, IsUsable, listed, IsStartable, end_of, Phase, Ready, IsOfKind, unviewed, Config, OpenCycle, fmmus-held, Starting, trouble_at, no_plan, kind_at, Starts, Between, UnderWay, Adrift, Over, IsReady, AreStartable, ends_of, HoldsAll, SlaveHealth, ready-shown, PlainSlave, Health, Working, Faulted, Reset, no_plain_slave, plain_slave, all_progress, WorldState, Flight, no_slave, slave_of, flights_progress, is_up, phase_ready, phase_awaits, Holds, IsQuiet, HoldsData, IsAs, SlaveRefines, CyclesRefine, said, AreWhole, SlotsHold, starting_of, Rising, health_of, plain_slave_of, plain_of, ShowsZeros, IsReadyWorld, none_some, PlainFrame, FrameRefines, ReportRefines, flight_at}
 use Rattle.ec_bringup.specs.Runs as rise
 use Rattle.ec_world.proofs.Refinement.ProcessManagers.{third_held, fourth_held, buffer_long, set_for_ins}
 use Rattle.ec_world.proofs.Refinement.ApplicationEvents.{out_length, state_on}
@@ -90,10 +90,14 @@ up-ready _ e = absurd (let z : false ≡ true = e in cc)
 ready-slot : (ends : ℕ → Config) (v : Starting) → Starts ends v → v.start.phase ≡ Ready → v.slot ≡ None
 ready-slot ends v h e = elim h.instant [ Between b ↦ b.empty | UnderWay b ↦ absurd (cc (sym b.sent ∙ e)) | Adrift b ↦ b.empty | Over b ↦ absurd (cc (sym b.failed ∙ e)) | IsReady b ↦ b.empty ]
 
+-- it has no frame on its way
+pub no-slots : (flags : List Bool) (w : WorldState) → Rising flags w → is_up w.start ≡ true → (k : ℕ) → get_or w.slots k None ≡ None
+no-slots flags w r up = subst (SlotsHold w.slots) (ready-slot (ends_of w.plan.slaves) (starting_of w flags r.slot) r.starts (up-ready w.start.phase up)) r.slots
+
 pub ready-world : (flags : List Bool) (w : WorldState) → IsUsable w.plan → AreStartable w.plan.slaves → Rising flags w → is_up w.start ≡ true → IsReadyWorld flags w
 ready-world flags w sound planned r up =
     let ready : w.start.phase ≡ Ready = up-ready w.start.phase up in
-    let none : (k : ℕ) → get_or w.slots k None ≡ None = subst (SlotsHold w.slots) (ready-slot (ends_of w.plan.slaves) (starting_of w flags r.slot) r.starts ready) r.slots in
+    let none = no-slots flags w r up in
     let as_many : length w.slaves ≡ length w.plan.slaves = r.starts.slaves.slaves ∙ ap length r.same_plan in
     let shown : (i : ℕ) → i < length w.plan.slaves → SlaveHealth i (settings_of w.plan i) (trouble_at flags i) (slave_of w i)
     = λ i l. subst (λ (ps : List SlavePlan). SlaveHealth i (get_or ps i no_plan) (trouble_at flags i) (slave_of w i)) r.same_plan
@@ -106,10 +110,10 @@ ready-world flags w sound planned r up =
     = λ i l. subst (SlaveRefines i (settings_of w.plan i) (slave_of w i)) (sym (at i l))
     (slave-shows i (settings_of w.plan i) (slave_of w i) (listed w.plan sound i l) (planned.each i l) (kind i l) (r.fit i) (trouble_at flags i) (shown i l)) in
     let cycle : CyclesRefine w.plan w.master.cycle None = subst (λ (o : Option OpenCycle). CyclesRefine w.plan o None) (sym r.no_cycle) tt in
-    let report : ReportRefines w.plan w.report None = record { same = ap (λ (o : Option ReportState). option_map said o) r.no_report; counters = λ x e. absurd (none_some x (sym r.no_report ∙ e)) } in
+    let report : ReportRefines w.plan w.report (option_map said w.report) = record { same = refl; counters = r.reported } in
     let frames : (k : ℕ) (flight : Flight) (f : PlainFrame) → flight_at w k ≡ Some flight → get_or (plain_of w).slots k None ≡ Some f → FrameRefines w.plan f flight.bytes = λ k flight f e q. absurd (none_some flight (sym (none k) ∙ e)) in
     record {
-      shows = assumption (ap (λ (p : Phase). phase_awaits p) ready, r.master_ready ∙ up, r.master_plan, cycle, report, length-map w.slaves plain_slave_of ∙ as_many, slaves, no-frames w.slots none, frames);
+      shows = assumption (ap (λ (p : Phase). phase_awaits p) ready, r.master_ready up, r.master_plan, cycle, report, length-map w.slaves plain_slave_of ∙ as_many, slaves, no-frames w.slots none, frames);
       told = λ i l. subst (λ (q : PlainSlave). (q.health ≡ Working) ⊎ (trouble_at flags i ≡ true)) (sym (at i l))
           (slave-told i (settings_of w.plan i) (slave_of w i) (listed w.plan sound i l) (planned.each i l) (kind i l) (r.fit i) (trouble_at flags i) (shown i l));
       zeros = λ i l. subst (λ (q : PlainSlave). ShowsZeros q.outputs) (sym (at i l))

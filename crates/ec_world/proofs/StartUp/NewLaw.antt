@@ -2,21 +2,21 @@
 use Rattle.ec_world.proofs.Words.{ℕ, zero, suc, ◌<◌, ◌≡◌, refl, sym, ◌∙◌, ap, arith, List, [], ◌∷◌, length, get_or, None, ◌+◌, ◌⊎◌, true, false, if◌then◌else◌, Option, subst, inl, inr, ◌++◌, replicate, Identity, SlavePlan, plan_of, PlanState, plan_sound, BringupRising as Rising, turns, stay, of-types, with-types, Contents, IsTurn, AreTurns, BringUp, IsToStart, IsBroughtUp, NewLaw, MachineLaw, rising_of, append-nil, length-append, SlaveState, plan_usable, MasterState, readied, cycle_limit, StartError, Phase, Idle, Ready, Failed, script, StartState, begun, IsUpAndWorks, AreStartable, are-plans, compiled-up, Event, WorldState, Flight, flight_at, phase_ready, phase_awaits, is_up, awaits, resumed, ready_with, IsRun, IsNew, new_world, all_none, none_free}
 use Rattle.ec_world.proofs.StartUp.ScriptFits.{script_fits}
 use Rattle.ec_world.proofs.Runs.Sizes.{run_same}
-use Rattle.ec_world.proofs.StartUp.WholeLaw.{StillRises, still_rises, new-rises, new-low}
+use Rattle.ec_world.proofs.StartUp.WholeLaw.{StillRises, still_rises, new-rises, new-low, new-holds}
 use Rattle.ec_world.proofs.StartUp.TurnEvents.{Sending, length-turned}
 use Rattle.ec_world.proofs.StartUp.HasTurned.{HasTurned, turns_once}
 
 -- ---- turn after turn
 
-record IsSplit (xs ys : List Event) (w v : WorldState) (made : ℕ) : Type 0 where
-  mid : WorldState
-  first : ℕ
-  rest : ℕ
-  to_mid : IsRun w xs mid first
-  onward : IsRun mid ys v rest
-  sum : made ≡ first + rest
+pub record IsSplit (xs ys : List Event) (w v : WorldState) (made : ℕ) : Type 0 where
+  pub mid : WorldState
+  pub first : ℕ
+  pub rest : ℕ
+  pub to_mid : IsRun w xs mid first
+  pub onward : IsRun mid ys v rest
+  pub sum : made ≡ first + rest
 
-split : (xs ys : List Event) (w v : WorldState) (made : ℕ) → IsRun w (xs ++ ys) v made → IsSplit xs ys w v made
+pub split : (xs ys : List Event) (w v : WorldState) (made : ℕ) → IsRun w (xs ++ ys) v made → IsSplit xs ys w v made
 split [] ys w v made h = record { mid = w; first = 0; rest = made; to_mid = (refl, refl); onward = h; sum = omega arith }
 split (x ∷ xs) ys w v made h =
     let r = split xs ys h.0 v h.2 h.4 in
@@ -136,7 +136,7 @@ risen t w s low =
     let usable = plan_usable t n.sound n.accepted in
     still_rises s.events (plan_of t).slaves (new_world (plan_of t) s.identities) w s.made _ usable planned
     (new-rises (plan_of t) s.identities usable planned (n.one_each ∙ sym ((plan_sound t n.sound n.accepted).as_many))) (new-low (plan_of t) s.identities)
-    (with-types t n.sound n.accepted s.identities n.one_each s.devices)
+    (new-holds (plan_of t) s.identities) (with-types t n.sound n.accepted s.identities n.one_each s.devices)
     (subst (λ (x : WorldState). IsRun x s.events w s.made) n.is s.reached) low
 
 -- what holds where a start-up is to begin

@@ -1,5 +1,5 @@
 -- Every event keeps a world that starts up one.
-use Rattle.ec_world.proofs.Words.{ℕ, zero, suc, ◌+◌, ◌<◌, ◌≤◌, ◌≡◌, ◌≢◌, ◌==◌, ◌||◌, not, Bool, true, false, Option, Some, None, refl, sym, ◌∙◌, ap, subst, inl, inr, arith, if◌then◌else◌, List, [], ◌∷◌, length, set, get_or, option_map, is_some, nat_lt, unwrap_or, cases_Bool, cases_eq, both_ways, and_parts, eqb-true, ltb-true, length-set, list_get_or-set_same as get_or-set_same, list_get_or-set_other as get_or-set_other, State, Op, Payload, with_datagrams, bare_payload, SlaveState, power_on, passes, Passed, slave_met, datagram_met, input_put, output_got, output_taken, Got, served, faulted, SlavePlan, nones, MasterState, OpenCycle, IsAnswer, readied, name_datagram, frame_of, datagram_of, StartError, Lost, StartState, action_of, sending, begun, taken, given_up_by, second, Phase, Idle, Sent, Ready, Failed, Config, Starting, Carried, trouble_at, Starts, Between, UnderWay, Adrift, Over, IsReady, IsCarried, AreStartable, ends_of, flags_sent, with_begun, with_slave_at, SendsNext, PassesOne, LosesOne, ReturnsOne, Strays, ClosesOne, BringupServes as Serves, PutsOne, GetsOne, Faults, Resets, taken-plan, happens-starts, begun-starts, frame-passes, Event, StartNext, Set, Begin, Pass, Lose, Return, Close, Serve, AppPut, AppGet, Fault, ResetSlave, filled, may_pass, may_return, WorldState, Flight, no_slave, slave_of, flight_at, flight_progress, flights_progress, is_up, awaits, phase_awaits, phase_ready, is_slave, can_happen, resumed, ready_with, ByStart, Sends, Passes, Returns, StartReturns, GivesUp, Closes, Happens, with_slave, AreWhole, flags_after, IsInSlot, SlotsHold, starting_of, Rising, stay_whole, on_whole, get_or-set_default, none_some, some_same, variable_set, filled-none, filled-length, set-get_or, some_of}
+use Rattle.ec_world.proofs.Words.{ℕ, zero, suc, ◌+◌, ◌<◌, ◌≤◌, ◌≡◌, ◌≢◌, ◌==◌, ◌||◌, not, Bool, true, false, Option, Some, None, refl, sym, ◌∙◌, ap, subst, inl, inr, arith, if◌then◌else◌, List, [], ◌∷◌, length, set, get_or, option_map, is_some, nat_lt, unwrap_or, cases_Bool, cases_eq, both_ways, and_parts, eqb-true, ltb-true, length-set, list_get_or-set_same as get_or-set_same, list_get_or-set_other as get_or-set_other, State, Op, Payload, with_datagrams, bare_payload, SlaveState, power_on, passes, Passed, slave_met, datagram_met, input_put, output_got, output_taken, Got, served, faulted, SlavePlan, nones, MasterState, OpenCycle, IsAnswer, readied, name_datagram, frame_of, datagram_of, StartError, Lost, StartState, action_of, sending, begun, taken, given_up_by, second, Phase, Idle, Sent, Ready, Failed, Config, Starting, Carried, trouble_at, Starts, Between, UnderWay, Adrift, Over, IsReady, IsCarried, AreStartable, ends_of, flags_sent, with_begun, with_slave_at, SendsNext, PassesOne, LosesOne, ReturnsOne, Strays, ClosesOne, BringupServes as Serves, PutsOne, GetsOne, Faults, Resets, taken-plan, happens-starts, begun-starts, frame-passes, Event, StartNext, Set, Begin, Pass, Lose, Return, Close, Serve, AppPut, AppGet, Fault, ResetSlave, Stop, filled, may_pass, may_return, WorldState, Flight, no_slave, slave_of, flight_at, flight_progress, flights_progress, is_up, awaits, phase_awaits, phase_ready, is_slave, can_happen, resumed, ready_with, ByStart, Sends, Passes, Returns, StartReturns, GivesUp, Closes, Happens, with_slave, AreWhole, flags_after, IsInSlot, SlotsHold, starting_of, Rising, stay_whole, on_whole, get_or-set_default, none_some, some_same, variable_set, filled-none, filled-length, set-get_or, some_of}
 use Rattle.ec_world.proofs.StartUp.TurnEvents.{second-good}
 use Rattle.ec_world.proofs.SlotLaws.Clearance.{at_set}
 use Rattle.ec_al.specs.Al as al
@@ -11,7 +11,7 @@ nones-few [] = omega arith
 nones-few (None ∷ os) = let h = nones-few os in omega arith
 nones-few (Some x ∷ os) = let h = nones-few os in omega arith
 
-all-none : {X : Type 0} (os : List (Option X)) (k : ℕ) → nones os ≡ length os → get_or os k None ≡ None
+pub all-none : {X : Type 0} (os : List (Option X)) (k : ℕ) → nones os ≡ length os → get_or os k None ≡ None
 all-none [] k e = refl
 all-none (None ∷ os) zero e = refl
 all-none (None ∷ os) (suc k) e = all-none os k (omega (arith, e))
@@ -66,7 +66,7 @@ module _ (flags : List Bool) (w : WorldState) (r : Rising flags w) where
   -- the start-up, the master and the slots change
   pub restarted : (now : List Bool) (s : StartState) (m : MasterState) (slots : List (Option Flight)) (slot : Option Carried) → s.plan ≡ w.start.plan
       → Starts (ends_of w.plan.slaves) (record { start = s; slaves = w.slaves; troubles = now; slot = slot }) → SlotsHold slots slot → 0 < length slots
-      → m.plan ≡ w.plan → m.cycle ≡ None → m.is_ready ≡ is_up s → Rising now (record w { start = s; master = m; slots = slots })
+      → m.plan ≡ w.plan → m.cycle ≡ None → (is_up s ≡ true → m.is_ready ≡ true) → Rising now (record w { start = s; master = m; slots = slots })
   restarted now s m slots slot same starts hold some plan cycle ready = search (same ∙ r.same_plan, starts, hold, some, plan, cycle, ready, r)
 
   -- one slave becomes t, and its flag b
@@ -194,8 +194,12 @@ strayed ends v c h full off = elim h.instant [
 
 module _ (flags : List Bool) (w : WorldState) (r : Rising flags w) (low : is_up w.start ≡ false) where
   -- the master is ready with the start-up
-  ready-so : (s : StartState) → (ready_with w.master s).is_ready ≡ is_up s
-  ready-so s = elim (is_up s) as (λ b. (let m : MasterState = if b then readied w.master s.next else w.master in m.is_ready) ≡ b) [ true ↦ refl | false ↦ r.master_ready ∙ low ]
+  ready-so : (s : StartState) → is_up s ≡ true → (ready_with w.master s).is_ready ≡ true
+  ready-so s up = rw up refl
+
+  -- a start-up that isn't Ready asks nothing of it
+  not-so : (s : StartState) → is_up s ≡ false → is_up s ≡ true → w.master.is_ready ≡ true
+  not-so s off on = absurd (both_ways _ off on)
 
   ready-plan : (s : StartState) → (ready_with w.master s).plan ≡ w.plan
   ready-plan s = elim (is_up s) as (λ b. (let m : MasterState = if b then readied w.master s.next else w.master in m.plan) ≡ w.plan) [ true ↦ r.master_plan | false ↦ r.master_plan ]
@@ -274,7 +278,7 @@ module _ (flags : List Bool) (w : WorldState) (r : Rising flags w) (low : is_up 
       let is : w2 ≡ record w { start = lost } = up ∙ ap (λ (x : StartState). record w { start = x }) (ap (λ (x : Phase). given_up_by w.start x) number.1) in
       subst (Rising flags) (sym is)
       (restarted flags w r flags lost w.master w.slots r.slot refl (happens-starts (ends_of w.plan.slaves) (starting_of w flags r.slot) _ (ClosesOne number.0 number.1 refl) r.starts) r.slots r.some_slots r.master_plan r.no_cycle
-      (r.master_ready ∙ low))
+      (not-so lost refl))
 
   -- ---- the next frame is sent
 
@@ -332,7 +336,7 @@ module _ (flags : List Bool) (w : WorldState) (r : Rising flags w) (low : is_up 
       } in
       subst (Rising (flags_sent s flags)) (sym is) (restarted flags w r (flags_sent s flags) (sending s) w.master (filled (flight ∷ []) w.slots) (Some c) g.plan
       (happens-starts ends v _ (SendsNext g.idle (second-good load.datagrams s.next (datagram_of (action_of s) s.next) h.spelled.each told) refl) g.starts)
-      held (omega (arith, filled-length (flight ∷ []) w.slots, r.some_slots)) r.master_plan r.no_cycle (r.master_ready ∙ low))
+      held (omega (arith, filled-length (flight ∷ []) w.slots, r.some_slots)) r.master_plan r.no_cycle (not-so (sending s) refl))
 
   start-rises : (w2 : WorldState) → AreStartable w.plan.slaves → can_happen w StartNext ≡ true → Sends w w2 → Rising (flags_sent (resumed w.start w.start.phase) flags) w2
   start-rises w2 planned can h =
@@ -345,7 +349,10 @@ module _ (flags : List Bool) (w : WorldState) (r : Rising flags w) (low : is_up 
   -- ---- any event
 
   no-begin : can_happen w Begin ≡ true → ⊥
-  no-begin e = both_ways _ (r.master_ready ∙ low) (and_parts w.master.is_ready _ e).0
+  no-begin e = both_ways _ low (and_parts (is_up w.start) _ e).0
+
+  no-stop : can_happen w Stop ≡ true → ⊥
+  no-stop e = both_ways _ low (and_parts (is_up w.start) _ e).0
 
   in-op : (s : State) → al.is_operational s ≡ true → s ≡ Op
   in-op Op e = refl
@@ -365,26 +372,4 @@ module _ (flags : List Bool) (w : WorldState) (r : Rising flags w) (low : is_up 
   event-rises (AppGet s i) w2 planned can h = subst (Rising flags) (sym h.is) (get-rises flags w r s i h.got (and_parts (is_slave w s) _ can).0 h.read)
   event-rises (Fault s) w2 planned can h = let p = and_parts (is_slave w s) _ can in subst (Rising (set flags s true)) (sym h) (fault-rises flags w r s p.0 (in-op (slave_of w s).al.state p.1))
   event-rises (ResetSlave s) w2 planned can h = subst (Rising (set flags s true)) (sym h) (reset-rises flags w r s can)
-
-  -- the plan stays
-  pub event-plan : (e : Event) (w2 : WorldState) → can_happen w e ≡ true → Happens w e w2 → w2.plan ≡ w.plan
-  event-plan StartNext w2 can h = ap (λ (x : WorldState). x.plan) h.is
-  event-plan (Set v x) w2 can h = ap (λ (x : WorldState). x.plan) h
-  event-plan Begin w2 can h = absurd (no-begin can)
-  event-plan (Pass k) w2 can h = ap (λ (x : WorldState). x.plan) h.is
-  event-plan (Lose k) w2 can h = ap (λ (x : WorldState). x.plan) h
-  event-plan (Return k) w2 can h = by (awaits w.start) h
-    where
-      by : (b : Bool) → ByStart b (StartReturns w k w2) (Returns w k w2) → w2.plan ≡ w.plan
-      by true q = ap (λ (x : WorldState). x.plan) q.is
-      by false q = ap (λ (x : WorldState). x.plan) q.is
-  event-plan Close w2 can h = by (awaits w.start) h
-    where
-      by : (b : Bool) → ByStart b (GivesUp w w2) (Closes w w2) → w2.plan ≡ w.plan
-      by true q = ap (λ (x : WorldState). x.plan) q
-      by false q = ap (λ (x : WorldState). x.plan) q.is
-  event-plan (Serve s) w2 can h = ap (λ (x : WorldState). x.plan) h
-  event-plan (AppPut s i x) w2 can h = ap (λ (x : WorldState). x.plan) h.is
-  event-plan (AppGet s i) w2 can h = ap (λ (x : WorldState). x.plan) h.is
-  event-plan (Fault s) w2 can h = ap (λ (x : WorldState). x.plan) h
-  event-plan (ResetSlave s) w2 can h = ap (λ (x : WorldState). x.plan) h
+  event-rises Stop w2 planned can h = absurd (no-stop can)

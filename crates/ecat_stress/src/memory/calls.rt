@@ -138,7 +138,11 @@ fn world(alloc: Global, table: &Table, plan: &Plan, identities: &[Identity]) -> 
 
 fn script(alloc: Global, table: &Table) -> Answer {
     match read_script(alloc, table, SCRIPT) {
-        Ok(lines) => Ok(lines.as_slice().len()),
+        Ok(script) => Ok(
+            script
+                .lines()
+                .fold(0, |count: usize, _| count.saturating_add(1)),
+        ),
         Err(error) => Err(error.number()),
     }
 }

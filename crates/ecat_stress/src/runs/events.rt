@@ -63,6 +63,7 @@ fn any(random: &mut Random, world: &World<'_>, plan: &Plan) -> Event {
         8 => Event::Serve(slave(random, world)),
         9 => Event::AppPut(slave(random, world), place(random), random.byte()),
         10 => Event::AppGet(slave(random, world), place(random)),
+        11 if random.in_hundred(10) => Event::Stop,
         _ => Event::Serve(slave(random, world)),
     }
 }

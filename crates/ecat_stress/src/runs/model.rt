@@ -12,6 +12,7 @@
 //! | `Serve`, `Reset` | there is the slave |
 //! | `AppPut`, `AppGet` | the slave isn't denying it |
 //! | `Fault` | the slave is in OP |
+//! | `Stop` | ready, no cycle open, no frame on its way |
 
 use ec_link::{Plan, SlavePlan};
 use ec_table::Direction;
@@ -222,6 +223,7 @@ impl Model {
             Event::Serve(slave) | Event::Reset(slave) => slave < world.slaves(),
             Event::AppPut(..) | Event::AppGet(..) => return self.may_take(world, plan, event),
             Event::Fault(slave) => return self.may_fail(world, slave),
+            Event::Stop => world.is_ready() && !self.is_open && frames(world) == 0,
         };
         Some(can)
     }

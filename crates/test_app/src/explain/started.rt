@@ -2,7 +2,7 @@
 //! they expect stands as cases in `tools/cases/data/`.
 use crate::compare::{expect, expect_same};
 use crate::explain::machine::MACHINE;
-use ec_console::{Refusal, remarks_text};
+use ec_console::{FileNames, Refusal, remarks_text};
 use ec_cycle::CycleError;
 use ec_device::Device;
 use ec_script::ScriptError;
@@ -20,7 +20,8 @@ fn expect_phrases(rt: &impl Abort, told: &str, wanted: &str) {
 
 /// What explains a refusal on a text.
 fn told_of(rt: &(impl AllocGlobal + Abort), text: &str, refusal: Refusal) -> String {
-    remarks_text(rt.alloc(), text, 0, &refusal).expect(rt, "memory")
+    let names = FileNames::of(None);
+    remarks_text(rt.alloc(), text, 0, names, &refusal).expect(rt, "memory")
 }
 
 /// Compares what explains a refusal of the machine.
@@ -86,7 +87,7 @@ const ERRORS: [(StartError, &str); 20] = [
             subindex: 2,
             seen: 0x60FF_0020,
         },
-        "line 31, column 1: slave 1 x ;0x1600:2;line 23, column 3: ;0x607A0020;[0x607A, 0, 32];[0x60FF, 0, 32]",
+        "line 31, column 1: slave 1 x ;0x1600:0x02;line 23, column 3: ;0x607A0020;[0x607A, 0x00, 32];[0x60FF, 0x00, 32]",
     ),
     (
         StartError::Count { seen: 0 },
@@ -153,7 +154,7 @@ const ERRORS: [(StartError, &str); 20] = [
             subindex: 0,
             seen: 3,
         },
-        "line 35, column 1: slave 2 y ;0x1601:0;line 24, column 3: ;type drive has 2",
+        "line 35, column 1: slave 2 y ;0x1601:0x00;line 24, column 3: ;type drive has 2",
     ),
     (
         StartError::Mapping {
@@ -162,7 +163,7 @@ const ERRORS: [(StartError, &str); 20] = [
             subindex: 1,
             seen: 0x6041_0020,
         },
-        "line 31, column 1: slave 1 x ;0x1A00:1;line 26, column 11: ;0x60410010;[0x6041, 0, 16];[0x6041, 0, 32]",
+        "line 31, column 1: slave 1 x ;0x1A00:0x01;line 26, column 11: ;0x60410010;[0x6041, 0x00, 16];[0x6041, 0x00, 32]",
     ),
 ];
 
@@ -188,9 +189,9 @@ const STEPS: [(usize, &str); 14] = [
     (26, "slave 2 y: its revision is awaited"),
     (27, "slave 1 x: sync manager 0"),
     (36, "slave 2 y: it is awaited in PREOP"),
-    (39, "slave 1 x: a request ;0x1600:1"),
-    (60, "slave 1 x: a reply ;0x1C13:0"),
-    (75, "slave 2 y: a request ;PDO 0x1601 into 0x1C12:1"),
+    (39, "slave 1 x: a request ;0x1600:0x01"),
+    (60, "slave 1 x: a reply ;0x1C13:0x00"),
+    (75, "slave 2 y: a request ;PDO 0x1601 into 0x1C12:0x01"),
     (88, "slave 0 panel: FMMU 1"),
     (97, "slave 0 panel: it is asked for SAFEOP"),
     (108, "slave 2 y: it is awaited in OP"),

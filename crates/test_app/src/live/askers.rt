@@ -45,7 +45,7 @@ const ASKED: [(&str, usize); 8] = [
     ("begin\n", 0),
     ("# nothing\n", 5),
     ("ready\n", 5),
-    ("stop\n", 11),
+    ("halt\n", 11),
     ("repeat 2 begin\n", 17),
     ("expect ready\n", 22),
     ("begin", 22),

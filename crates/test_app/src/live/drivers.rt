@@ -8,7 +8,7 @@ use std::fs::Files;
 use std::process::Abort;
 
 /// Lines of each kind over a table without slaves.
-const LINES: &[u8] = b"%%\nbegin\nready\nready\n# now\nexpect failed\nstop\ncycle\n";
+const LINES: &[u8] = b"%%\nbegin\nready\nready\n# now\nexpect failed\nhalt\ncycle\n";
 
 /// What they print.
 const ANSWERS: &str =
@@ -61,7 +61,7 @@ fn ends_where_answers_are_stuck(rt: HostRuntime) {
     let ended = run(&rt, &mut input, &mut output);
     let wanted = (Err(Refusal::Output), "no 1\nready\nno 3\n");
     expect_ended(&rt, ended, output, wanted);
-    expect_left(&rt, &mut input, "# now\nexpect failed\nstop\ncycle\n");
+    expect_left(&rt, &mut input, "# now\nexpect failed\nhalt\ncycle\n");
 }
 
 /// Nothing is lost where answers are taken byte by byte, with an interruption before each.
@@ -84,7 +84,7 @@ const BROKEN: [(&str, &str); 6] = [
     ("%%\n", ""),
     ("%%\nbegin", ""),
     ("%%\nbegin\n", "no 1\n"),
-    ("%%\nbegin\nready\nstop\ncyc", "no 1\nready\nbad 3\n"),
+    ("%%\nbegin\nready\nhalt\ncyc", "no 1\nready\nbad 3\n"),
 ];
 
 /// Runs what is given before a read is refused.

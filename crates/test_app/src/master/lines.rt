@@ -4,7 +4,7 @@
 use crate::compare::expect_same;
 use cmd_master::Mastered;
 use ec_bringup::slaves_of_machine;
-use ec_console::{InputStream, OutputStream, Reasons, Refusal, run_input};
+use ec_console::{InputStream, Manner, OutputStream, Refusal, run_input};
 use ec_link::Machine;
 use ec_wire::MemoryWire;
 use std::alloc::Global;
@@ -42,9 +42,9 @@ fn wire_of(rt: &(impl AllocGlobal + Abort), machine: &Machine, fails_at: u64) ->
 fn mastered_over<H: AllocGlobal + Abort + Clock>(
     rt: &H,
     wire: MemoryWire,
-    reasons: Reasons,
+    manner: Manner,
 ) -> Mastered<'_, MemoryWire, H> {
-    Mastered::new(rt.alloc(), rt, three_slaves(rt), wire, reasons).expect(rt, "memory")
+    Mastered::new(rt.alloc(), rt, three_slaves(rt), wire, manner).expect(rt, "memory")
 }
 
 /// Lines, the call of the wire that fails, how often what they expect isn't so, and what they print.
@@ -62,24 +62,24 @@ fn expect_ended(rt: &impl Abort, run: &Run, ended: Result<u64, Refusal>, output:
 }
 
 /// Runs lines over a wire to the three slaves, and compares what they print.
-fn expect_run<H: AllocGlobal + Abort + Clock>(rt: &H, reasons: Reasons, run: &Run) {
+fn expect_run<H: AllocGlobal + Abort + Clock>(rt: &H, manner: Manner, run: &Run) {
     let wire = wire_of(rt, &three_slaves(rt), run.1);
-    let mut mastered = mastered_over(rt, wire, reasons);
+    let mut mastered = mastered_over(rt, wire, manner);
     let mut output = OutputStream::new(Vec::new(rt.alloc()));
     let ended = run_all(rt.alloc(), &mut mastered, run.0, &mut output);
     expect_ended(rt, run, ended, output.into_stream().as_slice());
 }
 
 /// Does so with each of these.
-fn expect_runs<H: AllocGlobal + Abort + Clock>(rt: &H, reasons: Reasons, runs: &[Run]) {
+fn expect_runs<H: AllocGlobal + Abort + Clock>(rt: &H, manner: Manner, runs: &[Run]) {
     for run in runs {
-        expect_run(rt, reasons, run);
+        expect_run(rt, manner, run);
     }
 }
 
 // The start-up of the three slaves has 75 frames, each sent in one call of the wire and received in the next, and a cycle has
 // one: so the first cycle begins with call 150, and a start-up behind it with call 152.
-const RUNS: [Run; 13] = [
+const RUNS: [Run; 16] = [
     // What a cycle sends comes back as input in the next one.
     (
         "ready\nset b 0x123\ncycle\ncycle\nexpect d 0x123\nshow\n",
@@ -163,6 +163,27 @@ const RUNS: [Run; 13] = [
         0,
         "fault 37 Wire\nstate 0 s0 - 0000\nstate 1 s1 - 0000\nstate 2 s2 - 0000\n",
     ),
+    // What a cycle sends comes back in the next one: one cycle isn't enough, and of five the first is.
+    (
+        "ready\nset b 9 a 1\nwithin 1 expect d 9\nwithin 5 expect d 9\nshow d b a\nreport\n",
+        NEVER,
+        1,
+        "ready\nunmet 3\nd 9\nb 9\na 1\nreport taken missing 0 counters 6 al 0008\n",
+    ),
+    // Lines that are expected to be refused, and a text.
+    (
+        "expect no cycle\nexpect no set c 1\nexpect no set a 1 b 4096\nready\nexpect no cycle\nexpect no report\necho x  y\n",
+        NEVER,
+        2,
+        "ready\nunmet 5\nunmet 6\nx  y\n",
+    ),
+    // A fault of the wire ends the cycles of a line.
+    (
+        "ready\ncycle\nwithin 3 expect d 1\nreport\n",
+        152,
+        1,
+        "ready\nreport taken missing 0 counters 6 al 0008\nunmet 3\nreport taken missing 0 counters 6 al 0008\n",
+    ),
     // Where that fails, no cycle is run until they are.
     (
         "ready\ncycle\nready\ncycle\nexpect ready\nready\ncycle\n",
@@ -174,7 +195,7 @@ const RUNS: [Run; 13] = [
 
 #[test]
 fn lines_move_a_master(rt: HostRuntime) {
-    expect_runs(&rt, Reasons::Omitted, &RUNS);
+    expect_runs(&rt, Manner::of(false, false), &RUNS);
 }
 
 // Behind each line that can't be done, and behind a start-up that has failed, stands why, if reasons are printed.
@@ -192,7 +213,7 @@ const REASONED: [Run; 4] = [
         1,
         "failed 32\n  32 Lost: given up; a call on the socket failed: there is no such address, or a payload is too long\n\
          no 2\n  the last start-up failed, 32 Lost: given up; `ready` makes one more\n\
-         unmet 3\nready\nreport taken missing 0 counters 6 al 0008\n",
+         unmet 3\n  the start-up failed by 32, expected ready\nready\nreport taken missing 0 counters 6 al 0008\n",
     ),
     // Behind one that was ready.
     (
@@ -203,20 +224,41 @@ const REASONED: [Run; 4] = [
          no 4\n  the last start-up failed, 32 Lost: given up; `ready` makes one more\n\
          report taken missing 0 counters 6 al 0008\n",
     ),
-    // A fault of the wire has one, and so has a bad line. What is expected has none.
+    // A fault of the wire has one, and so have a bad line and what is expected and isn't so.
     (
         "ready\ncycle\nreport\nbegin\nexpect taken\nshow\n",
         150,
         1,
         "ready\nfault 37 Wire\n  a call on the socket failed: there is no such address, or a payload is too long\n\
          no 3\n  no cycle has ended with a report yet\nbad 4\n  lines of this form aren't taken here; `--help` lists those that are\n\
-         unmet 5\nc 0\nd 0\n",
+         unmet 5\n  there is no report yet, expected all taken\nc 0\nd 0\n",
     ),
 ];
 
 #[test]
 fn lines_tell_why(rt: HostRuntime) {
-    expect_runs(&rt, Reasons::Added, &REASONED);
+    expect_runs(&rt, Manner::of(true, false), &REASONED);
+}
+
+// Lines that are bad, can't be done or have failed count as unmet, if they are taken strictly.
+const STRICT: [Run; 2] = [
+    (
+        "cycle\nfoo\nready\nexpect no set c 1\n",
+        NEVER,
+        2,
+        "no 1\nbad 2\nready\n",
+    ),
+    (
+        "ready\nready\ncycle\n",
+        0,
+        1,
+        "failed 32\nready\nreport taken missing 0 counters 6 al 0008\n",
+    ),
+];
+
+#[test]
+fn lines_are_taken_strictly(rt: HostRuntime) {
+    expect_runs(&rt, Manner::of(false, true), &STRICT);
 }
 
 /// Slaves of the table in which OLD became NEW, what the start-up of the three slaves fails by over them, and what stands behind that.
@@ -253,13 +295,13 @@ const FAILURES: [Failure; 6] = [
         "mailbox = [0x1000, 128, 0x1080, 128], ",
         "",
         31,
-        "31 TooSlow 36: step 36 is for slave 2 s2: a reply is awaited in its mailbox: the upload of 0x1600:0, how many entries the PDO has; it wasn't over after 1000 polls",
+        "31 TooSlow 36: step 36 is for slave 2 s2: a reply is awaited in its mailbox: the upload of 0x1600:0x00, how many entries the PDO has; it wasn't over after 1000 polls",
     ),
     (
         "[0x7010, 1, 12]",
         "[0x7010, 1, 11]",
         38,
-        "38 Mapping 2 5632 1 1880097035: slave 2 s2 has 0x7010010B in its object 0x1600:1",
+        "38 Mapping 2 5632 1 1880097035: slave 2 s2 has 0x7010010B in its object 0x1600:0x01",
     ),
 ];
 
@@ -274,7 +316,7 @@ fn other_slaves(rt: &(impl AllocGlobal + Abort), old: &str, new: &str) -> Machin
 
 /// Runs `ready` of the three slaves over other ones, with reasons.
 fn ready_over(rt: &(impl AllocGlobal + Abort + Clock), slaves: &Machine) -> Vec<u8> {
-    let mut mastered = mastered_over(rt, wire_of(rt, slaves, NEVER), Reasons::Added);
+    let mut mastered = mastered_over(rt, wire_of(rt, slaves, NEVER), Manner::of(true, false));
     let mut output = OutputStream::new(Vec::new(rt.alloc()));
     let ended = run_all(rt.alloc(), &mut mastered, "ready\n", &mut output);
     expect_same(rt, &ended, &Ok(0), "ready");

@@ -4,4 +4,4 @@ use Rattle.cmd_sim.proofs.simulation.line_text.Goals as goal
 
 pub returns-then-not-is_reasoned : goal.returns-then-not-is_reasoned
 returns-then-not-is_reasoned c =
-    line_alone c.args.reasons c.args.scene.table.now c.args.line.now.number c.args.scene.world.now c.args.output _ (sym c.is_reasoned.ensures ∙ c.if-not-is_reasoned.true) c.in_ok-text.ensures
+    line_alone c.args.manner c.args.scene.table.now c.args.step.now.number c.args.scene.world.now c.args.answer _ (sym c.is_reasoned.ensures ∙ c.if-not-is_reasoned.true) c.in_ok-text.ensures

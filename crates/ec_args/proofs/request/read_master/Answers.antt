@@ -19,5 +19,6 @@ returns-clause-some c =
         for_patience = finds_number found (codes "patience") 16 c.get_one-2.result c.in_ok-get_one.field-0 c.get_one-2.ensures.none c.get_one-2.ensures.value c.in_ok-get_one.was;
         for_capture = finds_text found (codes "capture") _ c.get_str-2.ensures;
         for_explain = finds_flag found (codes "explain") c.get_flag.result c.get_flag.ensures.value c.get_flag.ensures.other;
+        for_strict = finds_flag found (codes "strict") c.get_flag-2.result c.get_flag-2.ensures.value c.get_flag-2.ensures.other;
       },
     )

@@ -21,4 +21,4 @@ returns-clause-fault g c =
 
 pub returns-in-Some-clause-found : goal.returns-in-Some-clause-found
 returns-in-Some-clause-found g c =
-    found_asks (app_of c.in_ok-command.command) _ c.in_ok-matches.matches c.in-Some.request c.in_ok-command.ensures c.in_ok-matches.ensures.ok.2 c.in-Some.ensures.some
+    found_asks (app_of c.in_ok-command.command) _ c.in_ok-matches.matches c.in-Some.arguments c.in_ok-command.ensures c.in_ok-matches.ensures.ok.2 c.in-Some.ensures.some

@@ -24,7 +24,8 @@ returns-clause-some c =
         for_full = finds_flag found (codes "full") c.get_flag.result c.get_flag.ensures.value c.get_flag.ensures.other;
         for_idle = finds_number found (codes "idle") 32 c.get_one-4.result c.in_ok-get_one-2.field-0 c.get_one-4.ensures.none c.get_one-4.ensures.value c.in_ok-get_one-2.was;
         for_live = finds_flag found (codes "live") c.get_flag-2.result c.get_flag-2.ensures.value c.get_flag-2.ensures.other;
+        for_strict = finds_flag found (codes "strict") c.get_flag-3.result c.get_flag-3.ensures.value c.get_flag-3.ensures.other;
         for_capture = finds_text found (codes "capture") _ c.get_str-2.ensures;
-        for_explain = finds_flag found (codes "explain") c.get_flag-3.result c.get_flag-3.ensures.value c.get_flag-3.ensures.other;
+        for_explain = finds_flag found (codes "explain") c.get_flag-4.result c.get_flag-4.ensures.value c.get_flag-4.ensures.other;
       },
     )

@@ -1,4 +1,4 @@
-use Rattle.std.proofs.Common.{◌≡◌, sym}
+use Rattle.std.proofs.Common.{sym}
 use Rattle.ec_live.proofs.Commands.{over_begins, over_differs, over_ends, over_more}
 use Rattle.ec_live.proofs.cyclic.has_commands.Goals as goal
 

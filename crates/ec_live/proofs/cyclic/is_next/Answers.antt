@@ -1,4 +1,4 @@
-use Rattle.std.proofs.Common.{◌≡◌, ◌==◌, List, ℕ, Bool, subst, sym}
+use Rattle.std.proofs.Common.{◌==◌, ℕ, subst, sym}
 use Rattle.ec_frame.specs.Commands.{number_of}
 use Rattle.ec_live.specs.Stages.{HasOver}
 use Rattle.ec_live.proofs.Commands.{over_none, over_some}

@@ -1,4 +1,4 @@
-use Rattle.std.proofs.Common.{◌≡◌, ◌∙◌, ℕ, List, ap, subst}
+use Rattle.std.proofs.Common.{◌≡◌, ◌∙◌, ap, subst}
 use Rattle.ec_lines.specs.Inputs.{bytes_left}
 use Rattle.ec_console.specs.Printing.{IsCutOff, IsPrinted}
 use Rattle.ec_console.specs.Unmet.{ended_by}

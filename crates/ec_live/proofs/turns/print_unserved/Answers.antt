@@ -1,4 +1,4 @@
-use Rattle.std.proofs.Common.{◌≡◌, ◌∙◌, ℕ, List, Err, subst}
+use Rattle.std.proofs.Common.{◌≡◌, ◌∙◌, Err, subst}
 use Rattle.ec_console.specs.Printing.{IsCutOff, IsPrinted}
 use Rattle.ec_live.specs.Doing.{served_line}
 use Rattle.ec_live.specs.Living.{begun}

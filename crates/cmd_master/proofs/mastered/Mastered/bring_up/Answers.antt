@@ -9,6 +9,6 @@ use Rattle.cmd_master.proofs.mastered.Mastered.bring_up.Goals as goal
 pub returns : goal.returns
 returns g c =
     let i = c.self.inside in
-    let t : MasteredState = state_of c.bring_up_resting.new.self (g.W.Wire.state c.bring_up_resting.new.wire) i.reasons i.states.items in
+    let t : MasteredState = state_of c.bring_up_resting.new.self (g.W.Wire.state c.bring_up_resting.new.wire) i.manner i.states.items in
     subst (λ (m : MasteredState). Does Ready m t Ended) c.self.view_is
-    (started i.session c.clear_outputs.new.self c.bring_up_resting.new.self (g.W.Wire.state i.wire) (g.W.Wire.state c.bring_up_resting.new.wire) i.reasons i.states.items c.clear_outputs.ensures c.bring_up_resting.ensures)
+    (started i.session c.clear_outputs.new.self c.bring_up_resting.new.self (g.W.Wire.state i.wire) (g.W.Wire.state c.bring_up_resting.new.wire) i.manner i.states.items c.clear_outputs.ensures c.bring_up_resting.ensures)

@@ -16,7 +16,7 @@ returns g c =
     let ok = i.states.ok in
     let long = r.ensures.count in
     let front : all ≡ told = front_of told _ i.states.len (omega (arith, ap length own, ok, long)) in
-    let t : MasteredState = state_of r.new.self (g.W.Wire.state r.new.wire) i.reasons all in
+    let t : MasteredState = state_of r.new.self (g.W.Wire.state r.new.wire) i.manner all in
     subst (λ (m : MasteredState). Does States m t c.output_of_read.result) c.self.view_is
-    (subst (λ (xs : List (Option AlStatus)). Does States (state_of i.session (g.W.Wire.state i.wire) i.reasons i.states.items) (state_of r.new.self (g.W.Wire.state r.new.wire) i.reasons xs) c.output_of_read.result) (sym front)
-    (read_all i.session r.new.self (g.W.Wire.state i.wire) (g.W.Wire.state r.new.wire) i.reasons i.states.items told r.result c.output_of_read.result c.output_of_read.ensures (long ∙ ap length own) r.ensures.read))
+    (subst (λ (xs : List (Option AlStatus)). Does States (state_of i.session (g.W.Wire.state i.wire) i.manner i.states.items) (state_of r.new.self (g.W.Wire.state r.new.wire) i.manner xs) c.output_of_read.result) (sym front)
+    (read_all i.session r.new.self (g.W.Wire.state i.wire) (g.W.Wire.state r.new.wire) i.manner i.states.items told r.result c.output_of_read.result c.output_of_read.ensures (long ∙ ap length own) r.ensures.read))
